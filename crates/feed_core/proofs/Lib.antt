@@ -1,6 +1,6 @@
 pub mod OneRunLaw
 pub mod EveryRun
 pub mod VenueMoves
-pub mod Offering
+pub mod Offers
 pub mod MachineMoves
 pub mod WholeMachine

@@ -1,10 +1,11 @@
 -- What an event leaves of the machine, in terms of plain states.
 use Rattle.std.proofs.Common.{take, Bor, get_or, ◌≡◌, ℕ, zero, suc, ◌+◌, ◌<◌, ◌≤◌, Bool, true, false, List, [], ◌∷◌, ◌++◌, length, Option, Some, None, refl, sym, ap, subst, ◌∙◌, arith, inl, inr, length-append}
-use Rattle.std.specs.Prelude.{slice_get, slice_set, MatchOption, IfOk, OnOk, Result, Ok, Err, nat_le, if◌then◌else◌, ◌⊎◌, filter, map}
+use Rattle.std.specs.Prelude.{slice_get, slice_set, MatchOption, IfOk, OnOk, Result, Ok, Err, nat_le, if◌then◌else◌, ◌⊎◌, map}
 use Rattle.std.proofs.Math.ListN.{length-set}
 use Rattle.std.proofs.lemmas.Option.{slice_get_within, slice_get_read}
+use Rattle.std.proofs.lemmas.Bool.{cases_eq}
 use Rattle.std.proofs.lemmas.Bool.Decides.{nat_tests}
-use Rattle.std.proofs.lemmas.List.{length-map, take_more}
+use Rattle.std.proofs.lemmas.List.{map-append, take_more}
 use Rattle.feed_types.specs.declared.item.Numbered.{Numbered}
 use Rattle.feed_types.specs.declared.journal.Entry.{Entry}
 use Rattle.feed_types.specs.declared.journal.Entry.TheVariants as entry
@@ -13,22 +14,20 @@ use Rattle.feed_types.specs.declared.line.LineId.{LineId}
 use Rattle.line_arbiter.specs.Histories.{streams_of}
 use Rattle.filter_terms.specs.declared.terms.Terms.{Terms}
 use Rattle.filter_terms.specs.Terms.{meets}
-use Rattle.journal_book.specs.Changes.{changes_of}
 use Rattle.journal_book.specs.Wanted.{wanted_of}
-use Rattle.journal_book.specs.Journals.{JournalState}
-use Rattle.nbbo_book.specs.Eligible.{is_so}
+use Rattle.journal_book.specs.Journals.{JournalState, Subscription, changes, subscription_of, subscriptions_of}
+use Rattle.journal_book.specs.Consolidators.{StaysButCursors}
 use Rattle.feed_core.specs.declared.event.Event.{Event}
 use Rattle.feed_core.specs.declared.event.Event.TheVariants as events
 use Rattle.feed_core.specs.declared.event.Done.{Done}
 use Rattle.feed_core.specs.declared.event.Done.TheVariants as done
 use Rattle.feed_core.specs.Worlds.{Lane, empty_lane, is_full, Venue, Subscriber, World, Setting, new_world}
-use Rattle.feed_core.specs.Steps.{Transition, Refused, Changes, journal_full, already_so, next_in, next_out, push_next, Intake, journal_item, consume_next, declare_help, offer_next, dequeue_next, put_venue, put_subscriber, Applies, AppliesTo, with_sent, with_intake, with_offered, with_dequeued, too_many_subscribers, AnswersSubscribe}
+use Rattle.feed_core.specs.Steps.{Transition, Refused, Changes, journal_full, next_in, next_out, push_next, Intake, journal_item, consume_next, declare_help, offer_next, dequeue_next, put_venue, put_subscriber, Applies, AppliesTo, with_sent, with_intake, with_offered, with_dequeued, too_many_subscribers, AnswersSubscribe}
 use Rattle.feed_core.specs.OneStep.{IsStep}
 use Rattle.feed_core.specs.Runs.{IsRun}
-use Rattle.feed_core.specs.Fitting.{VenueView, FitsVenue, LeftFaulty, LeftAnswered, LeftRenewed, LeftSkipped, LeftPushed, SubscriberView, FitsSubscriber, LeftOffered, intake_of, KeepsJournal, MachineView, FitSubscribers, FitsWorld, HasStepped, HasReached}
-use Rattle.journal_book.specs.Growth.{changes_begin}
+use Rattle.feed_core.specs.Fitting.{VenueView, FitsVenue, LeftFaulty, LeftAnswered, LeftRenewed, LeftSkipped, LeftPushed, FitsSubscriber, LeftOffered, intake_of, KeepsJournal, MachineView, FitSubscribers, FitsWorld, HasStepped, HasReached}
 use Rattle.feed_types.specs.ListLaws.{get_within}
-use Rattle.feed_core.specs.laws.Lists.{get_after_set, get_push}
+use Rattle.feed_core.specs.laws.Lists.{get_after_set, get_at_set, get_off_set, get_push}
 
 -- ---- places
 
@@ -37,31 +36,29 @@ set_same [] i x e = absurd cc
 set_same (y ∷ xs) zero x e = let same : y ≡ x = cc in ap (λ (z : _). z ∷ xs) (sym same)
 set_same (y ∷ xs) (suc i) x e = ap (λ (l : List _). y ∷ l) (set_same xs i x e)
 
-get_other : {X : Type 0} (xs : List X) (i j : ℕ) (x y : X) → slice_get (slice_set xs i x) j ≡ Some y → (j ≡ i → ⊥) → slice_get xs j ≡ Some y
-get_other xs i j x y e n = elim (get_after_set xs i j x y e) [ inl here ↦ absurd (n here.0) | inr there ↦ there ]
-
-get_here : {X : Type 0} (xs : List X) (i j : ℕ) (x y : X) → slice_get (slice_set xs i x) j ≡ Some y → j ≡ i → y ≡ x
-get_here [] i j x y e h = absurd cc
-get_here (z ∷ xs) zero zero x y e h = cc
-get_here (z ∷ xs) zero (suc j) x y e h = absurd (omega arith)
-get_here (z ∷ xs) (suc i) zero x y e h = absurd (omega arith)
-get_here (z ∷ xs) (suc i) (suc j) x y e h = get_here xs i j x y e (omega arith)
-
-same_or_not : (j i : ℕ) → (j ≡ i) ⊎ (j ≡ i → ⊥)
-same_or_not zero zero = inl refl
-same_or_not zero (suc i) = inr (λ e. absurd (omega arith))
-same_or_not (suc j) zero = inr (λ e. absurd (omega arith))
-same_or_not (suc j) (suc i) = elim (same_or_not j i) [ inl e ↦ inl (ap suc e) | inr n ↦ inr (λ e. n (omega arith)) ]
-
 -- two lists that agree place by place still do once both are written at a place
 set_both : {X Y : Type 0} (P : ℕ → X → Y → Type 0) (xs : List X) (ys : List Y) (i : ℕ) (x : X) (y : Y) → ((j : ℕ) (a : X) (b : Y) → slice_get xs j ≡ Some a → slice_get ys j ≡ Some b → P j a b) → P i x y
     → (j : ℕ) (a : X) (b : Y) → slice_get (slice_set xs i x) j ≡ Some a → slice_get (slice_set ys i y) j ≡ Some b → P j a b
-set_both P xs ys i x y each now j a b e g = elim (same_or_not j i) [
+set_both P xs ys i x y each now j a b e g = elim (cases_eq j i) [
   | inl same ↦
-      let p : a ≡ x = get_here xs i j x a e same in
-      let q : b ≡ y = get_here ys i j y b g same in
+      let p : a ≡ x = get_at_set xs i j x a e same in
+      let q : b ≡ y = get_at_set ys i j y b g same in
       rw (same, p, q) now
-  | inr other ↦ each j a b (get_other xs i j x a e other) (get_other ys i j y b g other)
+  | inr other ↦ each j a b (get_off_set xs i j x a e other) (get_off_set ys i j y b g other)
+]
+
+-- and so do three lists
+set_three : {X Y Z : Type 0} (P : X → Y → Z → Type 0) (xs : List X) (ys : List Y) (zs : List Z) (i : ℕ) (x : X) (y : Y) (z : Z)
+    → ((j : ℕ) (a : X) (b : Y) (c : Z) → slice_get xs j ≡ Some a → slice_get ys j ≡ Some b → slice_get zs j ≡ Some c → P a b c) → P x y z
+    → (j : ℕ) (a : X) (b : Y) (c : Z) → slice_get (slice_set xs i x) j ≡ Some a → slice_get (slice_set ys i y) j ≡ Some b
+    → slice_get (slice_set zs i z) j ≡ Some c → P a b c
+set_three P xs ys zs i x y z each now j a b c e g h = elim (cases_eq j i) [
+  | inl same ↦
+      let p : a ≡ x = get_at_set xs i j x a e same in
+      let q : b ≡ y = get_at_set ys i j y b g same in
+      let r : c ≡ z = get_at_set zs i j z c h same in
+      rw (p, q, r) now
+  | inr other ↦ each j a b c (get_off_set xs i j x a e other) (get_off_set ys i j y b g other) (get_off_set zs i j z c h other)
 ]
 
 pub read : {X : Type 0} (xs : List X) (place n : ℕ) (c : X) → n ≡ place → n < length xs → c ≡ get_or xs n c → slice_get xs place ≡ Some c
@@ -177,31 +174,10 @@ if_ok (Err e) P Q f h = tt
 
 -- ---- the journal grows
 
--- the entries are as they were, or one more
-Grown : List Entry → List Entry → Type 0
-Grown E F = (F ≡ E) ⊎ ((e : Entry) × (F ≡ E ++ e ∷ []))
-
-take_begin : {X : Type 0} (xs ys : List X) (n : ℕ) → n ≤ length xs → take n (xs ++ ys) ≡ take n xs
-take_begin xs ys zero h = refl
-take_begin [] ys (suc n) h = absurd (omega arith)
-take_begin (x ∷ xs) ys (suc n) h = ap (λ (zs : List _). x ∷ zs) (take_begin xs ys n (omega arith))
-
-fits_more : (symbols : List (List ℕ)) (E : List Entry) (e : Entry) (c : SubscriberView) (x : Subscriber) → FitsSubscriber symbols E c x → FitsSubscriber symbols (E ++ e ∷ []) c x
-fits_more symbols E e c x f =
-    let g = changes_begin symbols E (e ∷ []) in
-    let h = f.seen in
-    record {
-      seen = (let n = ap (λ (l : List Notice). length l) g.is in let k = length-append (changes_of symbols E) g.rest in omega arith);
-      sent = f.sent ∙ ap (filter (meets x.terms)) (sym (ap (take c.seen) g.is ∙ take_begin (changes_of symbols E) g.rest c.seen h));
-      lane = f.lane;
-    }
-
-fit_grown : (s : Setting) (E F : List Entry) (cs : List SubscriberView) (xs : List Subscriber) → Grown E F → FitSubscribers s E cs xs → FitSubscribers s F cs xs
-unfolding Grown
-fit_grown s E F cs xs grown f = elim grown [
-  | inl same ↦ subst (λ (l : List Entry). FitSubscribers s l cs xs) (sym same) f
-  | inr more ↦ subst (λ (l : List Entry). FitSubscribers s l cs xs) (sym more.1) (record { count = f.count; each = λ i c x a b. fits_more s.symbols E more.0 c x (f.each i c x a b); terms = f.terms })
-]
+-- where nothing is offered, the subscribers' parts fit still
+still_subscribed : {s : Setting} {lanes : List (Lane Notice)} {xs : List Subscriber} {old new : JournalState} → KeepsJournal old new
+    → FitSubscribers s (subscriptions_of old) lanes xs → FitSubscribers s (subscriptions_of new) lanes xs
+still_subscribed {s = s} {lanes = lanes} {xs = xs} kept f = subst (λ (l : List Subscription). FitSubscribers s l lanes xs) (sym kept.offered) f
 
 -- what Consume may make of its part
 Consumed : ℕ → Option Numbered → Intake → Intake → Type 0
@@ -213,12 +189,6 @@ unfolding Consumed
 consumed_is true o place old new d h = inl h.1
 consumed_is false None place old new d h = inl h.1
 consumed_is false (Some n) place old new d h = inr (n, refl, h.1)
-
-declared_is : (same full : Bool) (place : ℕ) (on : Bool) (old new : List Entry) (d : Done) → AppliesTo (if same then Refused already_so else (if full then Refused journal_full else Changes (done.Declared (length old + 1)) (old ++ entry.SelfHelp place on ∷ []))) old d new → Grown old new
-unfolding Grown
-declared_is true full place on old new d h = inl h.1
-declared_is false true place on old new d h = inl h.1
-declared_is false false place on old new d h = inr (entry.SelfHelp place on, h.1)
 
 -- what a step needs of a changed lane: nothing else of the venue changed
 received_fits : (window place : ℕ) (c new : VenueView) (v : Venue) → FitsVenue window place c v → new ≡ record c { lane = record c.lane { received = new.lane.received } } → length new.lane.received ≤ length v.lane.sent → FitsVenue window place new (record v { lane = record v.lane { received = new.lane.received } })
@@ -238,10 +208,6 @@ received_within place lane E next what h = elim what [
   | inl same ↦ (let k = ap (λ (x : Intake). length x.received) same in omega arith)
   | inr more ↦ (let k = ap (λ (x : Intake). length x.received) more.2 in let j = length-append lane.received (more.0 ∷ []) in let lt = slice_get_within lane.sent (length lane.received) more.0 more.1 in omega arith)
 ]
-
-grown_of : (place : ℕ) (o : Option Numbered) (old next : Intake) → Consumed place o old next → Grown old.entries next.entries
-unfolding Consumed Grown
-grown_of place o old next what = elim what [ inl same ↦ inl (ap (λ (x : Intake). x.entries) same) | inr more ↦ inr (entry.Consumed place more.0, ap (λ (x : Intake). x.entries) more.2) ]
 
 module _ (s : Setting) (m : MachineView) (w : World) (place n : ℕ) (c new : VenueView) (journal : JournalState) (is : n ≡ place) (lt : n < length m.venues) (value : c ≡ get_or m.venues n c) (f : FitsWorld s m w) where
   pub consume_step : (d : Done) → AppliesTo (consume_next m.journal.journal place (next_out c.lane) (intake_of c.lane m.journal)) (intake_of c.lane m.journal) d (intake_of new.lane journal)
@@ -268,7 +234,7 @@ module _ (s : Setting) (m : MachineView) (w : World) (place n : ℕ) (c new : Ve
           counted = kept.venues ∙ changed.counted;
           placed = changed.placed;
           capacity = f.capacity;
-          subscribers = fit_grown s w.entries journal.entries m.subscribers w.subscribers (grown_of place (next_out lane) old next what) f.subscribers;
+          subscribers = still_subscribed kept f.subscribers;
           used = f.used;
           in_turn = f.in_turn;
         };
@@ -283,7 +249,6 @@ module _ (s : Setting) (m : MachineView) (w : World) (place : ℕ) (on : Bool) (
       let v = get_within w.venues place (omega arith) in
       let of_entries = subst (λ (E : List Entry). AppliesTo (declare_help m.journal.journal place on E) E d journal.entries) f.entries comes in
       let of_world : AppliesTo (declare_help s.journal place on w.entries) w.entries d journal.entries = subst (λ (k : ℕ). AppliesTo (declare_help k place on w.entries) w.entries d journal.entries) f.journal of_entries in
-      let grown = declared_is (is_so w.entries place on) (nat_le s.journal (length w.entries)) place on w.entries journal.entries d of_world in
       record {
         after = record w { entries = journal.entries };
         fits = record {
@@ -294,7 +259,7 @@ module _ (s : Setting) (m : MachineView) (w : World) (place : ℕ) (on : Bool) (
           counted = kept.venues ∙ f.counted;
           placed = f.placed;
           capacity = f.capacity;
-          subscribers = fit_grown s w.entries journal.entries m.subscribers w.subscribers grown f.subscribers;
+          subscribers = still_subscribed kept f.subscribers;
           used = f.used;
           in_turn = f.in_turn;
         };
@@ -304,36 +269,43 @@ module _ (s : Setting) (m : MachineView) (w : World) (place : ℕ) (on : Bool) (
 
 -- ---- at a subscriber
 
-pub record SubscriberThere (s : Setting) (w : World) (id : ℕ) (c : SubscriberView) : Type 0 where
+pub record SubscriberThere (s : Setting) (m : MachineView) (w : World) (id : ℕ) (c : Lane Notice) : Type 0 where
+  pub subscription : Subscription
+  pub known : slice_get (subscriptions_of m.journal) id ≡ Some subscription
   pub subscriber : Subscriber
   pub at : slice_get w.subscribers id ≡ Some subscriber
-  pub fits : FitsSubscriber s.symbols w.entries c subscriber
-  pub terms : slice_get s.filters id ≡ Some subscriber.terms
+  pub fits : FitsSubscriber subscription c subscriber
 
-there_subscriber : (s : Setting) (m : MachineView) (w : World) (id : ℕ) (c : SubscriberView) → FitsWorld s m w → slice_get m.subscribers id ≡ Some c → SubscriberThere s w id c
+there_subscriber : (s : Setting) (m : MachineView) (w : World) (id : ℕ) (c : Lane Notice) → FitsWorld s m w → slice_get m.lanes id ≡ Some c → SubscriberThere s m w id c
 there_subscriber s m w id c f at =
-    let within = slice_get_within m.subscribers id c at in
+    let within = slice_get_within m.lanes id c at in
     let n = f.subscribers.count in
+    let k = f.subscribers.known in
     let x = get_within w.subscribers id (omega arith) in
-    record { subscriber = x.0; at = x.1; fits = f.subscribers.each id c x.0 at x.1; terms = f.subscribers.terms id x.0 x.1 }
+    let b = get_within (subscriptions_of m.journal) id (omega arith) in
+    record { subscription = b.0; known = b.1; subscriber = x.0; at = x.1; fits = f.subscribers.each id b.0 c x.0 b.1 at x.1 }
 
-put_subscriber_fits : (s : Setting) (m : MachineView) (w : World) (id : ℕ) (new : SubscriberView) (x y : Subscriber) → FitsWorld s m w → slice_get w.subscribers id ≡ Some x → y.terms ≡ x.terms → FitsSubscriber s.symbols w.entries new y → FitsWorld s (record m { subscribers = slice_set m.subscribers id new }) (put_subscriber w id y)
-put_subscriber_fits s m w id new x y f at same now = record {
+-- the subscriber, its subscription and its lane are put back in their places
+put_subscriber_fits : (s : Setting) (m : MachineView) (w : World) (id : ℕ) (journal : JournalState) (b : Subscription) (lane : Lane Notice) (x y : Subscriber) → FitsWorld s m w → slice_get w.subscribers id ≡ Some x → y.terms ≡ x.terms
+    → StaysButCursors m.journal journal → subscriptions_of journal ≡ slice_set (subscriptions_of m.journal) id b → FitsSubscriber b lane y
+    → FitsWorld s (record m { lanes = slice_set m.lanes id lane; journal = journal }) (put_subscriber w id y)
+put_subscriber_fits s m w id journal b lane x y f at same stays put now = record {
   venues = f.venues;
-  entries = f.entries;
-  symbols = f.symbols;
-  journal = f.journal;
-  counted = f.counted;
+  entries = ap (λ (j : JournalState). j.entries) stays ∙ f.entries;
+  symbols = ap (λ (j : JournalState). j.symbols) stays ∙ f.symbols;
+  journal = ap (λ (j : JournalState). j.journal) stays ∙ f.journal;
+  counted = ap (λ (j : JournalState). j.venues) stays ∙ f.counted;
   placed = f.placed;
   capacity = f.capacity;
-  subscribers = record {
-    count = length-set m.subscribers id new ∙ f.subscribers.count ∙ sym (length-set w.subscribers id y);
-    each = set_both (λ i c u. FitsSubscriber s.symbols w.entries c u) m.subscribers w.subscribers id new y f.subscribers.each now;
+  subscribers = subst (λ (l : List Subscription). FitSubscribers s l (slice_set m.lanes id lane) (slice_set w.subscribers id y)) (sym put) (record {
+    count = length-set m.lanes id lane ∙ f.subscribers.count ∙ sym (length-set w.subscribers id y);
+    known = length-set (subscriptions_of m.journal) id b ∙ f.subscribers.known ∙ sym (length-set w.subscribers id y);
+    each = set_three FitsSubscriber (subscriptions_of m.journal) m.lanes w.subscribers id b lane y f.subscribers.each now;
     terms = λ i u e. elim (get_after_set w.subscribers id i y u e) [
       | inl here ↦ (rw (here.0, here.1) (f.subscribers.terms id x at ∙ ap Some (sym same)))
       | inr other ↦ f.subscribers.terms i u other
     ];
-  };
+  });
   used = f.used;
   in_turn = λ h. (let n = length-set w.subscribers id y in let k = f.in_turn (omega arith) in omega arith);
 }
@@ -343,42 +315,46 @@ get_map g [] i x e = absurd cc
 get_map g (y ∷ ys) zero x e = let same : y ≡ x = cc in ap (λ (z : _). Some (g z)) same
 get_map g (y ∷ ys) (suc i) x e = get_map g ys i x e
 
-pub terms_read : {X : Type 0} (g : X → Terms) (filters : List X) (all : List Terms) (place n : ℕ) (x : X) → all ≡ map g filters → n ≡ place → n < length filters → x ≡ get_or filters n x → slice_get all place ≡ Some (g x)
-terms_read g filters all place n x e is lt value = ap (λ (l : List Terms). slice_get l place) e ∙ get_map g filters place x (read filters place n x is lt value)
+pub terms_read : {X : Type 0} (g : X → Terms) (filters : List X) (all : List Terms) (n : ℕ) (x : X) → all ≡ map g filters → n < length filters → x ≡ get_or filters n x → slice_get all n ≡ Some (g x)
+terms_read g filters all n x e lt value = ap (λ (l : List Terms). slice_get l n) e ∙ get_map g filters n x (read filters n n x refl lt value)
 
-module _ (s : Setting) (m : MachineView) (w : World) (id n : ℕ) (c new : SubscriberView) (is : n ≡ id) (lt : n < length m.subscribers) (value : c ≡ get_or m.subscribers n c) (f : FitsWorld s m w) where
-  pub offer_step : (terms : Terms) (notices : List Notice) (d : Done) → slice_get s.filters id ≡ Some terms → notices ≡ changes_of m.journal.symbols m.journal.entries
-      → ((symbols : List (List ℕ)) (entries : List Entry) (x : Subscriber) → x.terms ≡ terms → notices ≡ changes_of symbols entries → FitsSubscriber symbols entries c x → LeftOffered symbols entries m.capacity x d new)
-      → HasStepped s w (events.Offer id) d (record m { subscribers = slice_set m.subscribers n new })
-  offer_step terms notices d filter_is are left = subst (λ (k : ℕ). HasStepped s w (events.Offer id) d (record m { subscribers = slice_set m.subscribers k new })) (sym is)
-      (let at = read m.subscribers id n c is lt value in
+module _ (s : Setting) (m : MachineView) (w : World) (id n : ℕ) (c new : Lane Notice) (is : n ≡ id) (lt : n < length m.lanes) (value : c ≡ get_or m.lanes n c) (f : FitsWorld s m w) where
+  pub offer_step : (journal : JournalState) (d : Done)
+      → ((b : Subscription) (x : Subscriber) → slice_get (subscriptions_of m.journal) id ≡ Some b → FitsSubscriber b c x → LeftOffered m.journal id m.capacity x d journal new) → StaysButCursors m.journal journal
+      → HasStepped s w (events.Offer id) d (record m { lanes = slice_set m.lanes n new; journal = journal })
+  offer_step journal d left stays = subst (λ (k : ℕ). HasStepped s w (events.Offer id) d (record m { lanes = slice_set m.lanes k new; journal = journal })) (sym is)
+      (let at = read m.lanes id n c is lt value in
       let x = there_subscriber s m w id c f at in
-      let some : Some x.subscriber.terms ≡ Some terms = sym x.terms ∙ filter_is in
-      let of : x.subscriber.terms ≡ terms = cc in
-      let notices_are : notices ≡ changes_of s.symbols w.entries = are ∙ ap (λ (l : List (List ℕ)). changes_of l m.journal.entries) f.symbols ∙ ap (changes_of s.symbols) f.entries in
-      let gone = left s.symbols w.entries x.subscriber of notices_are x.fits in
+      let gone = left x.subscription x.subscriber x.known x.fits in
+      let sent = x.subscriber.lane.sent in
+      let of_symbols = subst (λ (l : List (List ℕ)). AppliesTo (offer_next (is_full m.capacity x.subscriber.lane) (next_in (wanted_of l x.subscriber.terms m.journal.entries) x.subscriber.lane) sent) sent d new.sent) f.symbols gone.comes in
+      let of_entries = subst (λ (E : List Entry). AppliesTo (offer_next (is_full m.capacity x.subscriber.lane) (next_in (wanted_of s.symbols x.subscriber.terms E) x.subscriber.lane) sent) sent d new.sent) f.entries of_symbols in
+      let of_world = subst (λ (k : ℕ). AppliesTo (offer_next (is_full k x.subscriber.lane) (next_in (wanted_of s.symbols x.subscriber.terms w.entries) x.subscriber.lane) sent) sent d new.sent) f.capacity of_entries in
       record {
-        after = with_offered w id x.subscriber new.lane.sent;
-        fits = put_subscriber_fits s m w id new x.subscriber _ f x.at refl gone.fits;
-        step = known_at (slice_get w.subscribers id) x.subscriber _ (λ u. Applies (with_offered w id u) (offer_next (is_full s.lane u.lane) (next_in (wanted_of s.symbols u.terms w.entries) u.lane) u.lane.sent) w d (with_offered w id x.subscriber new.lane.sent)) x.at
-            (lift (with_offered w id x.subscriber) (offer_next (is_full s.lane x.subscriber.lane) (next_in (wanted_of s.symbols x.subscriber.terms w.entries) x.subscriber.lane) x.subscriber.lane.sent) x.subscriber.lane.sent new.lane.sent w d (put_same_subscriber w id x.subscriber x.at)
-            (subst (λ (k : ℕ). AppliesTo (offer_next (is_full k x.subscriber.lane) (next_in (wanted_of s.symbols x.subscriber.terms w.entries) x.subscriber.lane) x.subscriber.lane.sent) x.subscriber.lane.sent d new.lane.sent) f.capacity gone.comes));
+        after = with_offered w id x.subscriber new.sent;
+        fits = put_subscriber_fits s m w id journal gone.subscription new x.subscriber _ f x.at refl stays gone.kept gone.fits;
+        step = known_at (slice_get w.subscribers id) x.subscriber _ (λ u. Applies (with_offered w id u) (offer_next (is_full s.lane u.lane) (next_in (wanted_of s.symbols u.terms w.entries) u.lane) u.lane.sent) w d (with_offered w id x.subscriber new.sent)) x.at
+            (lift (with_offered w id x.subscriber) (offer_next (is_full s.lane x.subscriber.lane) (next_in (wanted_of s.symbols x.subscriber.terms w.entries) x.subscriber.lane) sent) sent new.sent w d (put_same_subscriber w id x.subscriber x.at) of_world);
       })
 
-  pub dequeue_step : (d : Done) → AppliesTo (dequeue_next (next_out c.lane) c.lane.received) c.lane.received d new.lane.received → new ≡ record c { lane = record c.lane { received = new.lane.received } }
-      → HasStepped s w (events.Dequeue id) d (record m { subscribers = slice_set m.subscribers n new })
-  dequeue_step d comes only = subst (λ (k : ℕ). HasStepped s w (events.Dequeue id) d (record m { subscribers = slice_set m.subscribers k new })) (sym is)
-      (let at = read m.subscribers id n c is lt value in
+  pub dequeue_step : (d : Done) → AppliesTo (dequeue_next (next_out c) c.received) c.received d new.received → new ≡ record c { received = new.received }
+      → HasStepped s w (events.Dequeue id) d (record m { lanes = slice_set m.lanes n new })
+  dequeue_step d comes only = subst (λ (k : ℕ). HasStepped s w (events.Dequeue id) d (record m { lanes = slice_set m.lanes k new })) (sym is)
+      (let at = read m.lanes id n c is lt value in
       let x = there_subscriber s m w id c f at in
       let lane = x.subscriber.lane in
       record {
-        after = with_dequeued w id x.subscriber new.lane.received;
-        fits = put_subscriber_fits s m w id new x.subscriber _ f x.at refl
-            (subst (λ (h : SubscriberView). FitsSubscriber s.symbols w.entries h (record x.subscriber { lane = record lane { received = new.lane.received } })) (sym only)
-            (record { seen = x.fits.seen; sent = x.fits.sent; lane = ap (λ (l : List Notice). record { sent = l; received = new.lane.received }) (ap (λ (l : Lane Notice). l.sent) x.fits.lane) }));
-        step = known_at (slice_get w.subscribers id) x.subscriber _ (λ u. Applies (with_dequeued w id u) (dequeue_next (next_out u.lane) u.lane.received) w d (with_dequeued w id x.subscriber new.lane.received)) x.at
-            (lift (with_dequeued w id x.subscriber) (dequeue_next (next_out lane) lane.received) lane.received new.lane.received w d (put_same_subscriber w id x.subscriber x.at)
-            (subst (λ (l : Lane Notice). AppliesTo (dequeue_next (next_out l) l.received) l.received d new.lane.received) x.fits.lane comes));
+        after = with_dequeued w id x.subscriber new.received;
+        fits = put_subscriber_fits s m w id m.journal x.subscription new x.subscriber _ f x.at refl refl
+            (sym (set_same (subscriptions_of m.journal) id x.subscription x.known))
+            (record {
+              meets_same = x.fits.meets_same;
+              offered = x.fits.offered;
+              lane = only ∙ ap (λ (l : List Notice). record { sent = l; received = new.received }) (ap (λ (l : Lane Notice). l.sent) x.fits.lane);
+            });
+        step = known_at (slice_get w.subscribers id) x.subscriber _ (λ u. Applies (with_dequeued w id u) (dequeue_next (next_out u.lane) u.lane.received) w d (with_dequeued w id x.subscriber new.received)) x.at
+            (lift (with_dequeued w id x.subscriber) (dequeue_next (next_out lane) lane.received) lane.received new.received w d (put_same_subscriber w id x.subscriber x.at)
+            (subst (λ (l : Lane Notice). AppliesTo (dequeue_next (next_out l) l.received) l.received d new.received) x.fits.lane comes));
       })
 
 pub if_ok_both : {T E : Type 0} (r : Result T E) (P Q : T → Type 0) (A : Type 0) → ((x : T) → P x → A → Q x) → IfOk r P → OnOk r A → IfOk r Q
@@ -396,14 +372,11 @@ is_false a b h = grind (arith, nat_tests)
 asked : (o : Option Terms) (terms : Terms) (w : World) (d : Done) (new : World) → o ≡ Some terms → AnswersSubscribe (Some terms) w d new → AnswersSubscribe o w d new
 asked o terms w d new e h = subst (λ (x : Option Terms). AnswersSubscribe x w d new) (sym e) h
 
-pub filter_there : {X : Type 0} (g : X → Terms) (filters : List X) (all : List Terms) (n : ℕ) → all ≡ map g filters → n < length filters → (terms : Terms) × (slice_get all n ≡ Some terms)
-filter_there g filters all n e lt = get_within all n (let k = ap (λ (l : List Terms). length l) e in let j = length-map filters g in omega arith)
-
 module _ (s : Setting) (m : MachineView) (w : World) (terms : Terms) (f : FitsWorld s m w) (next : slice_get s.filters m.used ≡ Some terms) where
   asks : slice_get s.filters w.used ≡ Some terms
   asks = ap (slice_get s.filters) (sym f.used) ∙ next
 
-  pub subscribe_full : 32 ≤ length m.subscribers → HasStepped s w events.Subscribe too_many_subscribers (record m { used = m.used + 1 })
+  pub subscribe_full : 32 ≤ length m.lanes → HasStepped s w events.Subscribe too_many_subscribers (record m { used = m.used + 1 })
   subscribe_full full = record {
     after = record w { used = w.used + 1 };
     fits = record {
@@ -426,32 +399,45 @@ module _ (s : Setting) (m : MachineView) (w : World) (terms : Terms) (f : FitsWo
       by_test true e = (refl, refl)
       by_test false e = absurd cc
 
-  pub subscribe_one : (id : ℕ) (cs : List SubscriberView) → length m.subscribers < 32 → id ≡ length m.subscribers → cs ≡ m.subscribers ++ record { seen = 0; lane = empty_lane } ∷ [] → HasStepped s w events.Subscribe (done.Subscribed id) (record m { used = m.used + 1; subscribers = cs })
-  subscribe_one id cs room is grown =
+  pub subscribe_one : (id : ℕ) (copy : Terms) (journal : JournalState) → length m.lanes < 32 → id ≡ length m.lanes → meets copy ≡ meets terms
+      → journal ≡ record m.journal { cursors = m.journal.cursors ++ record { terms = copy; seen = 0 } ∷ [] }
+      → HasStepped s w events.Subscribe (done.Subscribed id) (record m { used = m.used + 1; lanes = m.lanes ++ empty_lane ∷ []; journal = journal })
+  subscribe_one id copy journal room is copied grown =
       let n = f.subscribers.count in
+      let k = f.subscribers.known in
       let fresh : Subscriber = record { terms = terms; lane = empty_lane } in
+      let asked_for : Subscription = record { terms = copy; offered = 0 } in
+      let more : subscriptions_of journal ≡ subscriptions_of m.journal ++ asked_for ∷ [] =
+      ap subscriptions_of grown ∙ map-append (subscription_of (changes m.journal)) m.journal.cursors (record { terms = copy; seen = 0 } ∷ []) in
       let turn : w.used ≡ length w.subscribers = f.in_turn (omega arith) in
       let here : slice_get s.filters (length w.subscribers) ≡ Some terms = ap (slice_get s.filters) (sym turn) ∙ asks in
       record {
         after = record w { used = w.used + 1; subscribers = w.subscribers ++ fresh ∷ [] };
         fits = record {
           venues = f.venues;
-          entries = f.entries;
-          symbols = f.symbols;
-          journal = f.journal;
-          counted = f.counted;
+          entries = ap (λ (j : JournalState). j.entries) grown ∙ f.entries;
+          symbols = ap (λ (j : JournalState). j.symbols) grown ∙ f.symbols;
+          journal = ap (λ (j : JournalState). j.journal) grown ∙ f.journal;
+          counted = ap (λ (j : JournalState). j.venues) grown ∙ f.counted;
           placed = f.placed;
           capacity = f.capacity;
-          subscribers = subst (λ (l : List SubscriberView). FitSubscribers s w.entries l (w.subscribers ++ fresh ∷ [])) (sym grown) (record {
-            count = length-append m.subscribers (record { seen = 0; lane = empty_lane } ∷ []) ∙ ap (λ (k : ℕ). k + 1) n ∙ sym (length-append w.subscribers (fresh ∷ []));
-            each = λ i c x a b. elim (get_push m.subscribers i _ c a) [
-              | inl last ↦ elim (get_push w.subscribers i fresh x b) [
-                | inl both ↦ rw (last.1, both.1) (record { seen = omega arith; sent = refl; lane = refl })
+          subscribers = subst (λ (l : List Subscription). FitSubscribers s l (m.lanes ++ empty_lane ∷ []) (w.subscribers ++ fresh ∷ [])) (sym more) (record {
+            count = length-append m.lanes (empty_lane ∷ []) ∙ ap (λ (k : ℕ). k + 1) n ∙ sym (length-append w.subscribers (fresh ∷ []));
+            known = length-append (subscriptions_of m.journal) (asked_for ∷ []) ∙ ap (λ (k : ℕ). k + 1) k ∙ sym (length-append w.subscribers (fresh ∷ []));
+            each = λ i b c x p q r. elim (get_push (subscriptions_of m.journal) i asked_for b p) [
+              | inl last ↦ elim (get_push m.lanes i empty_lane c q) [
+                | inl lane_last ↦ elim (get_push w.subscribers i fresh x r) [
+                  | inl all ↦ rw (last.1, lane_last.1, all.1) (record { meets_same = copied; offered = refl; lane = refl })
+                  | inr early ↦ (let p = last.0 in let q = early.0 in absurd (omega arith))
+                ]
                 | inr early ↦ (let p = last.0 in let q = early.0 in absurd (omega arith))
               ]
-              | inr early ↦ elim (get_push w.subscribers i fresh x b) [
+              | inr early ↦ elim (get_push m.lanes i empty_lane c q) [
                 | inl last ↦ (let p = early.0 in let q = last.0 in absurd (omega arith))
-                | inr both ↦ f.subscribers.each i c x early.1 both.1
+                | inr lane_early ↦ elim (get_push w.subscribers i fresh x r) [
+                  | inl last ↦ (let p = early.0 in let q = last.0 in absurd (omega arith))
+                  | inr all ↦ f.subscribers.each i b c x early.1 lane_early.1 all.1
+                ]
               ]
             ];
             terms = λ i x b. elim (get_push w.subscribers i fresh x b) [

@@ -1,5 +1,5 @@
 -- A machine as it is made, and as it is shown in the end.
-use Rattle.std.proofs.Common.{take, get_or, ◌≡◌, ℕ, zero, suc, ◌+◌, ◌<◌, ◌≤◌, List, [], ◌∷◌, ◌++◌, length, map, Some, refl, sym, ap, subst, ◌∙◌, arith, length-append, inl, inr}
+use Rattle.std.proofs.Common.{take, get_or, ◌≡◌, ℕ, suc, ◌+◌, ◌<◌, ◌≤◌, List, [], ◌∷◌, ◌++◌, length, map, Some, refl, sym, ap, subst, ◌∙◌, arith, length-append, inl, inr}
 use Rattle.std.specs.Prelude.{slice_get, slice_set}
 use Rattle.std.proofs.Math.ListN.{length-set}
 use Rattle.std.proofs.lemmas.Option.{slice_get_within, slice_get_read}
@@ -11,14 +11,15 @@ use Rattle.feed_types.specs.declared.journal.Notice.{Notice}
 use Rattle.feed_types.specs.declared.config.FeedConfig.{FeedConfig}
 use Rattle.filter_terms.specs.declared.terms.Terms.{Terms}
 use Rattle.journal_book.specs.Changes.{changes_of}
-use Rattle.journal_book.specs.Journals.{JournalState}
-use Rattle.feed_core.specs.Configs.{journal_of_config}
+use Rattle.feed_types.specs.ListLaws.{get_within}
+use Rattle.journal_book.specs.Journals.{JournalState, Subscription, subscriptions_of}
+use Rattle.journal_book.specs.Configs.{journal_of_config}
 use Rattle.feed_core.specs.declared.event.Event.{Event}
 use Rattle.feed_core.specs.declared.event.Done.{Done}
-use Rattle.feed_core.specs.Worlds.{Lane, inside, Venue, Subscriber, World, Setting, setting_of, new_venue, new_world}
+use Rattle.feed_core.specs.Worlds.{Lane, Venue, Subscriber, Setting, setting_of, new_venue, new_world}
 use Rattle.feed_core.specs.Headline.{ShownVenue, shown_venue, shown_subscriber, IsRunOf}
-use Rattle.feed_core.specs.Fitting.{VenueView, FitsVenue, ShowsLane, SubscriberView, MachineView, FitVenues, FitSubscribers, FitsWorld, HasReached, venue_shown, subscriber_shown, shown_by, ShownTo, ShowVenues}
-use Rattle.feed_core.specs.laws.Lists.{get_after_set, get_push}
+use Rattle.feed_core.specs.Fitting.{VenueView, FitsVenue, ShowsLane, MachineView, FitVenues, FitSubscribers, FitsWorld, HasReached, venue_shown, subscriber_shown, shown_by, ShownTo, ShowVenues}
+use Rattle.feed_core.specs.laws.Lists.{get_at_set, get_off_set, get_push}
 
 -- ---- as it is made
 
@@ -48,7 +49,7 @@ fit_next window cs sessions i c f h now =
     length-take_le n xs h = grind (arith, common_steps)
 
 pub new_fits : (config : FeedConfig) (filters : List Terms) (cs : List VenueView) (journal : JournalState) → FitVenues config.window cs (map new_venue config.sessions.now) → journal ≡ journal_of_config config
-    → FitsWorld (setting_of config filters) (record { venues = cs; journal = journal; subscribers = []; capacity = config.lane; used = 0 }) (new_world (setting_of config filters))
+    → FitsWorld (setting_of config filters) (record { venues = cs; journal = journal; lanes = []; capacity = config.lane; used = 0 }) (new_world (setting_of config filters))
 new_fits config filters cs journal f empty = record {
   venues = f;
   entries = ap (λ (j : JournalState). j.entries) empty;
@@ -57,7 +58,12 @@ new_fits config filters cs journal f empty = record {
   counted = ap (λ (j : JournalState). j.venues) empty ∙ sym (length-map config.sessions.now new_venue);
   placed = length-map config.sessions.now new_venue;
   capacity = refl;
-  subscribers = record { count = refl; each = λ i c x a b. absurd cc; terms = λ i x a. absurd cc };
+  subscribers = record {
+    count = refl;
+    known = ap (λ (j : JournalState). length (subscriptions_of j)) empty;
+    each = λ i b c x p q r. absurd cc;
+    terms = λ i x a. absurd cc;
+  };
   used = refl;
   in_turn = λ h. refl;
 }
@@ -67,25 +73,17 @@ new_fits config filters cs journal f empty = record {
 pub shown_none : (window : ℕ) (cs : List VenueView) (vs : List Venue) → FitVenues window cs vs → ShownTo window 0 cs vs
 shown_none window cs vs f = record { count = f.count; early = λ i c v h. absurd (omega arith); late = λ i c v h. f.each i c v }
 
-get_here : {X : Type 0} (xs : List X) (i : ℕ) (x y : X) → slice_get (slice_set xs i x) i ≡ Some y → y ≡ x
-get_here [] i x y e = absurd cc
-get_here (z ∷ xs) zero x y e = cc
-get_here (z ∷ xs) (suc i) x y e = get_here xs i x y e
-
-get_other : {X : Type 0} (xs : List X) (i j : ℕ) (x y : X) → slice_get (slice_set xs i x) j ≡ Some y → (j ≡ i → ⊥) → slice_get xs j ≡ Some y
-get_other xs i j x y e n = elim (get_after_set xs i j x y e) [ inl here ↦ absurd (n here.0) | inr there ↦ there ]
-
 pub shown_next : (window n : ℕ) (cs : List VenueView) (vs : List Venue) (c new : VenueView) → n < length cs → c ≡ get_or cs n c → ((w p : ℕ) (v : Venue) → FitsVenue w p c v → ShowsLane new.lane v) → ShownTo window n cs vs → ShownTo window (n + 1) (slice_set cs n new) vs
 shown_next window n cs vs c new lt value shows s = record {
   count = length-set cs n new ∙ s.count;
   early = λ i d v h e g. elim (cases_lt i n) [
-    | inl early ↦ s.early i d v early (get_other cs n i new d e (λ at. omega arith)) g
+    | inl early ↦ s.early i d v early (get_off_set cs n i new d e (λ at. omega arith)) g
     | inr late ↦
         let at : i ≡ n = omega arith in
-        let same : d ≡ new = get_here cs n new d (subst (λ (k : ℕ). slice_get (slice_set cs n new) k ≡ Some d) at e) in
+        let same : d ≡ new = get_at_set cs n i new d e at in
         rw same (shows window n v (s.late n c v (omega arith) (slice_get_read cs (length cs) n c refl lt value) (subst (λ (k : ℕ). slice_get vs k ≡ Some v) at g)))
   ];
-  late = λ i d v h e g. s.late i d v (omega arith) (get_other cs n i new d e (λ at. omega arith)) g;
+  late = λ i d v h e g. s.late i d v (omega arith) (get_off_set cs n i new d e (λ at. omega arith)) g;
 }
 
 pub shown_all : (window n : ℕ) (cs : List VenueView) (vs : List Venue) → length cs ≤ n → ShownTo window n cs vs → ShowVenues cs vs
@@ -104,14 +102,19 @@ venues_shown cs vs s = same_map venue_shown shown_venue cs vs s.count (λ i c v 
     both : {p q r t : List Numbered} → p ≡ q → r ≡ t → (let x : ShownVenue = record { consumed = p; waiting = r } in let y : ShownVenue = record { consumed = q; waiting = t } in x ≡ y)
     both e f = λ i. record { consumed = e i; waiting = f i }
 
-subscribers_shown : (s : Setting) (w : World) (cs : List SubscriberView) (xs : List Subscriber) → FitSubscribers s w.entries cs xs → map subscriber_shown cs ≡ map shown_subscriber xs
-subscribers_shown s w cs xs f = same_map subscriber_shown shown_subscriber cs xs f.count (λ i c x a b. ap (λ (l : Lane Notice). record { dequeued = l.received; queued = inside l }) (f.each i c x a b).lane)
+subscribers_shown : (s : Setting) (subscriptions : List Subscription) (lanes : List (Lane Notice)) (xs : List Subscriber) → FitSubscribers s subscriptions lanes xs → map subscriber_shown lanes ≡ map shown_subscriber xs
+subscribers_shown s subscriptions lanes xs f = same_map subscriber_shown shown_subscriber lanes xs f.count (λ i c x a b.
+    let within = slice_get_within lanes i c a in
+    let n = f.count in
+    let k = f.known in
+    let there = get_within subscriptions i (omega arith) in
+    ap subscriber_shown (f.each i there.0 c x there.1 a b).lane)
 
-pub finished : (s : Setting) (es : List Event) (ds : List Done) (m : MachineView) (cs : List VenueView) → HasReached s es ds m → ((window : ℕ) (vs : List Venue) → FitVenues window m.venues vs → ShowVenues cs vs) → IsRunOf s es (shown_by ds cs m.journal m.subscribers)
+pub finished : (s : Setting) (es : List Event) (ds : List Done) (m : MachineView) (cs : List VenueView) → HasReached s es ds m → ((window : ℕ) (vs : List Venue) → FitVenues window m.venues vs → ShowVenues cs vs) → IsRunOf s es (shown_by ds cs m.journal m.lanes)
 finished s es ds m cs r shows =
     let f = r.fits in
     let venues = venues_shown cs r.world.venues (shows s.window r.world.venues f.venues) in
-    let subscribers = subscribers_shown s r.world m.subscribers r.world.subscribers f.subscribers in
+    let subscribers = subscribers_shown s (subscriptions_of m.journal) m.lanes r.world.subscribers f.subscribers in
     let changes = ap (λ (l : List (List ℕ)). changes_of l m.journal.entries) f.symbols ∙ ap (changes_of s.symbols) f.entries in
     record {
       world = r.world;

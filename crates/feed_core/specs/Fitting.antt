@@ -1,5 +1,5 @@
 -- What the machine keeps, and the world that it represents. Cited by private clauses alone.
-use Rattle.std.specs.Prelude.{◌≡◌, ℕ, ◌≤◌, ◌<◌, List, length, filter, take, map, slice_get, Some}
+use Rattle.std.specs.Prelude.{◌≡◌, ℕ, ◌≤◌, ◌<◌, List, length, map, slice_get, slice_set, Some}
 use Rattle.feed_types.specs.declared.item.Numbered.{Numbered}
 use Rattle.feed_types.specs.declared.line.LineId.{LineId}
 use Rattle.mold_packet.specs.declared.fault.PacketFault.{PacketFault}
@@ -20,13 +20,13 @@ use Rattle.feed_core.specs.Worlds.{Lane, inside, is_full, Venue, session_count, 
 use Rattle.feed_core.specs.declared.event.Event.{Event}
 use Rattle.feed_core.specs.VenueHalf.{waiting}
 use Rattle.feed_core.specs.Headline.{ShownVenue, ShownSubscriber, Shown}
-use Rattle.feed_types.specs.declared.journal.Entry.{Entry}
 use Rattle.feed_types.specs.declared.journal.Notice.{Notice}
 use Rattle.filter_terms.specs.Terms.{meets}
 use Rattle.journal_book.specs.Changes.{changes_of}
 use Rattle.journal_book.specs.Wanted.{wanted_of}
-use Rattle.journal_book.specs.Journals.{JournalState}
-use Rattle.feed_core.specs.Steps.{next_in, AddsArrival, AddsRenewal, AddsSkip, packet_done, renewal_done, skip_done, push_next, offer_next, AppliesTo, Intake}
+use Rattle.journal_book.specs.Journals.{JournalState, Subscription, subscriptions_of}
+use Rattle.line_arbiter.specs.Additions.{AddsArrival, AddsRenewal, AddsSkip}
+use Rattle.feed_core.specs.Steps.{next_in, packet_done, renewal_done, skip_done, push_next, offer_next, AppliesTo, Intake}
 use Rattle.feed_core.specs.OneStep.{IsStep}
 use Rattle.feed_core.specs.Runs.{IsRun}
 
@@ -94,44 +94,42 @@ pub record ShowsLane (lane : Lane Numbered) (v : Venue) : Type 0 where
   pub consumed : lane.received ≡ v.lane.received
   pub waiting : inside lane ≡ waiting v
 
--- how many changes of the journal were looked at for a subscriber, and its lane
-pub record SubscriberView : Type 0 where
-  pub seen : ℕ
-  pub lane : Lane Notice
-
--- they are those of the subscriber
-pub record FitsSubscriber (symbols : List (List ℕ)) (entries : List Entry) (c : SubscriberView)
-    (x : Subscriber) : Type 0 where
-  pub seen : c.seen ≤ length (changes_of symbols entries)
-  pub sent : x.lane.sent ≡ filter (meets x.terms) (take c.seen (changes_of symbols entries))
-  pub lane : c.lane ≡ x.lane
+-- A subscription of the journal and a lane are those of the subscriber: the same notices meet its
+-- terms, and as many were offered as were sent.
+pub record FitsSubscriber (b : Subscription) (c : Lane Notice) (x : Subscriber) : Type 0 where
+  pub meets_same : meets b.terms ≡ meets x.terms
+  pub offered : b.offered ≡ length x.lane.sent
+  pub lane : c ≡ x.lane
 
 -- what Offer leaves
-pub record LeftOffered (symbols : List (List ℕ)) (entries : List Entry) (capacity : ℕ)
-    (x : Subscriber) (outcome : Done) (new : SubscriberView) : Type 0 where
+pub record LeftOffered (old : JournalState) (id capacity : ℕ) (x : Subscriber) (outcome : Done)
+    (new : JournalState) (lane : Lane Notice) : Type 0 where
   pub comes : AppliesTo
-      (offer_next (is_full capacity x.lane) (next_in (wanted_of symbols x.terms entries) x.lane)
-      x.lane.sent)
-      x.lane.sent outcome new.lane.sent
-  pub fits : FitsSubscriber symbols entries new
-      (record x { lane = record x.lane { sent = new.lane.sent } })
+      (offer_next (is_full capacity x.lane)
+      (next_in (wanted_of old.symbols x.terms old.entries) x.lane) x.lane.sent)
+      x.lane.sent outcome lane.sent
+  pub subscription : Subscription
+  pub kept : subscriptions_of new ≡ slice_set (subscriptions_of old) id subscription
+  pub fits : FitsSubscriber subscription lane (record x { lane = record x.lane { sent = lane.sent } })
 
 -- what Consume looks at
 abbrev pub intake_of : Lane Numbered → JournalState → Intake
 intake_of lane journal = record { received = lane.received; entries = journal.entries }
 
--- everything of a journal but its entries stays
+-- everything of a journal but its entries stays, and nothing is offered
 pub record KeepsJournal (old new : JournalState) : Type 0 where
   pub symbols : new.symbols ≡ old.symbols
   pub venues : new.venues ≡ old.venues
   pub journal : new.journal ≡ old.journal
+  pub kept : new.kept ≡ old.kept
+  pub offered : subscriptions_of new ≡ subscriptions_of old
 
--- the machine: its venues, the journal, its subscribers, the capacity of a lane, and how many
+-- the machine: its venues, the journal, the subscribers' lanes, the capacity of a lane, and how many
 -- filters were used
 pub record MachineView : Type 0 where
   pub venues : List VenueView
   pub journal : JournalState
-  pub subscribers : List SubscriberView
+  pub lanes : List (Lane Notice)
   pub capacity : ℕ
   pub used : ℕ
 
@@ -140,13 +138,15 @@ pub record FitVenues (window : ℕ) (cs : List VenueView) (vs : List Venue) : Ty
   pub each : (i : ℕ) (c : VenueView) (v : Venue) → slice_get cs i ≡ Some c → slice_get vs i ≡ Some v
       → FitsVenue window i c v
 
--- a subscriber's terms are those of the filter at its place
-pub record FitSubscribers (s : Setting) (entries : List Entry) (cs : List SubscriberView)
-    (xs : List Subscriber) : Type 0 where
-  pub count : length cs ≡ length xs
-  pub each : (i : ℕ) (c : SubscriberView) (x : Subscriber)
-      → slice_get cs i ≡ Some c → slice_get xs i ≡ Some x
-      → FitsSubscriber s.symbols entries c x
+-- the journal's subscriptions and the lanes are those of the subscribers, and a subscriber's terms are
+-- those of the filter at its place
+pub record FitSubscribers (s : Setting) (subscriptions : List Subscription)
+    (lanes : List (Lane Notice)) (xs : List Subscriber) : Type 0 where
+  pub count : length lanes ≡ length xs
+  pub known : length subscriptions ≡ length xs
+  pub each : (i : ℕ) (b : Subscription) (c : Lane Notice) (x : Subscriber)
+      → slice_get subscriptions i ≡ Some b → slice_get lanes i ≡ Some c → slice_get xs i ≡ Some x
+      → FitsSubscriber b c x
   pub terms : (i : ℕ) (x : Subscriber) → slice_get xs i ≡ Some x
       → slice_get s.filters i ≡ Some x.terms
 
@@ -158,7 +158,7 @@ pub record FitsWorld (s : Setting) (m : MachineView) (w : World) : Type 0 where
   pub counted : m.journal.venues ≡ length w.venues
   pub placed : length w.venues ≡ length s.sessions
   pub capacity : m.capacity ≡ s.lane
-  pub subscribers : FitSubscribers s w.entries m.subscribers w.subscribers
+  pub subscribers : FitSubscribers s (subscriptions_of m.journal) m.lanes w.subscribers
   pub used : m.used ≡ w.used
   pub in_turn : length w.subscribers < 32 → w.used ≡ length w.subscribers
 
@@ -180,8 +180,8 @@ pub record HasReached (s : Setting) (events : List Event) (outcomes : List Done)
 abbrev pub venue_shown : VenueView → ShownVenue
 venue_shown c = record { consumed = c.lane.received; waiting = inside c.lane }
 
-abbrev pub subscriber_shown : SubscriberView → ShownSubscriber
-subscriber_shown c = record { dequeued = c.lane.received; queued = inside c.lane }
+abbrev pub subscriber_shown : Lane Notice → ShownSubscriber
+subscriber_shown c = record { dequeued = c.received; queued = inside c }
 
 -- the first n venues are shown, and the others fit
 pub record ShownTo (window n : ℕ) (cs : List VenueView) (vs : List Venue) : Type 0 where
@@ -198,11 +198,11 @@ pub record ShowVenues (cs : List VenueView) (vs : List Venue) : Type 0 where
       → slice_get cs i ≡ Some c → slice_get vs i ≡ Some v → ShowsLane c.lane v
 
 -- what a finished machine shows
-abbrev pub shown_by : List Done → List VenueView → JournalState → List SubscriberView → Shown
-shown_by outcomes venues journal subscribers = record {
+abbrev pub shown_by : List Done → List VenueView → JournalState → List (Lane Notice) → Shown
+shown_by outcomes venues journal lanes = record {
   outcomes = outcomes;
   venues = map venue_shown venues;
   entries = journal.entries;
   changes = changes_of journal.symbols journal.entries;
-  subscribers = map subscriber_shown subscribers;
+  subscribers = map subscriber_shown lanes;
 }

@@ -1,26 +1,29 @@
 -- The headline, and what a run shows.
-use Rattle.std.specs.Prelude.{◌≡◌, ℕ, List, ◌++◌, length, map, Some, slice_get}
+use Rattle.std.specs.Prelude.{◌≡◌, ℕ, List, length, map, Some, slice_get}
 use Rattle.feed_types.specs.declared.item.Numbered.{Numbered}
 use Rattle.feed_types.specs.declared.journal.Entry.{Entry}
 use Rattle.feed_types.specs.declared.journal.Notice.{Notice}
-use Rattle.line_arbiter.specs.Histories.{History, names_of}
-use Rattle.filter_terms.specs.declared.terms.Terms.{Terms}
+use Rattle.line_arbiter.specs.Histories.{names_of}
 use Rattle.journal_book.specs.Changes.{changes_of}
+use Rattle.journal_book.specs.ItemsIn.{items_in}
 use Rattle.feed_core.specs.declared.event.Event.{Event}
 use Rattle.feed_core.specs.declared.event.Done.{Done}
 use Rattle.feed_core.specs.Worlds.{inside, Venue, Subscriber, World, Setting, new_world}
 use Rattle.feed_core.specs.Runs.{IsRun}
-use Rattle.feed_core.specs.VenueHalf.{waiting, AreVenueItems, VenueHalf}
-use Rattle.feed_core.specs.SubscriberHalf.{AreNotices, SubscriberHalf}
+use Rattle.feed_core.specs.VenueHalf.{waiting, VenueHalf}
+use Rattle.feed_core.specs.SubscriberHalf.{SubscriberHalf}
 
 -- The headline, of a world to which these events led: the venue half for each venue, whose first
--- session is the one that it is set up with, and the subscriber half for each subscriber, whose
--- terms are those of the filter at its place.
+-- session is the one that it is set up with; the journal's items of the venue are those that were
+-- consumed there, in order; and the subscriber half for each subscriber, whose terms are those of the
+-- filter at its place.
 pub record Headline (s : Setting) (events : List Event) (w : World) : Type 0 where
   pub venues : (place : ℕ) (v : Venue) → slice_get w.venues place ≡ Some v
       → VenueHalf events place v
   pub first : (place : ℕ) (v : Venue) → slice_get w.venues place ≡ Some v
       → slice_get (names_of v.history) 0 ≡ slice_get s.sessions place
+  pub journaled : (place : ℕ) (v : Venue) → slice_get w.venues place ≡ Some v
+      → items_in w.entries place ≡ v.lane.received
   pub subscribers : (id : ℕ) (x : Subscriber) → slice_get w.subscribers id ≡ Some x
       → SubscriberHalf s.symbols w.entries x
   pub terms : (id : ℕ) (x : Subscriber) → slice_get w.subscribers id ≡ Some x
@@ -67,26 +70,7 @@ pub record IsRunOf (s : Setting) (events : List Event) (shown : Shown) : Type 0 
   pub shows : shown ≡ shown_of s shown.outcomes world
   pub placed : length shown.venues ≡ length s.sessions
 
--- The venue half, of what is shown of the venue at a place.
-pub record ShownVenueHalf (s : Setting) (events : List Event) (place : ℕ) (v : ShownVenue)
-    : Type 0 where
-  pub history : History
-  pub first : slice_get (names_of history) 0 ≡ slice_get s.sessions place
-  pub items : AreVenueItems events place (v.consumed ++ v.waiting) history
-
--- The subscriber half, of what is shown of the subscriber of an id.
-pub record ShownSubscriberHalf (s : Setting) (entries : List Entry) (id : ℕ) (x : ShownSubscriber)
-    : Type 0 where
-  pub terms : Terms
-  pub filter : slice_get s.filters id ≡ Some terms
-  pub notices : AreNotices s.symbols entries terms x.dequeued x.queued
-
--- The events are a run that shows this; the headline holds of its world and of what is shown.
+-- The events are a run that shows this, and the headline holds of its world, whose parts these are.
 pub record ShowsHeadline (s : Setting) (events : List Event) (shown : Shown) : Type 0 where
   pub of : IsRunOf s events shown
   pub headline : Headline s events of.world
-  pub venues : (place : ℕ) (v : ShownVenue) → slice_get shown.venues place ≡ Some v
-      → ShownVenueHalf s events place v
-  pub changes : shown.changes ≡ changes_of s.symbols shown.entries
-  pub subscribers : (id : ℕ) (x : ShownSubscriber) → slice_get shown.subscribers id ≡ Some x
-      → ShownSubscriberHalf s shown.entries id x

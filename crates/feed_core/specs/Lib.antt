@@ -8,6 +8,5 @@ pub mod SubscriberHalf
 pub mod Headline
 pub mod LaneCode
 pub mod Fitting
-pub mod Configs
 -- laws, which proofs of the crates above cite
 pub mod laws

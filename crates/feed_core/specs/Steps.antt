@@ -15,11 +15,8 @@ use Rattle.line_arbiter.specs.declared.outcome.LineFault.{LineFault}
 use Rattle.line_arbiter.specs.declared.faults.RenewFault.{RenewFault}
 use Rattle.line_arbiter.specs.declared.faults.SkipFault.{SkipFault}
 use Rattle.line_arbiter.specs.Codes.{line_fault_code, renew_fault_code, skip_fault_code}
-use Rattle.line_arbiter.specs.Packets.{arrival_of, end_of}
-use Rattle.line_arbiter.specs.Outcomes.{IsOutcome}
-use Rattle.line_arbiter.specs.Renewals.{IsRenewal}
-use Rattle.line_arbiter.specs.Skips.{IsSkip}
-use Rattle.line_arbiter.specs.Histories.{History, names_of, after_input, skip_after, history_after}
+use Rattle.line_arbiter.specs.Additions.{AddsArrival, AddsRenewal, AddsSkip}
+use Rattle.line_arbiter.specs.Histories.{History}
 use Rattle.filter_terms.specs.declared.terms.Terms.{Terms}
 use Rattle.nbbo_book.specs.Eligible.{is_so}
 use Rattle.feed_core.specs.declared.event.Done.{Done}
@@ -60,24 +57,8 @@ next_out lane = slice_get lane.sent (length lane.received)
 
 -- ---- each event on its part
 
--- Packet, on a venue's history: a packet that was read is added with its answer, a refused one too.
-pub record AddsArrival (window sent : ℕ) (line : LineId) (packet : Content) (old : History)
-    (answer : Result Outcome LineFault) (new : History) : Type 0 where
-  pub right : IsOutcome old.present.name window sent old.present.packets packet answer
-  pub is : new ≡ after_input old (arrival_of line packet answer)
-
--- Renew, on a venue's history: the present session is over and the next one begins, or nothing
--- changes.
-pub record AddsRenewal (sent : ℕ) (name : List ℕ) (old : History) (answer : Result ℕ RenewFault)
-    (new : History) : Type 0 where
-  pub right : IsRenewal (names_of old) (end_of old.present.packets) sent name answer
-  pub is : new ≡ history_after old name answer
-
--- Skip, on a venue's history: what is missing below the number is given up, or nothing changes.
-pub record AddsSkip (sent number : ℕ) (old : History) (answer : Result (Unit {0}) SkipFault)
-    (new : History) : Type 0 where
-  pub right : IsSkip old.present.packets sent number answer
-  pub is : new ≡ skip_after old number answer
+-- Packet, Renew and Skip, on a venue's history: AddsArrival, AddsRenewal and AddsSkip of
+-- line_arbiter.
 
 -- Push, on what was sent of a venue: adds its next item, unless the lane is full.
 abbrev pub push_next : Bool → Option Numbered → List Numbered → Transition (List Numbered)

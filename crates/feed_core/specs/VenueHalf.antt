@@ -12,7 +12,7 @@ use Rattle.line_arbiter.specs.Streams.{AreTaken, IsComplete, front_of}
 use Rattle.line_arbiter.specs.OfSession.{IsOfSession, GivesSession, SkipsWithin, session_parts}
 use Rattle.line_arbiter.specs.Histories.{Begun, History, all_begun, streams_of}
 use Rattle.feed_core.specs.declared.event.Event.{Event}
-use Rattle.feed_core.specs.declared.event.Event.TheVariants.{Packet, Push, Consume, Declare, Renew, Skip, Subscribe, Offer, Dequeue}
+use Rattle.feed_core.specs.declared.event.Event.TheVariants.{Packet, Skip}
 use Rattle.feed_core.specs.Worlds.{inside, Venue}
 
 -- what waits of a venue: in the lane, and then what is in sequence and was not pushed yet
@@ -24,14 +24,7 @@ abbrev pub BringsOnly : ℕ → Session → Event → Type 0
 BringsOnly place s (Packet venue line bytes) =
     venue ≡ place → (p : Content) (rest : List ℕ)
     → Spells bytes.now p rest → p.session ≡ s.name → IsOfSession s p
-BringsOnly place s (Push venue) = Unit {0}
-BringsOnly place s (Consume venue) = Unit {0}
-BringsOnly place s (Declare venue on) = Unit {0}
-BringsOnly place s (Renew venue name) = Unit {0}
-BringsOnly place s (Skip venue number) = Unit {0}
-BringsOnly place s Subscribe = Unit {0}
-BringsOnly place s (Offer id) = Unit {0}
-BringsOnly place s (Dequeue id) = Unit {0}
+BringsOnly place s _ = Unit {0}
 
 abbrev pub BringOnly : ℕ → List Event → Session → Type 0
 BringOnly place events s = AllByRecursion (BringsOnly place s) events

@@ -8,19 +8,12 @@ use Rattle.line_arbiter.specs.Streams.{front_of, stream_of}
 use Rattle.line_arbiter.specs.OfSession.{GivesSession, session_stream}
 use Rattle.line_arbiter.specs.Histories.{History}
 use Rattle.feed_core.specs.declared.event.Event.{Event}
-use Rattle.feed_core.specs.declared.event.Event.TheVariants.{Packet, Push, Consume, Declare, Renew, Skip, Subscribe, Offer, Dequeue}
+use Rattle.feed_core.specs.declared.event.Event.TheVariants.{Skip}
 
 -- if the event is a skip of the venue, it goes to a number of this kind
 abbrev pub SkipsOnly : (ℕ → Type 0) → ℕ → Event → Type 0
 SkipsOnly May place (Skip venue number) = venue ≡ place → May number
-SkipsOnly May place (Packet venue line bytes) = Unit {0}
-SkipsOnly May place (Push venue) = Unit {0}
-SkipsOnly May place (Consume venue) = Unit {0}
-SkipsOnly May place (Declare venue on) = Unit {0}
-SkipsOnly May place (Renew venue name) = Unit {0}
-SkipsOnly May place Subscribe = Unit {0}
-SkipsOnly May place (Offer id) = Unit {0}
-SkipsOnly May place (Dequeue id) = Unit {0}
+SkipsOnly May place _ = Unit {0}
 
 -- no event is a skip of the venue
 abbrev pub GiveNothingUp : ℕ → List Event → Type 0

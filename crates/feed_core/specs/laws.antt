@@ -9,4 +9,5 @@ pub mod SubscriberHalfLaw
 pub mod VenueHalfLaw
 pub mod WholeSessionsLaw
 pub mod FirstNames
+pub mod JournaledItems
 pub mod HeadlineLaw

@@ -28,13 +28,6 @@ pub fn headline()
         → IsRun s (new_world s) events outcomes w → Headline s events w }
 {}
 
-/// The headline's venue half alone.
-pub fn venue_half()
-    ensures { (s : Setting) (events : List Event) (outcomes : List Done) (w : World)
-        → IsRun s (new_world s) events outcomes w
-        → (place : ℕ) (v : Venue) → slice_get w.venues place ≡ Some v → VenueHalf events place v }
-{}
-
 /// Where no event gives up messages of a venue, its items are its sessions, one after another, each
 /// whole but the present one, which goes up to its first gap; and the number of the last item sent
 /// is their count.
@@ -58,14 +51,6 @@ pub fn skips_are_events()
     ensures { (events : List Event) (place : ℕ) (all : List Numbered) (h : History)
         → AreVenueItems events place all h → (s : Session) → SkipWithin s place events
         → AllByRecursion (λ b. AllByRecursion (SkipsWithin s) b.packets) (all_begun h) }
-{}
-
-/// The headline's subscriber half alone.
-pub fn subscriber_half()
-    ensures { (s : Setting) (events : List Event) (outcomes : List Done) (w : World)
-        → IsRun s (new_world s) events outcomes w
-        → (id : ℕ) (x : Subscriber) → slice_get w.subscribers id ≡ Some x
-        → SubscriberHalf s.symbols w.entries x }
 {}
 
 /// A list of events has one list of outcomes and leads to one world.

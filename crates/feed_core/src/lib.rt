@@ -1,4 +1,5 @@
-//! The machine over events, and the headline: what a whole feed does, as one list of events.
+//! The reference machine that a feed is proved against, and the headline: what a whole feed does, as
+//! one list of events.
 //!
 //! [`run`] takes a list of events (packets that come on lines, items that are pushed and consumed,
 //! notices that are offered and dequeued, ..) and returns their outcomes and what the feed then
@@ -11,24 +12,20 @@
 //! code.
 #![tactic(auto)]
 
-mod config;
-mod configured;
 mod event;
 mod journaling;
 mod lane;
 mod laws;
 mod machine;
+mod offering;
 mod running;
-mod subscriber;
 mod venue;
 mod world;
 
-pub use config::{ConfigFault, CoreFault};
-pub use configured::new_journal;
 pub use event::{Done, Event};
+pub use journal_book::{ConfigFault, CoreFault};
 pub use laws::{
     every_list_of_events_has_a_run, headline, items_without_skips, one_run, skips_are_events,
-    subscriber_half, venue_half,
 };
 pub use running::run;
 pub use world::World;

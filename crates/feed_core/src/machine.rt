@@ -4,16 +4,16 @@ ghost use Rattle.std.specs.Prelude.{◌≡◌, ℕ, ◌<◌, ◌≤◌, List, le
 ghost use Rattle.filter_terms.specs.declared.terms.Terms.{Terms};
 ghost use Rattle.feed_core.specs.declared.event.Event.{Event};
 ghost use Rattle.feed_core.specs.Worlds.{Venue, World as WorldView, Setting, all_terms, new_venue, new_world, setting_of};
-ghost use Rattle.feed_core.specs.Configs.{journal_of_config};
+ghost use Rattle.journal_book.specs.Configs.{journal_of_config};
 ghost use Rattle.feed_core.specs.Fitting.{FitVenues, ShowVenues, FitsWorld, HasStepped, HasReached};
 ghost use Rattle.feed_core.specs.Headline.{IsRunOf};
 
 use crate::event::{Done, Event};
-use crate::journaling;
-use crate::subscriber::SubscriberState;
+use crate::lane::Lane;
 use crate::venue::VenueState;
 use crate::world::World;
-use feed_types::{FeedConfig, LineId, MAX_SUBSCRIBERS, SubscriberId, VenueId};
+use crate::{journaling, offering};
+use feed_types::{FeedConfig, LineId, Notice, SubscriberId, VenueId};
 use filter_terms::Filter;
 use journal_book::Journal;
 use std::alloc::{AllocError, Global};
@@ -24,13 +24,13 @@ use std::marker::Model;
 pub(crate) struct Machine {
     venue_states: Vec<VenueState>,
     kept: Journal,
-    subscriber_states: Vec<SubscriberState>,
+    lanes: Vec<Lane<Notice>>,
     lane_capacity: u32,
     filters_used: usize,
 }
 
 impl Model for Machine {
-    ghost use Rattle.std.specs.Prelude.{◌≤◌, length};
+    ghost use Rattle.std.specs.Prelude.{◌≡◌, ◌≤◌, length, None};
     ghost use Rattle.std.specs.Coded.{codes};
     ghost use Rattle.filter_terms.specs.contracts.terms.Terms as terms_type;
     ghost use Rattle.feed_core.specs.Fitting.{MachineView};
@@ -42,13 +42,14 @@ impl Model for Machine {
     ghost view = { λ m. record {
       venues = m.venue_states.items;
       journal = m.kept;
-      subscribers = m.subscriber_states.items;
+      lanes = m.lanes.items;
       capacity = m.lane_capacity;
       used = m.filters_used;
     } };
 
-    ghost invariant = { λ m. (length m.subscriber_states.items ≤ m.filters_used)
-        × (length m.venue_states.items ≤ m.kept.venues) };
+    ghost invariant = { λ m. (length m.lanes.items ≤ m.filters_used)
+        × (length m.lanes.items ≡ length m.kept.cursors)
+        × (length m.venue_states.items ≤ m.kept.venues) × (m.kept.kept ≡ None) };
 }
 
 fn new_venues(
@@ -87,8 +88,8 @@ impl Machine {
         journal: Journal,
     ) -> Result<Machine, AllocError>
         requires few { length config.now.sessions.now ≤ 16 }
-        requires counted { journal.venues ≡ length config.now.sessions.now }
-        ensures fits { IfOk result (λ m. journal ≡ journal_of_config config.now → (filters : List Terms)
+        requires empty { journal ≡ journal_of_config config.now }
+        ensures fits { IfOk result (λ m. (filters : List Terms)
             → FitsWorld (setting_of config.now filters) m
             (new_world (setting_of config.now filters))) }
         ensures used { IfOk result (λ m. m.used ≡ 0) }
@@ -97,7 +98,7 @@ impl Machine {
         Ok(Machine {
             venue_states,
             kept: journal,
-            subscriber_states: Vec::new(alloc),
+            lanes: Vec::new(alloc),
             lane_capacity: config.lane,
             filters_used: 0,
         })
@@ -111,12 +112,12 @@ impl Machine {
         let Machine {
             mut venue_states,
             kept,
-            subscriber_states,
+            lanes,
             lane_capacity: _,
             filters_used: _,
         } = self;
         finish_all(&mut venue_states)?;
-        Ok(World::new(outcomes, venue_states, kept, subscriber_states))
+        Ok(World::new(outcomes, venue_states, kept, lanes))
     }
 
     fn packet(&mut self, venue: VenueId, line: LineId, bytes: &[u8]) -> Done
@@ -201,16 +202,22 @@ impl Machine {
     fn offer(&mut self, id: SubscriberId, filters: &[Filter]) -> Result<Done, AllocError>
         requires { self.old.used ≤ length filters.now }
         ensures step { IfOk result (λ d. (s : Setting) (w : WorldView)
-            → s.filters ≡ all_terms filters.now → FitsWorld s self.old w
+            → FitsWorld s self.old w
             → HasStepped s w (Event.Offer id) d self.new) }
         ensures used { self.new.used ≡ self.old.used }
     {
         let place = id.index();
-        if place >= self.subscriber_states.len() {
+        if place >= self.lanes.len() {
             return Ok(Done::Refused(21));
         }
-        let state = &mut self.subscriber_states[place];
-        state.offer(&filters[place], self.kept.changes(), self.lane_capacity)
+        let lane = &mut self.lanes[place];
+        offering::offer(
+            &mut self.kept,
+            id,
+            &filters[place],
+            lane,
+            self.lane_capacity,
+        )
     }
 
     fn dequeue(&mut self, id: SubscriberId) -> Done
@@ -219,11 +226,11 @@ impl Machine {
         ensures used { self.new.used ≡ self.old.used }
     {
         let place = id.index();
-        if place >= self.subscriber_states.len() {
+        if place >= self.lanes.len() {
             return Done::Refused(21);
         }
-        let state = &mut self.subscriber_states[place];
-        state.dequeue()
+        let lane = &mut self.lanes[place];
+        offering::dequeue(lane)
     }
 
     /// Uses the next filter, also where there is no place for its subscriber.
@@ -237,13 +244,18 @@ impl Machine {
         if self.filters_used >= filters.len() {
             return Ok(Done::NoFilter);
         }
+        let filter = &filters[self.filters_used];
         self.filters_used += 1;
-        let count = self.subscriber_states.len();
-        if count >= MAX_SUBSCRIBERS {
+        if !self.kept.has_subscriber_room() {
             return Ok(Done::Refused(20));
         }
-        self.subscriber_states.push(SubscriberState::new(alloc))?;
-        Ok(Done::Subscribed(SubscriberId::at(count)))
+        self.lanes.reserve(1)?;
+        let terms = filter.terms().clone()?;
+        let Ok(id) = self.kept.subscribe(terms) else {
+            return Err(AllocError);
+        };
+        self.lanes.push_reserved(Lane::new(alloc));
+        Ok(Done::Subscribed(id))
     }
 
     /// Takes one event. Each subscriber's filter is at its place.

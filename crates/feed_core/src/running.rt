@@ -3,16 +3,14 @@
 ghost use Rattle.std.specs.Prelude.{◌≡◌, ◌≤◌, length, IfOk, IfErr, OnOk};
 ghost use Rattle.feed_core.specs.Worlds.{all_terms, setting_of};
 ghost use Rattle.feed_core.specs.Headline.{IsRunOf, ShowsHeadline};
-ghost use Rattle.feed_core.specs.Configs.{IsGood, Explains, journal_of_config};
+ghost use Rattle.journal_book.specs.Configs.{IsGood, Explains, journal_of_config};
 
-use crate::config::CoreFault;
-use crate::configured::new_journal;
 use crate::event::Event;
 use crate::machine::Machine;
 use crate::world::World;
 use feed_types::FeedConfig;
 use filter_terms::Filter;
-use journal_book::Journal;
+use journal_book::{CoreFault, Journal, new_journal};
 use std::alloc::{AllocError, Global};
 
 fn run_over(
@@ -23,9 +21,9 @@ fn run_over(
     filters: &[Filter],
 ) -> Result<World, AllocError>
     requires few { length config.now.sessions.now ≤ 16 }
-    requires counted { journal.venues ≡ length config.now.sessions.now }
-    ensures { IfOk result (λ shown. journal ≡ journal_of_config config.now
-        → IsRunOf (setting_of config.now (all_terms filters.now)) events.now shown) }
+    requires empty { journal ≡ journal_of_config config.now }
+    ensures { IfOk result
+        (IsRunOf (setting_of config.now (all_terms filters.now)) events.now) }
 {
     let mut machine = Machine::new(alloc, config, journal)?;
     let outcomes = machine.take_all(alloc, events, filters)?;
@@ -46,8 +44,6 @@ pub fn run(
     events: &[Event<'_>],
     filters: Vec<Filter>,
 ) -> Result<World, CoreFault>
-    ensures run { IfOk result
-        (IsRunOf (setting_of config.now (all_terms filters.items)) events.now) }
     ensures headline { IfOk result
         (ShowsHeadline (setting_of config.now (all_terms filters.items)) events.now) }
     ensures good { OnOk result (IsGood config.now) }

@@ -1,10 +1,10 @@
 //! The result of a run over events.
 
-ghost use Rattle.std.specs.Prelude.{◌≡◌, ◌<◌, length, IfSome, slice_get};
+ghost use Rattle.std.specs.Prelude.{◌≡◌, ◌<◌, length, IfSome, None, slice_get};
 ghost use Rattle.feed_core.specs.Fitting.{shown_by};
 
 use crate::event::Done;
-use crate::subscriber::SubscriberState;
+use crate::lane::Lane;
 use crate::venue::VenueState;
 use feed_types::{Entry, Notice, Numbered, SubscriberId, VenueId};
 use journal_book::Journal;
@@ -16,17 +16,20 @@ pub struct World {
     done: Vec<Done>,
     venue_states: Vec<VenueState>,
     kept: Journal,
-    subscriber_states: Vec<SubscriberState>,
+    lanes: Vec<Lane<Notice>>,
 }
 
 impl Model for World {
+    ghost use Rattle.std.specs.Prelude.{◌≡◌, None};
     ghost use Rattle.feed_core.specs.Headline.{Shown};
     ghost use Rattle.feed_core.specs.Fitting.{shown_by};
 
     ghost Value = { Shown };
 
     ghost view = { λ w.
-        shown_by w.done.items w.venue_states.items w.kept w.subscriber_states.items };
+        shown_by w.done.items w.venue_states.items w.kept w.lanes.items };
+
+    ghost invariant = { λ w. w.kept.kept ≡ None };
 }
 
 impl World {
@@ -34,15 +37,16 @@ impl World {
         done: Vec<Done>,
         venue_states: Vec<VenueState>,
         kept: Journal,
-        subscriber_states: Vec<SubscriberState>,
+        lanes: Vec<Lane<Notice>>,
     ) -> World
-        ensures { result ≡ shown_by done.items venue_states.items kept subscriber_states.items }
+        requires { kept.kept ≡ None }
+        ensures { result ≡ shown_by done.items venue_states.items kept lanes.items }
     {
         World {
             done,
             venue_states,
             kept,
-            subscriber_states,
+            lanes,
         }
     }
 
@@ -64,7 +68,7 @@ impl World {
     pub fn subscriber_count(&self) -> usize
         ensures { result ≡ length self.now.subscribers }
     {
-        self.subscriber_states.len()
+        self.lanes.len()
     }
 
     /// The venue's items that were consumed. The venue is below the number of venues.
@@ -104,7 +108,7 @@ impl World {
         requires { id < length self.now.subscribers }
         ensures { IfSome (slice_get self.now.subscribers id) (λ x. result.now ≡ x.dequeued) }
     {
-        self.subscriber_states[id.index()].dequeued()
+        self.lanes[id.index()].received()
     }
 
     /// The notices that are in the subscriber's lane. The id is below the number of subscribers.
@@ -112,6 +116,6 @@ impl World {
         requires { id < length self.now.subscribers }
         ensures { IfSome (slice_get self.now.subscribers id) (λ x. result.now ≡ x.queued) }
     {
-        self.subscriber_states[id.index()].queued()
+        self.lanes[id.index()].inside()
     }
 }

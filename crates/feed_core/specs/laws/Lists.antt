@@ -1,5 +1,5 @@
 -- Lists that begin alike, and places in lists.
-use Rattle.std.proofs.Common.{◌≡◌, ℕ, zero, suc, ◌<◌, ◌≤◌, List, [], ◌∷◌, ◌++◌, length, drop, Some, refl, sym, ap, ◌∙◌, arith, append_assoc, append-nil, length-append, inl, inr}
+use Rattle.std.proofs.Common.{◌≡◌, ◌≢◌, ℕ, zero, suc, ◌<◌, ◌≤◌, List, [], ◌∷◌, ◌++◌, length, drop, Some, refl, sym, ap, ◌∙◌, arith, append_assoc, append-nil, length-append, inl, inr}
 use Rattle.std.proofs.Math.Seq.{drop-append_seam}
 use Rattle.std.specs.Prelude.{slice_get, slice_set, ◌⊎◌}
 use Rattle.feed_types.specs.Prefix.{IsPrefix}
@@ -60,6 +60,20 @@ get_after_set (z ∷ xs) zero (suc j) x y e = inr e
 get_after_set (z ∷ xs) (suc i) zero x y e = inr e
 get_after_set (z ∷ xs) (suc i) (suc j) x y e =
     elim (get_after_set xs i j x y e) [ inl here ↦ inl (ap suc here.0, here.1) | inr there ↦ inr there ]
+
+-- at its place, and off it
+pub get_at_set : {X : Type 0} (xs : List X) (i j : ℕ) (x y : X)
+    → slice_get (slice_set xs i x) j ≡ Some y → j ≡ i → y ≡ x
+get_at_set [] i j x y e h = absurd cc
+get_at_set (z ∷ xs) zero zero x y e h = cc
+get_at_set (z ∷ xs) zero (suc j) x y e h = absurd (omega arith)
+get_at_set (z ∷ xs) (suc i) zero x y e h = absurd (omega arith)
+get_at_set (z ∷ xs) (suc i) (suc j) x y e h = get_at_set xs i j x y e (omega arith)
+
+pub get_off_set : {X : Type 0} (xs : List X) (i j : ℕ) (x y : X)
+    → slice_get (slice_set xs i x) j ≡ Some y → j ≢ i → slice_get xs j ≡ Some y
+get_off_set xs i j x y e apart =
+    elim (get_after_set xs i j x y e) [ inl here ↦ absurd (apart here.0) | inr there ↦ there ]
 
 pub get_push : {X : Type 0} (xs : List X) (i : ℕ) (x y : X) → slice_get (xs ++ x ∷ []) i ≡ Some y
     → ((i ≡ length xs) × (y ≡ x)) ⊎ ((i < length xs) × (slice_get xs i ≡ Some y))

@@ -29,7 +29,7 @@ use Rattle.feed_core.specs.declared.event.Event.{Event}
 use Rattle.feed_core.specs.declared.event.Event.TheVariants as event
 use Rattle.feed_core.specs.declared.event.Done.{Done}
 use Rattle.feed_core.specs.Worlds.{Venue, session_count, session_sent, World, Setting, new_venue, new_world}
-use Rattle.feed_core.specs.Steps.{AddsArrival, AddsRenewal, AddsSkip}
+use Rattle.line_arbiter.specs.Additions.{AddsArrival, AddsRenewal, AddsSkip}
 use Rattle.feed_core.specs.Runs.{IsRun}
 use Rattle.feed_core.specs.VenueHalf.{BringsOnly, BringOnly, IsAmong, IsBegunAs, AreBegunAs, AreSession, parts_of_sessions, VenueHalf}
 use Rattle.feed_core.specs.laws.Counts.{place_back}
