@@ -27,18 +27,18 @@ tells_at window gaps (datagram_record venue line bytes) old are = elim (read_or_
       let new : History = after_input old (arrival_of line read.0 given.0) in (
         packet_answered venue line given.0 ∷ items_emitted venue old new.present.packets ++ gap_emitted window gaps venue new,
         new,
-        inr (record { packet = read.0; rest = read.1; answer = given.0; spells = read.2; outcome = given.1; grown = refl; emitted_is = refl }),
+        inr (record { packet = read.0; rest = read.1; answer = given.0; spells = read.2; taken = record { right = given.1; is = refl }; emitted_is = refl }),
       )
 ]
 tells_at window gaps (renewal_record venue name) old are =
     let given = every_renewal (names_of old) (end_of old.present.packets) (last_sent old) name in
-    (renewal_answered venue given.0 ∷ [], history_after old name given.0, record { answer = given.0; is = given.1; after = refl; emitted_is = refl })
+    (renewal_answered venue given.0 ∷ [], history_after old name given.0, record { answer = given.0; renewed = record { right = given.1; is = refl }; emitted_is = refl })
 tells_at window gaps (skip_record venue number) old are =
     let given = every_skip old.present.packets (last_sent old) number in
     let new : History = skip_after old number given.0 in (
       skip_answered venue number given.0 ∷ items_emitted venue old new.present.packets,
       new,
-      record { answer = given.0; is = given.1; after = refl; emitted_is = refl },
+      record { answer = given.0; skipped = record { right = given.1; is = refl }; emitted_is = refl },
     )
 tells_at window gaps (self_help_record venue on) old are = (self_help_declared venue on ∷ [], old, record { same = refl; emitted_is = refl })
 

@@ -42,9 +42,9 @@ one_packet window gaps venue line bytes old n1 n2 l1 l2 one a b =
     let G : Content → Result Outcome LineFault → History = λ p x. after_input old (arrival_of line p x) in
     let F : Result Outcome LineFault → History → List ReplayEvent = λ x h. packet_answered venue line x ∷ items_emitted venue old h.present.packets ++ gap_emitted window gaps venue h in
     let p : a.packet ≡ b.packet = one.packet bytes a.packet b.packet a.rest b.rest a.spells b.spells in
-    let first : IsOutcome old.present.name window (last_sent old) old.present.packets b.packet a.answer = subst (λ (q : Content). IsOutcome old.present.name window (last_sent old) old.present.packets q a.answer) p a.outcome in
-    let x : a.answer ≡ b.answer = one.outcome old.present.name window (last_sent old) old.present.packets b.packet a.answer b.answer first b.outcome in
-    let n : n1 ≡ n2 = a.grown ∙ ap (λ (q : Content). G q a.answer) p ∙ ap (λ (y : Result Outcome LineFault). G b.packet y) x ∙ sym b.grown in
+    let first : IsOutcome old.present.name window (last_sent old) old.present.packets b.packet a.answer = subst (λ (q : Content). IsOutcome old.present.name window (last_sent old) old.present.packets q a.answer) p a.taken.right in
+    let x : a.answer ≡ b.answer = one.outcome old.present.name window (last_sent old) old.present.packets b.packet a.answer b.answer first b.taken.right in
+    let n : n1 ≡ n2 = a.taken.is ∙ ap (λ (q : Content). G q a.answer) p ∙ ap (λ (y : Result Outcome LineFault). G b.packet y) x ∙ sym b.taken.is in
     (a.emitted_is ∙ ap (λ (y : Result Outcome LineFault). F y n1) x ∙ ap (λ (h : History). F b.answer h) n ∙ sym b.emitted_is, n)
 
 one_at : (window : ℕ) (gaps : Bool) (r : CaptureRecord) (old n1 n2 : History) (l1 l2 : List ReplayEvent) → Single → EmitsAt window gaps r old l1 n1 → EmitsAt window gaps r old l2 n2 → (l1 ≡ l2) × (n1 ≡ n2)
@@ -53,12 +53,12 @@ one_at window gaps (datagram_record venue line bytes) old n1 n2 l1 l2 one (inl a
 one_at window gaps (datagram_record venue line bytes) old n1 n2 l1 l2 one (inr a) (inl b) = absurd (one.no_fault bytes a.packet a.rest b.fault a.spells b.has)
 one_at window gaps (datagram_record venue line bytes) old n1 n2 l1 l2 one (inr a) (inr b) = one_packet window gaps venue line bytes old n1 n2 l1 l2 one a b
 one_at window gaps (renewal_record venue name) old n1 n2 l1 l2 one a b =
-    let x = one_renewal (names_of old) _ (last_sent old) name a.answer b.answer a.is b.is in
-    (a.emitted_is ∙ ap (λ (y : Result ℕ RenewFault). renewal_answered venue y ∷ []) x ∙ sym b.emitted_is, a.after ∙ ap (history_after old name) x ∙ sym b.after)
+    let x = one_renewal (names_of old) _ (last_sent old) name a.answer b.answer a.renewed.right b.renewed.right in
+    (a.emitted_is ∙ ap (λ (y : Result ℕ RenewFault). renewal_answered venue y ∷ []) x ∙ sym b.emitted_is, a.renewed.is ∙ ap (history_after old name) x ∙ sym b.renewed.is)
 one_at window gaps (skip_record venue number) old n1 n2 l1 l2 one a b =
     let F : Result (Unit {0}) SkipFault → History → List ReplayEvent = λ y h. skip_answered venue number y ∷ items_emitted venue old h.present.packets in
-    let x = one_skip old.present.packets (last_sent old) number a.answer b.answer a.is b.is in
-    let n : n1 ≡ n2 = a.after ∙ ap (skip_after old number) x ∙ sym b.after in
+    let x = one_skip old.present.packets (last_sent old) number a.answer b.answer a.skipped.right b.skipped.right in
+    let n : n1 ≡ n2 = a.skipped.is ∙ ap (skip_after old number) x ∙ sym b.skipped.is in
     (a.emitted_is ∙ ap (λ (y : Result (Unit {0}) SkipFault). F y n1) x ∙ ap (λ (h : History). F b.answer h) n ∙ sym b.emitted_is, n)
 one_at window gaps (self_help_record venue on) old n1 n2 l1 l2 one a b = (a.emitted_is ∙ sym b.emitted_is, a.same ∙ sym b.same)
 

@@ -190,13 +190,13 @@ front_follows window vs hs i h f at =
     let v = get_within vs i (omega arith) in
     front_here vs i v.0 v.1 ∙ (f.each i v.0 h v.1 at).history.present.front
 
-skips_on : (rule : SkipRule) (window n : ℕ) (gaps : Bool) (r : CaptureRecord) (h after : History) (emitted : List _) → SkipsAt rule window r h n → EmitsAt window gaps (skip_at r n) h emitted after
+pub skips_on : (rule : SkipRule) (window n : ℕ) (gaps : Bool) (r : CaptureRecord) (h after : History) (emitted : List _) → SkipsAt rule window r h n → EmitsAt window gaps (skip_at r n) h emitted after
     → (after ≡ skip_after h n (Ok tt)) × (front_of h.present.packets + 1 < n) × (n < 2 ^ 64)
 skips_on rule window n gaps (datagram_record venue line bytes) h after emitted (p, rest, spells, x) e =
-    let is = skip_answer rule window h p n spells.content x e.answer e.is in
+    let is = skip_answer rule window h p n spells.content x e.answer e.skipped.right in
     let most = first_by_own rule window h p n spells.content x in
     let small = spells.content.small in
-    (e.after ∙ ap (skip_after h n) is, x.missing, omega arith)
+    (e.skipped.is ∙ ap (skip_after h n) is, x.missing, omega arith)
 skips_on rule window n gaps (renewal_record venue name) h after emitted x e = absurd x
 skips_on rule window n gaps (skip_record venue skipped) h after emitted x e = absurd x
 skips_on rule window n gaps (self_help_record venue on) h after emitted x e = absurd x

@@ -19,7 +19,7 @@ use Rattle.feed_text.specs.Following.{VenueList, FollowAll, KeepsVenues, LeavesL
 use Rattle.feed_text.specs.Lacks.{AppendsLacks}
 use Rattle.feed_text.specs.declared.lack.Lack.{Lack}
 use Rattle.feed_text.specs.Replays.{venues_in, HasRead, WroteAll, WroteLines, WroteLinesUntil, WrotePrefix, texts_of}
-use Rattle.journal_book.specs.Streaming.{StreamingState, new_streaming}
+use Rattle.journal_book.specs.NumberedBooks.{NumberedState, new_numbered}
 use Rattle.feed_text.specs.laws.Entries.{entries_more, text_more}
 use Rattle.feed_text.proofs.Tales.{tale_with, tale_from}
 use Rattle.feed_text.proofs.Taking.{taken_longer, taken_more, tells_records}
@@ -44,7 +44,7 @@ pub record Told (config : ReplayConfig) (emitted : List ReplayEvent) (shown : Li
   pub all : shown ++ state.text ≡ lines_emitted config emitted
 
 -- a journal without entries and no text
-pub told_none : {config : ReplayConfig} (j : StreamingState) (text : List ℕ) → j ≡ new_streaming config.symbols.now (venues_in config) config.journal → text ≡ [] → Told config [] [] (tale_from j text)
+pub told_none : {config : ReplayConfig} (j : NumberedState) (text : List ℕ) → j ≡ new_numbered config.symbols.now (venues_in config) config.journal → text ≡ [] → Told config [] [] (tale_from j text)
 told_none j text e none = rw (e, none) (record { symbols = refl; venues = refl; journal = refl; entries = refl; within = omega arith; all = refl })
 
 -- `calls` calls read these records and then this rest, the venues follow the histories that lead to

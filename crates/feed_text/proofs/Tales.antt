@@ -1,13 +1,13 @@
 -- States that go on: events after events.
 use Rattle.std.proofs.Common.{◌≡◌, ℕ, Bool, true, false, ◌+◌, ◌<◌, ◌≤◌, List, [], ◌∷◌, ◌++◌, length, drop, refl, sym, ap, subst, ◌∙◌, arith, append_assoc, append-nil, length-append}
-use Rattle.std.specs.Prelude.{Result, Ok, Err, flat_map, not, Some, None, Option, if◌then◌else◌}
+use Rattle.std.specs.Prelude.{Result, Ok, Err, flat_map, Some, None, Option}
 use Rattle.std.proofs.Math.ListN.{drop_of_length-le}
 use Rattle.feed_types.specs.declared.item.Numbered.{Numbered}
 use Rattle.feed_types.specs.declared.journal.Entry.{Entry}
 use Rattle.feed_types.specs.declared.journal.Entry.TheVariants.{Consumed, SelfHelp}
-use Rattle.nbbo_book.specs.Eligible.{is_self_helped, is_so}
+use Rattle.nbbo_book.specs.Eligible.{is_so}
 use Rattle.journal_book.specs.Changes.{changes_of, notices_since}
-use Rattle.journal_book.specs.Streaming.{StreamingState, latest_of, GoesOnBy}
+use Rattle.journal_book.specs.NumberedBooks.{NumberedState, latest_of, GoesOnBy}
 use Rattle.journal_book.specs.LastEntry.{before-put}
 use Rattle.feed_types.specs.declared.journal.Notice.{Notice}
 use Rattle.feed_text.specs.declared.report.PublishStop.{PublishStop}
@@ -21,7 +21,7 @@ use Rattle.feed_text.specs.laws.Entries.{entries_more, text_more}
 use Rattle.feed_text.specs.ReplayStates.{ReplayState, state_after, IsWithinJournal, Grows, GoesOn, GoesToFull, EmitsInto}
 
 -- a running journal and a text
-abbrev pub tale_from : StreamingState → List ℕ → ReplayState
+abbrev pub tale_from : NumberedState → List ℕ → ReplayState
 tale_from j text = record {
   symbols = j.symbols;
   venues = j.venues;
@@ -153,16 +153,16 @@ since-last : (symbols : List (List ℕ)) (old : List Entry) (e : Entry) → late
 since-last symbols old e = ap (λ (es : List Entry). drop (length (changes_of symbols es)) (changes_of symbols (old ++ e ∷ []))) (before-put old e)
 
 -- the best lines of the last entry, behind a text
-bests_since : (o j : StreamingState) (e : Entry) (t1 t2 : List ℕ) (latest : List Notice)
+bests_since : (o j : NumberedState) (e : Entry) (t1 t2 : List ℕ) (latest : List Notice)
     → GoesOnBy o e j → latest ≡ latest_of j.symbols j.entries → t2 ≡ t1 ++ flat_map best_line latest
     → t2 ≡ t1 ++ flat_map best_line (notices_since o.symbols o.entries (o.entries ++ e ∷ []))
 bests_since o j e t1 t2 latest made last bests =
     bests
     ∙ ap (λ (notices : List Notice). t1 ++ flat_map best_line notices)
-    (last ∙ ap (λ (s : StreamingState). latest_of s.symbols s.entries) made ∙ since-last o.symbols o.entries e)
+    (last ∙ ap (λ (s : NumberedState). latest_of s.symbols s.entries) made ∙ since-last o.symbols o.entries e)
 
 -- an item for which there was room
-pub item_goes : (o j : StreamingState) (venue : ℕ) (n : Numbered) (latest : List Notice) (t0 t1 t2 : List ℕ)
+pub item_goes : (o j : NumberedState) (venue : ℕ) (n : Numbered) (latest : List Notice) (t0 t1 t2 : List ℕ)
     → length o.entries < o.journal → GoesOnBy o (Consumed venue n) j
     → t1 ≡ t0 ++ item_line venue n → latest ≡ latest_of j.symbols j.entries → t2 ≡ t1 ++ flat_map best_line latest
     → GoesOn (tale_from o t0) (item_taken venue n ∷ []) (tale_from j t2)
@@ -172,11 +172,11 @@ item_goes o j venue n latest t0 t1 t2 room made head last bests =
     bests_since o j (Consumed venue n) t1 t2 latest made last bests
     ∙ ap (λ (t : List ℕ). t ++ flat_map best_line (notices_since o.symbols o.entries N)) head in
     subst (λ (x : ReplayState). GoesOn (tale_from o t0) (item_taken venue n ∷ []) x)
-    (sym (ap (λ (s : StreamingState). tale_from s t2) made))
+    (sym (ap (λ (s : NumberedState). tale_from s t2) made))
     (step_goes (tale_from o t0) (item_taken venue n) N t2 refl text (λ w. one_longer o.entries (Consumed venue n) o.journal room))
 
 -- an item for which there was none
-pub item_full : (o : StreamingState) (venue : ℕ) (n : Numbered) (text : List ℕ) → o.journal ≤ length o.entries → GoesToFull (tale_from o text) (item_taken venue n ∷ []) (tale_from o text)
+pub item_full : (o : NumberedState) (venue : ℕ) (n : Numbered) (text : List ℕ) → o.journal ≤ length o.entries → GoesToFull (tale_from o text) (item_taken venue n ∷ []) (tale_from o text)
 item_full o venue n text full = record {
   first = [];
   next = item_taken venue n;
@@ -186,65 +186,44 @@ item_full o venue n text full = record {
   full = let n = length-append o.entries (Consumed venue n ∷ []) in omega arith;
 }
 
-so_not : (entries : List Entry) (venue : ℕ) (on : Bool) → (is_self_helped entries venue ≡ on → ⊥) → is_so entries venue on ≡ false
-so_not entries venue on h = by (is_self_helped entries venue) on h
-  where
-    by : (helped on : Bool) → (helped ≡ on → ⊥) → (if helped then on else not on) ≡ false
-    by true true h = absurd (h refl)
-    by true false h = refl
-    by false true h = refl
-    by false false h = absurd (h refl)
-
-so_yes : (entries : List Entry) (venue : ℕ) (on : Bool) → is_self_helped entries venue ≡ on → is_so entries venue on ≡ true
-so_yes entries venue on h = by (is_self_helped entries venue) on h
-  where
-    by : (helped on : Bool) → helped ≡ on → (if helped then on else not on) ≡ true
-    by true true e = refl
-    by true false e = absurd cc
-    by false true e = absurd cc
-    by false false e = refl
-
 -- a declaration that was journaled
-pub declared_goes : (o j : StreamingState) (venue : ℕ) (on : Bool) (position : ℕ) (latest : List Notice) (t0 t1 t2 : List ℕ)
-    → (¬ (is_self_helped o.entries venue ≡ on)) → length o.entries < o.journal → GoesOnBy o (SelfHelp venue on) j → position ≡ length j.entries
+pub declared_goes : (o j : NumberedState) (venue : ℕ) (on : Bool) (position : ℕ) (latest : List Notice) (t0 t1 t2 : List ℕ)
+    → is_so o.entries venue on ≡ false → length o.entries < o.journal → GoesOnBy o (SelfHelp venue on) j → position ≡ length j.entries
     → t1 ≡ t0 ++ declare_line venue on (Some position) → latest ≡ latest_of j.symbols j.entries → t2 ≡ t1 ++ flat_map best_line latest
     → GoesOn (tale_from o t0) (self_help_declared venue on ∷ []) (tale_from j t2)
-declared_goes o j venue on position latest t0 t1 t2 other room made placed head last bests =
+declared_goes o j venue on position latest t0 t1 t2 so room made placed head last bests =
     let N : List Entry = o.entries ++ SelfHelp venue on ∷ [] in
-    let so : is_so o.entries venue on ≡ false = so_not o.entries venue on other in
     let after : entries_after o.entries (self_help_declared venue on) ≡ N = rw so refl in
     let longer : length N ≡ length o.entries + 1 = length-append o.entries (SelfHelp venue on ∷ []) in
-    let count : position ≡ length o.entries + 1 = placed ∙ ap (λ (s : StreamingState). length s.entries) made ∙ longer in
+    let count : position ≡ length o.entries + 1 = placed ∙ ap (λ (s : NumberedState). length s.entries) made ∙ longer in
     let line : line_of o.entries (self_help_declared venue on) ≡ declare_line venue on (Some position) = rw (so, count) refl in
     let text : t2 ≡ (t0 ++ line_of o.entries (self_help_declared venue on)) ++ flat_map best_line (notices_since o.symbols o.entries N) =
     bests_since o j (SelfHelp venue on) t1 t2 latest made last bests
     ∙ ap (λ (t : List ℕ). t ++ flat_map best_line (notices_since o.symbols o.entries N)) (head ∙ ap (λ (l : List ℕ). t0 ++ l) (sym line)) in
     subst (λ (x : ReplayState). GoesOn (tale_from o t0) (self_help_declared venue on ∷ []) x)
-    (sym (ap (λ (s : StreamingState). tale_from s t2) made))
+    (sym (ap (λ (s : NumberedState). tale_from s t2) made))
     (step_goes (tale_from o t0) (self_help_declared venue on) N t2 (sym after) text (λ w. one_longer o.entries (SelfHelp venue on) o.journal room))
 
 -- one that is so already
-pub already_goes : (o j : StreamingState) (venue : ℕ) (on : Bool) (t0 t1 : List ℕ)
-    → is_self_helped o.entries venue ≡ on → j ≡ o → t1 ≡ t0 ++ declare_line venue on None
+pub already_goes : (o j : NumberedState) (venue : ℕ) (on : Bool) (t0 t1 : List ℕ)
+    → is_so o.entries venue on ≡ true → j ≡ o → t1 ≡ t0 ++ declare_line venue on None
     → GoesOn (tale_from o t0) (self_help_declared venue on ∷ []) (tale_from j t1)
-already_goes o j venue on t0 t1 so same head =
-    let yes_so : is_so o.entries venue on ≡ true = so_yes o.entries venue on so in
+already_goes o j venue on t0 t1 yes_so same head =
     let after : entries_after o.entries (self_help_declared venue on) ≡ o.entries = rw yes_so refl in
     let line : line_of o.entries (self_help_declared venue on) ≡ declare_line venue on None = rw yes_so refl in
     subst (λ (x : ReplayState). GoesOn (tale_from o t0) (self_help_declared venue on ∷ []) x)
-    (sym (ap (λ (s : StreamingState). tale_from s t1) same))
+    (sym (ap (λ (s : NumberedState). tale_from s t1) same))
     (line_goes (tale_from o t0) (self_help_declared venue on) t1 after (head ∙ ap (λ (l : List ℕ). t0 ++ l) (sym line)))
 
 -- one for which there was no room
-pub declared_full : (o : StreamingState) (venue : ℕ) (on : Bool) (text : List ℕ) → (¬ (is_self_helped o.entries venue ≡ on)) → o.journal ≤ length o.entries → GoesToFull (tale_from o text) (self_help_declared venue on ∷ []) (tale_from o text)
-declared_full o venue on text other full = record {
+pub declared_full : (o : NumberedState) (venue : ℕ) (on : Bool) (text : List ℕ) → is_so o.entries venue on ≡ false → o.journal ≤ length o.entries → GoesToFull (tale_from o text) (self_help_declared venue on ∷ []) (tale_from o text)
+declared_full o venue on text so full = record {
   first = [];
   next = self_help_declared venue on;
   others = [];
   emitted_is = refl;
   goes = goes_none (tale_from o text);
   full =
-      let so : is_so o.entries venue on ≡ false = so_not o.entries venue on other in
       let n = length-append o.entries (SelfHelp venue on ∷ []) in
       rw so (omega arith);
 }

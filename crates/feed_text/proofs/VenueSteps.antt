@@ -89,7 +89,7 @@ packet_told width place h v line bytes rest p t0 t1 done spells x =
     record {
       emitted = packet_answered place line x.answer ∷ items_emitted place h Q ++ [];
       after = after_input h (arrival_of line p x.answer);
-      at = inr (record { packet = p; rest = rest; answer = x.answer; spells = spells; outcome = x.outcome; grown = refl; emitted_is = refl });
+      at = inr (record { packet = p; rest = rest; answer = x.answer; spells = spells; taken = record { right = x.outcome; is = refl }; emitted_is = refl });
       emits = tells_as t0 t1 done (ap (λ (hs : List ReplayEvent). packet_answered place line x.answer ∷ hs) (sym (append-nil (items_emitted place h Q)))) x.emits;
       follows = x.follows;
     }
@@ -120,8 +120,7 @@ gap_at width place gaps line bytes h after emitted (inr a) =
       rest = a.rest;
       answer = a.answer;
       spells = a.spells;
-      outcome = a.outcome;
-      grown = a.grown;
+      taken = a.taken;
       emitted_is = ap (λ (hs : List ReplayEvent). hs ++ G) a.emitted_is
           ∙ ap (λ (hs : List ReplayEvent). packet_answered place line a.answer ∷ hs ++ G) (append-nil items);
     })
@@ -161,7 +160,7 @@ pub renewal_told : (width place : ℕ) (gaps : Bool) (h : History) (v : ReplayVe
 renewal_told width place gaps h v name answer t0 t1 done x emits = record {
   emitted = renewal_answered place answer ∷ [];
   after = history_after h name answer;
-  at = record { answer = answer; is = x.is; after = refl; emitted_is = refl };
+  at = record { answer = answer; renewed = record { right = x.is; is = refl }; emitted_is = refl };
   emits = emits;
   follows = on_ok done x.follows;
 }
@@ -308,7 +307,7 @@ skip_told width place gaps h number v new answer t0 t1 done x emits sends =
     record {
       emitted = skip_answered place number answer ∷ items_emitted place h P;
       after = k;
-      at = record { answer = answer; is = x.is; after = refl; emitted_is = refl };
+      at = record { answer = answer; skipped = record { right = x.is; is = refl }; emitted_is = refl };
       emits = tells_as t0 t1 done (ap (λ (n : ℕ). skip_answered place number answer ∷ map (item_taken place) (drop n (stream_of P))) x.sent.sent) (emits P fits);
       follows = on_ok_weaker done follows sends;
     }

@@ -10,12 +10,10 @@ use Rattle.line_arbiter.specs.declared.outcome.Outcome.{Outcome}
 use Rattle.line_arbiter.specs.declared.outcome.LineFault.{LineFault}
 use Rattle.line_arbiter.specs.declared.faults.RenewFault.{RenewFault}
 use Rattle.line_arbiter.specs.declared.faults.SkipFault.{SkipFault}
-use Rattle.line_arbiter.specs.Packets.{Input, arrival_of, end_of}
+use Rattle.line_arbiter.specs.Additions.{AddsArrival, AddsRenewal, AddsSkip}
+use Rattle.line_arbiter.specs.Packets.{Input, end_of}
 use Rattle.line_arbiter.specs.Streams.{stream_of, gap_of, front_of, end_at}
-use Rattle.line_arbiter.specs.Histories.{History, names_of, after_input, history_after, skip_after}
-use Rattle.line_arbiter.specs.Outcomes.{IsOutcome}
-use Rattle.line_arbiter.specs.Renewals.{IsRenewal}
-use Rattle.line_arbiter.specs.Skips.{IsSkip}
+use Rattle.line_arbiter.specs.Histories.{History}
 use Rattle.feed_text.specs.Capture.{CaptureRecord, datagram_record, renewal_record, skip_record, self_help_record, record_venue}
 use Rattle.feed_text.specs.ReplayEvents.{ReplayEvent, packet_answered, packet_refused, item_taken, gap_left, renewal_answered, skip_answered, self_help_declared}
 
@@ -60,9 +58,7 @@ pub record EmitsPacket (window : ℕ) (gaps : Bool) (venue : ℕ) (line : LineId
   pub rest : List ℕ
   pub answer : Result Outcome LineFault
   pub spells : Spells bytes packet rest
-  pub outcome : IsOutcome old.present.name window (last_sent old) old.present.packets packet
-      answer
-  pub grown : new ≡ after_input old (arrival_of line packet answer)
+  pub taken : AddsArrival window (last_sent old) line packet old answer new
   pub emitted_is : emitted ≡ packet_answered venue line answer
       ∷ items_emitted venue old new.present.packets ++ gap_emitted window gaps venue new
 
@@ -70,8 +66,7 @@ pub record EmitsPacket (window : ℕ) (gaps : Bool) (venue : ℕ) (line : LineId
 pub record EmitsRenewal (venue : ℕ) (name : List ℕ) (old : History) (emitted : List ReplayEvent)
     (new : History) : Type 0 where
   pub answer : Result ℕ RenewFault
-  pub is : IsRenewal (names_of old) (end_of old.present.packets) (last_sent old) name answer
-  pub after : new ≡ history_after old name answer
+  pub renewed : AddsRenewal (last_sent old) name old answer new
   pub emitted_is : emitted ≡ renewal_answered venue answer ∷ []
 
 -- a skip emits its answer, and then each item that it made ready: where the answer is Ok Skipped,
@@ -79,8 +74,7 @@ pub record EmitsRenewal (venue : ℕ) (name : List ℕ) (old : History) (emitted
 pub record EmitsSkip (venue number : ℕ) (old : History) (emitted : List ReplayEvent)
     (new : History) : Type 0 where
   pub answer : Result (Unit {0}) SkipFault
-  pub is : IsSkip old.present.packets (last_sent old) number answer
-  pub after : new ≡ skip_after old number answer
+  pub skipped : AddsSkip (last_sent old) number old answer new
   pub emitted_is : emitted ≡ skip_answered venue number answer
       ∷ items_emitted venue old new.present.packets
 

@@ -2,6 +2,7 @@
 -- each venue.
 use Rattle.std.specs.Prelude.{◌≡◌, ℕ, ◌+◌, ◌<◌, ◌≤◌, Bool, List, [], ◌∷◌, ◌++◌, length, flat_map, map, Option, Some, None, if◌then◌else◌}
 use Rattle.feed_types.specs.declared.journal.Entry.{Entry}
+use Rattle.feed_types.specs.declared.journal.Notice.{Notice}
 use Rattle.mold_packet.specs.Faults.{code_of}
 use Rattle.nbbo_book.specs.Eligible.{is_so}
 use Rattle.line_arbiter.specs.Histories.{History, new_history, all_begun, streams_of, wins_in}
@@ -30,11 +31,20 @@ line_of entries (skip_answered venue number answer) = skip_line venue number ans
 line_of entries (self_help_declared venue on) =
     declare_line venue on (position_of entries venue on)
 
+-- the notices of an event, after these entries
+abbrev pub event_notices : List (List ℕ) → List Entry → ReplayEvent → List Notice
+event_notices symbols entries h = notices_since symbols entries (entries_after entries h)
+
+-- the notices of events, one after another
+abbrev pub notices_emitted : List (List ℕ) → List Entry → List ReplayEvent → List Notice
+notices_emitted symbols entries [] = []
+notices_emitted symbols entries (h ∷ hs) =
+    event_notices symbols entries h ++ notices_emitted symbols (entries_after entries h) hs
+
 -- the lines of an event: its own, and then the best lines of its notices
 abbrev pub lines_of : List (List ℕ) → List Entry → ReplayEvent → List ℕ
 lines_of symbols entries h =
-    line_of entries h
-    ++ flat_map best_line (notices_since symbols entries (entries_after entries h))
+    line_of entries h ++ flat_map best_line (event_notices symbols entries h)
 
 -- the lines of events, one after another
 abbrev pub text_of : List (List ℕ) → List Entry → List ReplayEvent → List ℕ

@@ -1,12 +1,14 @@
 //! Laws of the definitions.
-ghost use Rattle.std.specs.Prelude.{◌≡◌, ℕ, Bool, List, Some, All, slice_get};
-ghost use Rattle.line_arbiter.specs.Histories.{History, streams_of};
+ghost use Rattle.std.specs.Prelude.{◌≡◌, ℕ, Bool, List, Ok, Some, All, slice_get};
+ghost use Rattle.line_arbiter.specs.Histories.{History, skip_after, streams_of};
 ghost use Rattle.feed_text.specs.declared.replay.ReplayConfig.{ReplayConfig};
 ghost use Rattle.feed_text.specs.Capture.{CaptureRecord, HoldsBytes, IsRecord, NoRecord, capture_of};
 ghost use Rattle.feed_text.specs.ReplayEvents.{ReplayEvent};
-ghost use Rattle.feed_text.specs.Emitted.{Emits};
-ghost use Rattle.feed_text.specs.Texts.{EmitsAll, IsLinesOf, IsTextOf, IsLinesToFull};
+ghost use Rattle.feed_text.specs.Emitted.{Emits, EmitsAt};
+ghost use Rattle.feed_text.specs.Texts.{AreAllTaken, EmitsAll, IsLinesOf, IsTextOf, IsLinesToFull};
+ghost use Rattle.feed_text.specs.declared.skip_rule.SkipRule.{SkipRule};
 ghost use Rattle.feed_text.specs.Replays.{venues_in};
+ghost use Rattle.feed_text.specs.Rules.{SkipsAt, skip_at};
 ghost use Rattle.feed_text.specs.VenueItems.{items_taken};
 
 /// A capture has one reading: where the same bytes are records and then a rest that begins with
@@ -56,4 +58,16 @@ pub fn items_are_the_streams()
         → EmitsAll config records emitted histories
         → (place : ℕ) (h : History) → slice_get histories place ≡ Some h
         → items_taken place emitted ≡ streams_of h }
+{}
+
+/// Without a rule what is taken of a capture's records are these records; and a skip that a rule
+/// puts in is made.
+pub fn rules_put_in_skips_that_are_made()
+    ensures never { (config : ReplayConfig) (records taken : List CaptureRecord)
+        (histories : List History) → config.skips ≡ SkipRule.Never
+        → AreAllTaken config records taken histories → taken ≡ records }
+    ensures made { (rule : SkipRule) (window number : ℕ) (gaps : Bool) (r : CaptureRecord)
+        (h after : History) (emitted : List ReplayEvent) → SkipsAt rule window r h number
+        → EmitsAt window gaps (skip_at r number) h emitted after
+        → after ≡ skip_after h number (Ok tt) }
 {}

@@ -57,7 +57,10 @@ pub use fault::ReplayFault;
 pub use formats::{BestFormat, StatsFormat};
 pub use lack::Lack;
 pub use lack_lines::write_lacks;
-pub use laws::{every_capture_tells, items_are_the_streams, one_reading, one_text};
+pub use laws::{
+    every_capture_tells, items_are_the_streams, one_reading, one_text,
+    rules_put_in_skips_that_are_made,
+};
 pub use lines::{put_best, put_venue};
 pub use memory::{MemoryIn, MemoryOut};
 pub use output::write_all;

@@ -2,7 +2,7 @@
 ghost use Rattle.std.specs.Prelude.{◌≡◌, ◌<◌, ◌≤◌, ℕ, List, [], length, IfOk, OnErr, OnOk};
 ghost use Rattle.std.specs.List.{IsDistinct};
 ghost use Rattle.std.specs.Str.{bytes_eq};
-ghost use Rattle.journal_book.specs.Streaming.{new_streaming};
+ghost use Rattle.journal_book.specs.NumberedBooks.{new_numbered};
 ghost use Rattle.feed_types.specs.declared.line.LineId.{LineId};
 ghost use Rattle.line_arbiter.specs.Histories.{History};
 ghost use Rattle.feed_text.specs.Capture.{IsRecord, datagram_record, record_of};
@@ -23,7 +23,7 @@ use crate::skip_rule::SkipRule;
 use crate::unread::{RECORDS_ROOM, ReadBuffer};
 use crate::venues::Venues;
 use feed_types::{SymbolName, VenueId};
-use journal_book::StreamingJournal;
+use journal_book::NumberedBook;
 use std::alloc::{AllocError, Global};
 
 /// The settings of a replay.
@@ -89,10 +89,10 @@ fn new_report(alloc: Global, config: &ReplayConfig<'_>) -> Result<ReplaySink, Al
     requires symbols { length config.now.symbols.now ≤ 4096 }
     requires distinct { IsDistinct bytes_eq config.now.symbols.now }
     ensures journal { IfOk result (λ report. report.journal
-        ≡ new_streaming config.now.symbols.now (length config.now.sessions.now) config.now.journal) }
+        ≡ new_numbered config.now.symbols.now (length config.now.sessions.now) config.now.journal) }
     ensures text { IfOk result (λ report. report.text.items ≡ []) }
 {
-    match StreamingJournal::new(alloc, config.symbols, config.sessions.len(), config.journal) {
+    match NumberedBook::new(alloc, config.symbols, config.sessions.len(), config.journal) {
         Ok(journal) => Ok(ReplaySink {
             journal,
             text: LineBuffer::new(alloc),

@@ -9,7 +9,7 @@ ghost use Rattle.feed_text.specs.declared.report.PublishStop.TheVariants.{NoMemo
 use crate::lines::{put_change, put_declared, put_item};
 use crate::page::LineBuffer;
 use feed_types::{Numbered, VenueId};
-use journal_book::{EntryChanges, JournalFault, StreamingJournal};
+use journal_book::{EntryChanges, JournalFault, NumberedBook};
 use std::alloc::AllocError;
 
 /// Why a record's events were not published to their end.
@@ -32,7 +32,7 @@ impl From<AllocError> for PublishStop {
 /// The journal of a replay, and the text that waits to be written.
 #[derive(Drop)]
 pub struct ReplaySink {
-    pub journal: StreamingJournal,
+    pub journal: NumberedBook,
     pub text: LineBuffer,
 }
 

@@ -22,7 +22,7 @@ use Rattle.line_arbiter.specs.Streams.{front_of, stream_of, end_at}
 use Rattle.line_arbiter.specs.Outcomes.{new_count, IsOutcome}
 use Rattle.line_arbiter.specs.Answered.{AreAnswered}
 use Rattle.line_arbiter.specs.Histories.{History, new_history}
-use Rattle.line_arbiter.specs.OfSession.{IsOfSession, IsInputOf, AreOfSession, GivesSession}
+use Rattle.line_arbiter.specs.OfSession.{IsOfSession, IsInputOf, AreOfSession, GivesSession, session_of_messages}
 use Rattle.line_arbiter.specs.Skips.{IsArrival}
 use Rattle.line_arbiter.specs.laws.Bringing.{carried_same, carried_more, end_of-push, end_same}
 use Rattle.line_arbiter.specs.laws.Below.{answered_more}
@@ -39,10 +39,10 @@ use Rattle.feed_text.specs.Capture.{CaptureRecord, datagram_record}
 use Rattle.feed_text.specs.ReplayEvents.{ReplayEvent, packet_answered, item_taken, entries_of}
 use Rattle.feed_text.specs.Emitted.{last_sent, items_emitted, EmitsRecord, Emits}
 use Rattle.feed_text.specs.laws.Entries.{entries_more}
-use Rattle.replay_run.specs.Events.{consumed_all, world_of, outcomes_of, IsReplayRun}
-use Rattle.replay_run.specs.VenueItems.{HoldsOnly, HoldOnly}
-use Rattle.replay_run.specs.Moving.{session_of, ComesThrough}
-use Rattle.replay_run.proofs.Runs.{get_map, get_set_here, items_len, replay_run}
+use Rattle.feed_core.specs.VenueHalf.{BringsOnly, BringOnly}
+use Rattle.replay_run.specs.Events.{event_of, consumed_all, world_of, outcomes_of, IsReplayRun}
+use Rattle.replay_run.specs.Moving.{ComesThrough}
+use Rattle.replay_run.proofs.Runs.{get_map, get_set_here, items_len, events_only, replay_run}
 
 -- ---- the packets
 
@@ -299,8 +299,7 @@ tells_one s window place P p hs a is there content none answer = record {
     rest = [];
     answer = a.answer;
     spells = spells p content none;
-    outcome = answer;
-    grown = ap (λ (x : Input). came s (P ++ x ∷ [])) is;
+    taken = record { right = answer; is = ap (λ (x : Input). came s (P ++ x ∷ [])) is };
     emitted_is = refl;
   });
   others = refl;
@@ -395,12 +394,12 @@ reaches s window place k (m ∷ ms) P hs ten wide f u there =
 
 -- the records hold packets of the session alone
 held : (s : Session) (place : ℕ) (p : Content) → IsContent p → p.ignored ≡ 0 → IsOfSession s p
-    → HoldsOnly place s (datagram_record place A (spelling p))
+    → BringsOnly place s (event_of (datagram_record place A (spelling p)))
 held s place p content none of at q rest reads name =
     subst (IsOfSession s) (same_packet (spelling p) p q [] rest (spells p content none) reads) of
 
 hold : (s : Session) (window place k : ℕ) (ms : List (List ℕ)) → length s.name ≡ 10 → AreFrom s k ms
-    → HoldOnly place (records_from place s.name k ms) s
+    → BringOnly place (map event_of (records_from place s.name k ms)) s
 hold s window place k [] ten f =
     let all : k ≡ length s.items = (let a = f.all in omega arith) in
     let small : k + 1 < 2 ^ 64 = (let a = f.small in omega arith) in (
@@ -451,9 +450,9 @@ pub comes_through : (s : Setting) (place : ℕ) (name : List ℕ) (messages : Li
     → length messages < s.journal
     → slice_get s.sessions place ≡ Some name → length name ≡ 10 → AllByRecursion IsMessage messages
     → length messages + 1 < 2 ^ 64
-    → ComesThrough s place (session_of name messages)
+    → ComesThrough s place (session_of_messages name messages)
 comes_through s place name messages wide lane room at ten each small =
-    let t : Session = session_of name messages in
+    let t : Session = session_of_messages name messages in
     let config : ReplayConfig = config_of s in
     let from : AreFrom t 0 messages = record {
       at = λ j m is. subst (λ (n : ℕ). slice_get (map item_of messages) n ≡ Some (item_of m))
@@ -474,7 +473,8 @@ comes_through s place name messages wide lane room at ten each small =
       events = run.events;
       outcomes = outcomes_of [] r.emitted;
       world = world_of r.new (entries_of [] r.emitted);
-      only = run.only place t (hold t s.window place 0 messages ten from);
+      only = events_only place t (records_from place name 0 messages) run.events run.are
+          (hold t s.window place 0 messages ten from);
       run = run.run;
       venue = consumed_all (came t r.packets);
       there = get_map consumed_all r.new place (came t r.packets) r.there;

@@ -1,7 +1,6 @@
 -- A run up to a full journal.
 use Rattle.std.proofs.Common.{◌≡◌, ℕ, zero, suc, ◌+◌, ◌<◌, ◌≤◌, Bool, true, false, List, [], ◌∷◌, ◌++◌, length, map, drop, Some, None, Option, refl, sym, ap, subst, ◌∙◌, arith, append_assoc, append-nil, length-append, inl, inr}
 use Rattle.std.specs.Prelude.{slice_get, slice_set, nat_le, if◌then◌else◌}
-use Rattle.std.specs.List.{AllByRecursion}
 use Rattle.std.proofs.lemmas.Bool.{le-leb}
 use Rattle.std.proofs.lemmas.Grind.{flat_map-append}
 use Rattle.feed_types.specs.declared.item.Numbered.{Numbered}
@@ -36,10 +35,9 @@ use Rattle.feed_text.specs.laws.Entries.{entries_more}
 use Rattle.feed_text.specs.laws.Entries.{entries_grow}
 use Rattle.line_arbiter.specs.laws.AnsweredHistories.{IsAnsweredThroughout}
 use Rattle.feed_text.specs.laws.VenueItemsLaw.{Each, items_same, items_other, new_each, all_kept, taken_are_streams}
-use Rattle.replay_run.specs.VenueItems.{HoldsOnly}
-use Rattle.replay_run.specs.Events.{slice_of, drains, outcomes_by, outcomes_of, replay_setting, consumed_all, world_of}
+use Rattle.replay_run.specs.Events.{slice_of, drains, outcomes_by, outcomes_of, replay_setting, consumed_all, world_of, event_of}
 use Rattle.replay_run.specs.Full.{StopsAt, IsRunToFull}
-use Rattle.replay_run.proofs.Runs.{at, venue_at, venue_more, at_venue, get_map, get_set_here, push_step, drain, items_len, packet_begins, ready_behind, skip_begins, skip_behind, outcomes_more, run_more, RanAll, all_ran, begins, with_venues, all_more, drains_only, events_only}
+use Rattle.replay_run.proofs.Runs.{at, venue_at, venue_more, at_venue, get_map, get_set_here, push_step, drain, items_len, packet_begins, ready_behind, skip_begins, skip_behind, outcomes_more, run_more, RanAll, all_ran, begins, with_venues, all_more, drains_only, events_only, notices_all}
 
 -- ---- the event that finds no room
 
@@ -381,7 +379,7 @@ last_ran s gaps lane hs after E r emitted first others next each t room short =
 -- ---- from the first record on
 
 stops_only : (place : ℕ) (session : Session) (r : CaptureRecord) (events : List Event) (refused : Event)
-    → StopsAt r events refused → HoldsOnly place session r → BringOnly place events session
+    → StopsAt r events refused → BringsOnly place session (event_of r) → BringOnly place events session
 stops_only place session (datagram_record venue line bytes) events refused x may =
     subst (λ (es : List Event). BringOnly place es session) (sym x.1) (
       may,
@@ -398,10 +396,11 @@ stops_only place session (skip_record venue number) events refused x may =
 stops_only place session (self_help_record venue on) events refused x may =
     subst (λ (es : List Event). BringOnly place es session) (sym x.0) tt
 
-all_front : {X : Type 0} (Q : X → Type 0) (xs : List X) (x : X) → AllByRecursion Q (xs ++ x ∷ [])
-    → AllByRecursion Q xs × Q x
-all_front Q [] x all = (tt, all.0)
-all_front Q (y ∷ xs) x all = (let f = all_front Q xs x all.1 in ((all.0, f.0), f.1))
+only_front : (place : ℕ) (session : Session) (rs : List CaptureRecord) (r : CaptureRecord)
+    → BringOnly place (map event_of (rs ++ r ∷ [])) session
+    → BringOnly place (map event_of rs) session × BringsOnly place session (event_of r)
+only_front place session [] r all = (tt, all.0)
+only_front place session (x ∷ rs) r all = (let f = only_front place session rs r all.1 in ((all.0, f.0), f.1))
 
 pub full_run : (config : ReplayConfig) (lane : ℕ) (filters : List Terms) (records : List CaptureRecord)
     (lines : List ℕ) → 1 ≤ lane → (x : IsLinesToFull config records lines)
@@ -442,7 +441,7 @@ full_run config lane filters records lines some x =
       done = l.events;
       refused = l.refused;
       stops = l.stops;
-      only = λ place session may. (let f = all_front (HoldsOnly place session) x.earlier x.last may in
+      only = λ place session may. (let f = only_front place session x.earlier x.last may in
           all_more (BringsOnly place session) ran.0 l.events (events_only place session x.earlier ran.0 ran.1 f.0)
           (stops_only place session x.last l.events l.refused l.stops f.1));
       pushed = l.pushed;
@@ -450,6 +449,7 @@ full_run config lane filters records lines some x =
       run = all;
       entries = l.entries_are ∙ sym told_first;
       items = l.items (λ place h there. taken_are_streams config x.earlier x.emitted hs x.emits place h there);
+      notices = notices_all s.symbols [] (x.emitted ++ x.first);
       headline = headline s (ran.0 ++ l.events) (outcomes_of [] (x.emitted ++ x.first) ++ l.pushed) l.full all;
       next = l.next;
     }

@@ -1,19 +1,27 @@
 -- The events of records are a run of the machine.
 use Rattle.std.proofs.Common.{◌≡◌, ℕ, zero, suc, ◌+◌, ◌-◌, ◌<◌, ◌≤◌, Bool, true, false, List, [], ◌∷◌, ◌++◌, length, map, drop, Some, None, Option, refl, sym, ap, subst, ◌∙◌, arith, append_assoc, append-nil, length-append, inl, inr}
 use Rattle.std.specs.Prelude.{◌⊎◌, MatchOption, slice_get, slice_set, nat_le, if◌then◌else◌}
-use Rattle.std.specs.List.{AllByRecursion}
+use Rattle.std.specs.List.{AllByRecursion, Contains}
+use Rattle.std.proofs.lemmas.List.Elements.{Contains-append_cases, Contains-append_right}
 use Rattle.std.proofs.lemmas.Bool.{lt-leb}
 use Rattle.feed_types.specs.declared.item.Numbered.{Numbered}
 use Rattle.feed_types.specs.declared.journal.Entry.{Entry}
 use Rattle.feed_types.specs.declared.journal.Entry.TheVariants as entry
 use Rattle.feed_types.specs.declared.line.LineId.{LineId}
+use Rattle.feed_types.specs.declared.journal.Notice.{Notice}
+use Rattle.feed_types.specs.Prefix.{IsPrefix}
 use Rattle.feed_types.specs.Sessions.{Session}
 use Rattle.mold_packet.specs.declared.request.Request.{Request}
 use Rattle.mold_packet.specs.Faults.{code_of}
 use Rattle.nbbo_book.specs.Eligible.{is_so}
-use Rattle.line_arbiter.specs.Packets.{end_of}
+use Rattle.journal_book.specs.Changes.{changes_of}
+use Rattle.journal_book.specs.Growth.{changes_begin}
+use Rattle.journal_book.specs.ItemsIn.{items_in}
+use Rattle.journal_book.specs.ItemLaws.{items_put}
+use Rattle.line_arbiter.specs.Packets as inputs
+use Rattle.line_arbiter.specs.Packets.{end_of, Input, Arrived}
 use Rattle.line_arbiter.specs.Streams.{stream_of, sent_of, gap_of}
-use Rattle.line_arbiter.specs.Histories.{History, new_history, items_of, streams_of, names_of}
+use Rattle.line_arbiter.specs.Histories.{History, all_begun, new_history, items_of, streams_of, names_of}
 use Rattle.line_arbiter.specs.Outcomes.{IsOutcome}
 use Rattle.line_arbiter.specs.Renewals.{IsRenewal}
 use Rattle.line_arbiter.specs.Skips.{IsSkip}
@@ -23,29 +31,27 @@ use Rattle.feed_core.specs.declared.event.Event.TheVariants.{Packet, Push, Consu
 use Rattle.feed_core.specs.declared.event.Done.{Done}
 use Rattle.feed_core.specs.declared.event.Done.TheVariants as done
 use Rattle.feed_core.specs.Worlds.{is_full, Venue, session_count, session_sent, World, Setting, new_venue, new_world}
-use Rattle.feed_core.specs.Steps.{Stays, Applies, Refused, Changes, next_in, next_out, push_next, journal_item, consume_next, journal_full, unknown_venue, already_so, declare_help, Intake, put_venue, with_sent, with_intake, AddsArrival, AddsRenewal, RefusesBytes, AnswersRenewal, AnswersSkip}
+use Rattle.feed_core.specs.Steps.{Stays, Applies, Refused, Changes, next_in, next_out, push_next, journal_item, consume_next, journal_full, unknown_venue, already_so, declare_help, Intake, put_venue, with_sent, with_intake, RefusesBytes, AnswersRenewal, AnswersSkip}
 use Rattle.feed_core.specs.OneStep.{IsStep}
 use Rattle.feed_core.specs.Runs.{IsRun}
 use Rattle.feed_core.specs.Steps as steps
-use Rattle.feed_core.specs.VenueHalf.{BringsOnly, BringOnly, VenueHalf, waiting}
+use Rattle.feed_core.specs.VenueHalf.{BringsOnly, BringOnly, IsAmong, AreVenueItems, VenueHalf}
 use Rattle.feed_core.specs.Headline.{Headline}
-use Rattle.feed_core.specs.WholeSessions.{SkipsOnly, GiveNothingUp}
+use Rattle.feed_core.specs.laws.Lists.{begins_drop}
 use Rattle.feed_core.specs.laws.HeadlineLaw.{headline}
-use Rattle.feed_core.specs.laws.WholeSessionsLaw.{session_whole, sessions_whole, skips_within}
 use Rattle.line_arbiter.specs.laws.Histories.{items_push}
 use Rattle.feed_text.specs.declared.replay.ReplayConfig.{ReplayConfig}
 use Rattle.feed_text.specs.Capture.{CaptureRecord, datagram_record, renewal_record, skip_record, self_help_record, record_venue}
-use Rattle.feed_text.specs.ReplayEvents.{ReplayEvent, item_taken, entries_after, entries_of}
+use Rattle.feed_text.specs.ReplayEvents.{ReplayEvent, packet_answered, packet_refused, item_taken, gap_left, renewal_answered, skip_answered, self_help_declared, entries_after, entries_of}
 use Rattle.feed_text.specs.Emitted.{last_sent, stream_length, gap_event, gap_emitted, EmitsFault, EmitsPacket, EmitsRenewal, EmitsSkip, EmitsSelfHelp, EmitsAt, EmitsRecord, Emits}
-use Rattle.feed_text.specs.Texts.{EmitsAll, HasJournalRoom}
+use Rattle.feed_text.specs.Texts.{event_notices, notices_emitted, EmitsAll, HasJournalRoom}
 use Rattle.feed_text.specs.laws.LastSent.{last_counted}
 use Rattle.feed_text.specs.laws.Lists.{same_set}
 use Rattle.feed_text.specs.laws.Entries.{entries_more}
 use Rattle.feed_text.specs.laws.Entries.{entries_grow}
-use Rattle.feed_text.specs.VenueItems.{items_taken}
+use Rattle.feed_text.specs.VenueItems.{taken_by, items_taken}
 use Rattle.line_arbiter.specs.laws.AnsweredHistories.{IsAnsweredThroughout}
 use Rattle.feed_text.specs.laws.VenueItemsLaw.{Each, ready_items, skip_items, here, one_came, new_each, taken_are_streams}
-use Rattle.replay_run.specs.VenueItems.{HoldsOnly, HoldOnly, HoldsSkips, TellsSessions, TellsWhole}
 use Rattle.replay_run.specs.Events.{slice_of, event_of, drains, AreEvents, outcomes_by, outcomes_of, replay_setting, consumed_all, world_of, IsReplayRun}
 
 -- ---- lists
@@ -297,8 +303,8 @@ module _ (s : Setting) (gaps : Bool) (lane : 1 ≤ s.lane) (hs : List History) (
         taken = record {
           right =
               subst (λ (n : ℕ). IsOutcome h.present.name s.window n h.present.packets t.packet t.answer)
-              (sym (counted h)) t.outcome;
-          is = t.grown;
+              (sym (counted h)) t.taken.right;
+          is = t.taken.is;
         };
         outcome_is = refl;
         new_is = refl;
@@ -377,8 +383,8 @@ module _ (s : Setting) (gaps : Bool) (lane : 1 ≤ s.lane) (hs : List History) (
         answer = t.answer;
         history = new;
         skipped = record {
-          right = subst (λ (n : ℕ). IsSkip h.present.packets n number t.answer) (sym (counted h)) t.is;
-          is = t.after;
+          right = subst (λ (n : ℕ). IsSkip h.present.packets n number t.answer) (sym (counted h)) t.skipped.right;
+          is = t.skipped.is;
         };
         outcome_is = refl;
         new_is = refl;
@@ -419,8 +425,8 @@ module _ (s : Setting) (gaps : Bool) (lane : 1 ≤ s.lane) (hs : List History) (
             record {
               right =
                   subst (λ (n : ℕ). IsRenewal (names_of h) (end_of h.present.packets) n name t.answer)
-                  (sym (counted h)) t.is;
-              is = t.after;
+                  (sym (counted h)) t.renewed.right;
+              is = t.renewed.is;
             };
         outcome_is = refl;
         new_is = refl;
@@ -549,79 +555,119 @@ pub drains_only : (place venue : ℕ) (session : Session) (n : ℕ) → BringOnl
 drains_only place venue session zero = tt
 drains_only place venue session (suc n) = (tt, (tt, drains_only place venue session n))
 
-pub event_only : (place : ℕ) (session : Session) (r : CaptureRecord) → HoldsOnly place session r
-    → BringsOnly place session (event_of r)
-event_only place session (datagram_record venue line bytes) may = may
-event_only place session (renewal_record venue name) may = tt
-event_only place session (skip_record venue number) may = tt
-event_only place session (self_help_record venue on) may = tt
-
 pub events_only : (place : ℕ) (session : Session) (rs : List CaptureRecord) (events : List Event)
-    → AreEvents rs events → HoldOnly place rs session → BringOnly place events session
+    → AreEvents rs events → BringOnly place (map event_of rs) session → BringOnly place events session
 events_only place session [] events are may = subst (λ (es : List Event). BringOnly place es session) (sym are) tt
 events_only place session (r ∷ rs) events (ready, others, more, is) may =
     subst (λ (es : List Event). BringOnly place es session) (sym is)
     (all_more (BringsOnly place session) (event_of r ∷ drains (record_venue r) ready) others
-    (event_only place session r may.0, drains_only place (record_venue r) session ready)
+    (may.0, drains_only place (record_venue r) session ready)
     (events_only place session rs others more may.1))
 
--- ---- what is said of the skips
+-- ---- the skips among the events are the records'
 
-module _ (May : ℕ → Type 0) (place : ℕ) where
-  drains_skip : (venue n : ℕ) → AllByRecursion (SkipsOnly May place) (drains venue n)
-  drains_skip venue zero = tt
-  drains_skip venue (suc n) = (tt, (tt, drains_skip venue n))
+drains_none : (venue place number n : ℕ) → Contains (drains venue n) (Skip place number) → ⊥
+drains_none venue place number zero (i, below, is) = absurd (omega (arith, below))
+drains_none venue place number (suc n) (zero, below, is) = absurd cc
+drains_none venue place number (suc n) (suc zero, below, is) = absurd cc
+drains_none venue place number (suc n) (suc (suc i), below, is) =
+    drains_none venue place number n (i, omega (arith, below), is)
 
-  event_skips : (r : CaptureRecord) → HoldsSkips May place r → SkipsOnly May place (event_of r)
-  event_skips (datagram_record venue line bytes) may = tt
-  event_skips (renewal_record venue name) may = tt
-  event_skips (skip_record venue number) may = may
-  event_skips (self_help_record venue on) may = tt
+own_among : (e : Event) (venue ready place number : ℕ) (others : List Event)
+    → Contains (e ∷ drains venue ready) (Skip place number) → Contains (e ∷ others) (Skip place number)
+own_among e venue ready place number others (zero, below, is) = (zero, omega arith, is)
+own_among e venue ready place number others (suc i, below, is) =
+    absurd (drains_none venue place number ready (i, omega (arith, below), is))
 
-  events_skip : (rs : List CaptureRecord) (events : List Event) → AreEvents rs events
-      → AllByRecursion (HoldsSkips May place) rs → AllByRecursion (SkipsOnly May place) events
-  events_skip [] events are may = subst (AllByRecursion (SkipsOnly May place)) (sym are) tt
-  events_skip (r ∷ rs) events (ready, others, more, is) may =
-      subst (AllByRecursion (SkipsOnly May place)) (sym is)
-      (all_more (SkipsOnly May place) (event_of r ∷ drains (record_venue r) ready) others
-      (event_skips r may.0, drains_skip (record_venue r) ready)
-      (events_skip rs others more may.1))
+skip_among : (rs : List CaptureRecord) (events : List Event) (place number : ℕ) → AreEvents rs events
+    → Contains events (Skip place number) → Contains (map event_of rs) (Skip place number)
+skip_among [] events place number are has = subst (λ (es : List Event). Contains es (Skip place number)) are has
+skip_among (r ∷ rs) events place number (ready, others, more, is) has =
+    elim (Contains-append_cases (event_of r ∷ drains (record_venue r) ready) others (Skip place number)
+    (subst (λ (es : List Event). Contains es (Skip place number)) is has)) [
+      | inl own ↦ own_among (event_of r) (record_venue r) ready place number (map event_of rs) own
+      | inr rest ↦
+          Contains-append_right (event_of r ∷ []) (map event_of rs) (Skip place number)
+          (skip_among rs others place number more rest)
+    ]
+
+among_one : (records : List CaptureRecord) (events : List Event) (place : ℕ) → AreEvents records events
+    → (x : Input) → IsAmong events place x → IsAmong (map event_of records) place x
+among_one records events place are (Arrived a) has = tt
+among_one records events place are (inputs.Skip n) has = skip_among records events place n are has
+
+all_map : {X : Type 0} {P Q : X → Type 0} → ((x : X) → P x → Q x) → (xs : List X) → AllByRecursion P xs → AllByRecursion Q xs
+all_map f [] all = tt
+all_map f (x ∷ xs) all = (f x all.0, all_map f xs all.1)
 
 -- ---- the items that were emitted
 
-brought : (place : ℕ) (records : List CaptureRecord) (events : List Event)
-    → ((session : Session) → HoldOnly place records session → BringOnly place events session)
-    → (sessions : List Session) → AllByRecursion (HoldOnly place records) sessions
-    → AllByRecursion (BringOnly place events) sessions
-brought place records events only [] all = tt
-brought place records events only (session ∷ sessions) all =
-    (only session all.0, brought place records events only sessions all.1)
-
-tells_sessions : (place : ℕ) (records : List CaptureRecord) (events : List Event) (emitted : List ReplayEvent)
-    (h : History) → ((session : Session) → HoldOnly place records session → BringOnly place events session)
-    → items_taken place emitted ≡ streams_of h → VenueHalf events place (consumed_all h) → AreEvents records events
-    → TellsSessions records place emitted h
-tells_sessions place records events emitted h only items half are = record {
+pub venue_items : (place : ℕ) (records : List CaptureRecord) (events : List Event) (emitted : List ReplayEvent)
+    (h : History) → items_taken place emitted ≡ streams_of h → VenueHalf events place (consumed_all h)
+    → AreEvents records events → AreVenueItems (map event_of records) place (items_taken place emitted) h
+venue_items place records events emitted h items half are = record {
   items = items;
-  session = λ s may. half.session s (only s may);
+  skips = all_map (λ b. all_map (among_one records events place are) b.packets) (all_begun h) half.skips;
+  session = λ s may. half.session s (events_only place s records events are may);
   sessions = λ began named all. items ∙ sym half.items
-      ∙ half.sessions began named (brought place records events only began all);
-  within = λ s may. skips_within events place (streams_of h ++ waiting (consumed_all h)) h half s
-      (events_skip (λ number. number ≤ length s.items + 1) place records events are may);
+      ∙ half.sessions began named (all_map (λ s. events_only place s records events are) began all);
+  taken = half.taken;
+  gap = half.gap;
 }
 
-tells_whole : (place : ℕ) (records : List CaptureRecord) (events : List Event) (emitted : List ReplayEvent)
-    (h : History) → ((session : Session) → HoldOnly place records session → BringOnly place events session)
-    → items_taken place emitted ≡ streams_of h → VenueHalf events place (consumed_all h) → GiveNothingUp place events
-    → TellsWhole records place emitted h
-tells_whole place records events emitted h only items half none =
-    let all : List Numbered = streams_of h ++ waiting (consumed_all h) in
-    record {
-      session = λ s may. session_whole events place all h half none s (only s may);
-      sessions = λ earlier present e every. items ∙ sym half.items
-          ∙ sessions_whole events place all h half none earlier present e
-          (brought place records events only (earlier ++ present ∷ []) every);
-    }
+-- the journal's items of the venue are those that were emitted
+journaled_after : (place : ℕ) (E : List Entry) (x : ReplayEvent)
+    → items_in (entries_after E x) place ≡ items_in E place ++ taken_by place x
+journaled_after place E (item_taken venue numbered) = items_put place E (entry.Consumed venue numbered)
+journaled_after place E (packet_answered venue line answer) = sym (append-nil (items_in E place))
+journaled_after place E (packet_refused venue line fault) = sym (append-nil (items_in E place))
+journaled_after place E (gap_left venue request) = sym (append-nil (items_in E place))
+journaled_after place E (renewal_answered venue answer) = sym (append-nil (items_in E place))
+journaled_after place E (skip_answered venue number answer) = sym (append-nil (items_in E place))
+journaled_after place E (self_help_declared venue on) = by (is_so E venue on)
+  where
+    by : (so : Bool) → items_in (if so then E else E ++ entry.SelfHelp venue on ∷ []) place ≡ items_in E place ++ []
+    by true = sym (append-nil (items_in E place))
+    by false = items_put place E (entry.SelfHelp venue on)
+
+pub journaled_items : (place : ℕ) (E : List Entry) (emitted : List ReplayEvent)
+    → items_in (entries_of E emitted) place ≡ items_in E place ++ items_taken place emitted
+journaled_items place E [] = sym (append-nil (items_in E place))
+journaled_items place E (x ∷ xs) =
+    journaled_items place (entries_after E x) xs
+    ∙ ap (λ (items : List Numbered). items ++ items_taken place xs) (journaled_after place E x)
+    ∙ append_assoc (items_in E place) (taken_by place x) (items_taken place xs)
+
+-- ---- the notices that were emitted
+
+entries_begin : (E : List Entry) (x : ReplayEvent) → (more : List Entry) × (entries_after E x ≡ E ++ more)
+entries_begin E (item_taken venue numbered) = (entry.Consumed venue numbered ∷ [], refl)
+entries_begin E (packet_answered venue line answer) = ([], sym (append-nil E))
+entries_begin E (packet_refused venue line fault) = ([], sym (append-nil E))
+entries_begin E (gap_left venue request) = ([], sym (append-nil E))
+entries_begin E (renewal_answered venue answer) = ([], sym (append-nil E))
+entries_begin E (skip_answered venue number answer) = ([], sym (append-nil E))
+entries_begin E (self_help_declared venue on) = by (is_so E venue on)
+  where
+    by : (so : Bool) → (more : List Entry) × ((if so then E else E ++ entry.SelfHelp venue on ∷ []) ≡ E ++ more)
+    by true = ([], sym (append-nil E))
+    by false = (entry.SelfHelp venue on ∷ [], refl)
+
+notices_after : (symbols : List (List ℕ)) (E : List Entry) (x : ReplayEvent)
+    → changes_of symbols E ++ event_notices symbols E x ≡ changes_of symbols (entries_after E x)
+notices_after symbols E x =
+    let more = entries_begin E x in
+    let begins : IsPrefix (changes_of symbols E) (changes_of symbols (entries_after E x)) =
+    subst (λ (F : List Entry). IsPrefix (changes_of symbols E) (changes_of symbols F)) (sym more.1) (changes_begin symbols E more.0) in
+    begins_drop begins
+
+pub notices_all : (symbols : List (List ℕ)) (E : List Entry) (emitted : List ReplayEvent)
+    → changes_of symbols E ++ notices_emitted symbols E emitted ≡ changes_of symbols (entries_of E emitted)
+notices_all symbols E [] = append-nil (changes_of symbols E)
+notices_all symbols E (x ∷ xs) =
+    sym (append_assoc (changes_of symbols E) (event_notices symbols E x) (notices_emitted symbols (entries_after E x) xs))
+    ∙ ap (λ (l : List Notice). l ++ notices_emitted symbols (entries_after E x) xs) (notices_after symbols E x)
+    ∙ notices_all symbols (entries_after E x) xs
 
 -- ---- from the first record on
 
@@ -643,19 +689,14 @@ replay_run config lane filters records emitted hs some emits room =
     (with_venues [] _ _ (begins config.sessions.now)) ran.2 in
     let head : Headline s ran.0 (world_of hs (entries_of [] emitted)) =
     headline s ran.0 (outcomes_of [] emitted) (world_of hs (entries_of [] emitted)) run in
-    let only : (place : ℕ) (session : Session) → HoldOnly place records session → BringOnly place ran.0 session =
-    λ place session may. events_only place session records ran.0 ran.1 may in
     record {
       events = ran.0;
       are = ran.1;
-      only = only;
       run = run;
       headline = head;
-      items = λ place h at. tells_sessions place records ran.0 emitted h (only place)
+      items = λ place h at. venue_items place records ran.0 emitted h
           (taken_are_streams config records emitted hs emits place h at)
           (head.venues place (consumed_all h) (get_map consumed_all hs place h at)) ran.1;
-      whole = λ place h at none. tells_whole place records ran.0 emitted h (only place)
-          (taken_are_streams config records emitted hs emits place h at)
-          (head.venues place (consumed_all h) (get_map consumed_all hs place h at))
-          (events_skip (λ number. ⊥) place records ran.0 ran.1 none);
+      journaled = λ place. journaled_items place [] emitted;
+      notices = notices_all s.symbols [] emitted;
     }

@@ -3,4 +3,3 @@ pub mod Full
 pub mod LineReplays
 pub mod Moving
 pub mod Printed
-pub mod VenueItems

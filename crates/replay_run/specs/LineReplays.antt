@@ -1,7 +1,7 @@
 -- The results of a replay of a packet capture for lines.
 use Rattle.std.specs.Prelude.{◌≡◌, ◌⊎◌, ℕ, ◌+◌, ◌≤◌, List, [], ◌++◌, Result, Ok, Err}
 use Rattle.packet_capture.specs.Captures.{Context}
-use Rattle.feed_text.specs.declared.fault.ReplayFault.TheVariants.{ReadFailed, WriteFailed, BadRecord, ShortRecord, TooManyTurns, JournalFull, NoMemory}
+use Rattle.feed_text.specs.declared.fault.ReplayFault.TheVariants.{ReadFailed, WriteFailed, TooManyTurns, JournalFull, NoMemory}
 use Rattle.feed_text.specs.declared.replay.ReplayConfig.{ReplayConfig}
 use Rattle.feed_text.specs.Capture.{CaptureRecord}
 use Rattle.feed_text.specs.Devices.{Reading, Writing, Wrote}
@@ -133,10 +133,7 @@ AnswersLineReplay reading writing config lines texts from to before after point
     (Err (Run NoMemory)) =
     WroteFrontLines reading writing lines texts.AreLines (λ mid. (mid ≡ to) ⊎ reading.ends mid to)
     from before after point
-AnswersLineReplay reading writing config lines texts from to before after point
-    (Err (Run BadRecord)) = ⊥
-AnswersLineReplay reading writing config lines texts from to before after point
-    (Err (Run ShortRecord)) = ⊥
+AnswersLineReplay reading writing config lines texts from to before after point _ = ⊥
 
 -- The results of a replay of a packet capture, and its report. What is written is the text of a run
 -- of the machine.

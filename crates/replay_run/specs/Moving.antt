@@ -1,16 +1,11 @@
 -- That the machine moves: a session whose packets come is consumed to its end.
-use Rattle.std.specs.Prelude.{◌≡◌, ℕ, List, map, Some, slice_get}
+use Rattle.std.specs.Prelude.{◌≡◌, ℕ, List, Some, slice_get}
 use Rattle.feed_types.specs.Sessions.{Session, whole_session}
-use Rattle.quote_payload.specs.Payload.{item_of}
 use Rattle.feed_core.specs.declared.event.Event.{Event}
 use Rattle.feed_core.specs.declared.event.Done.{Done}
 use Rattle.feed_core.specs.Worlds.{Venue, World, Setting, new_world}
 use Rattle.feed_core.specs.Runs.{IsRun}
 use Rattle.feed_core.specs.VenueHalf.{BringOnly}
-
--- the session of these messages
-abbrev pub session_of : List ℕ → List (List ℕ) → Session
-session_of name messages = record { name = name; items = map item_of messages }
 
 -- Some events bring the venue at a place packets of the session alone under its name, and lead to a
 -- world where all of the session's items and End were consumed.

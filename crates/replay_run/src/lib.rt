@@ -12,6 +12,7 @@ ghost use Rattle.std.specs.Prelude.{◌≡◌, ◌<◌, ◌≤◌, ◌+◌, ◌^
 ghost use Rattle.std.specs.List.{AllByRecursion};
 ghost use Rattle.mold_packet.specs.Block.{IsMessage};
 ghost use Rattle.line_arbiter.specs.Histories.{History};
+ghost use Rattle.line_arbiter.specs.OfSession.{session_of_messages};
 ghost use Rattle.filter_terms.specs.declared.terms.Terms.{Terms};
 ghost use Rattle.feed_core.specs.Worlds.{Setting};
 ghost use Rattle.feed_text.specs.declared.replay.ReplayConfig.{ReplayConfig};
@@ -19,9 +20,9 @@ ghost use Rattle.feed_text.specs.Capture.{CaptureRecord};
 ghost use Rattle.feed_text.specs.Lacks.{AppendsLacks};
 ghost use Rattle.feed_text.specs.ReplayEvents.{ReplayEvent};
 ghost use Rattle.feed_text.specs.Texts.{EmitsAll, HasJournalRoom, IsLinesOf, IsLinesToFull, IsTextOf};
-ghost use Rattle.feed_text.specs.Replays.{CanReplay, Replays, AnswersReplay};
+ghost use Rattle.feed_text.specs.Replays.{CanReplay, AnswersReplay};
 ghost use Rattle.replay_run.specs.Events.{IsReplayRun, replay_setting};
-ghost use Rattle.replay_run.specs.Moving.{ComesThrough, session_of};
+ghost use Rattle.replay_run.specs.Moving.{ComesThrough};
 ghost use Rattle.replay_run.specs.Printed.{AreLinesOfRun, AreLinesOfRunToFull, IsTextOfRun, texts_of_run};
 
 mod lines;
@@ -61,7 +62,7 @@ pub fn a_session_comes_through()
         → 1 ≤ s.window → 1 ≤ s.lane → length messages < s.journal
         → slice_get s.sessions place ≡ Some name → length name ≡ 10
         → AllByRecursion IsMessage messages → length messages + 1 < 2 ^ 64
-        → ComesThrough s place (session_of name messages) }
+        → ComesThrough s place (session_of_messages name messages) }
 {}
 
 /// Reads a capture to its end, and writes its text ([`feed_text::replay::replay`]): that of a run
@@ -76,10 +77,6 @@ pub fn replay<R: CaptureIn, W: TextOut>(
     lacks: &mut Vec<Lack>,
 ) -> Result<(), ReplayFault>
     requires { CanReplay config.now }
-    ensures replays { Replays
-        (record { gives = R.gives; ends = R.ends; failures = R.failures; fails = R.fails })
-        (record { adds = W.adds; failures = W.failures })
-        config.now reader.old reader.new writer.old writer.new result }
     ensures headline { AnswersReplay
         (record { gives = R.gives; ends = R.ends; failures = R.failures; fails = R.fails })
         (record { adds = W.adds; failures = W.failures })

@@ -146,7 +146,7 @@ module _ (window : ℕ) (gaps : Bool) (venue : ℕ) where
       → AddsEmittedItems window venue old emitted new
   packet_goes line bytes old new emitted k t =
       input_goes (arrival_of line t.packet t.answer) old new emitted k
-      (record { content = t.spells.content; sent = last_sent old; outcome = t.outcome }) t.grown
+      (record { content = t.spells.content; sent = last_sent old; outcome = t.taken.right }) t.taken.is
       (ready_items line bytes old new emitted t)
 
   skip_goes : (number : ℕ) (old new : History) (emitted : List ReplayEvent)
@@ -190,9 +190,9 @@ here window gaps (datagram_record venue line bytes) old new emitted k t = elim t
   | inr p ↦ packet_goes window gaps venue line bytes old new emitted k p
 ]
 here window gaps (renewal_record venue name) old new emitted k t =
-    renewal_goes window gaps venue name old new emitted t.answer k t.is t.after t.emitted_is
+    renewal_goes window gaps venue name old new emitted t.answer k t.renewed.right t.renewed.is t.emitted_is
 here window gaps (skip_record venue number) old new emitted k t =
-    skip_goes window gaps venue number old new emitted t.answer k t.is t.after
+    skip_goes window gaps venue number old new emitted t.answer k t.skipped.right t.skipped.is
     (skip_items window gaps venue number old new emitted t)
 here window gaps (self_help_record venue on) old new emitted k t =
     stays window venue old new emitted k t.same (ap (items_taken venue) t.emitted_is)
