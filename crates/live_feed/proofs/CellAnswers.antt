@@ -1,25 +1,23 @@
 -- Where it is known which sessions the lines bring, no packet of one of them is refused but for
 -- another session's, unless messages past the session's end were given up.
-use Rattle.std.proofs.Common.{◌≡◌, ℕ, suc, ◌+◌, ◌<◌, List, [], ◌∷◌, length, Result, Err, refl, sym, subst, ◌∙◌, arith, inl, inr}
+use Rattle.std.proofs.Common.{◌≡◌, ℕ, suc, ◌+◌, ◌<◌, List, [], ◌∷◌, length, Result, refl, sym, subst, ◌∙◌, arith, inl, inr}
 use Rattle.std.specs.Prelude.{◌⊎◌, Contains, IsOk}
 use Rattle.std.specs.List.{AllByRecursion}
 use Rattle.std.proofs.lemmas.Bool.{cases_lt}
-use Rattle.feed_types.specs.Sessions.{Session, IsSessionAt}
+use Rattle.feed_types.specs.Sessions.{Session}
 use Rattle.mold_packet.specs.Content.{Content, IsContent}
 use Rattle.line_arbiter.specs.declared.outcome.Outcome.{Outcome}
 use Rattle.line_arbiter.specs.declared.outcome.LineFault.{LineFault}
 use Rattle.line_arbiter.specs.Outcomes.{IsOutcome, ToKind}
 use Rattle.line_arbiter.specs.Genuine.{AreGenuine}
 use Rattle.line_arbiter.specs.States.{ordinal_of}
-use Rattle.line_arbiter.specs.declared.outcome.LineFault.TheVariants.{OtherSession}
 use Rattle.line_arbiter.specs.Packets.{Input, Arrived, Skip}
-use Rattle.line_arbiter.specs.OfSession.{IsOfSession, SkipsWithin}
+use Rattle.line_arbiter.specs.OfSession.{SkipsWithin}
 use Rattle.line_arbiter.specs.laws.OfSession.{part_of_session}
 use Rattle.line_arbiter.specs.laws.Accepting.{accepted}
 use Rattle.feed_types.specs.declared.genuine.Genuine.{Ghosts as Genuine}
-use Rattle.live_feed.specs.Premises.{BringExactly}
 use Rattle.live_feed.specs.Lanes.{FeedLanes}
-use Rattle.live_feed.specs.venue.Cells.{CellState, SkipsPast, VenueLockInvariant}
+use Rattle.live_feed.specs.venue.Cells.{CellState, VenueLockInvariant}
 use Rattle.live_feed.specs.venue.Sections.{AcceptsTheirPacket}
 use Rattle.live_feed.proofs.Histories.{given_genuine, present_given}
 use Rattle.line_arbiter.specs.laws.FitsHistory.{ordinal_is}

@@ -19,7 +19,7 @@ use Rattle.line_arbiter.specs.laws.Histories.{items_push}
 use Rattle.feed_types.specs.declared.genuine.Genuine.{Ghosts as Genuine}
 use Rattle.live_feed.specs.Lanes.{FeedLanes}
 use Rattle.live_feed.specs.venue.Cells.{AreGivenFrom, CellState, VenueLockInvariant}
-use Rattle.live_feed.specs.hub.Hubs.{item_by, items_in}
+use Rattle.journal_book.specs.ItemsIn.{item_by, items_in}
 use Rattle.live_feed.specs.settle.Settlements.{IsSettled}
 use Rattle.line_arbiter.specs.laws.FitsHistory.{wins_are}
 use Rattle.line_arbiter.specs.laws.Fronts.{front_is, opens_most}

@@ -1,5 +1,5 @@
 -- The closing of a subscriber's lane, in terms of plain states.
-use Rattle.std.proofs.Common.{◌≡◌, ℕ, zero, suc, ◌+◌, ◌≤◌, ◌<◌, Bool, List, [], ◌∷◌, ◌++◌, length, filter, map, take, drop, Some, refl, sym, ap, ◌∙◌, arith, append_assoc, append-nil}
+use Rattle.std.proofs.Common.{◌≡◌, ℕ, zero, suc, ◌+◌, ◌≤◌, Bool, List, [], ◌∷◌, ◌++◌, length, filter, map, take, drop, Some, refl, sym, ap, ◌∙◌, arith, append_assoc, append-nil}
 use Rattle.std.specs.Prelude.{slice_get}
 use Rattle.std.specs.Option.{option_map}
 use Rattle.std.proofs.lemmas.List.Elements.{filter-append}
@@ -8,9 +8,9 @@ use Rattle.feed_types.specs.declared.journal.Notice.{Notice}
 use Rattle.filter_terms.specs.declared.terms.Terms.{Terms}
 use Rattle.filter_terms.specs.Terms.{meets}
 use Rattle.journal_book.specs.declared.cursor.Cursor.{Cursor}
-use Rattle.journal_book.specs.Journals.{JournalState, changes, terms_at, cursor_at}
+use Rattle.journal_book.specs.Journals.{JournalState, changes, terms_at}
+use Rattle.journal_book.specs.Cursors.{IsUnseen}
 use Rattle.fifo_lane.specs.Lane.{Keeps, LaneEnd}
-use Rattle.feed_types.specs.ListLaws.{get_within}
 use Rattle.live_feed.specs.declared.subscriber.logged.Logged.{Logged}
 use Rattle.live_feed.specs.Lanes.{FeedLanes}
 use Rattle.live_feed.specs.hub.Hubs.{IsOffered}
@@ -44,23 +44,22 @@ module _ (wants : Notice → Bool) (xs : List Notice) (place : ℕ) where
       ∙ ap (λ (l : List Notice). room ++ filter wants l) (sym (drop_past xs place past)) ∙ same
 
 pub served : (lanes : FeedLanes) (may_send : ℕ → List Notice → Type 0) (journal : JournalState) (id : ℕ)
-    (sender : LaneEnd Notice) (terms : Terms) (seen : ℕ) (log : List Logged) (received inside unoffered : List Notice)
-    → IsOffered lanes journal id sender → id < length journal.cursors → terms_at journal id ≡ Some terms
-    → cursor_at journal id ≡ Some seen → map (λ (line : Logged). line.notice) log ≡ received
+    (sender : LaneEnd Notice) (terms : Terms) (unseen : List Notice) (log : List Logged)
+    (received inside unoffered : List Notice)
+    → IsOffered lanes journal id sender → terms_at journal id ≡ Some terms
+    → IsUnseen journal id unseen → map (λ (line : Logged). line.notice) log ≡ received
     → Keeps may_send sender.tag sender.capacity sender.items received inside
-    → unoffered ≡ filter (meets terms) (drop seen (changes journal)) → IsServed journal id log inside unoffered
-served lanes may_send journal id sender terms seen log received inside unoffered offered known terms_is seen_is notices
-    keeps rest =
-    let there = get_within journal.cursors id known in
-    let cursor = there.0 in
-    let at = there.1 in
+    → unoffered ≡ filter (meets terms) unseen → IsServed journal id log inside unoffered
+served lanes may_send journal id sender terms unseen log received inside unoffered offered terms_is looked notices keeps
+    rest =
+    let cursor = looked.cursor in
+    let at = looked.at in
+    let seen = cursor.seen in
     let xs = changes journal in
     let t : cursor.terms ≡ terms = one_there (terms_at journal id) cursor.terms terms
     (ap (option_map (λ (c : Cursor). c.terms)) at) terms_is in
-    let s : cursor.seen ≡ seen = one_there (cursor_at journal id) cursor.seen seen
-    (ap (option_map (λ (c : Cursor). c.seen)) at) seen_is in
     let sent : sender.items ≡ filter (meets terms) (take seen xs) = (offered.items cursor at).1
-    ∙ (λ i. filter (meets (t i)) (take (s i) xs)) in
+    ∙ (λ i. filter (meets (t i)) (take seen xs)) in
     record {
       terms = terms;
       terms_is = terms_is;
@@ -68,7 +67,14 @@ served lanes may_send journal id sender terms seen log received inside unoffered
           ap (λ (l : List Notice). l ++ (inside ++ unoffered)) notices
           ∙ sym (append_assoc received inside unoffered)
           ∙ ap (λ (l : List Notice). l ++ unoffered) (sym keeps.whole ∙ sent)
-          ∙ ap (λ (l : List Notice). filter (meets terms) (take seen xs) ++ l) rest
+          ∙ ap (λ (l : List Notice). filter (meets terms) (take seen xs) ++ l) (rest ∙ ap (filter (meets terms)) looked.is)
           ∙ sym (filter-append (meets terms) (take seen xs) (drop seen xs))
           ∙ ap (filter (meets terms)) (take-append-drop seen xs);
     }
+
+-- what wasn't looked at is as long as it is
+pub same_unseen : (journal : JournalState) (id : ℕ) (one other : List Notice) → IsUnseen journal id one
+    → IsUnseen journal id other → length other ≡ length one
+same_unseen journal id one other h k =
+    let same : k.cursor ≡ h.cursor = one_there (slice_get journal.cursors id) k.cursor h.cursor k.at h.at in
+    ap length k.is ∙ ap (λ (c : Cursor). length (drop c.seen (changes journal))) same ∙ sym (ap length h.is)

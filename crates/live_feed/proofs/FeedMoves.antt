@@ -13,7 +13,8 @@ use Rattle.live_feed.specs.Premises.{AreInSequence}
 use Rattle.live_feed.specs.declared.hub.spare.SpareLane.{SpareLane}
 use Rattle.live_feed.specs.Lanes.{FeedLanes, FeedSetting}
 use Rattle.live_feed.specs.feed.Feeds.{StartState, AreStarts, IsUnused, AreUnused, lanes_of, IsClosed, HasItsLane}
-use Rattle.live_feed.specs.hub.Hubs.{HubLockInvariant, items_in}
+use Rattle.journal_book.specs.ItemsIn.{items_in}
+use Rattle.live_feed.specs.hub.Hubs.{HubLockInvariant}
 
 get_last : {X : Type 0} (xs : List X) (x : X) → slice_get (xs ++ x ∷ []) (length xs) ≡ Some x
 get_last [] x = refl
@@ -104,6 +105,7 @@ module _ (starts : List StartState) (receivers : List (LaneEnd Numbered)) (journ
     few = h.few;
     symbols = h.symbols ∙ ap (λ (s : FeedSetting). s.symbols) setting_is;
     size = h.size ∙ ap (λ (s : FeedSetting). s.journal) setting_is;
+    kept = h.kept ∙ ap (λ (s : FeedSetting). s.kept) setting_is;
     subscribers = sym (ap length h.cursors);
     consumed = λ v r at.
         let none : items_in journal.entries v ≡ [] = ap (λ (es : List Entry). items_in es v) h.entries in

@@ -5,7 +5,7 @@ use Rattle.std.specs.List.{AllByRecursion}
 use Rattle.std.proofs.lemmas.Grind.{flat_map-append}
 use Rattle.std.proofs.lemmas.List.{take-append-le}
 use Rattle.feed_types.specs.Prefix.{IsPrefix}
-use Rattle.line_arbiter.specs.Packets.{Arrival, Input, Arrived}
+use Rattle.line_arbiter.specs.Packets.{Arrival, Input}
 use Rattle.line_arbiter.specs.Streams.{IsComplete}
 use Rattle.line_arbiter.specs.Answered.{IsAnswered, AreAnsweredAfter}
 use Rattle.line_arbiter.specs.Genuine.{IsGenuineIn, AreGenuine, AreGenuineFrom}

@@ -1,8 +1,7 @@
 -- What a consumed item and an offered notice leave of the consolidator's cell, said of plain states.
 use Rattle.std.proofs.Common.{◌≡◌, ◌≢◌, ℕ, zero, suc, ◌+◌, ◌≤◌, ◌<◌, Bool, true, false, List, [], ◌∷◌, ◌++◌, length, map, get_or, filter, take, drop, Option, Some, None, Result, Ok, Err, refl, sym, ap, subst, ◌∙◌, arith, append-nil, length-append, inl, inr}
-use Rattle.std.specs.Prelude.{slice_get, slice_set, nat_le, ◌⊎◌, ◌==◌, AllPairs, if◌then◌else◌}
+use Rattle.std.specs.Prelude.{slice_get, slice_set, nat_le, ◌⊎◌, AllPairs}
 use Rattle.std.specs.Option.{option_map}
-use Rattle.std.proofs.lemmas.Grind.{flat_map-append}
 use Rattle.std.proofs.lemmas.List.Elements.{filter-append}
 use Rattle.std.proofs.lemmas.List.{take-append-drop}
 use Rattle.std.proofs.lemmas.Bool.Decides.{nat_tests}
@@ -17,7 +16,7 @@ use Rattle.journal_book.specs.declared.cursor.Cursor.{Cursor}
 use Rattle.journal_book.specs.Changes.{changes_of}
 use Rattle.journal_book.specs.Journals.{JournalState, changes, offered_of, Declares, Journals, Reserves, terms_at}
 use Rattle.journal_book.specs.declared.fault.JournalFault.{JournalFault}
-use Rattle.journal_book.specs.declared.fault.JournalFault.TheVariants.{NoMemory, JournalFull, UnknownVenue, AlreadySo, TooManySubscribers}
+use Rattle.journal_book.specs.declared.fault.JournalFault.TheVariants.{NoMemory, JournalFull, UnknownVenue, AlreadySo, TooManySubscribers, SubscriberBehind, TooLate}
 use Rattle.journal_book.specs.Places.{IsNextPlace}
 use Rattle.journal_book.specs.PlaceLaws.{next_of_wanted, one_more_wanted}
 use Rattle.journal_book.specs.Wanted.{wanted_of}
@@ -30,7 +29,9 @@ use Rattle.feed_types.specs.declared.genuine.Genuine.{Ghosts as Genuine}
 use Rattle.live_feed.specs.Premises.{AreInSequence}
 use Rattle.live_feed.specs.declared.hub.spare.SpareLane.{SpareLane}
 use Rattle.live_feed.specs.Lanes.{FeedLanes}
-use Rattle.live_feed.specs.hub.Hubs.{HubState, IsConsumed, HubLockInvariant, IsOffered, IsSpare, UnderHubLock, item_by, items_in}
+use Rattle.journal_book.specs.ItemsIn.{items_in}
+use Rattle.journal_book.specs.ItemLaws.{items_put, items_here, items_there}
+use Rattle.live_feed.specs.hub.Hubs.{HubState, IsConsumed, HubLockInvariant, IsOffered, IsSpare, UnderHubLock}
 use Rattle.live_feed.specs.hub.Sections.{Consumes, ConsumesOne, HubOffersOne, KeepsButOffers, hub_intake}
 use Rattle.live_feed.specs.declared.unsent.Unsent.TheVariants as unsent
 use Rattle.live_feed.proofs.Histories.{take_same}
@@ -74,25 +75,6 @@ terms_put (x ∷ xs) zero to c e = let same : x ≡ c = cc in
     ap (λ (y : Cursor). y.terms ∷ map (λ (z : Cursor). z.terms) xs) (sym same)
 terms_put (x ∷ xs) (suc i) to c e = ap (λ (l : List Terms). x.terms ∷ l) (terms_put xs i to c e)
 
--- ---- a venue's items
-
-items_put : (v : ℕ) (es : List Entry) (e : Entry) → items_in (es ++ e ∷ []) v ≡ items_in es v ++ item_by v e
-items_put v es e = flat_map-append (item_by v) es (e ∷ [])
-    ∙ ap (λ (xs : List Numbered). items_in es v ++ xs) (append-nil (item_by v e))
-
-items_here : (v k : ℕ) (es : List Entry) (x : Numbered) → v ≡ k
-    → items_in (es ++ entry.Consumed k x ∷ []) v ≡ items_in es v ++ x ∷ []
-items_here v k es x e =
-    let t : (k == v) ≡ true = grind (arith, nat_tests) in
-    items_put v es (entry.Consumed k x) ∙ ap (λ (b : Bool). items_in es v ++ (if b then x ∷ [] else [])) t
-
-items_there : (v k : ℕ) (es : List Entry) (x : Numbered) → v ≢ k
-    → items_in (es ++ entry.Consumed k x ∷ []) v ≡ items_in es v
-items_there v k es x e =
-    let t : (k == v) ≡ false = grind (arith, nat_tests) in
-    items_put v es (entry.Consumed k x) ∙ ap (λ (b : Bool). items_in es v ++ (if b then x ∷ [] else [])) t
-    ∙ append-nil (items_in es v)
-
 -- ---- one more entry
 
 -- what was sent to a subscriber stays what it was offered
@@ -128,6 +110,7 @@ declares premise lanes s k on ready h = record {
   few = h.few;
   symbols = h.symbols;
   size = h.size;
+  kept = h.kept;
   subscribers = h.subscribers;
   many = h.many;
   consumed = λ v e at.
@@ -158,6 +141,7 @@ consumes premise lanes s k r x ready h at may = record {
   few = h.few;
   symbols = h.symbols;
   size = h.size;
+  kept = h.kept;
   subscribers = h.subscribers;
   many = h.many;
   consumed = λ v e got. elim (get_put s.receivers k v w e got) [
@@ -217,6 +201,7 @@ moves premise lanes s id c l place sent h at from within is = record {
   few = h.few;
   symbols = h.symbols;
   size = h.size;
+  kept = h.kept;
   many = ap (λ (n : ℕ). n + length s.spare) (length_put s.journal.cursors id (record c { seen = place })) ∙ h.many;
   subscribers = length_put s.senders id (with_items l sent) ∙ h.subscribers
       ∙ sym (length_put s.journal.cursors id (record c { seen = place }));
@@ -299,6 +284,7 @@ ready_still premise lanes s j h is = subst (λ (x : JournalState). HubLockInvari
       few = h.few;
       symbols = h.symbols;
       size = h.size;
+      kept = h.kept;
       subscribers = h.subscribers;
       many = h.many;
       consumed = h.consumed;
@@ -325,10 +311,12 @@ module _ (may_send : ℕ → List Numbered → Type 0) (venue : ℕ) (s : HubSta
     received = sym (put_same s.receivers venue r at);
     entries = ap (λ (x : JournalState). x.entries) e.1;
   }
-  consume_refused NoMemory j e = ap (λ (x : JournalState). record s { journal = x }) e.1
+  consume_refused NoMemory j e = (ap (λ (x : JournalState). record s { journal = x }) e.1, e.2)
+  consume_refused SubscriberBehind j e = (ap (λ (x : JournalState). record s { journal = x }) e.1, e.2)
   consume_refused UnknownVenue j e = absurd e
   consume_refused AlreadySo j e = absurd e
   consume_refused TooManySubscribers j e = absurd e
+  consume_refused TooLate j e = absurd e
 
   module _ (j : JournalState) (w : LaneEnd Numbered) (room : length s.journal.entries < s.journal.journal)
       (is : j ≡ record s.journal { ready = true }) where
@@ -512,8 +500,10 @@ declare_kept premise lanes s venue on answer j h d = by_answer answer d
     by_answer (Err UnknownVenue) e = stays e.1
     by_answer (Err AlreadySo) e = stays e.2
     by_answer (Err JournalFull) e = stays e.3
-    by_answer (Err NoMemory) e = stays e.3
+    by_answer (Err NoMemory) e = stays e.2.1
+    by_answer (Err SubscriberBehind) e = stays e.2.1
     by_answer (Err TooManySubscribers) e = absurd e
+    by_answer (Err TooLate) e = absurd e
     by_answer (Ok position) e = subst (λ (x : JournalState). HubLockInvariant premise lanes (record s { journal = x }))
         (sym e.3.0) (declares premise lanes s venue on j.ready h)
 
@@ -538,6 +528,7 @@ subscribes premise lanes s x rest j senders terms h first is more =
       few = h.few;
       symbols = h.symbols;
       size = h.size;
+      kept = h.kept;
       subscribers = length-append s.senders (x.sender ∷ []) ∙ ap (λ (n : ℕ). n + 1) h.subscribers ∙ sym count;
       many = (let m = h.many in let f = ap length first in let n = count in omega arith);
       consumed = h.consumed;

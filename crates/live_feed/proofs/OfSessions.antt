@@ -15,7 +15,8 @@ use Rattle.feed_types.specs.declared.genuine.Genuine.{Ghosts as Genuine}
 use Rattle.live_feed.specs.Premises.{AreInSequence, BringExactly}
 use Rattle.live_feed.specs.Lanes.{FeedLanes}
 use Rattle.live_feed.specs.venue.Cells.{CellState, VenueLockInvariant}
-use Rattle.live_feed.specs.hub.Hubs.{HubState, HubLockInvariant, items_in}
+use Rattle.journal_book.specs.ItemsIn.{items_in}
+use Rattle.live_feed.specs.hub.Hubs.{HubState, HubLockInvariant}
 use Rattle.live_feed.specs.venue.Seats.{SeatState}
 use Rattle.live_feed.specs.subscriber.Logs.{SubscriberLogState}
 use Rattle.live_feed.specs.settle.Settlements.{IsSettlement, SettlementState, VenueEndState}
@@ -65,12 +66,13 @@ module _ {S : Type 0} (premise : Genuine S) (of_sessions : AreOfSessions premise
   pub settled_of_sessions : (seats : List SeatState) (logs : List SubscriberLogState) (s : SettlementState) (venue : ℕ)
       (v : VenueEndState) (all : List Session) → IsSettlement premise lanes seats logs s
       → slice_get s.venues venue ≡ Some v
-      → BringExactly premise venue all → SkipsNothing (v.consumed ++ (v.in_lane ++ v.ready))
-      → IsPrefix (v.consumed ++ (v.in_lane ++ v.ready)) (whole_sessions all)
+      → BringExactly premise venue all → SkipsNothing (items_in s.journal.entries venue ++ (v.in_lane ++ v.ready))
+      → IsPrefix (items_in s.journal.entries venue ++ (v.in_lane ++ v.ready)) (whole_sessions all)
   settled_of_sessions seats logs s venue v all settlement at names none =
       let settled = (settlement.venues venue v at).settled in
-      let is : v.consumed ++ (v.in_lane ++ v.ready) ≡ streams_of settled.history =
-      sym (append_assoc v.consumed v.in_lane v.ready) ∙ ap (λ (l : List Numbered). l ++ v.ready) settled.sent_is
+      let consumed = items_in s.journal.entries venue in
+      let is : consumed ++ (v.in_lane ++ v.ready) ≡ streams_of settled.history =
+      sym (append_assoc consumed v.in_lane v.ready) ∙ ap (λ (l : List Numbered). l ++ v.ready) settled.sent_is
       ∙ settled.whole in
       let sequence = streams_sequence premise venue lanes.setting.window settled.history settled.given in
       subst (λ (l : List Numbered). IsPrefix l (whole_sessions all)) (sym is)

@@ -104,6 +104,7 @@ polled_itself t = record {
   id = refl;
   limits = refl;
   most = refl;
+  forgotten = refl;
   log = record { rest = []; is = sym (append-nil t.lines) };
 }
 
@@ -123,6 +124,7 @@ polled_more may_send (Ok (Some advice)) t u v so_far polled =
       id = ap (λ x. x.id) polled.3 ∙ so_far.id;
       limits = ap (λ x. x.limits) polled.3 ∙ so_far.limits;
       most = ap (λ x. x.most) polled.3 ∙ so_far.most;
+      forgotten = ap (λ x. x.forgotten) polled.3 ∙ so_far.forgotten;
       log = record {
         rest = so_far.log.rest ++ line ∷ [];
         is = ap (λ x. x.lines) polled.3 ∙ (ap (λ xs. xs ++ line ∷ []) so_far.log.is

@@ -3,12 +3,13 @@ use Rattle.std.proofs.Common.{◌≡◌, ℕ, List, length, Some, sym, ap, subst
 use Rattle.std.specs.Prelude.{slice_get}
 use Rattle.std.proofs.lemmas.Slice.Zip.{AllZip-long}
 use Rattle.feed_types.specs.PerLines.{on_line}
-use Rattle.journal_book.specs.Journals.{JournalState}
+use Rattle.journal_book.specs.Journals.{JournalState, kept_of}
 use Rattle.feed_types.specs.ListLaws.{get_within}
 use Rattle.feed_types.specs.declared.genuine.Genuine.{Ghosts as Genuine}
 use Rattle.live_feed.specs.Lanes.{FeedLanes}
 use Rattle.live_feed.specs.venue.Cells.{CellState}
-use Rattle.live_feed.specs.hub.Hubs.{HubState, items_in}
+use Rattle.journal_book.specs.ItemsIn.{items_in}
+use Rattle.live_feed.specs.hub.Hubs.{HubState}
 use Rattle.live_feed.specs.venue.Seats.{SeatState}
 use Rattle.live_feed.specs.subscriber.Logs.{SubscriberLogState}
 use Rattle.live_feed.specs.settle.Settlements.{AllAgree, AreInOrder, IsClosedVenue, IsSettled, IsSettlement, SettlementState, ShowsSubscriber, SubscriberEndState, ShowsVenue, VenueEndState, tally_of}
@@ -21,9 +22,9 @@ module _ {S : Type 0} (premise : Genuine S) (lanes : FeedLanes) (seats : List Se
     (f : IsClosedFeed premise lanes cells hub logs s) (agree : AllAgree seats cells)
     (order : AreInOrder logs) where
   shows : (venue : ℕ) (v : VenueEndState) → slice_get s.venues venue ≡ Some v
-      → ShowsVenue premise lanes s.journal.entries seats venue v
+      → ShowsVenue premise lanes s.journal seats venue v
   shows venue v at =
-      let S = IsClosedVenue premise lanes s.journal.entries in
+      let S = IsClosedVenue premise lanes s.journal in
       let long = AllZip-long S cells s.venues f.venues in
       let below = below_of s.venues venue v (sym at) in
       let there = get_within cells venue (omega arith) in
@@ -34,9 +35,9 @@ module _ {S : Type 0} (premise : Genuine S) (lanes : FeedLanes) (seats : List Se
         cell = cell;
         kept = closed.kept;
         venue_is = same.venue_is;
-        settled = subst (λ (n : ℕ). IsSettled premise n lanes.setting.window cell.lane.items v.consumed v.in_lane
-            v.ready v.wins v.accepted) same.venue_is closed.settled;
-        consumed = closed.consumed ∙ ap (items_in s.journal.entries) same.venue_is;
+        settled = subst (λ (n : ℕ). IsSettled premise n lanes.setting.window cell.lane.items
+            (items_in s.journal.entries n) v.in_lane v.ready v.wins v.accepted) same.venue_is closed.settled;
+        consumed = closed.consumed ∙ ap (items_in (kept_of s.journal.kept s.journal.entries)) same.venue_is;
         wins = λ line. ap (on_line line) closed.wins ∙ (same.on line).wins
             ∙ (λ i. (tally_of (same.venue_is i) line seats).wins);
         accepted = λ line. ap (on_line line) closed.accepted ∙ (same.on line).accepted
@@ -46,12 +47,13 @@ module _ {S : Type 0} (premise : Genuine S) (lanes : FeedLanes) (seats : List Se
   pub settlement : length cells ≡ hub.journal.venues → length logs ≡ length hub.journal.cursors
       → IsSettlement premise lanes seats logs s
   settlement venues subscribers =
-      let long = AllZip-long (IsClosedVenue premise lanes s.journal.entries) cells s.venues f.venues in
+      let long = AllZip-long (IsClosedVenue premise lanes s.journal) cells s.venues f.venues in
       let S = λ (t : SubscriberLogState) (x : SubscriberEndState). ShowsSubscriber s.journal t.id t x in
       let all = AllZip-long S logs s.subscribers f.subscribers in
       record {
         symbols = ap (λ (j : JournalState). j.symbols) f.journal ∙ f.kept.symbols;
         size = ap (λ (j : JournalState). j.journal) f.journal ∙ f.kept.size;
+        kept = ap (λ (j : JournalState). j.kept) f.journal ∙ f.kept.kept;
         venue_count = (
           long ∙ venues ∙ sym f.kept.count,
           ap (λ (j : JournalState). j.venues) f.journal

@@ -6,7 +6,7 @@ use Rattle.std.proofs.lemmas.List.Elements.{Contains-append_left, Contains-push}
 use Rattle.std.proofs.lemmas.List.Sums.{fold-append}
 use Rattle.feed_types.specs.declared.journal.Entry.TheVariants as entry
 use Rattle.journal_book.specs.declared.fault.JournalFault.{JournalFault}
-use Rattle.journal_book.specs.declared.fault.JournalFault.TheVariants.{NoMemory, JournalFull, UnknownVenue, AlreadySo, TooManySubscribers}
+use Rattle.journal_book.specs.declared.fault.JournalFault.TheVariants.{NoMemory, JournalFull, UnknownVenue, AlreadySo, TooManySubscribers, SubscriberBehind, TooLate}
 use Rattle.journal_book.specs.Journals.{JournalState}
 use Rattle.feed_types.specs.declared.genuine.Genuine.{Ghosts as Genuine}
 use Rattle.live_feed.specs.Premises.{AreInSequence}
@@ -81,9 +81,11 @@ module _ {S : Type 0} (premise : Genuine S) (lanes : FeedLanes) where
       omega (arith, grown, same, is)
   batch_grows venue most (Err UnknownVenue) old new r = grows_not old new r.1
   batch_grows venue most (Err JournalFull) old new r = grows_not old new r.1
-  batch_grows venue most (Err NoMemory) old new r = grows_not old new r
+  batch_grows venue most (Err NoMemory) old new r = grows_not old new r.0
   batch_grows venue most (Err AlreadySo) old new r = absurd r
   batch_grows venue most (Err TooManySubscribers) old new r = absurd r
+  batch_grows venue most (Err SubscriberBehind) old new r = grows_not old new r.0
+  batch_grows venue most (Err TooLate) old new r = absurd r
 
   batches_more : (batches : List Batch) (b : Batch) (old between : HubState)
       → AreBatches premise lanes batches old between → IsBatch premise lanes b between

@@ -17,6 +17,8 @@ pub(crate) struct Bells {
     /// By id, whether a notice waits for room in the subscriber's lane. It changes under the
     /// consolidator's lock alone, and is stored only where it differs.
     full: [AtomicBool; 32],
+    /// By id, whether a thread takes notices out of the subscriber's lane.
+    polled: [AtomicBool; 32],
     /// The lines of runs are to read no further datagram.
     ended: AtomicBool,
 }
@@ -28,6 +30,7 @@ impl Bells {
             work: EventCount::new(),
             notices: array::from_fn(|_| EventCount::new()),
             full: array::from_fn(|_| AtomicBool::new(false)),
+            polled: array::from_fn(|_| AtomicBool::new(false)),
             ended: AtomicBool::new(false),
         }
     }
@@ -81,6 +84,20 @@ impl Bells {
     pub(crate) fn end_want_of_room(&self, id: SubscriberId) {
         if self.is_room_wanted(id) {
             self.full[id.index()].store(false, Ordering::SeqCst);
+            self.ring_work();
+        }
+    }
+
+    /// Whether a thread takes notices out of the subscriber's lane.
+    pub(crate) fn is_polled(&self, id: SubscriberId) -> bool {
+        self.polled[id.index()].load(Ordering::SeqCst)
+    }
+
+    /// Notes whether a thread takes notices out of the subscriber's lane from now on. Where none
+    /// does, the consolidators are woken: one may wait for it.
+    pub(crate) fn set_polled(&self, id: SubscriberId, is_polled: bool) {
+        self.polled[id.index()].store(is_polled, Ordering::SeqCst);
+        if !is_polled {
             self.ring_work();
         }
     }

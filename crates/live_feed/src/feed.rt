@@ -1,8 +1,8 @@
 //! A feed that isn't open yet.
 
-ghost use Rattle.std.specs.Prelude.{◌≡◌, ◌≤◌, All, length, vec_len, vec_capacity, IfOk, IfErr, OnOk};
-ghost use Rattle.feed_core.specs.Configs.{IsGood, Explains};
-ghost use Rattle.live_feed.specs.feed.Feeds.{AreNamed, HasItsLane};
+ghost use Rattle.std.specs.Prelude.{◌≡◌, ◌≤◌, [], All, length, vec_len, vec_capacity, IfOk, IfErr, None, OnOk, Some};
+ghost use Rattle.journal_book.specs.Configs.{IsGood, Explains};
+ghost use Rattle.live_feed.specs.feed.Feeds.{AreNamed, HasItsLane, configured_setting, feed_setting_of};
 
 pub(crate) mod log_size;
 mod making;
@@ -24,11 +24,10 @@ use crate::venue::packet_counts::PacketCounts;
 use crate::venue::refusals::Refusals;
 use crate::venue::start::VenueStart;
 use crossbeam_utils::CachePadded;
-use feed_core::{CoreFault, new_journal};
 use feed_types::{FeedConfig, Genuine, MAX_SUBSCRIBERS, Numbered, PerLine};
 use fifo_lane::{Receiver, VenueItems};
-use journal_book::Journal;
-use std::alloc::Global;
+use journal_book::{CoreFault, Journal, new_journal, new_keeping_journal};
+use std::alloc::{AllocError, Global};
 use std::collections::VecDeque;
 use std::marker::Model;
 use std::sync::{Arc, Mutex};
@@ -86,36 +85,74 @@ fn locked<G: Genuine, N: FeedName>(
 
 impl<G: Genuine> LiveFeed<G> {
     /// A feed of this configuration, with the lanes of its venues and of 32 subscribers. The lines
-    /// may use its names for the venues' first sessions.
+    /// may use its names for the venues' first sessions. All entries and changes are kept.
     ///
-    /// BadConfig carries the first fault that fits, in the order of [`feed_core::ConfigFault`];
+    /// BadConfig carries the first fault that fits, in the order of [`journal_book::ConfigFault`];
     /// NoMemory comes where memory was refused.
     pub fn new(alloc: Global, config: &FeedConfig<'_>) -> Result<LiveFeed<G>, CoreFault>
         requires { AreNamed G.sessions config.now.sessions.now }
         ensures venues { IfOk result (λ feed. length feed.venues
             ≡ length config.now.sessions.now) }
         ensures subscribers { IfOk result (λ feed. length feed.subscribers ≡ 32) }
-        ensures setting { IfOk result (λ feed. feed.setting ≡ record {
-          symbols = config.now.symbols.now;
-          window = config.now.window;
-          lane = config.now.lane;
-          journal = config.now.journal;
-          log = config.now.log;
-        }) }
+        ensures setting { IfOk result
+            (λ feed. feed.setting ≡ configured_setting config.now None) }
         ensures good { OnOk result (IsGood config.now) }
         ensures fault { IfErr result (Explains config.now) }
     {
-        let kept = new_journal(alloc, config)?;
-        let Ok((starts, from_venues)) = new_starts(alloc, config) else {
-            return Err(CoreFault::NoMemory);
-        };
-        let Ok(spare_lanes) = new_spares(alloc, config.lane) else {
-            return Err(CoreFault::NoMemory);
-        };
+        let journal = new_journal(alloc, config)?;
+        match LiveFeed::with_journal(alloc, config, journal) {
+            Ok(feed) => Ok(feed),
+            Err(_) => Err(CoreFault::NoMemory),
+        }
+    }
+
+    /// The same, but no entry is kept, and of the changes only those that some subscriber still
+    /// wants. A subscriber may be behind by `kept` changes: nothing more is journaled then until it
+    /// goes on. No subscriber is taken after the first change. The memory for entries and changes
+    /// is all asked for here, so that it doesn't grow with their number.
+    pub fn keeping(
+        alloc: Global,
+        config: &FeedConfig<'_>,
+        kept: u32,
+    ) -> Result<LiveFeed<G>, CoreFault>
+        requires { AreNamed G.sessions config.now.sessions.now }
+        ensures venues { IfOk result (λ feed. length feed.venues
+            ≡ length config.now.sessions.now) }
+        ensures subscribers { IfOk result (λ feed. length feed.subscribers ≡ 32) }
+        ensures setting { IfOk result
+            (λ feed. feed.setting ≡ configured_setting config.now (Some kept)) }
+        ensures good { OnOk result (IsGood config.now) }
+        ensures fault { IfErr result (Explains config.now) }
+    {
+        let journal = new_keeping_journal(alloc, config, kept)?;
+        match LiveFeed::with_journal(alloc, config, journal) {
+            Ok(feed) => Ok(feed),
+            Err(_) => Err(CoreFault::NoMemory),
+        }
+    }
+
+    /// Makes the feed of this configuration that has this journal, in which there is nothing yet.
+    fn with_journal(
+        alloc: Global,
+        config: &FeedConfig<'_>,
+        journal: Journal,
+    ) -> Result<LiveFeed<G>, AllocError>
+        requires few { length config.now.sessions.now ≤ 16 }
+        requires named { AreNamed G.sessions config.now.sessions.now }
+        requires empty { (journal.entries ≡ []) × (journal.cursors ≡ []) }
+        requires journal_venues { journal.venues ≡ length config.now.sessions.now }
+        ensures venues { IfOk result (λ feed. length feed.venues
+            ≡ length config.now.sessions.now) }
+        ensures subscribers { IfOk result (λ feed. length feed.subscribers ≡ 32) }
+        ensures setting { IfOk result (λ feed. feed.setting
+            ≡ feed_setting_of journal config.now.window config.now.lane config.now.log) }
+    {
+        let (starts, from_venues) = new_starts(alloc, config)?;
+        let spare_lanes = new_spares(alloc, config.lane)?;
         Ok(LiveFeed {
             starts,
             from_venues,
-            kept,
+            kept: journal,
             spare_lanes,
             window: config.window,
             lane: config.lane,

@@ -13,11 +13,18 @@ pub trait FeedName {
 }
 
 impl FeedName for Brand {
-    ghost use Rattle.std.specs.Prelude.{[]};
+    ghost use Rattle.std.specs.Prelude.{[], None};
 
     ghost lanes = { record {
       venues = [];
       subscribers = [];
-      setting = record { symbols = []; window = 0; lane = 0; journal = 0; log = 0 };
+      setting = record {
+        symbols = [];
+        window = 0;
+        lane = 0;
+        journal = 0;
+        log = 0;
+        kept = None;
+      };
     } };
 }

@@ -14,7 +14,8 @@ ghost use Rattle.feed_core.specs.VenueHalf.{parts_of_sessions};
 ghost use Rattle.live_feed.specs.Premises.{BringExactly, SkipWithinSessions};
 ghost use Rattle.live_feed.specs.venue.Cells.{CellState, SkipsPast, VenueLockInvariant};
 ghost use Rattle.live_feed.specs.venue.Datagrams.{AcceptsTheirs};
-ghost use Rattle.live_feed.specs.hub.Hubs.{HubState, HubLockInvariant, items_in};
+ghost use Rattle.journal_book.specs.ItemsIn.{items_in};
+ghost use Rattle.live_feed.specs.hub.Hubs.{HubState, HubLockInvariant};
 ghost use Rattle.live_feed.specs.venue.Seats.{SeatState};
 ghost use Rattle.live_feed.specs.subscriber.Logs.{SubscriberLogState};
 ghost use Rattle.live_feed.specs.settle.Settlements.{IsSettlement, SettlementState, VenueEndState};
@@ -54,8 +55,10 @@ pub fn settled_items_are_the_sessions<G: Genuine, N: FeedName>()
         (venue : ℕ) (v : VenueEndState) (all : List Session)
         → IsSettlement G.Genuine N.lanes seats logs s
         → slice_get s.venues venue ≡ Some v
-        → BringExactly G.Genuine venue all → SkipsNothing (v.consumed ++ (v.in_lane ++ v.ready))
-        → IsPrefix (v.consumed ++ (v.in_lane ++ v.ready)) (whole_sessions all) }
+        → BringExactly G.Genuine venue all
+        → SkipsNothing (items_in s.journal.entries venue ++ (v.in_lane ++ v.ready))
+        → IsPrefix (items_in s.journal.entries venue ++ (v.in_lane ++ v.ready))
+        (whole_sessions all) }
 {
     sequence_is_of_the_sessions::<G>();
 }

@@ -68,12 +68,11 @@ pub use venue::seat::LineSeat;
 pub use venue::status::{LineStatus, VenueStatus};
 
 // The types in the signatures of a feed's calls, so that a program names this crate alone.
-pub use feed_core::{ConfigFault, CoreFault};
 pub use feed_types::{
     Anything, Best, Entry, FeedConfig, Genuine, Item, LineId, National, Notice, Numbered,
     SubscriberId, SymbolName, VenueId,
 };
 pub use filter_terms::{Advice, Filter, Limits, Strategy, Terms};
-pub use journal_book::JournalFault;
+pub use journal_book::{ConfigFault, CoreFault, JournalFault};
 pub use line_arbiter::{ArbiterStatus, LineFault, Outcome, RenewFault, SkipFault};
 pub use mold_packet::{PacketFault, Request};

@@ -170,8 +170,9 @@ impl<G: Genuine + Send + Sync, N: FeedName + Send + Sync> OpenFeed<G, N> {
     /// Runs each line and each subscriber in a thread of its own, and the consolidator in this one,
     /// until all lines have ended; what is ready is then pushed, journaled and offered. Each line's
     /// seat and source and each subscriber come back in the order given. Where the journal is full,
-    /// or memory or a thread is refused, the run stops early: then, and where a handle of
-    /// `stop_handle` stops it, no line reads a further datagram.
+    /// memory or a thread is refused, or a subscriber is too far behind whose notices no thread
+    /// takes, the run stops early: then, and where a handle of `stop_handle` stops it, no line reads
+    /// a further datagram.
     ///
     /// Where memory for the lists of threads and logs is refused, nothing is started, and all are
     /// handed back.

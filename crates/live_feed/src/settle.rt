@@ -181,16 +181,15 @@ fn closed<G: Genuine, N: FeedName, W: Wait>(
         log_size: _,
     } = unlocked;
     let (journal, receivers, senders) = hub.core.into_parts();
-    let entries = journal.entries();
     let venue_ends = made_of_three(
         venues,
         receivers,
         room.venues,
         room.venue_ends,
         &|guarded, receiver, room| -> VenueEnd
-            requires { IsToClose G.Genuine N.lanes entries.now guarded.cell receiver room }
-            ensures { IsClosedVenue G.Genuine N.lanes entries.entry.now guarded.cell result }
-        { settle_venue(rt, entries, guarded.cell, receiver, room) },
+            requires { IsToClose G.Genuine N.lanes journal guarded.cell receiver room }
+            ensures { IsClosedVenue G.Genuine N.lanes journal guarded.cell result }
+        { settle_venue(rt, &journal, guarded.cell, receiver, room) },
     );
     let subscriber_ends = made_of_three(
         subscribers,

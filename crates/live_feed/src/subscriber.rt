@@ -1,11 +1,12 @@
 //! A subscriber of a feed.
 
-ghost use Rattle.std.specs.Prelude.{◌≡◌};
+ghost use Rattle.std.specs.Prelude.{◌≡◌, drop};
 ghost use Rattle.live_feed.specs.subscriber.Logs.{Polls};
 ghost use Rattle.live_feed.specs.subscriber.Asking.{AsksForAdvice};
 ghost use Rattle.live_feed.specs.hub.Offers.{AreRising};
 
 mod advising;
+pub(crate) mod kept_log;
 pub(crate) mod log;
 pub(crate) mod logged;
 
@@ -33,9 +34,10 @@ impl<N: FeedName> Subscriber<N> {
         self.log.id()
     }
 
-    /// One line for each notice that was taken, in order, with what the strategy advised.
+    /// One line for each notice that was taken, in order, with what the strategy advised, but for
+    /// those that were forgotten.
     pub fn log(&self) -> &[Logged]
-        ensures { result.now ≡ self.now.log.lines }
+        ensures { result.now ≡ drop self.now.log.forgotten self.now.log.lines }
     {
         self.log.log()
     }

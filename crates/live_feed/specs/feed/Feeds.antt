@@ -1,7 +1,8 @@
 -- A feed that isn't open yet.
-use Rattle.std.specs.Prelude.{◌≡◌, ℕ, ◌≤◌, List, [], length, map, Some, slice_get, refl}
-use Rattle.std.specs.Coded.{Coded, code_by, coded×, coded_ℕ, coded_list}
+use Rattle.std.specs.Prelude.{◌≡◌, ℕ, ◌≤◌, List, [], length, map, Option, Some, slice_get, refl}
+use Rattle.std.specs.Coded.{Coded, code_by, coded×, coded_ℕ, coded_list, coded_option}
 use Rattle.atomic_table.specs.Seated.{TableId, table_id_coded}
+use Rattle.feed_types.specs.declared.config.FeedConfig.{FeedConfig}
 use Rattle.feed_types.specs.declared.item.Numbered.{Numbered}
 use Rattle.feed_types.specs.Sessions.{SessionNames}
 use Rattle.line_arbiter.specs.States.{State, IsNew}
@@ -60,6 +61,19 @@ feed_setting_of journal window lane log = record {
   lane = lane;
   journal = journal.journal;
   log = log;
+  kept = journal.kept;
+}
+
+-- the setting of a feed of this configuration, in which a subscriber may be behind by so many
+-- changes where not all of them are kept
+abbrev pub configured_setting : FeedConfig → Option ℕ → FeedSetting
+configured_setting config kept = record {
+  symbols = config.symbols.now;
+  window = config.window;
+  lane = config.lane;
+  journal = config.journal;
+  log = config.log;
+  kept = kept;
 }
 
 -- the lanes of these ends, in a feed of this setting
@@ -73,16 +87,17 @@ lanes_of receivers spare setting = record {
 -- a setting is stored as the tuple of its fields
 abbrev pub setting_code : Coded FeedSetting
 setting_code =
-    code_by (List (List ℕ) × (ℕ × (ℕ × (ℕ × ℕ))))
+    code_by (List (List ℕ) × (ℕ × (ℕ × (ℕ × (ℕ × Option ℕ)))))
     (coded× (coded_list (coded_list coded_ℕ))
-    (coded× coded_ℕ (coded× coded_ℕ (coded× coded_ℕ coded_ℕ))))
-    (λ s. (s.symbols, (s.window, (s.lane, (s.journal, s.log)))))
+    (coded× coded_ℕ (coded× coded_ℕ (coded× coded_ℕ (coded× coded_ℕ (coded_option coded_ℕ))))))
+    (λ s. (s.symbols, (s.window, (s.lane, (s.journal, (s.log, s.kept))))))
     (λ p. record {
       symbols = p.0;
       window = p.1.0;
       lane = p.1.1.0;
       journal = p.1.1.1.0;
-      log = p.1.1.1.1;
+      log = p.1.1.1.1.0;
+      kept = p.1.1.1.1.1;
     })
     (λ _. refl)
 
@@ -108,6 +123,7 @@ pub record IsClosed (setting : FeedSetting) (starts : List StartState)
   pub many : length spare ≡ 32
   pub symbols : journal.symbols ≡ setting.symbols
   pub size : journal.journal ≡ setting.journal
+  pub kept : journal.kept ≡ setting.kept
 
 -- the sending end's lane is the one that the feed has for its venue, and window and lane have the
 -- sizes of the feed's setting

@@ -1,9 +1,10 @@
 -- The items of a venue that are journaled in one section under the consolidator's lock.
-use Rattle.std.specs.Prelude.{◌≡◌, ◌⊎◌, ℕ, ◌<◌, ◌≤◌, List, ◌++◌, length, map, slice_get, slice_set, Some, Result, Ok, Err}
+use Rattle.std.specs.Prelude.{◌≡◌, ◌⊎◌, ℕ, ◌<◌, ◌≤◌, List, ◌++◌, length, map, slice_get, slice_set, Some, IsNone, Result, Ok, Err}
 use Rattle.feed_types.specs.declared.item.Numbered.{Numbered}
 use Rattle.feed_types.specs.declared.journal.Entry.TheVariants as entry
 use Rattle.journal_book.specs.declared.fault.JournalFault.{JournalFault}
-use Rattle.journal_book.specs.declared.fault.JournalFault.TheVariants.{NoMemory, JournalFull, UnknownVenue, AlreadySo, TooManySubscribers}
+use Rattle.journal_book.specs.declared.fault.JournalFault.TheVariants.{NoMemory, JournalFull, UnknownVenue, AlreadySo, TooManySubscribers, SubscriberBehind, TooLate}
+use Rattle.journal_book.specs.Journals.{IsBehind}
 use Rattle.fifo_lane.specs.Lane.{LaneEnd, WasEmpty, with_items}
 use Rattle.live_feed.specs.Lanes.{FeedLanes}
 use Rattle.live_feed.specs.hub.Hubs.{HubState}
@@ -46,6 +47,10 @@ ConsumesBatch may_send lanes venue most (Err UnknownVenue) old new =
     (length lanes.venues ≤ venue) × (new ≡ old)
 ConsumesBatch may_send lanes venue most (Err JournalFull) old new =
     (old.journal.journal ≤ length old.journal.entries) × (new ≡ old)
-ConsumesBatch may_send lanes venue most (Err NoMemory) old new = new ≡ old
+ConsumesBatch may_send lanes venue most (Err NoMemory) old new =
+    (new ≡ old) × IsNone old.journal.kept
+ConsumesBatch may_send lanes venue most (Err SubscriberBehind) old new =
+    (new ≡ old) × IsBehind old.journal
 ConsumesBatch may_send lanes venue most (Err AlreadySo) old new = ⊥
 ConsumesBatch may_send lanes venue most (Err TooManySubscribers) old new = ⊥
+ConsumesBatch may_send lanes venue most (Err TooLate) old new = ⊥

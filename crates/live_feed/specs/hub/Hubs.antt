@@ -1,10 +1,10 @@
 -- What the consolidator's lock guards.
-use Rattle.std.specs.Prelude.{◌≡◌, ℕ, ◌+◌, ◌≤◌, ◌==◌, List, [], ◌∷◌, flat_map, length, Some, slice_get, if◌then◌else◌}
+use Rattle.std.specs.Prelude.{◌≡◌, ℕ, ◌+◌, ◌≤◌, List, [], length, Some, slice_get}
 use Rattle.feed_types.specs.declared.item.Numbered.{Numbered}
 use Rattle.feed_types.specs.declared.journal.Entry.{Entry}
-use Rattle.feed_types.specs.declared.journal.Entry.TheVariants as entry
 use Rattle.feed_types.specs.declared.journal.Notice.{Notice}
 use Rattle.journal_book.specs.declared.cursor.Cursor.{Cursor}
+use Rattle.journal_book.specs.ItemsIn.{items_in}
 use Rattle.journal_book.specs.Journals.{JournalState, changes, offered_of}
 use Rattle.fifo_lane.specs.Lane.{LaneEnd}
 use Rattle.feed_types.specs.declared.genuine.Genuine.{Ghosts as Genuine}
@@ -19,14 +19,6 @@ pub record HubState : Type 0 where
   pub receivers : List (LaneEnd Numbered)
   pub senders : List (LaneEnd Notice)
   pub spare : List SpareLane
-
--- the venue's items in the entries, in order
-abbrev pub item_by : ℕ → Entry → List Numbered
-item_by venue (entry.Consumed v x) = if v == venue then x ∷ [] else []
-item_by venue (entry.SelfHelp v on) = []
-
-abbrev pub items_in : List Entry → ℕ → List Numbered
-items_in entries venue = flat_map (item_by venue) entries
 
 -- The venue's lane: what was received is the venue's items in the entries, and they obey the rule
 -- of a venue's items.
@@ -65,6 +57,7 @@ pub record HubLockInvariant {S : Type 0} (premise : Genuine S) (lanes : FeedLane
   pub few : s.journal.venues ≤ 16
   pub symbols : s.journal.symbols ≡ lanes.setting.symbols
   pub size : s.journal.journal ≡ lanes.setting.journal
+  pub kept : s.journal.kept ≡ lanes.setting.kept
   pub subscribers : length s.senders ≡ length s.journal.cursors
   pub consumed : (venue : ℕ) (e : LaneEnd Numbered) → slice_get s.receivers venue ≡ Some e
       → IsConsumed premise lanes s.journal.entries venue e

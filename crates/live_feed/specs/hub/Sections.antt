@@ -1,13 +1,13 @@
 -- Each section under the consolidator's lock is one event of the machine (feed_core), on the part
 -- that the lock keeps.
-use Rattle.std.specs.Prelude.{◌≡◌, ℕ, ◌<◌, ◌≤◌, Bool, true, List, [], ◌∷◌, ◌++◌, length, map, slice_get, slice_set, Option, Some, None, Result, Ok, Err}
+use Rattle.std.specs.Prelude.{◌≡◌, ℕ, ◌<◌, ◌≤◌, Bool, true, List, [], ◌∷◌, ◌++◌, length, map, slice_get, slice_set, Option, Some, None, IsNone, Result, Ok, Err}
 use Rattle.feed_types.specs.declared.item.Numbered.{Numbered}
 use Rattle.feed_types.specs.declared.journal.Notice.{Notice}
 use Rattle.filter_terms.specs.declared.terms.Terms.{Terms}
 use Rattle.journal_book.specs.declared.fault.JournalFault.{JournalFault}
-use Rattle.journal_book.specs.declared.fault.JournalFault.TheVariants.{NoMemory, JournalFull, UnknownVenue, AlreadySo, TooManySubscribers}
+use Rattle.journal_book.specs.declared.fault.JournalFault.TheVariants.{NoMemory, JournalFull, UnknownVenue, AlreadySo, TooManySubscribers, SubscriberBehind, TooLate}
 use Rattle.journal_book.specs.Codes.{journal_fault_code}
-use Rattle.journal_book.specs.Journals.{Declares, JournalState, terms_at}
+use Rattle.journal_book.specs.Journals.{Declares, IsBehind, IsLate, JournalState, terms_at}
 use Rattle.journal_book.specs.Consolidators.{StaysButCursors}
 use Rattle.journal_book.specs.Wanted.{wanted_of}
 use Rattle.fifo_lane.specs.Lane.{LaneEnd, WasEmpty, WasFull, with_items}
@@ -44,16 +44,19 @@ pub record ConsumesOne (may_send : ℕ → List Numbered → Type 0) (venue : �
   pub received : new.receivers ≡ slice_set old.receivers venue (with_items lane after.received)
   pub entries : new.journal.entries ≡ after.entries
 
--- The answer to `consume`, by cases: want of memory changes nothing, every other answer is Consume.
+-- The answer to `consume`, by cases: want of memory, which only a journal that keeps all has, and a
+-- subscriber that is behind change nothing, every other answer is Consume.
 abbrev pub Consumes : (ℕ → List Numbered → Type 0) → ℕ → Result (Option ℕ) JournalFault
     → HubState → HubState → Type 0
 Consumes may_send venue (Ok answer) old new = ConsumesOne may_send venue (Ok answer) old new
 Consumes may_send venue (Err JournalFull) old new =
     ConsumesOne may_send venue (Err JournalFull) old new
-Consumes may_send venue (Err NoMemory) old new = new ≡ old
+Consumes may_send venue (Err NoMemory) old new = (new ≡ old) × IsNone old.journal.kept
+Consumes may_send venue (Err SubscriberBehind) old new = (new ≡ old) × IsBehind old.journal
 Consumes may_send venue (Err UnknownVenue) old new = ⊥
 Consumes may_send venue (Err AlreadySo) old new = ⊥
 Consumes may_send venue (Err TooManySubscribers) old new = ⊥
+Consumes may_send venue (Err TooLate) old new = ⊥
 
 -- nothing else has changed, but for the room
 abbrev pub KeepsButIntake : HubState → HubState → Type 0
@@ -99,10 +102,11 @@ pub record KeepsButOffers (old new : HubState) : Type 0 where
   pub others : new ≡ record old { journal = new.journal; senders = new.senders }
 
 -- Subscribe: there is one more subscriber with these terms, to whom nothing was offered, and with
--- the lane that the feed has for it, which has the capacity of the feed's setting.
+-- the lane that the feed has for it, which has the capacity of the feed's setting. It wasn't late.
 pub record AddsSubscriber (lanes : FeedLanes) (terms : Terms) (id : ℕ) (e : LaneEnd Notice)
     (old new : HubState) : Type 0 where
   pub few : length old.journal.cursors < 32
+  pub in_time : ¬ IsLate old.journal
   pub id_is : id ≡ length old.journal.cursors
   pub tag : e.tag ≡ id
   pub lane : slice_get lanes.subscribers id ≡ Some e.lane
@@ -114,13 +118,15 @@ pub record AddsSubscriber (lanes : FeedLanes) (terms : Terms) (id : ℕ) (e : La
   pub senders : new.senders ≡ old.senders ++ e ∷ []
   pub receivers : new.receivers ≡ old.receivers
 
--- The refusals of a subscriber, in order: there are 32, else memory was refused.
+-- The refusals of a subscriber, in order: there are 32, it is too late, else memory was refused.
 abbrev pub RefusesSubscriber : HubState → JournalFault → Type 0
 RefusesSubscriber s TooManySubscribers = 32 ≤ length s.journal.cursors
-RefusesSubscriber s NoMemory = length s.journal.cursors < 32
+RefusesSubscriber s NoMemory = (length s.journal.cursors < 32) × (¬ IsLate s.journal)
 RefusesSubscriber s JournalFull = ⊥
 RefusesSubscriber s UnknownVenue = ⊥
 RefusesSubscriber s AlreadySo = ⊥
+RefusesSubscriber s SubscriberBehind = ⊥
+RefusesSubscriber s TooLate = (length s.journal.cursors < 32) × IsLate s.journal
 
 -- the answer to `subscribe`, by cases: a refused call hands the terms back and changes nothing
 abbrev pub HubSubscribes : FeedLanes → Terms → Result (ℕ × LaneEnd Notice) (JournalFault × Terms)
@@ -129,7 +135,10 @@ HubSubscribes lanes terms (Ok (id, e)) old new = AddsSubscriber lanes terms id e
 HubSubscribes lanes terms (Err (TooManySubscribers, back)) old new =
     (32 ≤ length old.journal.cursors) × (back ≡ terms) × (new ≡ old)
 HubSubscribes lanes terms (Err (NoMemory, back)) old new =
-    (length old.journal.cursors < 32) × (back ≡ terms) × (new ≡ old)
+    (length old.journal.cursors < 32) × (back ≡ terms) × (new ≡ old) × (¬ IsLate old.journal)
 HubSubscribes lanes terms (Err (JournalFull, back)) old new = ⊥
 HubSubscribes lanes terms (Err (UnknownVenue, back)) old new = ⊥
 HubSubscribes lanes terms (Err (AlreadySo, back)) old new = ⊥
+HubSubscribes lanes terms (Err (SubscriberBehind, back)) old new = ⊥
+HubSubscribes lanes terms (Err (TooLate, back)) old new =
+    (length old.journal.cursors < 32) × (back ≡ terms) × (new ≡ old) × IsLate old.journal

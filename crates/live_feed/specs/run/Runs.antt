@@ -24,6 +24,7 @@ abbrev pub stop_code : Stop → ℕ
 stop_code stops.NoMemory = 12
 stop_code stops.JournalFull = 17
 stop_code stops.NoThread = 34
+stop_code stops.SubscriberBehind = 51
 
 -- The count of a source's failures after a call with this fault: want of memory is no failure.
 abbrev pub failures_after : ℕ → SourceFault → ℕ
@@ -74,9 +75,11 @@ pub record LineHasEnded {G N S : Type 0} (takes : SeatState → List (List ℕ) 
   pub counted : MatchOption ended.fault (failures ended.source ≡ failures source)
       (λ fault. failures ended.source ≡ failures_after (failures source) fault)
 
--- A subscriber that took notices: it is the same one, and its log has grown at its end.
+-- A subscriber that took notices: it is the same one, and its log has grown at its end; nothing
+-- more of it was forgotten.
 pub record HasPolled (old new : SubscriberLogState) : Type 0 where
   pub id : new.id ≡ old.id
   pub limits : new.limits ≡ old.limits
   pub most : new.most ≡ old.most
+  pub forgotten : new.forgotten ≡ old.forgotten
   pub log : IsPrefix old.lines new.lines

@@ -2,9 +2,8 @@
 use Rattle.std.specs.Prelude.{◌≡◌, ◌≤◌, ◌<◌, List, [], length, vec_capacity}
 use Rattle.std.specs.List.{AllZip}
 use Rattle.feed_types.specs.declared.item.Numbered.{Numbered}
-use Rattle.feed_types.specs.declared.journal.Entry.{Entry}
 use Rattle.feed_types.specs.declared.journal.Notice.{Notice}
-use Rattle.journal_book.specs.Journals.{JournalState}
+use Rattle.journal_book.specs.Journals.{JournalState, kept_of}
 use Rattle.fifo_lane.specs.Lane.{LaneEnd}
 use Rattle.feed_types.specs.declared.genuine.Genuine.{Ghosts as Genuine}
 use Rattle.live_feed.specs.Lanes.{FeedLanes}
@@ -18,10 +17,10 @@ use Rattle.live_feed.specs.declared.settle.rooms.SubscriberRoom.{SubscriberRoom}
 use Rattle.live_feed.specs.declared.settle.rooms.FeedRoom.{FeedRoom}
 
 -- the venue's cell, the receiving end of its lane, and room for what is left of it
-pub record IsToClose {S : Type 0} (premise : Genuine S) (lanes : FeedLanes) (entries : List Entry)
-    (c : CellState) (e : LaneEnd Numbered) (r : VenueRoom) : Type 0 where
-  pub consumed : IsConsumed premise lanes entries c.arbiter.venue e
-  pub room : HasVenueRoom entries c r
+pub record IsToClose {S : Type 0} (premise : Genuine S) (lanes : FeedLanes)
+    (journal : JournalState) (c : CellState) (e : LaneEnd Numbered) (r : VenueRoom) : Type 0 where
+  pub consumed : IsConsumed premise lanes journal.entries c.arbiter.venue e
+  pub room : HasVenueRoom (kept_of journal.kept journal.entries) c r
 
 -- what the subscriber keeps, the sending end of its lane, and room for what is left of it
 pub record IsToServe (lanes : FeedLanes) (journal : JournalState) (t : SubscriberLogState)
@@ -33,7 +32,8 @@ pub record IsToServe (lanes : FeedLanes) (journal : JournalState) (t : Subscribe
 -- there is room for everything that is left of the feed
 pub record HasRoom (cells : List CellState) (hub : HubState) (r : FeedRoom) : Type 0 where
   pub venue_count : length r.venues.items ≡ length cells
-  pub venues : HaveVenueRooms hub.journal.entries cells r.venues.items
+  pub venues : HaveVenueRooms (kept_of hub.journal.kept hub.journal.entries) cells
+      r.venues.items
   pub venue_ends : (r.venue_ends.items ≡ []) × (length cells ≤ vec_capacity r.venue_ends)
   pub subscriber_count : length r.subscribers.items ≡ length hub.senders
   pub subscribers : HaveSubscriberRooms hub.journal hub.senders r.subscribers.items
@@ -46,5 +46,5 @@ pub record IsClosedFeed {S : Type 0} (premise : Genuine S)
     (s : SettlementState) : Type 0 where
   pub kept : HubLockInvariant premise lanes hub
   pub journal : s.journal ≡ hub.journal
-  pub venues : AllZip (IsClosedVenue premise lanes s.journal.entries) cells s.venues
+  pub venues : AllZip (IsClosedVenue premise lanes s.journal) cells s.venues
   pub subscribers : AllZip (λ t x. ShowsSubscriber s.journal t.id t x) logs s.subscribers

@@ -2,10 +2,11 @@
 use Rattle.std.specs.Prelude.{◌≡◌, ℕ, ◌+◌, ◌≤◌, List, length, Some, slice_get, vec_capacity}
 use Rattle.feed_types.specs.declared.journal.Entry.{Entry}
 use Rattle.feed_types.specs.declared.journal.Notice.{Notice}
-use Rattle.journal_book.specs.Journals.{JournalState, changes, cursor_at}
+use Rattle.journal_book.specs.Journals.{JournalState}
+use Rattle.journal_book.specs.Cursors.{IsUnseen}
 use Rattle.fifo_lane.specs.Lane.{LaneEnd}
 use Rattle.live_feed.specs.venue.Cells.{CellState}
-use Rattle.live_feed.specs.hub.Hubs.{items_in}
+use Rattle.journal_book.specs.ItemsIn.{items_in}
 use Rattle.live_feed.specs.declared.settle.rooms.VenueRoom.{VenueRoom}
 use Rattle.live_feed.specs.declared.settle.rooms.SubscriberRoom.{SubscriberRoom}
 
@@ -24,8 +25,8 @@ pub record HasSubscriberRoom (journal : JournalState) (id : ℕ) (e : LaneEnd No
     (r : SubscriberRoom) : Type 0 where
   pub queued : (length r.queued.items ≡ 0) × (e.capacity ≤ vec_capacity r.queued)
   pub unoffered : (length r.unoffered.items ≡ 0)
-      × ((seen : ℕ) → cursor_at journal id ≡ Some seen
-      → length (changes journal) ≤ seen + vec_capacity r.unoffered)
+      × ((unseen : List Notice) → IsUnseen journal id unseen
+      → length unseen ≤ vec_capacity r.unoffered)
 
 -- the room of each venue
 abbrev pub HaveVenueRooms : List Entry → List CellState → List VenueRoom → Type 0

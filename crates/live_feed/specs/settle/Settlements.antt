@@ -1,7 +1,6 @@
 -- The settlement of a feed: what it shows once its threads have returned.
 use Rattle.std.specs.Prelude.{◌≡◌, ℕ, ◌+◌, List, ◌++◌, fold, length, map, Some, slice_get, if◌then◌else◌}
 use Rattle.feed_types.specs.declared.item.Numbered.{Numbered}
-use Rattle.feed_types.specs.declared.journal.Entry.{Entry}
 use Rattle.feed_types.specs.declared.journal.Notice.{Notice}
 use Rattle.feed_types.specs.declared.line.LineId.{LineId}
 use Rattle.line_arbiter.specs.Histories.{History, all_begun, streams_of, wins_in}
@@ -9,13 +8,13 @@ use Rattle.feed_types.specs.declared.per_line.PerLine.{PerLine}
 use Rattle.feed_types.specs.PerLines.{on_line}
 use Rattle.line_arbiter.specs.Counts.{shown}
 use Rattle.filter_terms.specs.declared.terms.Terms.{Terms}
-use Rattle.journal_book.specs.Journals.{JournalState, terms_at}
+use Rattle.journal_book.specs.Journals.{JournalState, kept_of, terms_at}
 use Rattle.journal_book.specs.Wanted.{wanted_of}
 use Rattle.feed_types.specs.declared.genuine.Genuine.{Ghosts as Genuine}
 use Rattle.live_feed.specs.declared.subscriber.logged.Logged.{Logged}
 use Rattle.live_feed.specs.Lanes.{FeedLanes}
 use Rattle.live_feed.specs.venue.Cells.{AreGivenFrom, CellState, VenueLockInvariant, arrivals_of}
-use Rattle.live_feed.specs.hub.Hubs.{items_in}
+use Rattle.journal_book.specs.ItemsIn.{items_in}
 use Rattle.live_feed.specs.venue.Seats.{SeatState, is_seat_of}
 use Rattle.live_feed.specs.venue.Sums.{Sums, accepted_on, no_sums, sums_together}
 use Rattle.live_feed.specs.subscriber.Logs.{SubscriberLogState}
@@ -52,9 +51,11 @@ pub record VenueEndState : Type 0 where
   pub wins : PerLine ℕ
   pub accepted : PerLine Sums
 
--- what is left of a subscriber: its log, and the notices in its lane and those that weren't offered
+-- what is left of a subscriber: its log, of which the first lines are forgotten, and the notices in
+-- its lane and those that weren't offered
 pub record SubscriberEndState : Type 0 where
   pub log : List Logged
+  pub forgotten : ℕ
   pub queued : List Notice
   pub unoffered : List Notice
 
@@ -112,25 +113,26 @@ AreInOrder logs = (id : ℕ) (t : SubscriberLogState) → slice_get logs id ≡ 
 
 -- a venue's cell, which its lock kept last, and what is left of it once its lane is closed
 pub record IsClosedVenue {S : Type 0} (premise : Genuine S) (lanes : FeedLanes)
-    (entries : List Entry) (c : CellState) (v : VenueEndState) : Type 0 where
+    (journal : JournalState) (c : CellState) (v : VenueEndState) : Type 0 where
   pub kept : VenueLockInvariant premise lanes c
-  pub settled : IsSettled premise c.arbiter.venue lanes.setting.window c.lane.items v.consumed
-      v.in_lane v.ready v.wins v.accepted
-  pub consumed : v.consumed ≡ items_in entries c.arbiter.venue
+  pub settled : IsSettled premise c.arbiter.venue lanes.setting.window c.lane.items
+      (items_in journal.entries c.arbiter.venue) v.in_lane v.ready v.wins v.accepted
+  pub consumed : v.consumed ≡ items_in (kept_of journal.kept journal.entries) c.arbiter.venue
   pub wins : v.wins ≡ c.arbiter.wins
   pub accepted : v.accepted ≡ c.accepted
 
 -- A venue of a closed feed, whose lock kept this cell last: its lane, through which the cell's
--- items were sent, is closed; what was consumed is its items in the entries; and what is counted
--- per line is what the line's seats show, added up.
+-- items were sent, is closed; what was consumed is its items in the entries, and it is shown where
+-- all is kept; and what is counted per line is what the line's seats show, added up.
 pub record ShowsVenue {S : Type 0} (premise : Genuine S) (lanes : FeedLanes)
-    (entries : List Entry) (seats : List SeatState) (venue : ℕ) (v : VenueEndState) : Type 0 where
+    (journal : JournalState) (seats : List SeatState) (venue : ℕ) (v : VenueEndState)
+    : Type 0 where
   pub cell : CellState
   pub kept : VenueLockInvariant premise lanes cell
   pub venue_is : cell.arbiter.venue ≡ venue
-  pub settled : IsSettled premise venue lanes.setting.window cell.lane.items v.consumed
-      v.in_lane v.ready v.wins v.accepted
-  pub consumed : v.consumed ≡ items_in entries venue
+  pub settled : IsSettled premise venue lanes.setting.window cell.lane.items
+      (items_in journal.entries venue) v.in_lane v.ready v.wins v.accepted
+  pub consumed : v.consumed ≡ items_in (kept_of journal.kept journal.entries) venue
   pub wins : (line : LineId) → on_line line v.wins ≡ (tally_of venue line seats).wins
   pub accepted : (line : LineId) → on_line line v.accepted ≡ (tally_of venue line seats).accepted
 
@@ -138,7 +140,7 @@ pub record ShowsVenue {S : Type 0} (premise : Genuine S) (lanes : FeedLanes)
 pub record ShowsSubscriber (journal : JournalState) (id : ℕ) (t : SubscriberLogState)
     (x : SubscriberEndState) : Type 0 where
   pub served : IsServed journal id x.log x.queued x.unoffered
-  pub own : (t.id ≡ id) × (x.log ≡ t.lines)
+  pub own : (t.id ≡ id) × (x.log ≡ t.lines) × (x.forgotten ≡ t.forgotten)
 
 -- The settlement of a feed, once these seats and these subscribers were handed in: each of its
 -- venues and each of its subscribers is closed. The journal has the symbols and the capacity of the
@@ -147,10 +149,11 @@ pub record IsSettlement {S : Type 0} (premise : Genuine S) (lanes : FeedLanes)
     (seats : List SeatState) (logs : List SubscriberLogState) (s : SettlementState) : Type 0 where
   pub symbols : s.journal.symbols ≡ lanes.setting.symbols
   pub size : s.journal.journal ≡ lanes.setting.journal
+  pub kept : s.journal.kept ≡ lanes.setting.kept
   pub venue_count : (length s.venues ≡ length lanes.venues)
       × (s.journal.venues ≡ length lanes.venues)
   pub venues : (venue : ℕ) (v : VenueEndState) → slice_get s.venues venue ≡ Some v
-      → ShowsVenue premise lanes s.journal.entries seats venue v
+      → ShowsVenue premise lanes s.journal seats venue v
   pub subscriber_count : length s.subscribers ≡ length s.journal.cursors
   pub all : length s.subscribers ≡ length logs
   pub subscribers : (id : ℕ) (t : SubscriberLogState) (x : SubscriberEndState)

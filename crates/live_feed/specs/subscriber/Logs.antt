@@ -11,12 +11,13 @@ use Rattle.live_feed.specs.declared.subscriber.logged.PollFault.{PollFault}
 use Rattle.live_feed.specs.declared.subscriber.logged.PollFault.TheVariants.{NoMemory, LogFull}
 use Rattle.live_feed.specs.Lanes.{FeedLanes}
 
--- the subscriber's id, the receiving end of its lane, its log's lines, how many it holds, and the
--- limits of its strategy
+-- the subscriber's id, the receiving end of its lane, its log's lines, how many of these are
+-- forgotten, how many it takes, and the limits of its strategy
 pub record SubscriberLogState : Type 0 where
   pub id : ℕ
   pub lane : LaneEnd Notice
   pub lines : List Logged
+  pub forgotten : ℕ
   pub most : ℕ
   pub limits : Limits
 

@@ -21,7 +21,8 @@ use Rattle.line_arbiter.specs.States.{KeepsItsPlace, KeepsItsSession, KeepsAllBu
 use Rattle.fifo_lane.specs.Lane.{WasFull, with_items}
 use Rattle.feed_core.specs.declared.event.Done.{Done}
 use Rattle.feed_core.specs.declared.event.Done.TheVariants as done
-use Rattle.feed_core.specs.Steps.{AddsArrival, AddsRenewal, AddsSkip, push_next, AppliesTo}
+use Rattle.line_arbiter.specs.Additions.{AddsArrival, AddsRenewal, AddsSkip}
+use Rattle.feed_core.specs.Steps.{push_next, AppliesTo}
 use Rattle.feed_types.specs.declared.genuine.Genuine.{Ghosts as Genuine}
 use Rattle.live_feed.specs.Premises.{AreInSequence, BringExactly}
 use Rattle.live_feed.specs.declared.faults.FeedFault.{FeedFault}

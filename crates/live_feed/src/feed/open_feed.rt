@@ -181,8 +181,8 @@ impl<G: Genuine, N: FeedName> OpenFeed<G, N> {
     }
 
     /// Journals the next item of the venue's lane, and returns its position; None where the lane
-    /// was empty. UnknownVenue, JournalFull or NoMemory come before an item is taken out of the
-    /// lane.
+    /// was empty. UnknownVenue, JournalFull, NoMemory or SubscriberBehind come before an item is
+    /// taken out of the lane.
     #[tactic(auto, using(crate::proofs::HubMoves::under_hub_lock))]
     pub fn consume<W: Wait>(&self, rt: &W, venue: VenueId) -> Result<Option<u64>, JournalFault>
         ensures unknown { IsErrOf result JournalFault.UnknownVenue
@@ -253,8 +253,8 @@ impl<G: Genuine, N: FeedName> OpenFeed<G, N> {
     }
 
     /// Declares self-help on the venue, or withdraws it, and returns the entry's position. It is
-    /// refused as UnknownVenue, AlreadySo (the venue's self-help is in that state), JournalFull or
-    /// NoMemory: the first that fits. A refused call changes nothing.
+    /// refused as UnknownVenue, AlreadySo (the venue's self-help is in that state), JournalFull,
+    /// NoMemory or SubscriberBehind: the first that fits. A refused call changes nothing.
     #[tactic(auto, using(crate::proofs::HubMoves::under_hub_lock))]
     pub fn declare<W: Wait>(&self, rt: &W, venue: VenueId, on: bool) -> Result<u64, JournalFault>
         ensures unknown { IsErrOf result JournalFault.UnknownVenue
@@ -274,7 +274,8 @@ impl<G: Genuine, N: FeedName> OpenFeed<G, N> {
 
     /// Adds a subscriber with this filter and strategy, whose log is empty and holds as many lines
     /// as configured. Its notices begin with the first change of the journal. It is refused, with
-    /// both, as TooManySubscribers where there are 32, else as NoMemory.
+    /// both, as TooManySubscribers where there are 32, as TooLate where not all changes are kept and
+    /// there is one, else as NoMemory.
     pub fn subscribe<W: Wait>(
         &self,
         rt: &W,
@@ -283,17 +284,19 @@ impl<G: Genuine, N: FeedName> OpenFeed<G, N> {
         strategy: Strategy,
     ) -> Result<Subscriber<N>, (JournalFault, Filter, Strategy)>
         ensures new { IfOk result (λ made. (made.log.lines ≡ [])
-            × (made.log.limits ≡ strategy.limits)) }
+            × (made.log.limits ≡ strategy.limits) × (made.log.forgotten ≡ 0)) }
         ensures sized { IfOk result (λ made. (made.log.most ≡ N.lanes.setting.log)
             × (made.log.lane.capacity ≡ N.lanes.setting.lane)) }
         ensures back { IfErr result (λ refused. (refused.1 ≡ filter) × (refused.2 ≡ strategy)) }
     {
         let mut hub = self.hub.lock(rt);
         let Ok(bells) = self.venues.share_bells() else {
-            let fault = if hub.core.has_subscriber_room() {
-                JournalFault::NoMemory
-            } else {
+            let fault = if !hub.core.has_subscriber_room() {
                 JournalFault::TooManySubscribers
+            } else if hub.core.is_late() {
+                JournalFault::TooLate
+            } else {
+                JournalFault::NoMemory
             };
             return Err((fault, filter, strategy));
         };

@@ -41,8 +41,8 @@ impl<G: Genuine, N: FeedName> HubCell<G, N> {
     }
 
     /// Journals the next item of the venue's lane, and returns its position; None where the lane
-    /// was empty. The venue is below the count. JournalFull and NoMemory come before an item is
-    /// taken out of the lane, and change nothing.
+    /// was empty. The venue is below the count. JournalFull, NoMemory and SubscriberBehind come
+    /// before an item is taken out of the lane, and change nothing.
     pub fn consume<W: Wait>(&mut self, rt: &W, venue: VenueId) -> Result<Option<u64>, JournalFault>
         requires { venue < self.old.core.journal.venues }
         ensures consume { Consumes (AreInSequence G.Genuine) venue result
@@ -54,7 +54,8 @@ impl<G: Genuine, N: FeedName> HubCell<G, N> {
     }
 
     /// Declares self-help on the venue, or withdraws it, and returns the entry's position. It is
-    /// refused as UnknownVenue, AlreadySo, JournalFull or NoMemory: the first that fits.
+    /// refused as UnknownVenue, AlreadySo, JournalFull, NoMemory or SubscriberBehind: the first
+    /// that fits.
     pub fn declare(&mut self, venue: VenueId, on: bool) -> Result<u64, JournalFault>
         ensures declares { DeclaresAt venue on result self.old.core self.new.core }
         ensures venues { self.old.core.journal.venues ≡ length N.lanes.venues }
@@ -63,8 +64,8 @@ impl<G: Genuine, N: FeedName> HubCell<G, N> {
     }
 
     /// Adds a subscriber, to whom nothing was offered, and gives its id and the receiving end of
-    /// its lane. It is refused, with the filter, as TooManySubscribers where there are 32, else as
-    /// NoMemory.
+    /// its lane. It is refused, with the filter, as TooManySubscribers where there are 32, as
+    /// TooLate where not all changes are kept and there is one, else as NoMemory.
     pub(crate) fn subscribe(
         &mut self,
         filter: Filter,
@@ -77,6 +78,9 @@ impl<G: Genuine, N: FeedName> HubCell<G, N> {
     {
         if !self.core.has_subscriber_room() {
             return Err((JournalFault::TooManySubscribers, filter));
+        }
+        if self.core.is_late() {
+            return Err((JournalFault::TooLate, filter));
         }
         if self.filters.reserve(1).is_err() {
             return Err((JournalFault::NoMemory, filter));

@@ -1,6 +1,7 @@
 //! The journal with the lanes that meet at it.
 
 ghost use Rattle.std.specs.Prelude.{◌≡◌, ◌≤◌, ◌<◌, ◌↔◌, length, OnErr, IsTrue};
+ghost use Rattle.journal_book.specs.Journals.{IsLate};
 ghost use Rattle.live_feed.specs.hub.Hubs.{HubLockInvariant};
 ghost use Rattle.live_feed.specs.hub.Sections.{Consumes, DeclaresAt, KeepsButIntake, HubOffersOne, KeepsButOffers, HubSubscribes};
 ghost use Rattle.live_feed.specs.Premises.{AreInSequence};
@@ -158,6 +159,13 @@ impl<G: Genuine, N: FeedName> JournalAndLanes<G, N> {
         self.kept.has_subscriber_room()
     }
 
+    /// Whether it is too late for a further subscriber.
+    pub(crate) fn is_late(&self) -> bool
+        ensures { IsTrue result ↔ IsLate self.now.journal }
+    {
+        self.kept.is_late()
+    }
+
     /// Whether there is a subscriber of this id.
     pub(crate) fn has(&self, id: SubscriberId) -> bool
         ensures known { IsTrue result ↔ (id < length self.now.journal.cursors) }
@@ -213,6 +221,9 @@ impl<G: Genuine, N: FeedName> JournalAndLanes<G, N> {
     {
         if !self.kept.has_subscriber_room() {
             return Err((JournalFault::TooManySubscribers, terms));
+        }
+        if self.kept.is_late() {
+            return Err((JournalFault::TooLate, terms));
         }
         if self.to_subscribers.reserve(1).is_err() {
             return Err((JournalFault::NoMemory, terms));

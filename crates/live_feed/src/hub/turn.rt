@@ -24,7 +24,7 @@ pub struct Consolidated {
     pub venues: [bool; 16],
     /// The number of notices that were offered, to all subscribers.
     pub offered: u64,
-    /// The refusal of journaling, if there was one: JournalFull or NoMemory.
+    /// The refusal of journaling, if there was one: JournalFull, NoMemory or SubscriberBehind.
     pub refused: Option<JournalFault>,
 }
 

@@ -35,12 +35,43 @@ fn flush_each<G: Genuine, N: FeedName, W: Wait>(
     moved
 }
 
-/// Returns why the run stops after this refusal of journaling.
-fn reason_of(fault: JournalFault) -> Stop {
+/// What a look for work came to.
+#[derive(Clone, Copy)]
+enum Look {
+    /// Something was done, or the next look may find something.
+    Worked,
+    /// There was nothing to do.
+    Idle,
+    /// Nothing can be journaled until a subscriber goes on, whose notices a thread takes.
+    Behind,
+    /// The same, but no thread takes the notices of one that is behind.
+    Unpolled,
+}
+
+/// Returns why the run stops after this refusal of journaling; None where a subscriber that goes on
+/// ends the refusal.
+fn reason_of(fault: JournalFault) -> Option<Stop> {
     match fault {
-        JournalFault::NoMemory => Stop::NoMemory,
-        _ => Stop::JournalFull,
+        JournalFault::SubscriberBehind => None,
+        JournalFault::NoMemory => Some(Stop::NoMemory),
+        _ => Some(Stop::JournalFull),
     }
+}
+
+/// Returns whether notices are taken out of one of the lanes in which a notice waits for room; None
+/// where there is no such lane.
+fn is_full_lane_polled(bells: &Bells) -> Option<bool> {
+    let mut is_polled = None;
+    for place in 0..MAX_SUBSCRIBERS {
+        let id = SubscriberId::at(place);
+        if bells.is_room_wanted(id) {
+            if bells.is_polled(id) {
+                return Some(true);
+            }
+            is_polled = Some(false);
+        }
+    }
+    is_polled
 }
 
 /// Takes a turn: journals and offers, or, where the run stops early, offers alone. Returns what
@@ -58,22 +89,50 @@ fn take_turn<G: Genuine, N: FeedName, W: Wait>(
     done
 }
 
-/// Takes a turn and then pushes, of each venue where `all` is true, and returns whether there was
-/// anything to do. Where journaling is refused, the run stops early, and `stopped` is why.
+/// Returns what a look came to in which nothing was done, since a subscriber is behind. Whoever is
+/// behind still has a full lane. Where no lane is full, the changes weren't wanted, and the next
+/// look finds room in the journal.
+fn look_behind(bells: &Bells) -> Look {
+    match is_full_lane_polled(bells) {
+        Some(true) => Look::Behind,
+        Some(false) => Look::Unpolled,
+        None => Look::Worked,
+    }
+}
+
+/// Stops the run early where two looks in a row came to `Unpolled`: the first of them may have been
+/// made before the last notice was taken.
+fn stop_behind(before: Look, look: Look, signals: &Signals, stopped: &mut Option<Stop>) {
+    if matches!((before, look), (Look::Unpolled, Look::Unpolled)) {
+        signals.stop();
+        *stopped = Some(Stop::SubscriberBehind);
+    }
+}
+
+/// Takes a turn and then pushes, of each venue where `all` is true, and returns what that came to.
+/// Where journaling is refused, and no subscriber that goes on ends that, the run stops early, and
+/// `stopped` is why.
 fn work_once<G: Genuine, N: FeedName, W: Wait>(
     rt: &W,
     feed: &OpenFeed<G, N>,
     signals: &Signals,
     all: bool,
     stopped: &mut Option<Stop>,
-) -> bool {
+) -> Look {
     let done = take_turn(rt, feed, signals);
-    if let Some(fault) = done.refused {
+    let reason = done.refused.and_then(reason_of);
+    if reason.is_some() {
         signals.stop();
-        *stopped = Some(reason_of(fault));
+        *stopped = reason;
     }
     let flushed = flush_each(rt, feed, &done, all);
-    done.consumed > 0 || done.offered > 0 || done.refused.is_some() || flushed
+    if done.consumed > 0 || done.offered > 0 || reason.is_some() || flushed {
+        Look::Worked
+    } else if done.refused.is_some() {
+        look_behind(feed.venues.bells())
+    } else {
+        Look::Idle
+    }
 }
 
 /// Returns whether a notice waits for room in a lane from which a thread of the run takes notices.
@@ -89,7 +148,8 @@ fn is_room_wanted(signals: &Signals, bells: &Bells) -> bool {
 
 /// Journals what the lines bring and offers what the subscribers want, until the lines have ended
 /// and nothing is left to do, and returns why the run stopped early, if journaling was the reason.
-/// Once the lines have ended, what is ready is pushed in any case.
+/// Once the lines have ended, what is ready is pushed in any case. It waits for a subscriber that
+/// is behind, as long as a thread takes its notices.
 ///
 /// It sleeps after it has looked in vain for a while. The wait is announced before the last of
 /// these looks, so whatever comes after that look ends the sleep.
@@ -101,6 +161,7 @@ pub(crate) fn consolidate<G: Genuine, N: FeedName, W: Wait>(
     let bells = feed.venues.bells();
     let mut stopped = None;
     let mut first = true;
+    let mut before = Look::Worked;
     let mut looks: u32 = 0;
     for _ in rt.forever() {
         let key = if is_tired(looks) {
@@ -109,16 +170,15 @@ pub(crate) fn consolidate<G: Genuine, N: FeedName, W: Wait>(
             None
         };
         let last = signals.have_lines_ended();
-        let has_worked = work_once(rt, feed, signals, first || last, &mut stopped);
+        let look = work_once(rt, feed, signals, first || last, &mut stopped);
         first = false;
-        if has_worked {
-            looks = 0;
-            continue;
+        stop_behind(before, look, signals, &mut stopped);
+        before = look;
+        match look {
+            Look::Worked | Look::Unpolled => looks = 0,
+            Look::Idle if last && !is_room_wanted(signals, bells) => break,
+            Look::Idle | Look::Behind => looks = rest(rt, looks, key),
         }
-        if last && !is_room_wanted(signals, bells) {
-            break;
-        }
-        looks = rest(rt, looks, key);
     }
     signals.end_offers();
     bells.ring_subscribers();

@@ -19,13 +19,17 @@ pub enum Stop {
     /// Memory for an entry and its notices was refused.
     #[error("memory was refused")]
     NoMemory,
+    /// A subscriber is further behind than the journal keeps changes for, its lane is full, and no
+    /// thread takes notices out of it.
+    #[error("a subscriber is too far behind")]
+    SubscriberBehind,
     /// A thread couldn't be started.
     #[error("a thread couldn't be started")]
     NoThread,
 }
 
 impl Stop {
-    /// The code of the reason: 12, 17 or 34.
+    /// The code of the reason: 12, 17, 34 or 51.
     pub fn code(self) -> u8
         ensures { result ≡ stop_code self }
     {
@@ -33,6 +37,7 @@ impl Stop {
             Stop::NoMemory => 12,
             Stop::JournalFull => 17,
             Stop::NoThread => 34,
+            Stop::SubscriberBehind => 51,
         }
     }
 }

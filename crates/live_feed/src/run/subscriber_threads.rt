@@ -42,10 +42,12 @@ where
         ensures { HasPolled log result }
     { work_subscriber(rt, signals, bells, log, strategy) };
     signals.set_polling(id, true);
+    bells.set_polled(id, true);
     match scope.spawn_with(promise, job) {
         Ok(handle) => Ok(handle),
         Err(refused) => {
             signals.set_polling(id, false);
+            bells.set_polled(id, false);
             signals.lack_thread();
             Err((refused.value)())
         }

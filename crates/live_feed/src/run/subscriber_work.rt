@@ -62,6 +62,6 @@ pub(crate) fn work_subscriber<N: FeedName, W: Wait>(
         }
     }
     signals.set_polling(id, false);
-    bells.ring_work();
+    bells.set_polled(id, false);
     log
 }

@@ -87,7 +87,7 @@ fn subscriber_room(
     requires { id < length journal.now.cursors }
     ensures { IfOk result (HasSubscriberRoom journal.now id sender.now) }
 {
-    let unseen = journal.changes().len() - journal.cursor(id);
+    let unseen = journal.unseen(id).len();
     let queued = Vec::with_capacity(alloc, sender.capacity())?;
     let unoffered = Vec::with_capacity(alloc, unseen)?;
     Ok(SubscriberRoom { queued, unoffered })

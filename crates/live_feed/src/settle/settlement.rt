@@ -1,8 +1,9 @@
 //! The settlement of a feed.
 
-ghost use Rattle.std.specs.Prelude.{◌≡◌, ◌<◌, length, IfSome, Some, slice_get};
+ghost use Rattle.std.specs.Prelude.{◌≡◌, ◌<◌, drop, length, IfSome, IfNone, Some, slice_get};
 ghost use Rattle.feed_types.specs.PerLines.{on_line};
-ghost use Rattle.journal_book.specs.Journals.{changes, terms_at};
+ghost use Rattle.journal_book.specs.Journals.{changes, kept_of, terms_at};
+ghost use Rattle.journal_book.specs.ItemsIn.{items_in};
 ghost use Rattle.live_feed.specs.venue.Sums.{sums_list};
 
 use crate::settle::subscriber_end::SubscriberEnd;
@@ -17,9 +18,9 @@ use std::marker::Model;
 /// subscriber.
 ///
 /// A venue's items that were consumed, then those in its lane, then those that are ready are the
-/// streams of its sessions. The notices of a subscriber's log, then those in its lane, then those
-/// that weren't offered are what it wants of the entries (`IsSettlement` in
-/// `specs/settle/Settlements.antt`).
+/// streams of its sessions. The notices of a subscriber's log, with those that it has forgotten, then
+/// those in its lane, then those that weren't offered are what it wants of the entries
+/// (`IsSettlement` in `specs/settle/Settlements.antt`).
 #[derive(Drop)]
 pub struct Settlement {
     kept: Journal,
@@ -76,26 +77,35 @@ impl Settlement {
         self.subscriber_ends.len()
     }
 
-    /// The journal's entries.
+    /// The journal's entries; none where not all is kept.
     pub fn entries(&self) -> &[Entry]
-        ensures { result.now ≡ self.now.journal.entries }
+        ensures { result.now ≡ kept_of self.now.journal.kept self.now.journal.entries }
     {
         self.kept.entries()
     }
 
-    /// The changes of the national best that the entries make, numbered from 1.
+    /// The changes of the national best that the entries make, numbered from 1; where not all are
+    /// kept, those that are.
     pub fn changes(&self) -> &[Notice]
-        ensures { result.now ≡ changes self.now.journal }
+        ensures { IfNone self.now.journal.kept (result.now ≡ changes self.now.journal) }
     {
         self.kept.changes()
     }
 
-    /// The venue's items that were consumed. The venue is below the number of venues.
+    /// The venue's items that were consumed; none where not all is kept. The venue is below the
+    /// number of venues.
     pub fn consumed(&self, venue: VenueId) -> &[Numbered]
         requires { venue < length self.now.venues }
         ensures { IfSome (slice_get self.now.venues venue) (λ v. result.now ≡ v.consumed) }
     {
         self.venue_ends[venue.index()].consumed()
+    }
+
+    /// Returns how many items of the venue were consumed, whether or not they are kept.
+    pub fn consumed_count(&self, venue: VenueId) -> u32
+        ensures { result ≡ length (items_in self.now.journal.entries venue) }
+    {
+        self.kept.consumed_count(venue)
     }
 
     /// The venue's items that were still in its lane. The venue is below the number of venues.
@@ -135,12 +145,23 @@ impl Settlement {
         self.venue_ends[venue.index()].accepted(line)
     }
 
-    /// The subscriber's log, its oldest line first. The id is below the number of subscribers.
+    /// The lines of the subscriber's log that weren't forgotten, the oldest one first. The id is
+    /// below the number of subscribers.
     pub fn log(&self, id: SubscriberId) -> &[Logged]
         requires { id < length self.now.subscribers }
-        ensures { IfSome (slice_get self.now.subscribers id) (λ x. result.now ≡ x.log) }
+        ensures { IfSome (slice_get self.now.subscribers id)
+            (λ x. result.now ≡ drop x.forgotten x.log) }
     {
         self.subscriber_ends[id.index()].log()
+    }
+
+    /// How many lines of the subscriber's log were forgotten: the first ones. The id is below the
+    /// number of subscribers.
+    pub fn forgotten(&self, id: SubscriberId) -> usize
+        requires { id < length self.now.subscribers }
+        ensures { IfSome (slice_get self.now.subscribers id) (λ x. result ≡ x.forgotten) }
+    {
+        self.subscriber_ends[id.index()].forgotten()
     }
 
     /// The notices that were still in the subscriber's lane. The id is below the number of

@@ -1,7 +1,8 @@
 //! What is left of a subscriber once its lane is closed.
 
-ghost use Rattle.std.specs.Prelude.{◌≡◌};
+ghost use Rattle.std.specs.Prelude.{◌≡◌, drop};
 
+use crate::subscriber::kept_log::KeptLog;
 use crate::subscriber::logged::Logged;
 use feed_types::Notice;
 use std::marker::Model;
@@ -9,7 +10,7 @@ use std::marker::Model;
 /// A subscriber's log, what was still in its lane, and what it wants and wasn't offered.
 #[derive(Drop)]
 pub(crate) struct SubscriberEnd {
-    lines: Vec<Logged>,
+    taken: KeptLog,
     inside: Vec<Notice>,
     unsent: Vec<Notice>,
 }
@@ -20,35 +21,39 @@ impl Model for SubscriberEnd {
     ghost Value = { SubscriberEndState };
 
     ghost view = { λ e. record {
-      log = e.lines.items;
+      log = e.taken.lines;
+      forgotten = e.taken.forgotten;
       queued = e.inside.items;
       unoffered = e.unsent.items;
     } };
 }
 
 impl SubscriberEnd {
-    pub(crate) fn new(
-        log: Vec<Logged>,
-        queued: Vec<Notice>,
-        unoffered: Vec<Notice>,
-    ) -> SubscriberEnd
+    pub(crate) fn new(taken: KeptLog, queued: Vec<Notice>, unoffered: Vec<Notice>) -> SubscriberEnd
         ensures { result ≡ record {
-          log = log.items;
+          log = taken.lines;
+          forgotten = taken.forgotten;
           queued = queued.items;
           unoffered = unoffered.items;
         } }
     {
         SubscriberEnd {
-            lines: log,
+            taken,
             inside: queued,
             unsent: unoffered,
         }
     }
 
     pub(crate) fn log(&self) -> &[Logged]
-        ensures { result.now ≡ self.now.log }
+        ensures { result.now ≡ drop self.now.forgotten self.now.log }
     {
-        self.lines.as_slice()
+        self.taken.as_slice()
+    }
+
+    pub(crate) fn forgotten(&self) -> usize
+        ensures { result ≡ self.now.forgotten }
+    {
+        self.taken.forgotten()
     }
 
     pub(crate) fn queued(&self) -> &[Notice]

@@ -1,6 +1,6 @@
 //! The closing of a subscriber's lane.
 
-ghost use Rattle.std.specs.Prelude.{◌≡◌, ◌≤◌, ◌<◌, ◌+◌, ◌++◌, ◌∷◌, [], drop, filter, length, vec_len, vec_capacity};
+ghost use Rattle.std.specs.Prelude.{◌≡◌, ◌≤◌, ◌<◌, ◌+◌, ◌++◌, ◌∷◌, [], filter, length, vec_len, vec_capacity};
 ghost use Rattle.filter_terms.specs.Terms.{meets};
 ghost use Rattle.live_feed.specs.settle.Settlements.{ShowsSubscriber};
 ghost use Rattle.live_feed.specs.settle.Closings.{IsToServe};
@@ -40,13 +40,12 @@ fn push_wanted(room: &mut Vec<Notice>, terms: &Terms, notice: &Notice)
     }
 }
 
-/// The notices from `from` on that meet the terms, in order. There is room for all of them.
-fn wanted_past(terms: &Terms, notices: &[Notice], from: usize, mut room: Vec<Notice>) -> Vec<Notice>
-    requires from { from ≤ length notices.now }
-    requires room { (length room.items ≡ 0) × (length notices.now ≤ from + vec_capacity room) }
-    ensures { result.items ≡ filter (meets terms.now) (drop from notices.now) }
+/// The notices that meet the terms, in order. There is room for all of them.
+fn wanted_of(terms: &Terms, notices: &[Notice], mut room: Vec<Notice>) -> Vec<Notice>
+    requires { (length room.items ≡ 0) × (length notices.now ≤ vec_capacity room) }
+    ensures { result.items ≡ filter (meets terms.now) notices.now }
 {
-    for place in from..notices.len() {
+    for place in 0..notices.len() {
         push_wanted(&mut room, terms, &notices[place]);
     }
     room
@@ -66,11 +65,10 @@ pub(crate) fn settle_subscriber<N: FeedName, W: Wait>(
     let SubscriberRoom { queued, unoffered } = room;
     let id = log.id();
     let capacity = sender.capacity();
-    let from = journal.cursor(id);
     let terms = journal.terms(id);
-    let (lines, receiver) = log.into_parts();
+    let (taken, receiver) = log.into_parts();
     let inside = settle(sender, receiver);
     let queued = drained(rt, inside, capacity, queued);
-    let unoffered = wanted_past(terms, journal.changes(), from, unoffered);
-    SubscriberEnd::new(lines, queued, unoffered)
+    let unoffered = wanted_of(terms, journal.unseen(id), unoffered);
+    SubscriberEnd::new(taken, queued, unoffered)
 }

@@ -4,7 +4,7 @@ ghost use Rattle.std.specs.Prelude.{◌≡◌, ◌≤◌, ◌<◌, ◌+◌, ◌+
 ghost use Rattle.line_arbiter.specs.Packets.{Input};
 ghost use Rattle.line_arbiter.specs.Streams.{place_of, stream_of};
 ghost use Rattle.line_arbiter.specs.Fits.{Fits};
-ghost use Rattle.live_feed.specs.hub.Hubs.{item_by, items_in};
+ghost use Rattle.journal_book.specs.ItemsIn.{item_by, items_in};
 ghost use Rattle.live_feed.specs.settle.Settlements.{IsClosedVenue};
 ghost use Rattle.live_feed.specs.settle.Closings.{IsToClose};
 
@@ -14,6 +14,7 @@ use crate::settle::venue_end::VenueEnd;
 use crate::venue::cell::VenueCell;
 use feed_types::{Entry, Genuine, Item, Numbered, Quote, SymbolName, VenueId};
 use fifo_lane::{LaneRule, Receiver, Settled, VenueItems, settle};
+use journal_book::Journal;
 use line_arbiter::Arbiter;
 use std::sync::Wait;
 
@@ -113,13 +114,13 @@ fn take_ready<G: Genuine>(lines: &mut Arbiter<G>, mut room: Vec<Numbered>) -> Ve
 /// Closes the venue's lane, of which it takes both ends. There is room for its lists.
 pub(crate) fn settle_venue<G: Genuine, N: FeedName, W: Wait>(
     rt: &W,
-    entries: &[Entry],
+    journal: &Journal,
     cell: VenueCell<G, N>,
     receiver: Receiver<Numbered, VenueItems<G>>,
     room: VenueRoom,
 ) -> VenueEnd
-    requires { IsToClose G.Genuine N.lanes entries.now cell receiver room }
-    ensures { IsClosedVenue G.Genuine N.lanes entries.now cell result }
+    requires { IsToClose G.Genuine N.lanes journal.now cell receiver room }
+    ensures { IsClosedVenue G.Genuine N.lanes journal.now cell result }
 {
     let VenueRoom {
         consumed,
@@ -127,7 +128,7 @@ pub(crate) fn settle_venue<G: Genuine, N: FeedName, W: Wait>(
         ready,
     } = room;
     let capacity = cell.capacity();
-    let consumed = consumed_of(entries, cell.venue(), consumed);
+    let consumed = consumed_of(journal.entries(), cell.venue(), consumed);
     let (mut lines, sender, sums) = cell.into_parts();
     let inside = settle(sender, receiver);
     let in_lane = drained(rt, inside, capacity, in_lane);

@@ -1,6 +1,6 @@
 //! The part of a subscriber beside its strategy.
 
-ghost use Rattle.std.specs.Prelude.{◌≡◌, ◌<◌, [], ◌∷◌, ◌++◌, None, Some, IfOk, IfSome, slice_get, vec_len, vec_capacity};
+ghost use Rattle.std.specs.Prelude.{◌≡◌, ◌+◌, ◌-◌, ◌<◌, ◌≤◌, [], ◌∷◌, ◌++◌, drop, length, IsTrue, None, Some, IfOk, IfSome, slice_get};
 ghost use Rattle.filter_terms.specs.Allowed.{IsAllowed};
 ghost use Rattle.filter_terms.specs.Strategies.{closure_of};
 ghost use Rattle.live_feed.specs.subscriber.Logs.{SubscriberLogInvariant, Polls, logged};
@@ -11,21 +11,22 @@ use crate::bells::Bells;
 use crate::feed_name::FeedName;
 use crate::subscriber::Subscriber;
 use crate::subscriber::advising::{advise, holding_within};
+use crate::subscriber::kept_log::KeptLog;
 use crate::subscriber::logged::{Logged, PollFault};
-use feed_types::{Best, National, Notice, SubscriberId, SymbolName, VenueId};
+use feed_types::{Notice, SubscriberId};
 use fifo_lane::{Receiver, RisingNotices};
 use filter_terms::{Advice, Limits, Strategy};
 use std::alloc::Global;
 use std::marker::{Model, PhantomData};
 use std::sync::{Arc, Wait};
 
-/// The receiving end of a subscriber's lane, and the log of what it took.
+/// The receiving end of a subscriber's lane, and the log of what it took. Lines of the log that
+/// nobody wants any more may be [forgotten](SubscriberLog::forget).
 #[derive(Drop)]
 pub struct SubscriberLog<N: FeedName> {
     owner: SubscriberId,
     notices: Receiver<Notice, RisingNotices>,
-    lines: Vec<Logged>,
-    most_lines: u32,
+    taken: KeptLog,
     bounds: Limits,
     bells: Arc<Bells, Global>,
     feed: PhantomData<N>,
@@ -39,16 +40,18 @@ impl<N: FeedName> Model for SubscriberLog<N> {
     ghost view = { λ t. record {
       id = t.owner;
       lane = t.notices;
-      lines = t.lines.items;
-      most = t.most_lines;
+      lines = t.taken.lines;
+      forgotten = t.taken.forgotten;
+      most = t.taken.most;
       limits = t.bounds;
     } };
 
     ghost invariant = { λ t. SubscriberLogInvariant N.lanes (record {
       id = t.owner;
       lane = t.notices;
-      lines = t.lines.items;
-      most = t.most_lines;
+      lines = t.taken.lines;
+      forgotten = t.taken.forgotten;
+      most = t.taken.most;
       limits = t.bounds;
     }) };
 }
@@ -70,31 +73,19 @@ fn advised(strategy: &mut Strategy, bounds: Limits, notice: &Notice) -> Advice
     if same { advice } else { Advice::Hold }
 }
 
-/// Appends a line, for which there is room.
-fn push_line(lines: &mut Vec<Logged>, notice: &Notice, advice: &Advice)
-    requires { vec_len lines.old < vec_capacity lines.old }
-    ensures { lines.new.items ≡ lines.old.items ++ logged notice.now advice.now ∷ [] }
-{
-    let _named: Option<(National, Best, SymbolName, VenueId)> = None;
-    let notice = *notice;
-    let advice = *advice;
-    lines.push_reserved(Logged { notice, advice });
-}
-
 /// Asks for advice on the notice, and logs it. There is room for a line.
-fn log_line(
-    lines: &mut Vec<Logged>,
-    strategy: &mut Strategy,
-    bounds: Limits,
-    notice: &Notice,
-) -> Advice
-    requires { vec_len lines.old < vec_capacity lines.old }
-    ensures logged { lines.new.items ≡ lines.old.items ++ logged notice.now result ∷ [] }
+fn log_line(taken: &mut KeptLog, strategy: &mut Strategy, bounds: Limits, notice: &Notice) -> Advice
+    requires few { length taken.old.lines < taken.old.most }
+    requires ready { IsTrue taken.old.ready }
+    ensures logged { taken.new ≡ record taken.old {
+      lines = taken.old.lines ++ logged notice.now result ∷ [];
+      ready = taken.new.ready;
+    } }
     ensures allowed { IsAllowed bounds notice.now result }
     ensures asks { AsksOnce bounds notice.now result strategy.old strategy.new }
 {
     let advice = advised(strategy, bounds, notice);
-    push_line(lines, notice, &advice);
+    taken.push(notice, &advice);
     advice
 }
 
@@ -112,14 +103,19 @@ impl<N: FeedName> SubscriberLog<N> {
         requires new { lane.items ≡ [] }
         requires most { most ≡ N.lanes.setting.log }
         requires capacity { lane.capacity ≡ N.lanes.setting.lane }
-        ensures { result
-            ≡ record { id = id; lane = lane; lines = []; most = most; limits = limits } }
+        ensures { result ≡ record {
+          id = id;
+          lane = lane;
+          lines = [];
+          forgotten = 0;
+          most = most;
+          limits = limits;
+        } }
     {
         SubscriberLog {
             owner: id,
             notices: lane,
-            lines: Vec::new(alloc),
-            most_lines: most,
+            taken: KeptLog::new(alloc, most),
             bounds: limits,
             bells,
             feed: PhantomData,
@@ -127,27 +123,40 @@ impl<N: FeedName> SubscriberLog<N> {
     }
 
     /// Returns the log, and the receiving end of the lane.
-    pub(crate) fn into_parts(self) -> (Vec<Logged>, Receiver<Notice, RisingNotices>)
-        ensures parts { (result.0.items ≡ self.lines) × (result.1 ≡ self.lane) }
-        ensures log { SubscriberLogInvariant N.lanes self }
+    pub(crate) fn into_parts(self) -> (KeptLog, Receiver<Notice, RisingNotices>)
+        ensures log { (result.0.lines ≡ self.lines) × (result.0.forgotten ≡ self.forgotten) }
+        ensures lane { result.1 ≡ self.lane }
+        ensures kept { SubscriberLogInvariant N.lanes self }
     {
         let SubscriberLog {
             owner: _,
             notices,
-            lines,
-            most_lines: _,
+            taken,
             bounds: _,
             bells: _,
             feed: _,
         } = self;
-        (lines, notices)
+        (taken, notices)
     }
 
-    /// The log, its oldest line first.
+    /// The lines of the log that weren't forgotten, the oldest one first.
     pub fn log(&self) -> &[Logged]
-        ensures { result.now ≡ self.now.lines }
+        ensures { result.now ≡ drop self.now.forgotten self.now.lines }
     {
-        self.lines.as_slice()
+        self.taken.as_slice()
+    }
+
+    /// Forgets the next `count` lines of the log, which holds at least as many that weren't
+    /// forgotten. They count among those that it may have, and the settlement shows no more of them
+    /// than their count.
+    ///
+    /// Forgotten lines are at most half of those in memory, so these are never more than twice as
+    /// many as weren't forgotten at one time; and a line is moved less than once on average.
+    pub fn forget(&mut self, count: usize)
+        requires { count ≤ length self.old.lines - self.old.forgotten }
+        ensures { self.new ≡ record self.old { forgotten = self.old.forgotten + count } }
+    {
+        self.taken.forget(count);
     }
 
     /// The subscriber's id.
@@ -167,17 +176,17 @@ impl<N: FeedName> SubscriberLog<N> {
         ensures polls { Polls AreRising result self.old self.new }
         ensures asks { AsksForAdvice result self.old self.new strategy.old strategy.new }
     {
-        if self.lines.len() >= self.most_lines as usize {
+        if self.taken.is_full() {
             return Err(PollFault::LogFull);
         }
-        if self.lines.reserve(1).is_err() {
+        if self.taken.reserve_one().is_err() {
             return Err(PollFault::NoMemory);
         }
         let Some(notice) = self.notices.pop(rt) else {
             return Ok(None);
         };
         self.bells.ring_room(self.owner);
-        let advice = log_line(&mut self.lines, strategy, self.bounds, &notice);
+        let advice = log_line(&mut self.taken, strategy, self.bounds, &notice);
         Ok(Some(advice))
     }
 
@@ -188,6 +197,18 @@ impl<N: FeedName> SubscriberLog<N> {
         ensures holds { IfOk result (λ polled. IfSome polled (λ advice. advice ≡ Advice.Hold)) }
     {
         self.poll(rt, &mut holding_within(self.bounds))
+    }
+
+    /// Says that a thread takes the notices from now on. While it does, a run whose journal keeps
+    /// only what is wanted waits for the subscriber where it is behind, and else stops early. The
+    /// threads of a run say so of themselves.
+    pub fn begin_polls(&self) {
+        self.bells.set_polled(self.owner, true);
+    }
+
+    /// Says that no thread takes the notices any more, as where the log is full.
+    pub fn end_polls(&self) {
+        self.bells.set_polled(self.owner, false);
     }
 
     /// Makes it a subscriber again, as [`crate::OpenFeed::run`] and [`crate::OpenFeed::settle`]

@@ -1,10 +1,9 @@
 use Rattle.std.proofs.Common.{ℕ, List, length, map, sym, ap, subst, ◌∙◌, arith}
 use Rattle.std.specs.Prelude.{slice_get}
 use Rattle.std.proofs.lemmas.List.{length-map}
-use Rattle.feed_types.specs.declared.journal.Entry.{Entry}
 use Rattle.feed_types.specs.declared.item.Numbered.{Numbered}
 use Rattle.feed_types.specs.declared.journal.Notice.{Notice}
-use Rattle.journal_book.specs.Journals.{JournalState}
+use Rattle.journal_book.specs.Journals.{JournalState, kept_of}
 use Rattle.fifo_lane.specs.Lane.{LaneEnd}
 use Rattle.live_feed.specs.hub.Hubs.{IsConsumed, IsOffered}
 use Rattle.live_feed.specs.settle.Rooms.{HasVenueRoom, HasSubscriberRoom}
@@ -33,15 +32,14 @@ made_of_three-venue_ends-requires-clause-callable g c =
     let lanes = g.N.FeedName.lanes in
     let made = c.into_parts-journal in
     let parts = made.ensures.parts in
-    let entries = c.entries-entries.ensures.value ∙ ap (λ (j : JournalState). j.entries) parts.0 in
     λ venue guarded e r left mid right.
     (let at = at_map (λ v. v.cell) c.args.unlocked.venues.items venue guarded left in
     let is = c.requires.venues venue guarded.cell at in
     record {
-      consumed = subst (λ (x : List Entry × ℕ). IsConsumed premise lanes x.0 x.1 e)
-          (λ i. (sym entries i, sym is i))
+      consumed = subst (λ (x : JournalState × ℕ). IsConsumed premise lanes x.0.entries x.1 e)
+          (λ i. (sym parts.0 i, sym is i))
           (made.ensures.hub.consumed venue e (ap (λ (l : List (LaneEnd Numbered)). slice_get l venue) (sym parts.1) ∙ mid));
-      room = subst (λ (l : List Entry). HasVenueRoom l guarded.cell r) (sym entries)
+      room = subst (λ (j : JournalState). HasVenueRoom (kept_of j.kept j.entries) guarded.cell r) (sym parts.0)
           (c.requires.room.venues venue guarded.cell r at right);
     })
 
@@ -95,9 +93,8 @@ returns g c =
     unlocked.hub.core (map (λ s. s.log) subscribers) s) (sym c.new.ensures) (record {
       kept = made.ensures.hub;
       journal = made.ensures.parts.0;
-      venues = seen_zipped _ (IsClosedVenue premise lanes journal.entries) (λ v. v.cell)
-          (λ guarded end one. subst (λ (l : List Entry). IsClosedVenue premise lanes l guarded.cell end)
-          c.entries-entries.ensures.value one.2) unlocked.venues.items venue_ends.result.items venue_ends.ensures;
+      venues = seen_zipped _ (IsClosedVenue premise lanes journal) (λ v. v.cell)
+          (λ guarded end one. one.2) unlocked.venues.items venue_ends.result.items venue_ends.ensures;
       subscribers = seen_zipped _ (λ t x. ShowsSubscriber journal t.id t x) (λ s. s.log) (λ s x one. one.2) subscribers
           subscriber_ends.result.items subscriber_ends.ensures;
     })

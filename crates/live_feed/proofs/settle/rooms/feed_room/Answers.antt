@@ -2,7 +2,7 @@ use Rattle.std.proofs.Common.{List, length, map, ap, subst, ◌∙◌, arith}
 use Rattle.std.proofs.lemmas.List.{length-map}
 use Rattle.feed_types.specs.declared.journal.Entry.{Entry}
 use Rattle.feed_types.specs.declared.journal.Notice.{Notice}
-use Rattle.journal_book.specs.Journals.{JournalState}
+use Rattle.journal_book.specs.Journals.{JournalState, kept_of}
 use Rattle.fifo_lane.specs.Lane.{LaneEnd}
 use Rattle.live_feed.specs.settle.Rooms.{HaveVenueRooms, HaveSubscriberRooms}
 use Rattle.live_feed.proofs.settle.rooms.feed_room.Goals as goal
@@ -12,7 +12,7 @@ returns g c =
     let cells = map (λ v. v.cell) c.args.venues.now in
     let venues = c.in_ok-venue_lists in
     let subscribers = c.in_ok-subscriber_lists in
-    let entries = c.entries.ensures.value ∙ ap (λ (j : JournalState). j.entries) c.journal.ensures in
+    let entries = c.entries.ensures.value ∙ ap (λ (j : JournalState). kept_of j.kept j.entries) c.journal.ensures in
     let senders = c.senders.ensures.value in
     record {
       venue_count = (let count = venues.ensures.count in let long = length-map c.args.venues.now (λ v. v.cell) in

@@ -1,6 +1,6 @@
 use Rattle.std.proofs.Common.{◌∙◌, refl, arith, vec_capacity}
 use Rattle.live_feed.proofs.HubMoves.{at_index}
-use Rattle.live_feed.specs.hub.Hubs.{items_in}
+use Rattle.journal_book.specs.ItemsIn.{items_in}
 use Rattle.live_feed.proofs.ClosedLanes.{items_more, items_all, room_more}
 use Rattle.live_feed.proofs.settle.venue_lane.consumed_of.Goals as goal
 

@@ -1,5 +1,5 @@
 use Rattle.std.proofs.Common.{◌≡◌, ◌≤◌, ◌+◌, drop, length}
-use Rattle.live_feed.specs.hub.Hubs.{items_in}
+use Rattle.journal_book.specs.ItemsIn.{items_in}
 use Rattle.live_feed.proofs.settle.venue_lane.count_items.Given as goal
 
 abbrev pub invariant-loop-place : goal.invariant-loop-place

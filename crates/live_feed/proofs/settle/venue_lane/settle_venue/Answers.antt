@@ -9,7 +9,8 @@ use Rattle.fifo_lane.specs.Lane.{Keeps, LaneEnd}
 use Rattle.live_feed.specs.Premises.{AreInSequence}
 use Rattle.feed_types.specs.declared.per_line.PerLine.{PerLine}
 use Rattle.live_feed.specs.venue.Sums.{Sums}
-use Rattle.live_feed.specs.hub.Hubs.{items_in}
+use Rattle.journal_book.specs.ItemsIn.{items_in}
+use Rattle.journal_book.specs.Journals.{kept_of}
 use Rattle.live_feed.specs.settle.Settlements.{IsClosedVenue, IsSettled, VenueEndState}
 use Rattle.live_feed.proofs.HubMoves.{one_there}
 use Rattle.live_feed.proofs.ClosedLanes.{settled}
@@ -30,19 +31,23 @@ settle-inside-requires g c =
     ap (λ (e : LaneEnd Numbered). e.lane) parts.1 ∙ one_there (slice_get g.N.FeedName.lanes.venues cell.arbiter.venue)
     cell.lane.lane c.args.receiver.lane k.lane c.requires.consumed.lane
 
+pub consumed_of-consumed-requires : goal.consumed_of-consumed-requires
+consumed_of-consumed-requires g c = rw (c.entries.ensures.value, c.venue.ensures) c.requires.room.consumed
+
 pub returns : goal.returns
 returns g c =
     let may : ℕ → List Numbered → Type 0 = λ venue items. AreInSequence g.G.Genuine venue items in
     let premise = g.G.Genuine in
     let cell = c.args.cell in
-    let entries = c.args.entries.now in
+    let journal = c.args.journal.now in
+    let kept = kept_of journal.kept journal.entries in
     let parts = c.into_parts-lines.ensures.parts in
     let k = c.into_parts-lines.ensures.kept in
     let packets = k.history.present.packets in
     let inside = c.settle-inside.result in
     let received = c.args.receiver.items in
-    let consumed = c.consumed_of-consumed.ensures ∙ ap (items_in entries) c.venue.ensures in
-    let same = c.requires.consumed.items ∙ sym consumed in
+    let consumed = c.consumed_of-consumed.ensures ∙ (λ i. items_in (c.entries.ensures.value i) (c.venue.ensures i)) in
+    let same = c.requires.consumed.items in
     let keeps = subst (λ (e : LaneEnd Numbered). Keeps may e.tag e.capacity e.items received inside) parts.1
     c.settle-inside.ensures in
     let ready = c.take_ready-ready.ensures.ready packets
@@ -51,7 +56,7 @@ returns g c =
     let whole = settled g.G.Genuine g.N.FeedName.lanes may cell k received inside c.take_ready-ready.result.items
     c.all_wins-wins.result keeps
     (ready ∙ (λ i. drop (place_of packets (parts.0 i).sent) (stream_of packets))) wins in
-    subst (λ (v : VenueEndState). IsClosedVenue g.G.Genuine g.N.FeedName.lanes entries cell v)
+    subst (λ (v : VenueEndState). IsClosedVenue g.G.Genuine g.N.FeedName.lanes journal cell v)
     (sym c.new.ensures) (record {
       kept = k;
       settled = subst (λ (x : List Numbered × (List Numbered × PerLine Sums)). IsSettled premise cell.arbiter.venue

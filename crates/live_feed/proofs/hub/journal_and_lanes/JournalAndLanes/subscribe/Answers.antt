@@ -31,6 +31,7 @@ returns g c =
     subst (λ (s : HubState). AddsSubscriber g.N.FeedName.lanes c.args.terms c.in-Ok.id c.in-Some.spare.receiver s new)
     c.self.view_is (record {
       few = c.in-Ok.ensures.1;
+      in_time = λ late. (let is = c.is_late.ensures.1 late in let not_is = c.if-is_late.false in absurd cc);
       id_is = id_is;
       tag = spare.1 ∙ sym id_is;
       lane = ap (slice_get g.N.FeedName.lanes.subscribers) id_is ∙ spare.3;

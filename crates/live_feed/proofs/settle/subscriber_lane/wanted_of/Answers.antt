@@ -2,7 +2,7 @@ use Rattle.std.proofs.Common.{◌∙◌, refl, arith}
 use Rattle.filter_terms.specs.Terms.{meets}
 use Rattle.live_feed.proofs.HubMoves.{at_index}
 use Rattle.live_feed.proofs.ClosedSubscribers.{wanted_more, wanted_all}
-use Rattle.live_feed.proofs.settle.subscriber_lane.wanted_past.Goals as goal
+use Rattle.live_feed.proofs.settle.subscriber_lane.wanted_of.Goals as goal
 
 pub loop-place-preserved : goal.loop-place-preserved
 loop-place-preserved c =
