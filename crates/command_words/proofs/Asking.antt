@@ -19,7 +19,7 @@ use Rattle.command_words.specs.declared.addresses.LinesFault.{LinesFault}
 use Rattle.command_words.specs.declared.addresses.LinesFault.TheVariants as lines
 use Rattle.command_words.specs.declared.replay_settings.ReplaySettings.{ReplaySettings}
 use Rattle.command_words.specs.declared.refusal.Refusal.{Refusal}
-use Rattle.command_words.specs.declared.refusal.Refusal.TheVariants.{Shown, Usage, NotText, BadSession, TooManySessions, BadLines, BadRequest, BadFormat, BadEnd, BadSymbol, TooManySymbols, DuplicateSymbol, NoMemory}
+use Rattle.command_words.specs.declared.refusal.Refusal.TheVariants.{Shown, Usage, NotText, BadSession, TooManySessions, BadLines, BadRequest, BadFormat, BadEnd, KeptUnfollowed, BadSymbol, TooManySymbols, DuplicateSymbol, NoMemory}
 
 not_some : {A : Type 0} (x : A) → Some x ≡ None → ⊥
 not_some x e = let bad : true ≡ false = ap is_some e in absurd (cc)
@@ -46,14 +46,14 @@ IsWindowOf-none None unread = refl
 IsWindowOf-none (Some t) unread = λ numeral some few. absurd (unread t refl (numeral, omega arith))
 
 -- a number that was read is the count
-pub IsCount-read : (text : Option Text) (n : ℕ) → (text ≡ None → Some n ≡ None) → ((t : Text) → text ≡ Some t → n ≡ number_of t) → IsCount text n
-IsCount-read None n none value = absurd (not_some n (none refl))
-IsCount-read (Some t) n none value = λ numeral few. value t refl
+pub IsCount-read : (usual : ℕ) (text : Option Text) (n : ℕ) → (text ≡ None → Some n ≡ None) → ((t : Text) → text ≡ Some t → n ≡ number_of t) → IsCount usual text n
+IsCount-read usual None n none value = absurd (not_some n (none refl))
+IsCount-read usual (Some t) n none value = λ numeral few. value t refl
 
 -- and where none was read
-pub IsCount-none : (text : Option Text) → ((t : Text) → text ≡ Some t → IsNumeral 10 (without_leading_plus t) × (number_of t < 2 ^ 32) → ⊥) → IsCount text 1000000
-IsCount-none None unread = refl
-IsCount-none (Some t) unread = λ numeral few. absurd (unread t refl (numeral, omega arith))
+pub IsCount-none : (usual : ℕ) (text : Option Text) → ((t : Text) → text ≡ Some t → IsNumeral 10 (without_leading_plus t) × (number_of t < 2 ^ 32) → ⊥) → IsCount usual text usual
+IsCount-none usual None unread = refl
+IsCount-none usual (Some t) unread = λ numeral few. absurd (unread t refl (numeral, omega arith))
 
 -- a number that was read is the one that is given
 pub IsGivenCount-read : (text : Option Text) (n : ℕ) → (text ≡ None → Some n ≡ None) → ((t : Text) → text ≡ Some t → n ≡ number_of t) → IsGivenCount text (Some n)
@@ -91,6 +91,7 @@ GivesNoStats-feed rows BadLines none = absurd none
 GivesNoStats-feed rows BadRequest none = absurd none
 GivesNoStats-feed rows BadFormat none = absurd none
 GivesNoStats-feed rows BadEnd none = absurd none
+GivesNoStats-feed rows KeptUnfollowed none = absurd none
 GivesNoStats-feed rows BadSymbol none = none
 GivesNoStats-feed rows TooManySymbols none = none
 GivesNoStats-feed rows DuplicateSymbol none = none
@@ -130,6 +131,7 @@ IsRefused-listening words BadLines taken listens none = listens_for_none words B
 IsRefused-listening words BadRequest taken listens none = listens_for_none words BadRequest taken listens none
 IsRefused-listening words BadFormat taken listens none = absurd none
 IsRefused-listening words BadEnd taken listens none = listens_for_none words BadEnd taken listens none
+IsRefused-listening words KeptUnfollowed taken listens none = listens_for_none words KeptUnfollowed taken listens none
 IsRefused-listening words BadSymbol taken listens none = listens_for_none words BadSymbol taken listens none
 IsRefused-listening words TooManySymbols taken listens none = listens_for_none words TooManySymbols taken listens none
 IsRefused-listening words DuplicateSymbol taken listens none = listens_for_none words DuplicateSymbol taken listens none
@@ -152,6 +154,7 @@ IsRefused-converting words BadLines taken converts none = record {
 IsRefused-converting words BadRequest taken converts none = absurd none
 IsRefused-converting words BadFormat taken converts none = absurd none
 IsRefused-converting words BadEnd taken converts none = absurd none
+IsRefused-converting words KeptUnfollowed taken converts none = absurd none
 IsRefused-converting words BadSymbol taken converts none = absurd none
 IsRefused-converting words TooManySymbols taken converts none = absurd none
 IsRefused-converting words DuplicateSymbol taken converts none = absurd none
@@ -177,6 +180,7 @@ IsRefused-counting words BadLines taken counts none = counts_none words BadLines
 IsRefused-counting words BadRequest taken counts none = absurd none
 IsRefused-counting words BadFormat taken counts none = counts_none words BadFormat taken counts none
 IsRefused-counting words BadEnd taken counts none = absurd none
+IsRefused-counting words KeptUnfollowed taken counts none = absurd none
 IsRefused-counting words BadSymbol taken counts none = counts_none words BadSymbol taken counts none
 IsRefused-counting words TooManySymbols taken counts none = counts_none words TooManySymbols taken counts none
 IsRefused-counting words DuplicateSymbol taken counts none = counts_none words DuplicateSymbol taken counts none
@@ -198,6 +202,7 @@ IsRefused-by words kind BadLines is among = absurd is
 IsRefused-by words kind BadRequest is among = absurd is
 IsRefused-by words kind BadFormat is among = absurd is
 IsRefused-by words kind BadEnd is among = absurd is
+IsRefused-by words kind KeptUnfollowed is among = absurd is
 IsRefused-by words kind BadSymbol is among = absurd is
 IsRefused-by words kind TooManySymbols is among = absurd is
 IsRefused-by words kind DuplicateSymbol is among = absurd is

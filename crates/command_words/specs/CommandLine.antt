@@ -3,7 +3,7 @@
 -- The crate clap says how words become the values of options: of the command nbbo_app and some
 -- words, subcommand_of is the subcommand with the values of its options, and fault_of what is wrong
 -- with the words.
-use Rattle.std.specs.Prelude.{◌≡◌, ◌≢◌, ◌≤◌, ◌⊎◌, [], ℕ, List, Bool, true, false, Option, Some, None, Ok, Err, codes, if◌then◌else◌, length, option_map, unwrap_or, string_bytes}
+use Rattle.std.specs.Prelude.{◌≡◌, ◌≢◌, ◌≤◌, ◌⊎◌, [], ℕ, List, Bool, true, false, Option, Some, None, Ok, Err, IsSome, codes, if◌then◌else◌, length, option_map, unwrap_or, string_bytes}
 use Rattle.std.specs.Str.{bytes_eq}
 use Rattle.std.specs.Str.Parse.{IsNumeral, digits_value, without_leading_plus}
 use Rattle.clap.specs.Walk.{Row, Text, all_of, first_of, one_of}
@@ -20,6 +20,7 @@ use Rattle.feed_text.specs.declared.skip_rule.SkipRule.{SkipRule}
 use Rattle.command_words.specs.BestFormats.{HasFormatFault, NamesFormat}
 use Rattle.command_words.specs.Commands.{nbbo_app}
 use Rattle.command_words.specs.EndRules.{NamesEndRule, NamesNoEndRule}
+use Rattle.command_words.specs.declared.end_rule.EndRule.{EndRule}
 use Rattle.command_words.specs.Sessions.{sessions_in}
 use Rattle.command_words.specs.SkipRules.{skip_rule_by}
 use Rattle.command_words.specs.declared.addresses.LinesFault.{LinesFault}
@@ -40,7 +41,7 @@ use Rattle.command_words.specs.declared.stats_settings.StatsSettings.{StatsSetti
 use Rattle.command_words.specs.declared.task.Task.{Task}
 use Rattle.command_words.specs.declared.task.Task.TheVariants.{Replay, ReplayLines, Convert, Listen, Stats}
 use Rattle.command_words.specs.declared.refusal.Refusal.{Refusal}
-use Rattle.command_words.specs.declared.refusal.Refusal.TheVariants.{Shown, Usage, NotText, BadSession, TooManySessions, BadLines, BadRequest, BadFormat, BadEnd, BadSymbol, TooManySymbols, DuplicateSymbol, NoMemory}
+use Rattle.command_words.specs.declared.refusal.Refusal.TheVariants.{Shown, Usage, NotText, BadSession, TooManySessions, BadLines, BadRequest, BadFormat, BadEnd, KeptUnfollowed, BadSymbol, TooManySymbols, DuplicateSymbol, NoMemory}
 use Rattle.std.specs.declared.net.socket_addr.SocketAddr.{SocketAddr}
 use Rattle.line_captures.specs.declared.captured_line.CapturedLine.{CapturedLine}
 
@@ -85,11 +86,11 @@ IsWindowOf (Some text) window =
     let number = digits_value 10 (without_leading_plus text) in
     IsNumeral 10 (without_leading_plus text) → 1 ≤ number → number ≤ 65535 → window ≡ number
 
--- the journal, or the number of datagrams, that a text gives: its number, where that is one up to
--- 4294967295
-abbrev pub IsCount : Option Text → ℕ → Type 0
-IsCount None count = count ≡ 1000000
-IsCount (Some text) count =
+-- the count that a text gives: its number, where that is one up to 4294967295; without a text it is
+-- `usual`
+abbrev pub IsCount : (usual : ℕ) → Option Text → ℕ → Type 0
+IsCount usual None count = count ≡ usual
+IsCount usual (Some text) count =
     let number = digits_value 10 (without_leading_plus text) in
     IsNumeral 10 (without_leading_plus text) → number ≤ 4294967295 → count ≡ number
 
@@ -105,6 +106,30 @@ pub record IsFlag (text : Option Text) (flag : Bool) : Type 0 where
   pub given : text ≡ Some (codes "true") → flag ≡ true
   pub absent : text ≡ Some (codes "false") → flag ≡ false
   pub unknown : text ≡ None → flag ≡ false
+
+-- the journal where no text gives one, where best lines are printed as they come and where they
+-- aren't
+abbrev pub usual_journal : Bool → ℕ
+usual_journal follow = if follow then 4294967295 else 1000000
+
+-- The values of the options of listen let a line read so many datagrams: any number, where best
+-- lines are printed as they come and none is given.
+abbrev pub GivesDatagrams : List Row → (follow : Bool) → Option ℕ → Type 0
+GivesDatagrams rows true datagrams = IsGivenCount (one_of (codes "datagrams") rows) datagrams
+GivesDatagrams rows false (Some datagrams) =
+    IsCount 1000000 (one_of (codes "datagrams") rows) datagrams
+GivesDatagrams rows false None = ⊥
+
+-- They let the subscriber be behind by so many changes, where best lines are printed as they come;
+-- else all changes are kept, and no such number is given.
+abbrev pub GivesKept : List Row → (follow : Bool) → Option ℕ → Type 0
+GivesKept rows true (Some kept) = IsCount 65536 (one_of (codes "kept") rows) kept
+GivesKept rows true None = ⊥
+GivesKept rows false kept = (first_of (codes "kept") rows ≡ None) × (kept ≡ None)
+
+-- They give such a number where best lines aren't printed as they come.
+abbrev pub GivesIdleKept : List Row → (follow : Bool) → Type 0
+GivesIdleKept rows follow = (follow ≡ false) × IsSome (first_of (codes "kept") rows)
 
 -- The values of the options of replay ask for the best lines alone in this format, or for all
 -- lines.
@@ -136,7 +161,7 @@ pub record GivesFeed (rows : List Row) (feed : FeedSettings) : Type 0 where
 -- The values of the options of replay give these settings.
 pub record Gives (rows : List Row) (settings : ReplaySettings) : Type 0 where
   pub feed : GivesFeed rows settings.feed
-  pub journal : IsCount (one_of (codes "journal") rows) settings.feed.journal
+  pub journal : IsCount 1000000 (one_of (codes "journal") rows) settings.feed.journal
   pub gaps : IsFlag (one_of (codes "gaps") rows) settings.gaps
   pub bests : GivesBests rows settings.bests
   pub skips : GivesSkips rows settings.skips
@@ -156,18 +181,20 @@ GivesConversion rows lines = NameAllLines (lines_in rows) lines
 -- The values of the options of listen give these settings.
 pub record GivesListening (rows : List Row) (settings : ListenSettings) : Type 0 where
   pub feed : GivesFeed rows settings.feed
-  pub journal : IsCount (one_of (codes "journal") rows) settings.feed.journal
+  pub journal : IsCount (usual_journal settings.follow) (one_of (codes "journal") rows)
+      settings.feed.journal
   pub lines : NameLines (lines_in rows) (length settings.feed.sessions.items) settings.lines.items
   pub request : NamesRequest settings.lines.items (first_of (codes "request") rows)
       settings.request
   pub join : IsFlag (one_of (codes "join") rows) settings.join
   pub skip_after : IsGivenCount (one_of (codes "skip-after") rows) settings.skip_after
-  pub datagrams : IsCount (one_of (codes "datagrams") rows) settings.datagrams
+  pub datagrams : GivesDatagrams rows settings.follow settings.datagrams
   pub end : NamesEndRule (first_of (codes "end") rows) settings.end
   pub buffer : IsGivenCount (one_of (codes "buffer") rows) settings.buffer
   pub seconds : IsGivenCount (one_of (codes "seconds") rows) settings.seconds
   pub until_input_ends : IsFlag (one_of (codes "until-input-ends") rows) settings.until_input_ends
   pub follow : IsFlag (one_of (codes "follow") rows) settings.follow
+  pub kept : GivesKept rows settings.follow settings.kept
   pub stats : IsGivenCount (one_of (codes "stats") rows) settings.stats
 
 -- The values of the options of replay give this task: with a list of lines that of a packet
@@ -228,6 +255,7 @@ GivesNoFeed rows BadLines = ⊥
 GivesNoFeed rows BadRequest = ⊥
 GivesNoFeed rows BadFormat = ⊥
 GivesNoFeed rows BadEnd = ⊥
+GivesNoFeed rows KeptUnfollowed = ⊥
 
 -- The format is wrong, where the list of sessions and the symbols are right.
 pub record ReplaysInNoFormat (rows : List Row) : Type 0 where
@@ -256,6 +284,7 @@ GivesNone rows TooManySymbols = GivesNoFeed rows TooManySymbols
 GivesNone rows DuplicateSymbol = GivesNoFeed rows DuplicateSymbol
 GivesNone rows BadFormat = ReplaysInNoFormat rows
 GivesNone rows BadEnd = ⊥
+GivesNone rows KeptUnfollowed = ⊥
 GivesNone rows NoMemory = Unit {0}
 GivesNone rows (Shown text) = ⊥
 GivesNone rows (Usage text) = ⊥
@@ -295,6 +324,7 @@ GivesNoStats rows (Usage text) = ⊥
 GivesNoStats rows NotText = ⊥
 GivesNoStats rows BadRequest = ⊥
 GivesNoStats rows BadEnd = ⊥
+GivesNoStats rows KeptUnfollowed = ⊥
 
 -- The values of the option of convert give no lines.
 abbrev pub GivesNoConversion : List Row → Refusal → Type 0
@@ -311,6 +341,7 @@ GivesNoConversion rows NotText = ⊥
 GivesNoConversion rows BadRequest = ⊥
 GivesNoConversion rows BadFormat = ⊥
 GivesNoConversion rows BadEnd = ⊥
+GivesNoConversion rows KeptUnfollowed = ⊥
 
 -- The list of sessions is right, and this holds of its length.
 abbrev pub GivesVenues : List Row → (ℕ → Type 0) → Type 0
@@ -339,8 +370,21 @@ pub record ListensToNoEnd (rows : List Row) : Type 0 where
   pub named : NameSymbols (symbol_words_in rows) symbols
   pub fault : NamesNoEndRule (first_of (codes "end") rows)
 
+-- How many changes are kept is said where all are, and all that is looked at before is right.
+pub record ListensWithKept (rows : List Row) : Type 0 where
+  pub lines : GivesLines rows
+      (λ lines. (request : Option SocketAddr)
+      × NamesRequest lines (first_of (codes "request") rows) request)
+  pub symbols : List Text
+  pub named : NameSymbols (symbol_words_in rows) symbols
+  pub rule : EndRule
+  pub end : NamesEndRule (first_of (codes "end") rows) rule
+  pub follow : Bool
+  pub flag : IsFlag (one_of (codes "follow") rows) follow
+  pub fault : GivesIdleKept rows follow
+
 -- The values of the options of listen give no settings: the sessions are looked at first, then the
--- lines, the address for requests, the symbols, and the rule for ends.
+-- lines, the address for requests, the symbols, the rule for ends, and how many changes are kept.
 abbrev pub GivesNoListening : List Row → Refusal → Type 0
 GivesNoListening rows BadSession = sessions_in (list_in rows) ≡ Err sessions.BadSession
 GivesNoListening rows TooManySessions = sessions_in (list_in rows) ≡ Err sessions.TooManySessions
@@ -352,6 +396,7 @@ GivesNoListening rows BadSymbol = ListensForNoSymbols rows symbols.BadSymbol
 GivesNoListening rows TooManySymbols = ListensForNoSymbols rows symbols.TooManySymbols
 GivesNoListening rows DuplicateSymbol = ListensForNoSymbols rows symbols.DuplicateSymbol
 GivesNoListening rows BadEnd = ListensToNoEnd rows
+GivesNoListening rows KeptUnfollowed = ListensWithKept rows
 GivesNoListening rows BadFormat = ⊥
 GivesNoListening rows NoMemory = Unit {0}
 GivesNoListening rows (Shown text) = ⊥
@@ -389,6 +434,7 @@ RefusesBy kind BadLines = ⊥
 RefusesBy kind BadRequest = ⊥
 RefusesBy kind BadFormat = ⊥
 RefusesBy kind BadEnd = ⊥
+RefusesBy kind KeptUnfollowed = ⊥
 RefusesBy kind BadSymbol = ⊥
 RefusesBy kind TooManySymbols = ⊥
 RefusesBy kind DuplicateSymbol = ⊥
@@ -483,6 +529,7 @@ IsRefused words BadLines = GivesNoTask words BadLines
 IsRefused words BadRequest = GivesNoTask words BadRequest
 IsRefused words BadFormat = GivesNoTask words BadFormat
 IsRefused words BadEnd = GivesNoTask words BadEnd
+IsRefused words KeptUnfollowed = GivesNoTask words KeptUnfollowed
 IsRefused words BadSymbol = GivesNoTask words BadSymbol
 IsRefused words TooManySymbols = GivesNoTask words TooManySymbols
 IsRefused words DuplicateSymbol = GivesNoTask words DuplicateSymbol
@@ -501,6 +548,7 @@ refusal_status BadLines = 2
 refusal_status BadRequest = 2
 refusal_status BadFormat = 2
 refusal_status BadEnd = 2
+refusal_status KeptUnfollowed = 2
 refusal_status BadSymbol = 2
 refusal_status TooManySymbols = 2
 refusal_status DuplicateSymbol = 2
@@ -517,6 +565,7 @@ refusal_text BadLines = codes "nbbo: bad lines\n"
 refusal_text BadRequest = codes "nbbo: bad request address\n"
 refusal_text BadFormat = codes "nbbo: bad format\n"
 refusal_text BadEnd = codes "nbbo: bad end\n"
+refusal_text KeptUnfollowed = codes "nbbo: --kept without --follow\n"
 refusal_text BadSymbol = codes "nbbo: bad symbol\n"
 refusal_text TooManySymbols = codes "nbbo: too many symbols\n"
 refusal_text DuplicateSymbol = codes "nbbo: duplicate symbol\n"

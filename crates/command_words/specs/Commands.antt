@@ -1,7 +1,7 @@
 -- The commands of the program with their options, as the crate clap sees them.
 use Rattle.std.specs.Prelude.{codes, true}
 use Rattle.clap.specs.Simple.{App, new_app, on_top, with_rule, with_subcommand}
-use Rattle.command_words.specs.ListenOptions.{buffer_rule, datagrams_rule, follow_rule, request_rule, seconds_rule, skip_after_rule, stats_rule, until_input_ends_rule, which_end_rule}
+use Rattle.command_words.specs.ListenOptions.{buffer_rule, datagrams_rule, follow_rule, kept_rule, live_journal_rule, request_rule, seconds_rule, skip_after_rule, stats_rule, until_input_ends_rule, which_end_rule}
 use Rattle.command_words.specs.Options.{captured_lines_rule, format_rule, join_rule, journal_rule, lines_rule, sessions_rule, skip_gaps_rule, symbols_rule, window_rule}
 use Rattle.command_words.specs.ReplayOptions.{best_only_rule, gaps_rule}
 
@@ -35,7 +35,8 @@ waits_app = with_rule (with_rule lines_app join_rule) skip_after_rule
 
 -- listen with its options that say how much, too
 abbrev pub counts_app : App
-counts_app = with_rule (with_rule (with_rule waits_app window_rule) journal_rule) datagrams_rule
+counts_app =
+    with_rule (with_rule (with_rule waits_app window_rule) live_journal_rule) datagrams_rule
 
 -- listen with its options that say when it ends, too
 abbrev pub ends_app : App
@@ -44,7 +45,9 @@ ends_app =
 
 -- listen with its options for the time until then, too
 abbrev pub meanwhile_app : App
-meanwhile_app = with_rule (with_rule (with_rule ends_app buffer_rule) follow_rule) stats_rule
+meanwhile_app =
+    with_rule (with_rule (with_rule (with_rule ends_app buffer_rule) follow_rule) kept_rule)
+    stats_rule
 
 abbrev pub listen_app : App
 listen_app = with_rule meanwhile_app symbols_rule

@@ -1,5 +1,5 @@
 -- The options of listen alone, as the crate clap sees them.
-use Rattle.std.specs.Prelude.{◌∷◌, [], Some, codes, pos}
+use Rattle.std.specs.Prelude.{Some, codes, pos}
 use Rattle.clap.specs.Walk.{Rule}
 use Rattle.clap.specs.Simple.{new_rule}
 use Rattle.clap.specs.declared.builder.action.ArgAction.TheVariants.{SetTrue}
@@ -20,13 +20,20 @@ skip_after_rule = record (new_rule (codes "skip-after")) {
   parser = Some (Signed (pos 1) (pos 4294967295));
 }
 
--- --datagrams N, a number from 0 to 4294967295, by default 1000000
+-- --journal N, a number from 0 to 4294967295
+abbrev pub live_journal_rule : Rule
+live_journal_rule = record (new_rule (codes "journal")) {
+  long = Some (codes "journal");
+  value_names = 1;
+  parser = Some (Signed (pos 0) (pos 4294967295));
+}
+
+-- --datagrams N, a number from 0 to 4294967295
 abbrev pub datagrams_rule : Rule
 datagrams_rule = record (new_rule (codes "datagrams")) {
   long = Some (codes "datagrams");
   value_names = 1;
   parser = Some (Signed (pos 0) (pos 4294967295));
-  defaults = codes "1000000" ∷ [];
 }
 
 -- --end WHICH
@@ -64,6 +71,14 @@ abbrev pub follow_rule : Rule
 follow_rule = record (new_rule (codes "follow")) {
   long = Some (codes "follow");
   action = Some SetTrue;
+}
+
+-- --kept N, a number from 1 to 4294967295
+abbrev pub kept_rule : Rule
+kept_rule = record (new_rule (codes "kept")) {
+  long = Some (codes "kept");
+  value_names = 1;
+  parser = Some (Signed (pos 1) (pos 4294967295));
 }
 
 -- --stats SECONDS, a number from 1 to 4294967295

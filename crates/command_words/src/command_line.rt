@@ -17,6 +17,7 @@ use crate::end_rule::{EndRule, EndRuleFault, read_end_rule};
 use crate::feed_settings::FeedSettings;
 use crate::limits::{DEFAULT_COUNT, DEFAULT_WINDOW};
 use crate::line_tasks::{conversion_of, replay_task};
+use crate::listen_counts::{datagrams_of, kept_of, usual_journal};
 use crate::listen_settings::ListenSettings;
 use crate::refusal::Refusal;
 use crate::replay_settings::ReplaySettings;
@@ -75,13 +76,13 @@ fn window_of(options: &ArgMatches<'_>) -> u32
     }
 }
 
-/// The count that the option of this name gives.
-fn count_of(options: &ArgMatches<'_>, name: &str) -> u32
-    ensures { IsCount (one_of name.now (rows_of (found_of options.now))) result }
+/// The count that the option of this name gives, `usual` where it isn't given.
+pub fn count_of(options: &ArgMatches<'_>, name: &str, usual: u32) -> u32
+    ensures { IsCount usual (one_of name.now (rows_of (found_of options.now))) result }
 {
     match options.get_one::<u32>(name) {
         Some(count) => count,
-        None => DEFAULT_COUNT,
+        None => usual,
     }
 }
 
@@ -109,7 +110,7 @@ pub fn text_of<'a>(options: &ArgMatches<'a>, name: &str) -> &'a str
 }
 
 /// The number that the option of this name gives, if it is given.
-fn given_count_of(options: &ArgMatches<'_>, name: &str) -> Option<u32>
+pub fn given_count_of(options: &ArgMatches<'_>, name: &str) -> Option<u32>
     ensures { IsGivenCount (one_of name.now (rows_of (found_of options.now))) result }
 {
     match options.get_one::<u32>(name) {
@@ -195,7 +196,7 @@ pub fn settings_of(alloc: Global, replay: &ArgMatches<'_>) -> Result<ReplaySetti
     ensures err { IfErr result (GivesNone (rows_of (found_of replay.now))) }
 {
     Ok(ReplaySettings {
-        feed: feed_of(alloc, replay, count_of(replay, "journal"))?,
+        feed: feed_of(alloc, replay, count_of(replay, "journal", DEFAULT_COUNT))?,
         gaps: flag_of(replay, "gaps"),
         bests: bests_of(replay)?,
         skips: skips_of(replay),
@@ -210,25 +211,28 @@ fn listening_of(alloc: Global, listen: &ArgMatches<'_>) -> Result<ListenSettings
     let sessions = read_sessions(alloc, text_of(listen, "sessions"))?;
     let lines = lines_of(alloc, listen, sessions.len())?;
     let request = request_of(listen, lines.as_slice())?;
+    let follow = flag_of(listen, "follow");
     let feed = FeedSettings {
         sessions,
         symbols: symbols_of(alloc, listen)?,
         window: window_of(listen),
-        journal: count_of(listen, "journal"),
+        journal: count_of(listen, "journal", usual_journal(follow)),
     };
     let end = end_rule_of(listen)?;
+    let kept = kept_of(listen, follow)?;
     Ok(ListenSettings {
         feed,
         lines,
         request,
         join: flag_of(listen, "join"),
         skip_after: given_count_of(listen, "skip-after"),
-        datagrams: count_of(listen, "datagrams"),
+        datagrams: datagrams_of(listen, follow),
         end,
         buffer: given_count_of(listen, "buffer"),
         seconds: given_count_of(listen, "seconds"),
         until_input_ends: flag_of(listen, "until-input-ends"),
-        follow: flag_of(listen, "follow"),
+        follow,
+        kept,
         stats: given_count_of(listen, "stats"),
     })
 }

@@ -23,6 +23,7 @@ mod limits;
 mod line_replay_settings;
 mod line_tasks;
 mod listen_command;
+mod listen_counts;
 mod listen_options;
 mod listen_settings;
 mod options;

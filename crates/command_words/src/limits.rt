@@ -7,6 +7,9 @@ pub const DEFAULT_WINDOW: u32 = 4_096;
 /// the words don't say.
 pub const DEFAULT_COUNT: u32 = 1_000_000;
 
+/// How many changes a subscriber may be behind, where the words don't say.
+pub const DEFAULT_KEPT: u32 = 65_536;
+
 /// The most bytes that a socket's buffer is asked for.
 pub const MAX_BUFFER: u32 = 1_073_741_823;
 
@@ -22,6 +25,7 @@ macro_rules! text {
     ([$($part:tt)*] MAX_COUNT $($rest:tt)*) => { text!([$($part)* 4294967295] $($rest)*) };
     ([$($part:tt)*] DEFAULT_WINDOW $($rest:tt)*) => { text!([$($part)* 4096] $($rest)*) };
     ([$($part:tt)*] DEFAULT_COUNT $($rest:tt)*) => { text!([$($part)* 1000000] $($rest)*) };
+    ([$($part:tt)*] DEFAULT_KEPT $($rest:tt)*) => { text!([$($part)* 65536] $($rest)*) };
     ([$($part:tt)*] $next:tt $($rest:tt)*) => { text!([$($part)* $next] $($rest)*) };
     ($($part:tt)*) => { text!([] $($part)*) };
 }

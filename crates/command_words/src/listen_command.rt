@@ -5,10 +5,11 @@ ghost use Rattle.clap.specs.declared.builder.command.Command.TheViews.{out-Comma
 ghost use Rattle.command_words.specs.Commands.{counts_app, ends_app, lines_app, listen_app, meanwhile_app, waits_app};
 
 use crate::listen_options::{
-    buffer_option, datagrams_option, follow_flag, lines_option, live_join_flag, request_option,
-    seconds_option, skip_after_option, stats_option, until_input_ends_flag, which_end_option,
+    buffer_option, datagrams_option, follow_flag, kept_option, lines_option, live_join_flag,
+    live_journal_option, request_option, seconds_option, skip_after_option, stats_option,
+    until_input_ends_flag, which_end_option,
 };
-use crate::options::{journal_option, sessions_option, symbols_argument, window_option};
+use crate::options::{sessions_option, symbols_argument, window_option};
 use clap::Command;
 use std::alloc::{AllocError, Global};
 
@@ -91,6 +92,9 @@ Status:
                         went on, and what they brought was printed
        journal full     the journal has no room for a next item, so all lines were ended; what
                         had room was printed. Give it more room than what comes takes
+       subscriber too far behind
+                        more changes than --kept wait to be printed, and nobody goes on to print
+                        them, so all lines were ended; what was taken was printed
        no thread        a thread could not be started; what was taken was printed
        bind failed      an address of --lines isn't of this machine, or is in use; nothing was
                         read
@@ -100,7 +104,8 @@ Status:
      'bad symbol', 'too many symbols' and 'duplicate symbol' as of 'nbbo replay'; 'bad lines': not
      two addresses for each session; 'bad request address': it is none, or none that the lines
      can send to (port 0, IP address 0.0.0.0 or [::], another version of IP than a line's);
-     'bad end': --end is neither any nor own nor none
+     'bad end': --end is neither any nor own nor none; '--kept without --follow': without it all
+     changes are kept
 
 While it runs standard error says when a line ends or fails, and at its first request that can't
 be sent, and at the first end of session after which it goes on:
@@ -148,7 +153,7 @@ fn counts_command<'a>(alloc: Global) -> Result<Command<'a>, AllocError>
 {
     waits_command(alloc)?
         .arg(window_option(alloc))?
-        .arg(journal_option(alloc))?
+        .arg(live_journal_option(alloc))?
         .arg(datagrams_option(alloc))
 }
 
@@ -171,6 +176,7 @@ fn meanwhile_command<'a>(alloc: Global) -> Result<Command<'a>, AllocError>
     ends_command(alloc)?
         .arg(buffer_option(alloc))?
         .arg(follow_flag(alloc))?
+        .arg(kept_option(alloc))?
         .arg(stats_option(alloc))
 }
 

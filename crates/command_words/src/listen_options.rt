@@ -2,7 +2,7 @@
 //! `specs/ListenOptions.antt`.
 ghost use Rattle.std.specs.Prelude.{◌≡◌, false};
 ghost use Rattle.clap.specs.Walk.{rule_of};
-ghost use Rattle.command_words.specs.ListenOptions.{buffer_rule, datagrams_rule, follow_rule, request_rule, seconds_rule, skip_after_rule, stats_rule, until_input_ends_rule, which_end_rule};
+ghost use Rattle.command_words.specs.ListenOptions.{buffer_rule, datagrams_rule, follow_rule, kept_rule, live_journal_rule, request_rule, seconds_rule, skip_after_rule, stats_rule, until_input_ends_rule, which_end_rule};
 ghost use Rattle.command_words.specs.Options.{join_rule, lines_rule};
 
 use crate::limits::{MAX_BUFFER, text};
@@ -88,9 +88,30 @@ pub fn skip_after_option<'a>(alloc: Global) -> Arg<'a>
         .long_help(SKIP_AFTER_HELP)
 }
 
+const LIVE_JOURNAL_HELP: &str = text!("\
+How many items and declarations of self-help there is room for: 0 to " MAX_COUNT ". A
+run that needs more ends there, with status 1. By default " DEFAULT_COUNT "; with --follow, where
+what was printed isn't kept, " MAX_COUNT);
+
+/// `--journal N` of a command that listens.
+pub fn live_journal_option<'a>(alloc: Global) -> Arg<'a>
+    ensures rule { rule_of result ≡ live_journal_rule }
+    ensures local { result.global ≡ false }
+{
+    Arg::new(alloc, "journal")
+        .long("journal")
+        .value_name("N")
+        .value_parser(value_parser!(u32).range(0..=i64::from(u32::MAX)))
+        .help(text!(
+            "How many items and declarations of self-help there may be, 0 to " MAX_COUNT
+            " [default: " DEFAULT_COUNT ", with --follow " MAX_COUNT "]"
+        ))
+        .long_help(LIVE_JOURNAL_HELP)
+}
+
 const DATAGRAMS_HELP: &str = text!("\
 How many datagrams a line reads at most: 0 to " MAX_COUNT ". A line also ends after an
-end of session, as --end says");
+end of session, as --end says. By default " DEFAULT_COUNT "; with --follow there is no limit");
 
 /// `--datagrams N`.
 pub fn datagrams_option<'a>(alloc: Global) -> Arg<'a>
@@ -101,8 +122,10 @@ pub fn datagrams_option<'a>(alloc: Global) -> Arg<'a>
         .long("datagrams")
         .value_name("N")
         .value_parser(value_parser!(u32).range(0..=i64::from(u32::MAX)))
-        .default_value(text!(DEFAULT_COUNT))
-        .help(text!("How many datagrams a line reads at most, 0 to " MAX_COUNT))
+        .help(text!(
+            "How many datagrams a line reads at most, 0 to " MAX_COUNT
+            " [default: " DEFAULT_COUNT ", with --follow no limit]"
+        ))
         .long_help(DATAGRAMS_HELP)
 }
 
@@ -183,7 +206,8 @@ pub fn until_input_ends_flag<'a>(alloc: Global) -> Arg<'a>
 const FOLLOW_HELP: &str = "\
 Prints each best line as it comes, in the same order as without this option, and the
 lines of the venues once all lines have ended. Where standard output can't be written any
-more, the run ends with status 1";
+more, the run ends with status 1. What was printed isn't kept, so that the run takes no more
+memory the longer it goes, and it ends by no count of its own";
 
 /// `--follow`.
 pub fn follow_flag<'a>(alloc: Global) -> Arg<'a>
@@ -195,6 +219,27 @@ pub fn follow_flag<'a>(alloc: Global) -> Arg<'a>
         .action(ArgAction::SetTrue)
         .help("Prints each best line as it comes")
         .long_help(FOLLOW_HELP)
+}
+
+const KEPT_HELP: &str = text!("\
+With --follow: how many changes may wait to be printed: 1 to " MAX_COUNT ", by default
+" DEFAULT_KEPT ". While more do, as where standard output isn't read, no further item is taken:
+what comes waits in the windows of the venues, and what goes past these is asked for again");
+
+/// `--kept N`.
+pub fn kept_option<'a>(alloc: Global) -> Arg<'a>
+    ensures rule { rule_of result ≡ kept_rule }
+    ensures local { result.global ≡ false }
+{
+    Arg::new(alloc, "kept")
+        .long("kept")
+        .value_name("N")
+        .value_parser(value_parser!(u32).range(1..=i64::from(u32::MAX)))
+        .help(text!(
+            "With --follow: how many changes may wait to be printed, 1 to " MAX_COUNT
+            " [default: " DEFAULT_KEPT "]"
+        ))
+        .long_help(KEPT_HELP)
 }
 
 const STATS_HELP: &str = text!("\

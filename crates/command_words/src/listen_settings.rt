@@ -18,8 +18,8 @@ pub struct ListenSettings {
     pub join: bool,
     /// After how many milliseconds a gap is given up that stands so long, if after any number.
     pub skip_after: Option<u32>,
-    /// The most datagrams that a line reads.
-    pub datagrams: u32,
+    /// The most datagrams that a line reads, if there is any limit.
+    pub datagrams: Option<u32>,
     /// Which ends of session end a line.
     pub end: EndRule,
     /// How many bytes a socket's buffer is asked for, if any number.
@@ -30,6 +30,9 @@ pub struct ListenSettings {
     pub until_input_ends: bool,
     /// Whether each best line is printed as it comes.
     pub follow: bool,
+    /// How many changes the subscriber may be behind, where each best line is printed as it comes;
+    /// else all changes are kept.
+    pub kept: Option<u32>,
     /// Every how many seconds standard error has counts of each venue, if it has any.
     pub stats: Option<u32>,
     ghost two_lines_each: { vec_len lines ≡ 2 * vec_len feed.sessions },

@@ -1,11 +1,12 @@
 //! The reasons why the program has no settings.
 ghost use Rattle.std.specs.Prelude.{◌≡◌};
 ghost use Rattle.command_words.specs.CommandLine.{lines_refusal_by, refusal_by, refusal_status, refusal_text, symbols_refusal_by};
-ghost use Rattle.command_words.specs.declared.refusal.Refusal.TheVariants.{BadEnd, BadFormat, BadRequest, NoMemory};
+ghost use Rattle.command_words.specs.declared.refusal.Refusal.TheVariants.{BadEnd, BadFormat, BadRequest, KeptUnfollowed, NoMemory};
 
 use crate::addresses::{LinesFault, RequestFault};
 use crate::best_format::FormatFault;
 use crate::end_rule::EndRuleFault;
+use crate::listen_counts::KeptFault;
 use crate::sessions::SessionsFault;
 use crate::symbols::SymbolsFault;
 use std::alloc::AllocError;
@@ -32,6 +33,8 @@ pub enum Refusal {
     BadFormat,
     /// The rule by which an end of session ends a line is none of those that there are.
     BadEnd,
+    /// How many changes are kept is said where all are, since best lines aren't printed as they come.
+    KeptUnfollowed,
     /// A symbol is empty, has more than eight bytes, or has a byte outside of `21` to `7e`.
     BadSymbol,
     /// More than 4,096 symbols are named.
@@ -53,7 +56,7 @@ impl Refusal {
             Refusal::Usage(_) | Refusal::NotText => 2,
             Refusal::BadSession | Refusal::TooManySessions => 2,
             Refusal::BadLines | Refusal::BadRequest => 2,
-            Refusal::BadFormat | Refusal::BadEnd => 2,
+            Refusal::BadFormat | Refusal::BadEnd | Refusal::KeptUnfollowed => 2,
             Refusal::BadSymbol | Refusal::TooManySymbols | Refusal::DuplicateSymbol => 2,
         }
     }
@@ -72,6 +75,7 @@ impl Refusal {
             Refusal::BadRequest => "nbbo: bad request address\n",
             Refusal::BadFormat => "nbbo: bad format\n",
             Refusal::BadEnd => "nbbo: bad end\n",
+            Refusal::KeptUnfollowed => "nbbo: --kept without --follow\n",
             Refusal::BadSymbol => "nbbo: bad symbol\n",
             Refusal::TooManySymbols => "nbbo: too many symbols\n",
             Refusal::DuplicateSymbol => "nbbo: duplicate symbol\n",
@@ -132,6 +136,14 @@ impl From<EndRuleFault> for Refusal {
 
     fn from(_fault: EndRuleFault) -> Refusal {
         Refusal::BadEnd
+    }
+}
+
+impl From<KeptFault> for Refusal {
+    ghost from_gives = { λ _ refusal. refusal ≡ KeptUnfollowed };
+
+    fn from(_fault: KeptFault) -> Refusal {
+        Refusal::KeptUnfollowed
     }
 }
 

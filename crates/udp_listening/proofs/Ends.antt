@@ -1,6 +1,7 @@
 -- The texts of the venues, one after the other.
 use Rattle.std.proofs.Common.{◌≡◌, ◌∙◌, ℕ, zero, suc, ◌+◌, ◌<◌, ◌≤◌, List, [], ◌∷◌, ◌++◌, length, take, drop, refl, sym, ap, subst, arith, Some, append_assoc}
 use Rattle.std.specs.Prelude.{slice_get, IfSome, Option}
+use Rattle.feed_types.specs.declared.journal.Entry.{Entry}
 use Rattle.live_feed.specs.settle.Settlements.{VenueEndState}
 use Rattle.udp_listening.specs.Listening.{end_line, end_lines}
 use Rattle.feed_text.specs.laws.SaidTexts.{no_rest, rest_at}
@@ -44,17 +45,17 @@ pub none_left : {X : Type 0} (xs : List X) (n : ℕ) → length xs ≤ n → dro
 none_left xs n many = let e = fewer_taken xs 16 in no_rest (take 16 xs) n (omega arith)
 
 -- one more venue's last line
-pub end_more : (vs : List VenueEndState) (n : ℕ) (v : VenueEndState) (old new all : List ℕ) → n < 16 → slice_get vs n ≡ Some v → new ≡ old ++ end_line n v → old ++ end_lines n (drop n (take 16 vs)) ≡ all → new ++ end_lines (n + 1) (drop (n + 1) (take 16 vs)) ≡ all
-end_more vs n v old new all few here step is =
-    let D = end_lines (n + 1) (drop (n + 1) (take 16 vs)) in
+pub end_more : (entries : List Entry) (vs : List VenueEndState) (n : ℕ) (v : VenueEndState) (old new all : List ℕ) → n < 16 → slice_get vs n ≡ Some v → new ≡ old ++ end_line entries n v → old ++ end_lines entries n (drop n (take 16 vs)) ≡ all → new ++ end_lines entries (n + 1) (drop (n + 1) (take 16 vs)) ≡ all
+end_more entries vs n v old new all few here step is =
+    let D = end_lines entries (n + 1) (drop (n + 1) (take 16 vs)) in
     ap (λ (t : List ℕ). t ++ D) step
-    ∙ append_assoc old (end_line n v) D
-    ∙ ap (λ (rest : List VenueEndState). old ++ end_lines n rest) (sym (rest_of vs n v few here))
+    ∙ append_assoc old (end_line entries n v) D
+    ∙ ap (λ (rest : List VenueEndState). old ++ end_lines entries n rest) (sym (rest_of vs n v few here))
     ∙ is
 
 -- and past the sixteenth there is none
-pub end_past : (vs : List VenueEndState) (n : ℕ) (old all : List ℕ) → 16 ≤ n → old ++ end_lines n (drop n (take 16 vs)) ≡ all → old ++ end_lines (n + 1) (drop (n + 1) (take 16 vs)) ≡ all
-end_past vs n old all many is =
-    ap (λ (rest : List VenueEndState). old ++ end_lines (n + 1) rest) (none_past vs (n + 1) (omega arith))
-    ∙ sym (ap (λ (rest : List VenueEndState). old ++ end_lines n rest) (none_past vs n many))
+pub end_past : (entries : List Entry) (vs : List VenueEndState) (n : ℕ) (old all : List ℕ) → 16 ≤ n → old ++ end_lines entries n (drop n (take 16 vs)) ≡ all → old ++ end_lines entries (n + 1) (drop (n + 1) (take 16 vs)) ≡ all
+end_past entries vs n old all many is =
+    ap (λ (rest : List VenueEndState). old ++ end_lines entries (n + 1) rest) (none_past vs (n + 1) (omega arith))
+    ∙ sym (ap (λ (rest : List VenueEndState). old ++ end_lines entries n rest) (none_past vs n many))
     ∙ is

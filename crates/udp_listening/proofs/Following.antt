@@ -1,5 +1,5 @@
 -- What was printed of a log, as it grows and as more of it is printed.
-use Rattle.std.proofs.Common.{◌≡◌, ℕ, ◌+◌, ◌≤◌, List, [], ◌∷◌, ◌++◌, length, drop, take, min, sym, ap, ◌∙◌, subst, arith, length-append, append_assoc, append-nil}
+use Rattle.std.proofs.Common.{◌≡◌, ℕ, ◌+◌, ◌-◌, ◌≤◌, List, [], ◌∷◌, ◌++◌, length, drop, take, min, sym, ap, ◌∙◌, subst, arith, length-append, length-drop, append_assoc, append-nil}
 use Rattle.std.proofs.lemmas.List.{take-append-drop, take-append-le, take_min, take_all}
 use Rattle.std.proofs.lemmas.Grind.{flat_map-append}
 use Rattle.std.proofs.Math.Seq.{take-append-add}
@@ -101,6 +101,18 @@ printed_part writing more first mid now log printed h written =
     (part_after writing.adds more first mid now (log_lines (take printed log)) (log_lines (drop printed log))
     h.lines written)
 
+-- where all is forgotten that is left
+pub all_forgotten : {W : Type 0} (writing : Writing W) (first mid now : W) (old new : SubscriberLogState) (count : ℕ)
+    → HasPrinted writing first old.lines old.forgotten mid → count ≡ length (drop old.forgotten old.lines)
+    → new ≡ record old { forgotten = old.forgotten + count } → HasPrinted writing first old.lines (length old.lines) now
+    → HasPrinted writing first new.lines new.forgotten now
+all_forgotten writing first mid now old new count before counted is after =
+    let left : length (drop old.forgotten old.lines) ≡ length old.lines - old.forgotten
+    = length-drop old.forgotten old.lines in
+    let all : old.forgotten + count ≡ length old.lines = omega (arith, before.few) in
+    subst (λ (s : SubscriberLogState). HasPrinted writing first s.lines s.forgotten now) (sym is)
+    (subst (λ (n : ℕ). HasPrinted writing first old.lines n now) (sym all) after)
+
 -- what is shown of a log is so of one that has grown
 pub followed_longer : {W : Type 0} (writing : Writing W) (first : W) (log longer : List Logged) (following : Following)
     (printed : ℕ) (now : W) → IsPrefix log longer → HasFollowed writing first log following printed now
@@ -111,6 +123,22 @@ followed_longer writing first log longer Off printed now grown h =
     printed_of_longer writing first log longer printed now grown h
 followed_longer writing first log longer Failed printed now grown h =
     (part_of_longer writing first log longer now grown h.0, h.1)
+
+-- where lines are printed as they come
+pub printed_where_on : {W : Type 0} (writing : Writing W) (first : W) (log : List Logged) (following : Following)
+    (printed : ℕ) (now : W) → following ≡ On → HasFollowed writing first log following printed now
+    → HasPrinted writing first log printed now
+printed_where_on writing first log following printed now on h =
+    subst (λ (f : Following). HasFollowed writing first log f printed now) on h
+
+-- and so it is where nothing more is forgotten
+pub polled_longer : {W : Type 0} (writing : Writing W) (first : W) (log longer : SubscriberLogState)
+    (following : Following) (now : W) → IsPrefix log.lines longer.lines → longer.forgotten ≡ log.forgotten
+    → HasFollowed writing first log.lines following log.forgotten now
+    → HasFollowed writing first longer.lines following longer.forgotten now
+polled_longer writing first log longer following now grown same h =
+    subst (λ (n : ℕ). HasFollowed writing first longer.lines following n now) (sym same)
+    (followed_longer writing first log.lines longer.lines following log.forgotten now grown h)
 
 -- ---- a log that is polled
 
@@ -134,3 +162,11 @@ prefix_by_poll may_send (Err NoMemory) old new p = lines_same old new p.1
 prefix_by_poll may_send (Ok None) old new p = lines_same old new p.1
 prefix_by_poll may_send (Ok (Some advice)) old new p =
     record { rest = logged p.1 advice ∷ []; is = ap (λ (s : SubscriberLogState). s.lines) p.3 }
+
+-- and forgets none of them
+pub forgotten_by_poll : (may_send : ℕ → List Notice → Type 0) (answer : Result (Option Advice) PollFault)
+    (old new : SubscriberLogState) → Polls may_send answer old new → new.forgotten ≡ old.forgotten
+forgotten_by_poll may_send (Err LogFull) old new p = ap (λ (s : SubscriberLogState). s.forgotten) p.1
+forgotten_by_poll may_send (Err NoMemory) old new p = ap (λ (s : SubscriberLogState). s.forgotten) p.1
+forgotten_by_poll may_send (Ok None) old new p = ap (λ (s : SubscriberLogState). s.forgotten) p.1
+forgotten_by_poll may_send (Ok (Some advice)) old new p = ap (λ (s : SubscriberLogState). s.forgotten) p.3

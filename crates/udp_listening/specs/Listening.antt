@@ -2,6 +2,7 @@
 -- project's own.
 use Rattle.std.specs.Prelude.{◌≡◌, ◌⊎◌, ℕ, ◌+◌, ◌≤◌, Bool, false, List, [], ◌∷◌, ◌++◌, length, drop, flat_map, slice_get, take, Option, Some, None, Result, Ok, Err, if◌then◌else◌, codes, decimal}
 use Rattle.feed_types.specs.declared.config.FeedConfig.{FeedConfig}
+use Rattle.feed_types.specs.declared.journal.Entry.{Entry}
 use Rattle.feed_types.specs.declared.line.LineId.{LineId}
 use Rattle.feed_types.specs.declared.line.LineId.TheVariants.{A, B, Recovery}
 use Rattle.feed_types.specs.PerLines.{on_line}
@@ -11,6 +12,9 @@ use Rattle.feed_text.specs.Lines.{best_line, venue_line}
 use Rattle.live_feed.specs.declared.run.report.Stop.{Stop}
 use Rattle.live_feed.specs.declared.run.report.Stop.TheVariants as stops
 use Rattle.live_feed.specs.declared.subscriber.logged.Logged.{Logged}
+use Rattle.journal_book.specs.ItemsIn.{items_in}
+use Rattle.live_feed.specs.Lanes.{FeedSetting}
+use Rattle.live_feed.specs.subscriber.Logs.{SubscriberLogState}
 use Rattle.live_feed.specs.venue.Seats.{SeatState}
 use Rattle.live_feed.specs.settle.Settlements.{SettlementState, VenueEndState, SubscriberEndState}
 use Rattle.feed_text.specs.StandardError.{Says, SaysEach}
@@ -27,15 +31,30 @@ use Rattle.udp_listening.specs.declared.listening.ListenReport.{ListenReport}
 
 -- ---- the setting of a feed
 
--- the settings as a feed takes them: a lane holds 1,024 items, and a log as many notices as the
--- journal entries
+-- the most notices of a log: as many as the journal's entries, unless they are printed as they come
+-- and forgotten
+abbrev pub most_logged : ListenSettings → ℕ
+most_logged settings = if settings.follow then 4294967295 else settings.feed.journal
+
+-- the settings as a feed takes them: a lane holds 1,024 items
 pub record IsFeedOf (settings : ListenSettings) (config : FeedConfig) : Type 0 where
   pub sessions : config.sessions.now ≡ settings.feed.sessions.items
   pub symbols : config.symbols.now ≡ settings.feed.symbols.items
   pub window : config.window ≡ settings.feed.window
   pub lane : config.lane ≡ 1024
   pub journal : config.journal ≡ settings.feed.journal
-  pub log : config.log ≡ settings.feed.journal
+  pub log : config.log ≡ most_logged settings
+
+-- the setting of the feed, which keeps all changes, or as many as its subscriber may be behind
+abbrev pub feed_setting : ListenSettings → FeedSetting
+feed_setting settings = record {
+  symbols = settings.feed.symbols.items;
+  window = settings.feed.window;
+  lane = 1024;
+  journal = settings.feed.journal;
+  log = most_logged settings;
+  kept = settings.kept;
+}
 
 -- the line reads datagrams for the venue, as many as the settings say, and ends with an end of session
 -- as they say
@@ -72,20 +91,21 @@ subscriber_lines printed x =
 
 -- the last line of a venue: how many of its items were consumed, and how many numbers each line
 -- brought first
-abbrev pub end_line : ℕ → VenueEndState → List ℕ
-end_line venue v = venue_line venue (length v.consumed) (λ line. on_line line v.wins)
+abbrev pub end_line : List Entry → ℕ → VenueEndState → List ℕ
+end_line entries venue v =
+    venue_line venue (length (items_in entries venue)) (λ line. on_line line v.wins)
 
 -- the last lines of the venues from this one on
-abbrev pub end_lines : ℕ → List VenueEndState → List ℕ
-end_lines venue [] = []
-end_lines venue (v ∷ vs) = end_line venue v ++ end_lines (venue + 1) vs
+abbrev pub end_lines : List Entry → ℕ → List VenueEndState → List ℕ
+end_lines entries venue [] = []
+end_lines entries venue (v ∷ vs) = end_line entries venue v ++ end_lines entries (venue + 1) vs
 
--- the text of a feed that was settled: the lines of its first subscriber that aren't printed yet, and
--- then the last lines of its venues, of which it has 16 at most
-abbrev pub summary_text : ℕ → SettlementState → List ℕ
+-- the text of a feed that was settled: the lines of its first subscriber, after as many as are
+-- printed already, and then the last lines of its venues, of which it has 16 at most
+abbrev pub summary_text : (SubscriberEndState → ℕ) → SettlementState → List ℕ
 summary_text printed s =
-    flat_map (λ x. subscriber_lines printed x) (take 1 s.subscribers)
-    ++ end_lines 0 (take 16 s.venues)
+    flat_map (λ x. subscriber_lines (printed x) x) (take 1 s.subscribers)
+    ++ end_lines s.journal.entries 0 (take 16 s.venues)
 
 -- ---- what is printed while a run goes on
 
@@ -93,6 +113,11 @@ summary_text printed s =
 abbrev pub first_lines : {S : Type 0} → (S → List Logged) → List S → List Logged
 first_lines lines [] = []
 first_lines lines (s ∷ more) = lines s
+
+-- the count of the first subscriber, if there is one
+abbrev pub first_count : {S : Type 0} → (S → ℕ) → List S → ℕ
+first_count count [] = 0
+first_count count (s ∷ more) = count s
 
 -- From this output on the best lines of the log's first notices were written, as many as are counted,
 -- and no call failed.
@@ -111,31 +136,36 @@ HasFollowed writing first log Failed printed now =
     Wrote writing.adds first (log_lines log) now
     × (writing.failures now ≡ writing.failures first + 1)
 
--- The log has grown, and the desk has gone on: from whichever output on the desk had printed of the
--- log before, it has printed of the longer log now.
-abbrev pub KeepsFollowing : {W E : Type 0} → Writing W → List Logged → Desk W E → List Logged
-    → Desk W E → Type 0
+-- The log has grown, and the desk has gone on: from whichever output on the desk had printed what
+-- the log has forgotten before, it has printed what the longer log has forgotten now.
+abbrev pub KeepsFollowing : {W E : Type 0} → Writing W → SubscriberLogState → Desk W E
+    → SubscriberLogState → Desk W E → Type 0
 KeepsFollowing {W} writing log before longer after =
-    (first : W) → HasFollowed writing first log before.following before.printed before.output
-    → HasFollowed writing first longer after.following after.printed after.output
+    (first : W) → HasFollowed writing first log.lines before.following log.forgotten before.output
+    → HasFollowed writing first longer.lines after.following longer.forgotten after.output
 
 -- nothing is printed yet, of whatever log, and the output hasn't failed
-abbrev pub IsUnprinted : {W : Type 0} → Writing W → Following → ℕ → W → Type 0
-IsUnprinted writing following printed now =
-    (log : List Logged) → HasFollowed writing now log following printed now
+abbrev pub IsUnprinted : {W : Type 0} → Writing W → Following → W → Type 0
+IsUnprinted writing following now =
+    (log : List Logged) → HasFollowed writing now log following 0 now
 
 -- the log of the first subscriber of a settled feed, if it has one
 abbrev pub settled_log : SettlementState → List Logged
 settled_log s = first_lines (λ x. x.log) s.subscribers
 
--- The end of a run: from the output `first` on the best lines of the settled log's first notices were
--- written; or where there is no report, those of some log.
+-- how many of its lines are forgotten
+abbrev pub settled_forgotten : SettlementState → ℕ
+settled_forgotten s = first_count (λ x. x.forgotten) s.subscribers
+
+-- The end of a run: from the output `first` on the best lines that the settled log has forgotten were
+-- written; or where there is no report, those of some log's first notices.
 abbrev pub HasListened : {W : Type 0} → Writing W → W → Result ListenReport ListenFault
-    → Following → ℕ → W → Type 0
-HasListened writing first (Ok report) following printed now =
-    HasFollowed writing first (settled_log report.settlement) following printed now
-HasListened writing first (Err fault) following printed now =
-    (log : List Logged) × HasFollowed writing first log following printed now
+    → Following → W → Type 0
+HasListened writing first (Ok report) following now =
+    HasFollowed writing first (settled_log report.settlement) following
+    (settled_forgotten report.settlement) now
+HasListened writing first (Err fault) following now =
+    (log : List Logged) × (printed : ℕ) × HasFollowed writing first log following printed now
 
 -- ---- texts on standard error
 
@@ -165,6 +195,7 @@ abbrev pub stop_text : Stop → List ℕ
 stop_text stops.JournalFull = codes "nbbo: journal full\n"
 stop_text stops.NoMemory = codes "nbbo: no memory\n"
 stop_text stops.NoThread = codes "nbbo: no thread\n"
+stop_text stops.SubscriberBehind = codes "nbbo: subscriber too far behind\n"
 
 -- the text of an early stop of the run, if there was one
 abbrev pub stop_texts : Option Stop → List (List ℕ)
@@ -188,23 +219,22 @@ report_status failed stopped = 1
 -- The summary's lines that aren't printed yet are written, and no call fails; or memory for them is
 -- refused; or the output fails within them. Standard error says so.
 abbrev pub PrintsRest : {W E : Type 0} (writing : Writing W) (telling : Writing E)
-    (report : ListenReport) (printed : ℕ) (before after : W) (said told : E) → ℕ → Type 0
-PrintsRest writing telling report printed before after said told status =
-    (writing.adds before (summary_text printed report.settlement) after
+    (report : ListenReport) (before after : W) (said told : E) → ℕ → Type 0
+PrintsRest writing telling report before after said told status =
+    (writing.adds before (summary_text (λ x. x.forgotten) report.settlement) after
     × (writing.failures after ≡ writing.failures before) × (told ≡ said)
     × (status ≡ report_status report.failed.items report.stopped))
     ⊎ ((after ≡ before) × Says telling (codes "nbbo: no memory\n") said told × (status ≡ 1))
-    ⊎ (Wrote writing.adds before (summary_text printed report.settlement) after
+    ⊎ (Wrote writing.adds before (summary_text (λ x. x.forgotten) report.settlement) after
     × (writing.failures after ≡ writing.failures before + 1)
     × Says telling (codes "nbbo: write failed\n") said told × (status ≡ 1))
 
 -- A report is printed: its texts are on standard error, and then the summary's rest on the output.
 pub record PrintsReport {W E : Type 0} (writing : Writing W) (telling : Writing E)
-    (report : ListenReport) (printed : ℕ) (before after : W) (silent told : E)
-    (status : ℕ) : Type 0 where
+    (report : ListenReport) (before after : W) (silent told : E) (status : ℕ) : Type 0 where
   pub said : E
   pub says : SaysEach telling (report_texts report) silent said
-  pub prints : PrintsRest writing telling report printed before after said told status
+  pub prints : PrintsRest writing telling report before after said told status
 
 abbrev pub listen_fault_text : ListenFault → List ℕ
 listen_fault_text NoMemory = codes "nbbo: no memory\n"
@@ -222,15 +252,15 @@ pub record PrintsFailedReport {E : Type 0} (telling : Writing E) (report : Liste
 -- The end is printed: a report, after the best lines that were printed before, if the output hasn't
 -- failed at these; or with none, which standard error says.
 abbrev pub PrintsEnd : {W E : Type 0} (writing : Writing W) (telling : Writing E)
-    (outcome : Result ListenReport ListenFault) (following : Following) (printed : ℕ)
+    (outcome : Result ListenReport ListenFault) (following : Following)
     (before after : W) (silent told : E) → ℕ → Type 0
-PrintsEnd writing telling (Ok report) Failed printed before after silent told status =
+PrintsEnd writing telling (Ok report) Failed before after silent told status =
     (after ≡ before) × PrintsFailedReport telling report silent told status
-PrintsEnd writing telling (Ok report) On printed before after silent told status =
-    PrintsReport writing telling report printed before after silent told status
-PrintsEnd writing telling (Ok report) Off printed before after silent told status =
-    PrintsReport writing telling report printed before after silent told status
-PrintsEnd writing telling (Err fault) following printed before after silent told status =
+PrintsEnd writing telling (Ok report) On before after silent told status =
+    PrintsReport writing telling report before after silent told status
+PrintsEnd writing telling (Ok report) Off before after silent told status =
+    PrintsReport writing telling report before after silent told status
+PrintsEnd writing telling (Err fault) following before after silent told status =
     (after ≡ before) × Says telling (listen_fault_text fault) silent told × (status ≡ 1)
 
 -- From the beginning of the run on the whole summary is written; or a part of it, where memory is
@@ -238,13 +268,13 @@ PrintsEnd writing telling (Err fault) following printed before after silent told
 abbrev pub PrintsWhole : {W E : Type 0} (writing : Writing W) (telling : Writing E)
     (report : ListenReport) (before after : W) (said told : E) → ℕ → Type 0
 PrintsWhole writing telling report before after said told status =
-    (writing.adds before (summary_text 0 report.settlement) after
+    (writing.adds before (summary_text (λ x. 0) report.settlement) after
     × (writing.failures after ≡ writing.failures before) × (told ≡ said)
     × (status ≡ report_status report.failed.items report.stopped))
-    ⊎ (Wrote writing.adds before (summary_text 0 report.settlement) after
+    ⊎ (Wrote writing.adds before (summary_text (λ x. 0) report.settlement) after
     × (writing.failures after ≡ writing.failures before)
     × Says telling (codes "nbbo: no memory\n") said told × (status ≡ 1))
-    ⊎ (Wrote writing.adds before (summary_text 0 report.settlement) after
+    ⊎ (Wrote writing.adds before (summary_text (λ x. 0) report.settlement) after
     × (writing.failures after ≡ writing.failures before + 1)
     × Says telling (codes "nbbo: write failed\n") said told × (status ≡ 1))
 

@@ -1,17 +1,18 @@
 -- A line that is received by UDP, as contracts see it.
-use Rattle.std.specs.Prelude.{◌≡◌, ◌⊎◌, ℕ, ◌==◌, ◌&&◌, not, Bool, true, false, IsTrue, List, Option, Some, is_some}
+use Rattle.std.specs.Prelude.{◌≡◌, ◌⊎◌, ℕ, ◌==◌, ◌&&◌, not, Bool, true, false, IsTrue, List, Option, Some, None, is_some}
 use Rattle.mold_packet.specs.Content.{Content, Spells}
 use Rattle.mold_packet.specs.declared.packet.Kind.TheVariants.{End}
 use Rattle.command_words.specs.declared.end_rule.EndRule.{EndRule}
 use Rattle.command_words.specs.declared.end_rule.EndRule.TheVariants.{AnySession, OwnSession, NoSession}
 
 -- the venue, its session, which ends of session end the line, how many datagrams it may still read,
--- whether its socket has failed, and whether its last datagram was an end that ended it
+-- if there is any limit, whether its socket has failed, and whether its last datagram was an end that
+-- ended it
 pub record UdpLineState : Type 0 where
   pub venue : ℕ
   pub session : List ℕ
   pub rule : EndRule
-  pub left : ℕ
+  pub left : Option ℕ
   pub failed : Bool
   pub ended : Bool
 
@@ -20,13 +21,18 @@ abbrev pub failures_of : Bool → ℕ
 failures_of true = 1
 failures_of false = 0
 
+-- no datagram may be read any more, of as many as are left
+abbrev pub is_none_left : Option ℕ → Bool
+is_none_left None = false
+is_none_left (Some count) = count == 0
+
 -- the line has ended
 abbrev pub IsOver : UdpLineState → Type 0
-IsOver line = (line.failed ≡ true) ⊎ (line.left ≡ 0)
+IsOver line = (line.failed ≡ true) ⊎ (is_none_left line.left ≡ true)
 
 -- the line has ended since it has read as many datagrams as it may
 abbrev pub is_read_out : UdpLineState → Bool
-is_read_out line = not line.failed && (not line.ended && (line.left == 0))
+is_read_out line = not line.failed && (not line.ended && is_none_left line.left)
 
 -- the bytes are an end of this session
 pub record SpellsEndOf (session bytes : List ℕ) : Type 0 where

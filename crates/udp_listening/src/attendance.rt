@@ -49,7 +49,7 @@ impl<N: FeedName, C: Clock + Drop, W: TextOut, E: TextOut> Attendance<N, C, W, E
         requires status { S.IsAlwaysCallable status }
         requires skip { K.IsAlwaysCallable skip }
         ensures shows { KeepsFollowing (record { adds = W.adds; failures = W.failures })
-            self.log.lines self.desk result.log.lines result.desk }
+            self.log self.desk result.log result.desk }
         ensures run { watched_run result.watches ≡ watched_run self.watches }
         ensures quiet { self.attendant.counts ≡ None
             → SaysRunNews (record { adds = E.adds; failures = E.failures })
@@ -61,6 +61,7 @@ impl<N: FeedName, C: Clock + Drop, W: TextOut, E: TextOut> Attendance<N, C, W, E
                 Turn::Over => break,
                 Turn::GiveUp => {
                     stop.stop();
+                    attendance.log.end_polls();
                     break;
                 }
                 Turn::Stop => stop.stop(),
@@ -75,7 +76,7 @@ impl<N: FeedName, C: Clock + Drop, W: TextOut, E: TextOut> Attendance<N, C, W, E
     /// to be done then. Where there is nothing to do it waits before.
     fn turn<R: Wait>(&mut self, rt: &R) -> Turn
         ensures shows { KeepsFollowing (record { adds = W.adds; failures = W.failures })
-            self.old.log.lines self.old.desk self.new.log.lines self.new.desk }
+            self.old.log self.old.desk self.new.log self.new.desk }
         ensures run { watched_run self.new.watches ≡ watched_run self.old.watches }
         ensures news { SaysRunNews (record { adds = E.adds; failures = E.failures })
             (watched_run self.old.watches) self.old.desk.errors self.new.desk.errors }

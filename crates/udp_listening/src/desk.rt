@@ -1,11 +1,11 @@
 //! Where the program prints while a run goes on.
 ghost use Rattle.std.specs.Prelude.{◌≡◌, ◌≢◌, drop};
 ghost use Rattle.feed_types.specs.Prefix.{IsPrefix};
-ghost use Rattle.udp_listening.specs.Listening.{HasFollowed, HasPrinted, IsUnprinted, KeepsFollowing, log_lines};
+ghost use Rattle.udp_listening.specs.Listening.{IsUnprinted, KeepsFollowing, log_lines};
 
-use crate::summary::{put_log, unprinted};
+use crate::summary::put_log;
 use feed_text::{LineBuffer, TextOut, write_all};
-use live_feed::{FeedName, Logged, SubscriberLog};
+use live_feed::{FeedName, SubscriberLog};
 use std::sync::Wait;
 
 /// The most notices that are taken before their lines are written.
@@ -22,30 +22,39 @@ pub enum Following {
     Failed,
 }
 
-/// Standard output and standard error, and what was printed while the run went on.
+/// Standard output and standard error, and whether lines are printed while the run goes on. What was
+/// printed of a log it has forgotten.
 #[derive(Drop)]
 pub struct Desk<W, E> {
     pub output: W,
     pub errors: E,
     pub following: Following,
-    /// How many best lines were printed.
-    pub printed: usize,
 }
 
-/// Polls once, and returns whether a notice was taken.
+/// Polls once, and returns whether a notice was taken. Where that is refused, a run isn't to wait for
+/// the subscriber until its lane was found empty again.
 fn has_polled<N: FeedName, R: Wait>(rt: &R, log: &mut SubscriberLog<N>) -> bool
-    ensures { IsPrefix log.old.lines log.new.lines }
+    ensures lines { IsPrefix log.old.lines log.new.lines }
+    ensures forgotten { log.new.forgotten ≡ log.old.forgotten }
 {
     match log.poll_holding(rt) {
-        Ok(advice) => advice.is_some(),
-        Err(_) => false,
+        Ok(Some(_)) => true,
+        Ok(None) => {
+            log.begin_polls();
+            false
+        }
+        Err(_) => {
+            log.end_polls();
+            false
+        }
     }
 }
 
 /// Takes the notices that the log's subscriber is offered, 1,024 at most, and returns whether there
 /// were any.
 fn poll_some<N: FeedName, R: Wait>(rt: &R, log: &mut SubscriberLog<N>) -> bool
-    ensures { IsPrefix log.old.lines log.new.lines }
+    ensures lines { IsPrefix log.old.lines log.new.lines }
+    ensures forgotten { log.new.forgotten ≡ log.old.forgotten }
 {
     let mut has_taken = false;
     for _ in 0..MOST {
@@ -65,21 +74,20 @@ impl<W: TextOut, E> Desk<W, E> {
           output = output;
           errors = errors;
           following = following;
-          printed = 0;
         } }
         ensures unprinted { IsUnprinted (record { adds = W.adds; failures = W.failures })
-            result.following result.printed result.output }
+            result.following result.output }
     {
         Desk {
             output,
             errors,
             following,
-            printed: 0,
         }
     }
 
     /// Takes what the log's subscriber is offered, 1,024 notices at most, and where lines are printed
-    /// as they come prints those of the log that aren't printed yet. Returns whether it took anything.
+    /// as they come prints those of the log that aren't printed yet, and has the log forget them.
+    /// Returns whether it took anything.
     ///
     /// Where memory for the lines is refused they are printed at the end, with all that follow.
     pub fn follow<N: FeedName, R: Wait>(
@@ -90,49 +98,47 @@ impl<W: TextOut, E> Desk<W, E> {
     ) -> bool
         ensures log { IsPrefix log.old.lines log.new.lines }
         ensures shows { KeepsFollowing (record { adds = W.adds; failures = W.failures })
-            log.old.lines self.old log.new.lines self.new }
+            log.old self.old log.new self.new }
         ensures errors { self.new.errors ≡ self.old.errors }
     {
         let has_taken = poll_some(rt, log);
         if self.following == Following::On {
-            self.print_rest(text, log.log());
+            self.print_rest(text, log);
         }
         has_taken
     }
 
-    /// Prints the best lines of the log that aren't printed yet.
-    fn print_rest(&mut self, text: &mut LineBuffer, log: &[Logged])
+    /// Prints the best lines of the log that aren't printed yet, and has the log forget them.
+    fn print_rest<N: FeedName>(&mut self, text: &mut LineBuffer, log: &mut SubscriberLog<N>)
         requires { self.old.following ≡ Following.On }
-        ensures shows { (first : W) → HasPrinted (record { adds = W.adds; failures = W.failures })
-            first log.now self.old.printed self.old.output
-            → HasFollowed (record { adds = W.adds; failures = W.failures })
-            first log.now self.new.following self.new.printed self.new.output }
+        ensures log { log.new.lines ≡ log.old.lines }
+        ensures shows { KeepsFollowing (record { adds = W.adds; failures = W.failures })
+            log.old self.old log.new self.new }
         ensures errors { self.new.errors ≡ self.old.errors }
     {
-        let lines = unprinted(log, self.printed);
-        if lines.is_empty() {
+        if log.log().is_empty() {
             return;
         }
         text.clear();
-        if put_log(text, lines).is_err() {
+        if put_log(text, log.log()).is_err() {
             self.following = Following::Off;
             return;
         }
         self.write_rest(text.as_slice(), log);
     }
 
-    /// Writes the text of the log's best lines that aren't printed yet.
-    fn write_rest(&mut self, text: &[u8], log: &[Logged])
+    /// Writes the text of the log's best lines that aren't printed yet, and has the log forget them.
+    fn write_rest<N: FeedName>(&mut self, text: &[u8], log: &mut SubscriberLog<N>)
         requires on { self.old.following ≡ Following.On }
-        requires text { text.now ≡ log_lines (drop self.old.printed log.now) }
-        ensures shows { (first : W) → HasPrinted (record { adds = W.adds; failures = W.failures })
-            first log.now self.old.printed self.old.output
-            → HasFollowed (record { adds = W.adds; failures = W.failures })
-            first log.now self.new.following self.new.printed self.new.output }
+        requires text { text.now ≡ log_lines (drop log.old.forgotten log.old.lines) }
+        ensures log { log.new.lines ≡ log.old.lines }
+        ensures shows { KeepsFollowing (record { adds = W.adds; failures = W.failures })
+            log.old self.old log.new self.new }
         ensures errors { self.new.errors ≡ self.old.errors }
     {
+        let count = log.log().len();
         match write_all(text, &mut self.output) {
-            Ok(()) => self.printed = log.len(),
+            Ok(()) => log.forget(count),
             Err(_) => self.following = Following::Failed,
         }
     }

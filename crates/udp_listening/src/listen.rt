@@ -8,15 +8,15 @@ use crate::attendant::Attendant;
 use crate::desk::{Desk, Following};
 use crate::gap_watches::GapWatches;
 use crate::listen_lines::write_report_lines;
-use crate::listening::{ListenFault, ListenReport, ListenTask, Listened, config_of, run_feed};
+use crate::listening::{ListenFault, ListenReport, ListenTask, Listened, feed_of, run_feed};
 use crate::run_watches::RunWatches;
 use crate::sources::lines_over;
 use crate::summary::summary_of;
 use command_words::ListenSettings;
 use feed_text::{TextOut, write_all, write_stderr};
-use feed_types::{Anything, LineId, VenueId};
+use feed_types::{LineId, VenueId};
 use filter_terms::Terms;
-use live_feed::{LiveFeed, Stop};
+use live_feed::Stop;
 use std::alloc::Global;
 use std::io::Stdin;
 use std::marker::Brand;
@@ -54,17 +54,16 @@ fn fail<E: TextOut>(text: &str, errors: &mut E) -> u8
 fn print_report<W: TextOut, E: TextOut>(
     alloc: Global,
     report: &ListenReport,
-    printed: usize,
     output: &mut W,
     errors: &mut E,
 ) -> u8
     ensures { PrintsReport
         (record { adds = W.adds; failures = W.failures })
         (record { adds = E.adds; failures = E.failures })
-        report.now printed output.old output.new errors.old errors.new result }
+        report.now output.old output.new errors.old errors.new result }
 {
     write_report_lines(report, errors);
-    let Ok(text) = summary_of(alloc, &report.settlement, printed) else {
+    let Ok(text) = summary_of(alloc, &report.settlement) else {
         return fail(NO_MEMORY, errors);
     };
     if write_all(text.as_slice(), output).is_err() {
@@ -102,21 +101,15 @@ fn print_end<W: TextOut, E: TextOut>(
     ensures { PrintsEnd
         (record { adds = W.adds; failures = W.failures })
         (record { adds = E.adds; failures = E.failures })
-        outcome.now desk.old.following desk.old.printed
-        desk.old.output desk.new.output desk.old.errors desk.new.errors result }
+        outcome.now desk.old.following desk.old.output desk.new.output
+        desk.old.errors desk.new.errors result }
 {
     match outcome {
         Ok(report) => {
             if desk.following == Following::Failed {
                 print_failed_report(report, &mut desk.errors)
             } else {
-                print_report(
-                    alloc,
-                    report,
-                    desk.printed,
-                    &mut desk.output,
-                    &mut desk.errors,
-                )
+                print_report(alloc, report, &mut desk.output, &mut desk.errors)
             }
         }
         Err(fault) => fail(fault_line(*fault), &mut desk.errors),
@@ -163,7 +156,7 @@ where
 {
     let mut desk = Desk::new(output, errors, following_of(settings));
     let (Ok(feed), Ok(lines), Ok(gaps), Ok(attendant)) = (
-        LiveFeed::<Anything>::new(alloc, &config_of(settings)),
+        feed_of(alloc, settings),
         lines_over(alloc, settings, sockets, clock),
         GapWatches::of(alloc, settings),
         Attendant::of(alloc, settings, input, clock),

@@ -70,6 +70,7 @@ fn stop_line(stop: Stop) -> &'static str
         Stop::JournalFull => "nbbo: journal full\n",
         Stop::NoMemory => "nbbo: no memory\n",
         Stop::NoThread => "nbbo: no thread\n",
+        Stop::SubscriberBehind => "nbbo: subscriber too far behind\n",
     }
 }
 

@@ -1,7 +1,7 @@
 //! Listening on live lines, until all have ended.
-ghost use Rattle.std.specs.Prelude.{◌≡◌, Err, None};
+ghost use Rattle.std.specs.Prelude.{◌≡◌, Err, IfOk, None};
 ghost use Rattle.feed_text.specs.Devices.{Writing};
-ghost use Rattle.udp_listening.specs.Listening.{HasListened, IsFeedOf, IsUnprinted, KeepsFollowing};
+ghost use Rattle.udp_listening.specs.Listening.{HasListened, IsFeedOf, IsUnprinted, KeepsFollowing, feed_setting, most_logged};
 ghost use Rattle.udp_listening.specs.RunLines.{watched_run};
 ghost use Rattle.udp_listening.specs.RunNews.{SaysOfRun, SaysRunNews};
 
@@ -16,7 +16,9 @@ use command_words::ListenSettings;
 use feed_text::{Lack, LineBuffer, TextOut};
 use feed_types::{Anything, FeedConfig, LineId, MAX_VENUES, VenueId};
 use filter_terms::{Filter, Strategy, Terms};
-use live_feed::{FeedName, LiveFeed, SettleFault, Settlement, Shareable, Stop, VenueStatus};
+use live_feed::{
+    CoreFault, FeedName, LiveFeed, SettleFault, Settlement, Shareable, Stop, VenueStatus,
+};
 use std::alloc::{AllocError, Global};
 use std::rt::Clock;
 use std::sync::Wait;
@@ -56,8 +58,20 @@ pub struct ListenReport {
     pub settlement: Settlement,
 }
 
-/// The configuration of the feed: a log as long as the journal.
-pub fn config_of(settings: &ListenSettings) -> FeedConfig<'_>
+/// The most notices of the log: as many as the journal's entries, unless they are printed as they come
+/// and forgotten.
+fn most_logged(settings: &ListenSettings) -> u32
+    ensures { result ≡ most_logged settings.now }
+{
+    if settings.follow {
+        u32::MAX
+    } else {
+        settings.feed.journal
+    }
+}
+
+/// The configuration of the feed.
+fn config_of(settings: &ListenSettings) -> FeedConfig<'_>
     ensures { IsFeedOf settings.now result }
 {
     FeedConfig {
@@ -66,7 +80,19 @@ pub fn config_of(settings: &ListenSettings) -> FeedConfig<'_>
         window: settings.feed.window,
         lane: LANE,
         journal: settings.feed.journal,
-        log: settings.feed.journal,
+        log: most_logged(settings),
+    }
+}
+
+/// The feed of the settings, to which nothing came yet. Where best lines are printed as they come it
+/// keeps as many changes as its subscriber may be behind, else all.
+pub fn feed_of(alloc: Global, settings: &ListenSettings) -> Result<LiveFeed<Anything>, CoreFault>
+    ensures { IfOk result (λ feed. feed.setting ≡ feed_setting settings.now) }
+{
+    let config = config_of(settings);
+    match settings.kept {
+        Some(kept) => LiveFeed::keeping(alloc, &config, kept),
+        None => LiveFeed::new(alloc, &config),
     }
 }
 
@@ -145,10 +171,9 @@ where
     E: TextOut + Drop,
     requires lanes { feed ≡ N.lanes }
     requires unprinted { IsUnprinted (record { adds = W.adds; failures = W.failures })
-        task.desk.following task.desk.printed task.desk.output }
+        task.desk.following task.desk.output }
     ensures listened { HasListened (record { adds = W.adds; failures = W.failures })
-        task.desk.output result.outcome result.desk.following result.desk.printed
-        result.desk.output }
+        task.desk.output result.outcome result.desk.following result.desk.output }
     ensures quiet { task.attendant.counts ≡ None
         → SaysOfRun (record { adds = E.adds; failures = E.failures })
         (watched_run task.watches) task.desk.errors result.desk.errors }
@@ -182,6 +207,7 @@ where
         log: subscriber.into_log(),
         text: LineBuffer::new(alloc),
     };
+    attendance.log.begin_polls();
     feed.show_shareable();
     let (ran, attendance) = thread::join(
         rt,
@@ -196,7 +222,7 @@ where
         },
         || -> Attendance<N, C, W, E>
             ensures shows { KeepsFollowing (record { adds = W.adds; failures = W.failures })
-                attendance.log.lines attendance.desk result.log.lines result.desk }
+                attendance.log attendance.desk result.log result.desk }
             ensures run { watched_run result.watches ≡ watched_run attendance.watches }
             ensures quiet { attendance.attendant.counts ≡ None
                 → SaysRunNews (record { adds = E.adds; failures = E.failures })

@@ -1,9 +1,9 @@
 //! A line that is received by UDP.
-ghost use Rattle.std.specs.Prelude.{◌≡◌, ◌≢◌, ◌+◌, ◌*◌, ◌/◌, ◌-◌, ◌^◌, ◌≤◌, ◌⊎◌, ◌↔◌, ℕ, List, Bool, min, IfOk, IfErr, IfSome, IsTrue, OnErr, Ok, Some, None, true, false, length};
+ghost use Rattle.std.specs.Prelude.{◌≡◌, ◌≢◌, ◌+◌, ◌*◌, ◌/◌, ◌-◌, ◌^◌, ◌≤◌, ◌⊎◌, ◌↔◌, ℕ, List, Bool, min, IfOk, IfErr, IfSome, IsTrue, OnErr, Ok, Some, None, true, false, length, option_map};
 ghost use Rattle.std.specs.Duration.{as_nanos};
 ghost use Rattle.live_feed.specs.venue.Datagrams.{bytes_of};
 ghost use Rattle.live_feed.specs.run.Runs.{failures_after};
-ghost use Rattle.udp_listening.specs.UdpLines.{EndsLine, IsLast, IsOver, SpellsEndOf, failures_of, is_read_out};
+ghost use Rattle.udp_listening.specs.UdpLines.{EndsLine, IsLast, IsOver, SpellsEndOf, failures_of, is_none_left, is_read_out};
 ghost use Rattle.live_feed.specs.declared.run.source.SourceFault.TheVariants.{NoMemory};
 
 use crate::line_progress::LineProgress;
@@ -38,14 +38,14 @@ pub struct UdpLineSettings {
     pub session: [u8; 10],
     /// Which ends of session end it.
     pub end: EndRule,
-    /// The most datagrams that it reads.
-    pub datagrams: u32,
+    /// The most datagrams that it reads, if there is any limit.
+    pub datagrams: Option<u32>,
     /// Where its requests go. Where there is no such address they are dropped.
     pub requests_to: Option<SocketAddr>,
 }
 
-/// A line of a venue that is received by UDP. It ends after as many datagrams as it was made for,
-/// and after an end of session that ends it.
+/// A line of a venue that is received by UDP. It ends after as many datagrams as it was made for, if
+/// there is such a limit, and after an end of session that ends it.
 ///
 /// Once its socket has failed the line has ended: it asks the socket for nothing more. A request that can't be sent
 /// ends nothing. What has become of the line is marked in its progress.
@@ -59,7 +59,7 @@ pub struct UdpLine<C> {
     progress: LineProgress,
     clock: C,
     moment_ms: u64,
-    to_read: u32,
+    to_read: Option<u32>,
     broken: bool,
     at_end: bool,
     /// What the socket has brought for the next call: a datagram, or why there is none.
@@ -179,6 +179,27 @@ pub fn millis(time: Duration) -> u64
     time.as_secs().saturating_mul(1_000).saturating_add(rest)
 }
 
+/// Whether no datagram may be read any more, of as many as are left.
+fn is_none_left(left: Option<u32>) -> bool
+    ensures { result ≡ is_none_left left }
+{
+    match left {
+        Some(count) => count == 0,
+        None => false,
+    }
+}
+
+/// How many datagrams are left after one more, of as many.
+fn one_fewer(left: Option<u32>) -> Option<u32>
+    requires { is_none_left left ≡ false }
+    ensures { option_map (λ fewer. fewer + 1) result ≡ left }
+{
+    match left {
+        Some(count) => Some(count - 1),
+        None => None,
+    }
+}
+
 impl<C: Drop> UdpLine<C> {
     /// The line of these settings that this socket receives, and from which its requests go.
     ///
@@ -221,7 +242,7 @@ impl<C: Drop> UdpLine<C> {
     fn listen(&mut self) -> bool
         ensures { self.new ≡ self.old }
     {
-        if self.broken || self.to_read == 0 || self.heard.is_some() {
+        if self.broken || is_none_left(self.to_read) || self.heard.is_some() {
             return true;
         }
         self.heard = hear(self.alloc, &self.socket, self.buffer.as_mut_slice());
@@ -237,7 +258,7 @@ impl<C: Drop> UdpLine<C> {
     fn mark_end(&self) {
         if self.at_end {
             self.progress.end();
-        } else if self.to_read == 0 {
+        } else if is_none_left(self.to_read) {
             self.progress.read_out();
         }
     }
@@ -260,20 +281,25 @@ impl<C: Drop> UdpLine<C> {
 
     /// Counts a datagram of these bytes that was read. One that ends the line is its last.
     fn count_read(&mut self, bytes: &[u8])
-        requires { 1 ≤ self.old.left }
+        requires { is_none_left self.old.left ≡ false }
         ensures rest { self.new
             ≡ record (self.old) { left = self.new.left; ended = self.new.ended } }
         ensures last { EndsLine self.old.rule self.old.session bytes.now
-            → (self.new.left ≡ 0) × (self.new.ended ≡ true) }
+            → (self.new.left ≡ Some 0) × (self.new.ended ≡ true) }
         ensures other { (EndsLine self.old.rule self.old.session bytes.now → ⊥)
-            → (self.new.left + 1 ≡ self.old.left) × (self.new.ended ≡ false) }
+            → (option_map (λ left. left + 1) self.new.left ≡ self.old.left)
+            × (self.new.ended ≡ false) }
     {
         let ended = ended_session(bytes);
         self.at_end = is_last(self.end_rule, self.own_session, ended);
         if ended.is_some() && !self.at_end {
             self.progress.count_passed();
         }
-        self.to_read = if self.at_end { 0 } else { self.to_read - 1 };
+        self.to_read = if self.at_end {
+            Some(0)
+        } else {
+            one_fewer(self.to_read)
+        };
         self.mark_end();
     }
 
@@ -287,10 +313,11 @@ impl<C: Drop> UdpLine<C> {
         ensures ended { IsOver self.old → (result ≡ Ok None) × (self.new ≡ self.old) }
         ensures last { (datagram : Datagram) → result ≡ Ok (Some datagram)
             → EndsLine self.old.rule self.old.session (bytes_of datagram)
-            → (self.new.left ≡ 0) × (self.new.ended ≡ true) }
+            → (self.new.left ≡ Some 0) × (self.new.ended ≡ true) }
         ensures other { (datagram : Datagram) → result ≡ Ok (Some datagram)
             → (EndsLine self.old.rule self.old.session (bytes_of datagram) → ⊥)
-            → (self.new.left + 1 ≡ self.old.left) × (self.new.ended ≡ false) }
+            → (option_map (λ left. left + 1) self.new.left ≡ self.old.left)
+            × (self.new.ended ≡ false) }
         ensures venue { self.new.venue ≡ self.old.venue }
         ensures session { self.new.session ≡ self.old.session }
         ensures rule { self.new.rule ≡ self.old.rule }
@@ -299,7 +326,7 @@ impl<C: Drop> UdpLine<C> {
         ensures failed { IfErr result (λ fault. failures_of self.new.failed
             ≡ failures_after (failures_of self.old.failed) fault) }
     {
-        if self.broken || self.to_read == 0 {
+        if self.broken || is_none_left(self.to_read) {
             self.mark_end();
             return Ok(None);
         }
@@ -322,7 +349,7 @@ impl<C: Drop> UdpLine<C> {
     pub fn is_read_out(&self) -> bool
         ensures { result ≡ is_read_out self.now }
     {
-        !self.broken && !self.at_end && self.to_read == 0
+        !self.broken && !self.at_end && is_none_left(self.to_read)
     }
 }
 

@@ -24,9 +24,9 @@ returns-in_default g c =
       ends =
           subst (λ (first : g.row.W.Denot). ListensToEnd writing telling (Err NoMemory) first
           ended.new.desk.output desk.errors ended.new.desk.errors ended.result) output
-          (listened writing telling g.met.W.TextOut.adds_more (Err NoMemory) desk.following desk.printed
+          (listened writing telling g.met.W.TextOut.adds_more (Err NoMemory) desk.following
           desk.output desk.output ended.new.desk.output desk.errors ended.new.desk.errors ended.result
-          ([], c.new-desk.ensures.unprinted []) ended.ensures);
+          ([], 0, c.new-desk.ensures.unprinted []) ended.ensures);
     }
 
 pub returns : goal.returns
@@ -43,8 +43,8 @@ returns g c =
       counted = desk.errors;
       quiet = λ none.
           let settings = c.args.settings.now in
-          let same : watched_run c.new-2.result ≡ record { lines = take (length c.args.sockets.items) (listened_lines settings); venues = skipping_venues settings } =
-          ap (λ w. watched_run w) c.new-2.ensures
+          let same : watched_run c.new.result ≡ record { lines = take (length c.args.sockets.items) (listened_lines settings); venues = skipping_venues settings } =
+          ap (λ w. watched_run w) c.new.ensures
           ∙ ap (λ first. record { lines = first; venues = watched_venues c.in-Ok-Ok-Ok-Ok.gaps }) c.in-Ok-Ok-Ok-Ok.ensures'
           ∙ ap (λ venues. record { lines = take (length c.args.sockets.items) (listened_lines settings); venues = venues }) c.in-Ok-Ok-Ok-Ok.ensures'' in
           subst (λ (silent : g.row.E.Denot). SaysOfRun telling (listened_run settings) silent desk.errors)
@@ -56,7 +56,7 @@ returns g c =
       ends =
           subst (λ (first : g.row.W.Denot). ListensToEnd writing telling outcome first
           ended.new.desk.output desk.errors ended.new.desk.errors ended.result) output
-          (listened writing telling g.met.W.TextOut.adds_more outcome desk.following desk.printed
+          (listened writing telling g.met.W.TextOut.adds_more outcome desk.following
           before.output desk.output ended.new.desk.output desk.errors ended.new.desk.errors ended.result
           c.run_feed-outcome.ensures.listened ended.ensures);
     }

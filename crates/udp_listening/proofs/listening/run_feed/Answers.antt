@@ -1,4 +1,4 @@
-use Rattle.std.proofs.Common.{◌≡◌, [], ◌∷◌, ◌∙◌, ap, map, subst, sym, List}
+use Rattle.std.proofs.Common.{◌≡◌, [], ◌∷◌, ◌∙◌, ap, map, subst, sym, List, ℕ}
 use Rattle.std.proofs.lemmas.Result.{IfOk-at_ok}
 use Rattle.std.specs.Prelude.{Result, Err, codes}
 use mir.Syntax.{Sym, named}
@@ -24,6 +24,7 @@ use Rattle.udp_listening.specs.Listening.{HasFollowed, HasListened}
 use Rattle.udp_listening.specs.RunLines.{WatchedRun, watched_run}
 use Rattle.udp_listening.specs.RunNews.{SaysOfRun}
 use Rattle.udp_listening.specs.declared.desk.Desk.{Desk}
+use Rattle.udp_listening.specs.declared.desk.Following.{Following}
 use Rattle.udp_listening.specs.declared.listening.ListenFault.{ListenFault}
 use Rattle.udp_listening.specs.declared.listening.ListenFault.TheVariants.{NoMemory}
 use Rattle.udp_listening.specs.declared.listening.Listened.{Listened}
@@ -34,49 +35,58 @@ use Rattle.udp_listening.specs.contracts.udp_line.UdpLineLineSourceAnything.TheI
 use Rattle.udp_listening.proofs.run_progress.RunProgress.TheSendSync.{the_send as progress_send}
 use Rattle.udp_listening.proofs.Crossing.{five_send, lines_send}
 use Rattle.udp_listening.proofs.RunTelling.{more_of_run, nothing_of_run}
-use Rattle.udp_listening.proofs.Wholes.{settled_log_of}
+use Rattle.udp_listening.proofs.Wholes.{settled_forgotten_of, settled_log_of}
 use Rattle.udp_listening.proofs.listening.run_feed.Goals.{in-Ok-settle, in-Err-settle}
-use Rattle.udp_listening.proofs.listening.run_feed.Lts.{arg-42-1}
+use Rattle.udp_listening.proofs.listening.run_feed.Lts.{arg-43-1}
 use Rattle.udp_listening.proofs.listening.run_feed.OwnLists.{own-1, lawful-own-1}
 use Rattle.udp_listening.proofs.listening.run_feed.Goals as goal
 
 -- what a desk has printed of a log
-abbrev Shows : {W E : Type 0} → Writing W → W → List Logged → Desk W E → Type 0
-Shows writing first log desk = HasFollowed writing first log desk.following desk.printed desk.output
+abbrev Shows : {W E : Type 0} → Writing W → W → List Logged → ℕ → Desk W E → Type 0
+Shows writing first log printed desk = HasFollowed writing first log desk.following printed desk.output
 
 -- what a desk has printed at the end of a run
 abbrev Ends : {W E : Type 0} → Writing W → W → Result ListenReport ListenFault → Desk W E → Type 0
-Ends writing first outcome desk = HasListened writing first outcome desk.following desk.printed desk.output
+Ends writing first outcome desk = HasListened writing first outcome desk.following desk.output
 
 -- closing the attendance prints nothing on the output
-closed : {W E : Type 0} (writing : Writing W) (first : W) (log : List Logged) (attended desk : Desk W E)
-    → Shows writing first log attended → desk ≡ record attended { errors = desk.errors }
-    → Shows writing first log desk
-closed writing first log attended desk shown same = subst (λ d. Shows writing first log d) (sym same) shown
+closed : {W E : Type 0} (writing : Writing W) (first : W) (log : List Logged) (printed : ℕ) (attended desk : Desk W E)
+    → Shows writing first log printed attended → desk ≡ record attended { errors = desk.errors }
+    → Shows writing first log printed desk
+closed writing first log printed attended desk shown same =
+    subst (λ d. Shows writing first log printed d) (sym same) shown
+
+-- of a log that has forgotten nothing the desk has printed nothing
+fresh : {W : Type 0} (writing : Writing W) (now : W) (log : List Logged) (following : Following) (forgotten : ℕ)
+    → forgotten ≡ 0 → HasFollowed writing now log following 0 now → HasFollowed writing now log following forgotten now
+fresh writing now log following forgotten none shown =
+    subst (λ n. HasFollowed writing now log following n now) (sym none) shown
 
 -- then, too, where there is no report
-unreported : {W E : Type 0} (writing : Writing W) (first : W) (log : List Logged) (attended desk : Desk W E)
-    → Shows writing first log attended → desk ≡ record attended { errors = desk.errors }
+unreported : {W E : Type 0} (writing : Writing W) (first : W) (log : List Logged) (printed : ℕ) (attended desk : Desk W E)
+    → Shows writing first log printed attended → desk ≡ record attended { errors = desk.errors }
     → (fault : ListenFault) (r : Listened W E) → r ≡ record { outcome = Err fault; desk = desk }
     → Ends writing first r.outcome r.desk
-unreported writing first log attended desk shown same fault r is =
+unreported writing first log printed attended desk shown same fault r is =
     subst (λ r. Ends writing first r.outcome r.desk) (sym is)
-    (log, closed writing first log attended desk shown same)
+    (log, printed, closed writing first log printed attended desk shown same)
 
 pub returns-in-Err-closed-clause-listened : goal.returns-in-Err-closed-clause-listened
 returns-in-Err-closed-clause-listened g c =
     let w : Writing g.row.W.Denot = record { adds = g.W.TextOut.adds; failures = g.W.TextOut.failures } in
     let attended = c.join-ran.result.1 in
-    unreported w c.args.task.desk.output attended.log.lines attended.desk c.close-closed.result.1
-    (c.join-ran.ensures.second.0 _ (c.requires.unprinted _)) c.close-closed.ensures.desk
+    unreported w c.args.task.desk.output attended.log.lines attended.log.forgotten attended.desk c.close-closed.result.1
+    (c.join-ran.ensures.second.0 _ (fresh w c.args.task.desk.output c.into_log.result.lines c.args.task.desk.following c.into_log.result.forgotten
+    (ap (λ l. l.forgotten) c.into_log.ensures ∙ c.in-Ok-Ok-Ok.ensures.new.2) (c.requires.unprinted _))) c.close-closed.ensures.desk
     _ _ c.unreported-in-Err-closed.ensures
 
 pub returns-in_default-from_array-clause-listened : goal.returns-in_default-from_array-clause-listened
 returns-in_default-from_array-clause-listened g c =
     let w : Writing g.row.W.Denot = record { adds = g.W.TextOut.adds; failures = g.W.TextOut.failures } in
     let attended = c.join-ran.result.1 in
-    unreported w c.args.task.desk.output attended.log.lines attended.desk c.close-closed.result.1
-    (c.join-ran.ensures.second.0 _ (c.requires.unprinted _)) c.close-closed.ensures.desk
+    unreported w c.args.task.desk.output attended.log.lines attended.log.forgotten attended.desk c.close-closed.result.1
+    (c.join-ran.ensures.second.0 _ (fresh w c.args.task.desk.output c.into_log.result.lines c.args.task.desk.following c.into_log.result.forgotten
+    (ap (λ l. l.forgotten) c.into_log.ensures ∙ c.in-Ok-Ok-Ok.ensures.new.2) (c.requires.unprinted _))) c.close-closed.ensures.desk
     NoMemory _ c.unreported-in_default-from_array.ensures
 
 pub returns-clause-listened : goal.returns-clause-listened
@@ -85,20 +95,21 @@ returns-clause-listened g c =
     let first = c.args.task.desk.output in
     let attended = c.join-ran.result.1 in
     let desk = c.close-closed.result.1 in
-    let told = closed w first attended.log.lines attended.desk desk
-    (c.join-ran.ensures.second.0 first (c.requires.unprinted _)) c.close-closed.ensures.desk in
+    let told = closed w first attended.log.lines attended.log.forgotten attended.desk desk
+    (c.join-ran.ensures.second.0 first (fresh w c.args.task.desk.output c.into_log.result.lines c.args.task.desk.following c.into_log.result.forgotten
+    (ap (λ l. l.forgotten) c.into_log.ensures ∙ c.in-Ok-Ok-Ok.ensures.new.2) (c.requires.unprinted _))) c.close-closed.ensures.desk in
     let kept = IfOk-at_ok (λ run. run.log ≡ attended.log) c.in-Ok-closed.is c.close-closed.ensures.log in
     let t = c.into_subscriber.result.log in
-    let own : t.lines ≡ attended.log.lines
-    = ap (λ l. l.lines) (c.into_subscriber.ensures.log ∙ kept) in
+    let own : t ≡ attended.log = c.into_subscriber.ensures.log ∙ kept in
     elim c.match-settle.branch [
       | in-Ok-settle w' ↦
-          let same = settled_log_of t (ap (λ l. map (λ s. s.log) l) c.in-Ok-from_array.ensures.items)
-          w'.in-Ok-settle.ensures.settled in
+          let one = ap (λ l. map (λ s. s.log) l) c.in-Ok-from_array.ensures.items in
+          let log = settled_log_of t one w'.in-Ok-settle.ensures.settled ∙ ap (λ l. l.lines) own in
+          let forgotten = settled_forgotten_of t one w'.in-Ok-settle.ensures.settled ∙ ap (λ l. l.forgotten) own in
           subst (λ o. Ends w first o desk) (sym w'.outcome-is)
-          (subst (λ l. Shows w first l desk) (sym (same ∙ own)) told)
+          (subst (λ (x : List Logged × ℕ). Shows w first x.0 x.1 desk) (λ i. (sym log i, sym forgotten i)) told)
       | in-Err-settle w' ↦
-          subst (λ o. Ends w first o desk) (sym w'.outcome-is) (attended.log.lines, told)
+          subst (λ o. Ends w first o desk) (sym w'.outcome-is) (attended.log.lines, attended.log.forgotten, told)
     ]
 
 pub returns-clause-quiet : goal.returns-clause-quiet
@@ -138,11 +149,23 @@ returns-in_default-2-clause-quiet g c =
     untold w (watched_run c.args.task.watches) c.args.task.desk.errors c.args.task.desk NoMemory _ c.unreported-in_default-2.ensures
     (nothing_of_run w (watched_run c.args.task.watches) c.args.task.desk.errors)
 
+pub returns-in_default-clause-listened : goal.returns-in_default-clause-listened
+returns-in_default-clause-listened g c =
+    let w : Writing g.row.W.Denot = record { adds = g.W.TextOut.adds; failures = g.W.TextOut.failures } in
+    subst (λ r. Ends w c.args.task.desk.output r.outcome r.desk) (sym c.unreported.ensures)
+    ([], 0, c.requires.unprinted [])
+
+pub returns-in-Err-clause-listened : goal.returns-in-Err-clause-listened
+returns-in-Err-clause-listened g c =
+    let w : Writing g.row.W.Denot = record { adds = g.W.TextOut.adds; failures = g.W.TextOut.failures } in
+    subst (λ r. Ends w c.args.task.desk.output r.outcome r.desk) (sym c.unreported-in-Err.ensures)
+    ([], 0, c.requires.unprinted [])
+
 pub returns-in_default-2-clause-listened : goal.returns-in_default-2-clause-listened
 returns-in_default-2-clause-listened g c =
     let w : Writing g.row.W.Denot = record { adds = g.W.TextOut.adds; failures = g.W.TextOut.failures } in
     subst (λ r. Ends w c.args.task.desk.output r.outcome r.desk) (sym c.unreported-in_default-2.ensures)
-    ([], c.requires.unprinted [])
+    ([], 0, c.requires.unprinted [])
 
 pub returns-in-Err-closed-clause-quiet : goal.returns-in-Err-closed-clause-quiet
 returns-in-Err-closed-clause-quiet g c =
@@ -192,7 +215,7 @@ join-ran-requires-send-F g c κs within =
     (shr_send (named 8) κs.1.1.1.1.1.1.1.1.0 Global.the_row sync)
     lines in
     param_send 1
-    (arg-42-1 g.row.N g.row.R g.row.C g.row.W g.row.E g.N.laws g.R.laws g.C.laws g.W.laws g.E.laws
+    (arg-43-1 g.row.N g.row.R g.row.C g.row.W g.row.E g.N.laws g.R.laws g.C.laws g.W.laws g.E.laws
     g.N.FeedName g.N.FeedName-dict g.R.Threads g.R.Threads-dict g.R.Wait g.R.Wait-dict g.C.Clock g.C.Clock-dict
     g.W.TextOut g.W.TextOut-dict g.E.TextOut g.E.TextOut-dict g.C.Destruct-dict g.W.Destruct-dict g.E.Destruct-dict κs)
     (search (arg_send) depth 4)

@@ -1,6 +1,6 @@
 use Rattle.std.proofs.Common.{◌≡◌, ◌∙◌, List, Option, None, ap, refl, subst, sym}
 use Rattle.feed_text.specs.Devices.{Writing}
-use Rattle.live_feed.specs.declared.subscriber.logged.Logged.{Logged}
+use Rattle.live_feed.specs.subscriber.Logs.{SubscriberLogState}
 use Rattle.udp_listening.specs.Listening.{HasFollowed}
 use Rattle.udp_listening.specs.RunLines.{WatchedRun, watched_run}
 use Rattle.udp_listening.specs.RunNews.{SaysRunNews}
@@ -11,13 +11,13 @@ use Rattle.udp_listening.proofs.attendance.Attendance.attend.Goals.{in-None, in-
 use Rattle.udp_listening.proofs.attendance.Attendance.attend.Goals as goal
 
 -- what a desk has printed, where only standard error differs
-shown_beside : {W E : Type 0} (w : Writing W) (first : W) (log longer : List Logged) (before after : Desk W E)
+shown_beside : {W E : Type 0} (w : Writing W) (first : W) (log longer : SubscriberLogState) (before after : Desk W E)
     → longer ≡ log → after ≡ record before { errors = after.errors }
-    → HasFollowed w first log before.following before.printed before.output
-    → HasFollowed w first longer after.following after.printed after.output
+    → HasFollowed w first log.lines before.following log.forgotten before.output
+    → HasFollowed w first longer.lines after.following longer.forgotten after.output
 shown_beside w first log longer before after same_log same shown =
-    subst (λ desk. HasFollowed w first longer desk.following desk.printed desk.output) (sym same)
-    (subst (λ lines. HasFollowed w first lines before.following before.printed before.output) (sym same_log) shown)
+    subst (λ desk. HasFollowed w first longer.lines desk.following longer.forgotten desk.output) (sym same)
+    (subst (λ (l : SubscriberLogState). HasFollowed w first l.lines before.following l.forgotten before.output) (sym same_log) shown)
 
 -- what standard error has without counts, after the news of one more turn
 turned : {E : Type 0} (w : Writing E) (run now : WatchedRun) (s t u : E)
@@ -54,8 +54,8 @@ loop-preserved g c =
       tt,
       tt,
       λ first h.
-          shown_beside out first at.log.lines now.log.lines at.desk now.desk
-          (ap (λ log. log.lines) c.give_up_gaps.ensures.log) c.give_up_gaps.ensures.desk
+          shown_beside out first at.log now.log at.desk now.desk
+          c.give_up_gaps.ensures.log c.give_up_gaps.ensures.desk
           (c.turn.ensures.shows first (c.loop.invariant.2 first h)),
       c.give_up_gaps.ensures.run ∙ before,
       λ none.
@@ -74,8 +74,8 @@ loop-preserved-in-Tell g c =
       tt,
       tt,
       λ first h.
-          shown_beside out first at.log.lines c.tell_each.new.self.log.lines at.desk c.tell_each.new.self.desk
-          (ap (λ log. log.lines) c.tell_each.ensures.log) c.tell_each.ensures.desk
+          shown_beside out first at.log c.tell_each.new.self.log at.desk c.tell_each.new.self.desk
+          c.tell_each.ensures.log c.tell_each.ensures.desk
           (c.turn.ensures.shows first (c.loop.invariant.2 first h)),
       ap (λ watches. watched_run watches) c.tell_each.ensures.watches ∙ c.turn.ensures.run ∙ c.loop.invariant.3,
       λ none.

@@ -8,7 +8,7 @@ abbrev pub invariant-loop : goal.invariant-loop
 invariant-loop g l =
     (goal.iterator-loop g).can_next l.iterator' × (goal.iterator-loop g).is_finite l.iterator'
     × KeepsFollowing (record { adds = g.W.TextOut.adds; failures = g.W.TextOut.failures })
-    l.initial.attendance.log.lines l.initial.attendance.desk l.attendance.log.lines l.attendance.desk
+    l.initial.attendance.log l.initial.attendance.desk l.attendance.log l.attendance.desk
     × (watched_run l.attendance.watches ≡ watched_run l.initial.attendance.watches)
     × (l.initial.attendance.attendant.counts ≡ None
     → SaysRunNews (record { adds = g.E.TextOut.adds; failures = g.E.TextOut.failures })

@@ -1,4 +1,3 @@
-use Rattle.std.proofs.Common.{refl}
 use Rattle.feed_text.specs.Devices.{Writing}
 use Rattle.udp_listening.proofs.Wholes.{nothing_printed}
 use Rattle.udp_listening.proofs.desk.Desk.new.Goals as goal
@@ -7,4 +6,4 @@ pub returns-clause-unprinted : goal.returns-clause-unprinted
 returns-clause-unprinted g c =
     let w : Writing g.row.W.Denot = record { adds = g.W.TextOut.adds; failures = g.W.TextOut.failures } in
     λ log.
-    nothing_printed w g.met.W.TextOut.adds_none log c.args.following 0 c.args.output refl c.requires
+    nothing_printed w g.met.W.TextOut.adds_none log c.args.following c.args.output c.requires
