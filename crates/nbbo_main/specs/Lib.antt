@@ -1,5 +1,6 @@
 pub mod Ending
 pub mod Hints
+pub mod Starts
 pub mod Lacks
 pub mod Leading
 pub mod LineRuns

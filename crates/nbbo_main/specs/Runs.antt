@@ -9,7 +9,7 @@ use Rattle.feed_text.specs.declared.fault.ReplayFault.{ReplayFault}
 use Rattle.feed_text.specs.declared.fault.ReplayFault.TheVariants.{NoMemory, WriteFailed}
 use Rattle.feed_text.specs.declared.replay.ReplayConfig.{ReplayConfig}
 use Rattle.feed_text.specs.Devices.{Reading, Writing, Wrote}
-use Rattle.feed_text.specs.Replays.{Replays, AnswersReplay}
+use Rattle.feed_text.specs.Replays.{AnswersReplay}
 use Rattle.feed_text.specs.StandardError.{Says, SaysEach}
 use Rattle.feed_text.specs.declared.lack.Lack.{Lack}
 use Rattle.feed_text.specs.Lacks.{AppendsLacks}
@@ -54,7 +54,6 @@ pub record RunsReplay {R W E : Type 0}
   pub config : ReplayConfig
   pub is : IsConfigOf settings config
   pub outcome : Result (Unit {0}) ReplayFault
-  pub replays : Replays reading writing config from to before after outcome
   pub run : AnswersReplay reading writing config (texts_of_run config) from to before after outcome
   pub hinted : E
   pub hint : Says telling (hint_text terminals.input) silent hinted
@@ -104,7 +103,6 @@ pub record PassesBests {R W : Type 0} (reading : Reading R) (writing : Writing W
   pub new : IsNewOver before format false start
   pub seen : Result (Unit {0}) ReplayFault
   pub mid : BestsOut W
-  pub replays : Replays reading (bests_writing writing) config from to start mid seen
   pub run : AnswersReplay reading (bests_writing writing) config (texts_of_run config)
       from to start mid seen
   pub are_lacks : OnOk seen (AppendsLacks reading config from to [] lacks)

@@ -113,7 +113,6 @@ pub record PrintsCounts {R W : Type 0} (reading : Reading R) (writing : Writing 
   pub new : IsNewFor (venues_in config) start
   pub seen : Result (Unit {0}) ReplayFault
   pub mid : StatsOut
-  pub replays : Replays reading stats_writing config from to start mid seen
   pub run : AnswersReplay reading stats_writing config (texts_of_run config) from to start mid seen
   pub are_lacks : OnOk seen (AppendsLacks reading config from to [] lacks)
   pub printed : Result (Unit {0}) ReplayFault

@@ -1,10 +1,13 @@
 //! The start of a capture, kept while it is read.
-ghost use Rattle.std.specs.Prelude.{◌≡◌};
+ghost use Rattle.std.specs.Prelude.{◌≡◌, None, unwrap_or};
+ghost use Rattle.nbbo_main.specs.Starts.{noted_start, start_of};
 
 use feed_text::{CaptureIn, ReadStop};
 
-/// The number of the first four bytes, the first of them the highest; 0 where there are fewer.
-fn word_of(bytes: &[u8]) -> u32 {
+/// Returns the number of the first four bytes, the first of them the highest; 0 where there are fewer.
+fn word_of(bytes: &[u8]) -> u32
+    ensures { result ≡ start_of bytes.now }
+{
     if bytes.len() < 4 {
         return 0;
     }
@@ -20,13 +23,27 @@ pub struct KeptStart<R> {
 
 impl<R> KeptStart<R> {
     /// Reads what the reader gives from here on.
-    pub fn new(inner: R) -> KeptStart<R> {
+    pub fn new(inner: R) -> KeptStart<R>
+        ensures { result ≡ record { inner = inner; first = None } }
+    {
         KeptStart { inner, first: None }
     }
 
-    /// The number of the first four bytes that one call gave, the first of them the highest; 0 where there were fewer,
-    /// or none were read.
-    pub fn start(&self) -> u32 {
+    /// Notes the start of what one call gave, where none is noted yet.
+    fn note(&mut self, bytes: &[u8])
+        ensures { self.new
+            ≡ record self.old { first = noted_start self.old.first bytes.now } }
+    {
+        if self.first.is_none() {
+            self.first = Some(word_of(bytes));
+        }
+    }
+
+    /// Returns the start that is noted: the number of the first four bytes that the first call gave, the first of them
+    /// the highest; 0 where there were fewer, or none were read.
+    pub fn start(&self) -> u32
+        ensures { result ≡ unwrap_or self.now.first 0 }
+    {
         self.first.unwrap_or(0)
     }
 }
@@ -48,9 +65,7 @@ impl<R: CaptureIn> CaptureIn for KeptStart<R> {
     fn read(&mut self, buf: &mut [u8]) -> Result<usize, ReadStop> {
         match self.inner.read(buf) {
             Ok(count) => {
-                if self.first.is_none() {
-                    self.first = Some(word_of(&buf[..count]));
-                }
+                self.note(&buf[..count]);
                 Ok(count)
             }
             Err(stop) => Err(stop),

@@ -10,8 +10,8 @@
 //! At the end of a replay standard error says what venues lack (`lacks.rt`).
 //!
 //! `nbbo listen --sessions LIST --lines LIST [--request ADDR] [--join] [--skip-after MS] [--window N] [--journal N]
-//! [--datagrams N] [--end WHICH] [--buffer BYTES] [SYMBOL]...` receives the lines of live venues by UDP, runs them as a live feed
-//! (`live_feed`), and prints what they came to once all have ended.
+//! [--datagrams N] [--end WHICH] [--buffer BYTES] [--follow [--kept N]] [SYMBOL]...` receives the lines of live venues by UDP, runs them as a live feed
+//! (`live_feed`), and prints what they came to once all have ended, or as it comes.
 //!
 //! The contract here is that of `run::run`: of any words, over any input, output and standard error,
 //! it says what is read, what is written where, and the status, or that the words ask to listen

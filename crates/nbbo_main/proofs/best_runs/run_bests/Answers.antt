@@ -29,7 +29,6 @@ returns g c = record {
     new = c.in-Ok.ensures.new;
     seen = c.replay-seen.result;
     mid = c.replay-seen.new.writer;
-    replays = c.replay-seen.ensures.replays;
     run = c.replay-seen.ensures.headline;
     are_lacks = lacks_of_new (record { gives = g.R.CaptureIn.gives; ends = g.R.CaptureIn.ends; failures = g.R.CaptureIn.failures; fails = g.R.CaptureIn.fails }) c.config_of-config.result _ _ c.replay-seen.result _ _ c.new-lacks.ensures.items c.replay-seen.ensures.lacks;
     end = c.close_bests-outcome.new.bests;

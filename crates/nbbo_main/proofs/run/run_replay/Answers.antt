@@ -15,7 +15,6 @@ returns g c =
       config = c.config_of.result;
       is = c.config_of.ensures;
       outcome = outcome;
-      replays = c.replay-outcome.ensures.replays;
       run = c.replay-outcome.ensures.headline;
       hinted = hinted;
       hint = subst (λ (text : List ℕ). Says told text c.args.errors.now hinted) c.hint.ensures c.write_stderr.ensures;

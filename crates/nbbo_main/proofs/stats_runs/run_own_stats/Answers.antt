@@ -92,7 +92,6 @@ returns g c =
         new = c.in-Ok.ensures;
         seen = c.replay-seen.result;
         mid = c.replay-seen.new.writer;
-        replays = c.replay-seen.ensures.replays;
         run = c.replay-seen.ensures.headline;
         are_lacks = lacks_of_new reading c.config_of-config.result _ _ c.replay-seen.result _ _ c.new-lacks.ensures.items c.replay-seen.ensures.lacks;
         printed = c.print_stats-printed.result;
