@@ -12,7 +12,8 @@ from pathlib import Path
 from .kit import libraries_of
 from .program import ROOT, instructions, script
 
-# The libraries that read a capture and print its lines; with those below them they are the path of `nbbo replay`.
+# The libraries that read a capture and print its lines; with those below them they are the path of `nbbo replay`. Another
+# path is that of other libraries.
 PATH = ('feed_text', 'line_captures')
 BENCHMARKS = ROOT / 'docs' / 'BENCHMARKS.md'
 MARK = re.compile(r'<!-- (bench/\w+), sources (\w+) -->')
@@ -121,17 +122,17 @@ def named(name: str) -> Replay:
     return next(replay for replay in REPLAYS if replay.name == name)
 
 
-def path_folders() -> list[Path]:
-    """The folders of the sources of the path, by crates.txt: no toolchain is needed to find them."""
-    found = list(PATH)
+def path_folders(path: Sequence[str] = PATH) -> list[Path]:
+    """The folders of the sources of a path, by crates.txt: no toolchain is needed to find them."""
+    found = list(path)
     for crate in found:
         found += [it for it in libraries_of()[crate] if it in libraries_of() and it not in found]
     return [ROOT / 'crates' / crate / 'src' for crate in libraries_of() if crate in found]
 
 
-def path_files() -> list[Path]:
-    """The sources of the path of a replay, which its figures hang on."""
-    return [file for folder in path_folders() for file in sorted(folder.glob('**/*.rt'))]
+def path_files(path: Sequence[str] = PATH) -> list[Path]:
+    """The sources of a path, which its figures hang on."""
+    return [file for folder in path_folders(path) for file in sorted(folder.glob('**/*.rt'))]
 
 
 def sum_of(files: Sequence[Path], root: Path) -> str:
@@ -143,25 +144,25 @@ def sum_of(files: Sequence[Path], root: Path) -> str:
     return found.hexdigest()[:16]
 
 
-def path_sum() -> str:
-    """The sum of the sources of the path."""
-    return sum_of(path_files(), ROOT)
+def path_sum(path: Sequence[str] = PATH) -> str:
+    """The sum of the sources of a path."""
+    return sum_of(path_files(path), ROOT)
 
 
-def tree() -> str:
-    """The name of the commit whose sources of the path lie here; ends where there is none, so that figures have one."""
+def tree(path: Sequence[str] = PATH) -> str:
+    """The name of the commit whose sources of a path lie here; ends where there is none, so that figures have one."""
     how = {'cwd': ROOT, 'stdout': subprocess.PIPE, 'stderr': subprocess.DEVNULL, 'text': True, 'check': False}
-    changed = subprocess.run(['git', 'status', '--porcelain', '--', *path_folders()], **how)
+    changed = subprocess.run(['git', 'status', '--porcelain', '--', *path_folders(path)], **how)
     name = subprocess.run(['git', 'rev-parse', '--short=8', 'HEAD'], **how).stdout.strip()
     if changed.returncode != 0 or changed.stdout or not name:
         sys.exit('figures are kept with the name of a commit: commit the sources of the path first')
     return name
 
 
-def write_table(name: str, measured_on: str, rows: Sequence[str]) -> None:
+def write_table(name: str, measured_on: str, rows: Sequence[str], path: Sequence[str] = PATH) -> None:
     """Puts a script's table in the place of that in docs/BENCHMARKS.md, with the tree that it was measured on."""
     text = BENCHMARKS.read_text()
-    table = f'<!-- {name}, sources {path_sum()} -->\nTree `{measured_on}`:\n\n' + '\n'.join(rows) + '\n<!-- end -->'
+    table = f'<!-- {name}, sources {path_sum(path)} -->\nTree `{measured_on}`:\n\n' + '\n'.join(rows) + '\n<!-- end -->'
     old = re.compile(rf'<!-- {re.escape(name)}, sources .*?<!-- end -->', re.S)
     if len(old.findall(text)) != 1:
         sys.exit(f'docs/BENCHMARKS.md has no one table of {name}')
