@@ -1,5 +1,5 @@
 -- Cursors, and what they are past.
-use Rattle.std.proofs.Common.{ℕ, suc, ◌≡◌, ◌+◌, ◌<◌, ◌≤◌, List, [], ◌∷◌, ◌++◌, ap, refl, length, arith, map, filter, inl, inr}
+use Rattle.std.proofs.Common.{ℕ, zero, suc, ◌≡◌, ◌+◌, ◌<◌, ◌≤◌, List, [], ◌∷◌, ◌++◌, ap, refl, length, get_or, subst, sym, arith, map, filter, inl, inr}
 use Rattle.std.proofs.lemmas.Bool.{cases_lt}
 use Rattle.filter_terms.specs.Terms.{meets}
 use Rattle.std.specs.Prelude.{slice_get, Some, min, ◌⊎◌}
@@ -18,6 +18,17 @@ still_within [] first end more le h = tt
 still_within (c ∷ cs) first end more le h =
     let here = h.0 in
     (record { from = here.from; to = omega (arith, here.to) }, still_within cs first end more le h.1)
+
+-- one of them is
+within_at : (first end : ℕ) (cursors : List Cursor) (i : ℕ) (d : Cursor) → i < length cursors → AllByRecursion (IsWithin first end) cursors
+    → IsWithin first end (get_or cursors i d)
+within_at first end [] i d h each = absurd (omega arith)
+within_at first end (c ∷ cs) zero d h each = each.0
+within_at first end (c ∷ cs) (suc i) d h each = within_at first end cs i d (omega arith) each.1
+
+pub one_within : (first end : ℕ) (cursors : List Cursor) (i : ℕ) (c : Cursor) → i < length cursors → AllByRecursion (IsWithin first end) cursors
+    → c ≡ get_or cursors i c → IsWithin first end c
+one_within first end cursors i c h each is = subst (IsWithin first end) (sym is) (within_at first end cursors i c h each)
 
 -- and more changes change nothing of what was offered
 pub same_offered : (cursors : List Cursor) (first : ℕ) (notices more : List Notice) → AllByRecursion (IsWithin first (length notices)) cursors

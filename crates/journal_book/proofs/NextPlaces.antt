@@ -1,5 +1,5 @@
 -- What the search for the next wanted notice found.
-use Rattle.std.proofs.Common.{ℕ, zero, suc, ◌≡◌, ◌+◌, ◌<◌, ◌≤◌, List, [], ◌∷◌, ◌++◌, Bool, true, Option, ap, subst, ◌∙◌, sym, length, take, drop, filter, get_or, arith, length-drop, append-nil}
+use Rattle.std.proofs.Common.{ℕ, zero, suc, ◌≡◌, ◌+◌, ◌<◌, ◌≤◌, List, [], ◌∷◌, ◌++◌, Bool, true, Option, ap, subst, ◌∙◌, sym, length, take, drop, filter, get_or, arith, length-drop}
 use Rattle.std.specs.Prelude.{slice_get, IfSome, IsTrue}
 use Rattle.std.proofs.lemmas.List.{take_all}
 use Rattle.std.proofs.lemmas.Option.{slice_get-get_or}
@@ -36,14 +36,17 @@ get_past (suc n) k (x ∷ xs) h =
     let next : suc n + k ≡ suc (n + k) = omega arith in
     get_past n k xs (omega arith) ∙ ap (slice_get (x ∷ xs)) (sym next)
 
--- the next one of those from a place on is the next one from there
-pub next_past : (wants : Notice → Bool) (xs : List Notice) (n k : ℕ) → n ≤ length xs → IsNextPlace wants (drop n xs) 0 k
-    → IsNextPlace wants xs n (n + k)
-next_past wants xs n k le next = record {
+wanted_past : (wants : Notice → Bool) (xs : List Notice) (n k : ℕ)
+    → filter wants (take (n + k) xs) ≡ filter wants (take n xs) ++ filter wants (take k (drop n xs))
+wanted_past wants xs n k = ap (filter wants) (take-add n k xs) ∙ filter-append wants (take n xs) (take k (drop n xs))
+
+-- the next one of those without the first ones is the next one of all
+pub next_past : (wants : Notice → Bool) (xs : List Notice) (n from k : ℕ) → n ≤ length xs → IsNextPlace wants (drop n xs) from k
+    → IsNextPlace wants xs (n + from) (n + k)
+next_past wants xs n from k le next = record {
   within = omega (arith, next.within, length-drop n xs);
-  passed = ap (filter wants) (take-add n k xs)
-      ∙ filter-append wants (take n xs) (take k (drop n xs))
+  passed = wanted_past wants xs n k
       ∙ ap (λ (l : List Notice). filter wants (take n xs) ++ l) next.passed
-      ∙ append-nil (filter wants (take n xs));
+      ∙ sym (wanted_past wants xs n from);
   wanted = subst (λ (o : Option Notice). IfSome o (λ x. IsTrue (wants x))) (get_past n k xs le) next.wanted;
 }

@@ -1,5 +1,5 @@
 -- What moving a subscriber's cursor does to what was offered.
-use Rattle.std.proofs.Common.{ℕ, ◌≡◌, ◌+◌, ◌<◌, ◌≤◌, List, ap, ◌∙◌, sym, subst, length, drop, None, Some, Option, arith}
+use Rattle.std.proofs.Common.{ℕ, ◌≡◌, ◌+◌, ◌-◌, ◌<◌, ◌≤◌, List, ap, ◌∙◌, sym, subst, length, drop, None, Some, Option, arith}
 use Rattle.std.specs.Prelude.{slice_get, slice_set, IfSome, MatchOption}
 use Rattle.std.specs.Option.{option_map}
 use Rattle.feed_types.specs.declared.journal.Notice.{Notice}
@@ -10,7 +10,8 @@ use Rattle.journal_book.specs.Journals.{JournalState, changes, terms_at}
 use Rattle.journal_book.specs.Places.{IsNextPlace}
 use Rattle.journal_book.proofs.NextPlaces.{get_past, next_past}
 use Rattle.journal_book.specs.PlaceLaws.{is_wanted, some_there}
-use Rattle.journal_book.specs.Cursors.{IsUnseen, HasUnseen, MovesOn, GoesToNext, StandsAtWanted}
+use Rattle.journal_book.specs.Keeping.{IsRest}
+use Rattle.journal_book.specs.Cursors.{HasUnseen, MovesOn, GoesToNext, StandsAtWanted}
 use Rattle.journal_book.specs.CursorLaws.{get_set}
 
 some_is : {X : Type 0} (x y : X) → Some x ≡ Some y → x ≡ y
@@ -18,34 +19,40 @@ some_is x y e = cc
 
 -- ---- one subscriber's cursor
 
-module _ (old : JournalState) (id step : ℕ) (terms : Terms) (unseen : List Notice) (of : terms_at old id ≡ Some terms)
-    (rest : IsUnseen old id unseen) (next : IsNextPlace (meets terms) unseen 0 step) where
+module _ (old : JournalState) (id from place : ℕ) (terms : Terms) (kept : List Notice) (of : terms_at old id ≡ Some terms)
+    (rest : IsRest old id kept from) (next : IsNextPlace (meets terms) kept from place) (forth : from ≤ place) where
   terms_is : rest.cursor.terms ≡ terms
   terms_is = some_is rest.cursor.terms terms (sym (ap (option_map (λ (c : Cursor). c.terms)) rest.at) ∙ of)
 
-  there_is : IsNextPlace (meets rest.cursor.terms) (changes old) rest.cursor.seen (rest.cursor.seen + step)
+  there_is : IsNextPlace (meets rest.cursor.terms) (changes old) rest.cursor.seen (rest.gone + place)
   there_is =
-      let here : IsNextPlace (meets terms) (drop rest.cursor.seen (changes old)) 0 step =
-      subst (λ (l : List Notice). IsNextPlace (meets terms) l 0 step) rest.is next in
-      next_past (meets rest.cursor.terms) (changes old) rest.cursor.seen step rest.within
-      (subst (λ (t : Terms). IsNextPlace (meets t) (drop rest.cursor.seen (changes old)) 0 step) (sym terms_is) here)
+      let here : IsNextPlace (meets terms) (drop rest.gone (changes old)) from place =
+      subst (λ (l : List Notice). IsNextPlace (meets terms) l from place) rest.is next in
+      subst (λ (n : ℕ). IsNextPlace (meets rest.cursor.terms) (changes old) n (rest.gone + place)) (sym rest.seen)
+      (next_past (meets rest.cursor.terms) (changes old) rest.gone from place rest.begun
+      (subst (λ (t : Terms). IsNextPlace (meets t) (drop rest.gone (changes old)) from place) (sym terms_is) here))
+
+  moved_to : rest.cursor.seen + (place - from) ≡ rest.gone + place
+  moved_to = omega (arith, rest.seen, forth)
 
   -- the search doesn't go past the end
-  pub goes_within : HasUnseen old id step
+  pub goes_within : HasUnseen old id (place - from)
   goes_within =
-      subst (λ (o : Option Cursor). MatchOption o ⊥ (λ c. c.seen + step ≤ length (changes old))) (sym rest.at) there_is.within
+      let within : rest.cursor.seen + (place - from) ≤ length (changes old) = omega (arith, there_is.within, moved_to) in
+      subst (λ (o : Option Cursor). MatchOption o ⊥ (λ c. c.seen + (place - from) ≤ length (changes old))) (sym rest.at) within
 
   -- where the search ended, and what stands there
-  pub goes_on : (new : JournalState) (found : Option Notice) → MovesOn old id step new → found ≡ slice_get unseen step
+  pub goes_on : (new : JournalState) (found : Option Notice) → MovesOn old id (place - from) new → found ≡ slice_get kept place
       → GoesToNext old id found new
   goes_on new found moves there = record {
     cursor = rest.cursor;
     at = rest.at;
-    place = rest.cursor.seen + step;
+    place = rest.gone + place;
     next = there_is;
-    found_is = there ∙ ap (λ (l : List Notice). slice_get l step) rest.is ∙ get_past rest.cursor.seen step (changes old) rest.within;
-    moved = subst (λ (o : Option Cursor). MatchOption o ⊥
-        (λ c. new ≡ record old { cursors = slice_set old.cursors id (record c { seen = c.seen + step }) })) rest.at moves;
+    found_is = there ∙ ap (λ (l : List Notice). slice_get l place) rest.is ∙ get_past rest.gone place (changes old) rest.begun;
+    moved = subst (λ (n : ℕ). new ≡ record old { cursors = slice_set old.cursors id (record rest.cursor { seen = n }) }) moved_to
+        (subst (λ (o : Option Cursor). MatchOption o ⊥
+        (λ c. new ≡ record old { cursors = slice_set old.cursors id (record c { seen = c.seen + (place - from) }) })) rest.at moves);
   }
 
 -- a cursor that found a change stands at one that is wanted

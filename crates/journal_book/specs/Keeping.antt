@@ -1,5 +1,5 @@
 -- Cited by private clauses alone: what a journal keeps of its parts.
-use Rattle.std.specs.Prelude.{◌≡◌, ℕ, ◌+◌, ◌*◌, ◌^◌, ◌<◌, ◌≤◌, nat_lt, nat_le, Bool, ◌&&◌, List, Option, length, drop, slice_get, slice_set, MatchOption}
+use Rattle.std.specs.Prelude.{◌≡◌, ℕ, ◌+◌, ◌*◌, ◌^◌, ◌<◌, ◌≤◌, nat_lt, nat_le, Bool, ◌&&◌, List, Option, Some, length, drop, slice_get, slice_set, MatchOption}
 use Rattle.std.specs.List.{AllByRecursion}
 use Rattle.feed_types.specs.declared.journal.Entry.{Entry}
 use Rattle.feed_types.specs.declared.journal.Notice.{Notice}
@@ -7,7 +7,7 @@ use Rattle.nbbo_book.specs.declared.change.Change.{Change}
 use Rattle.nbbo_book.specs.Books.{BookState, FitsBook}
 use Rattle.journal_book.specs.declared.cursor.Cursor.{Cursor}
 use Rattle.journal_book.specs.Changes.{changes_of, notices_from}
-use Rattle.journal_book.specs.Journals.{kept_of}
+use Rattle.journal_book.specs.Journals.{JournalState, changes, kept_of}
 use Rattle.journal_book.specs.NumberedBooks.{NumberedState, before_last, latest_of}
 
 -- Of a numbered book: the entries were applied, each at its number, no more than this many; the
@@ -50,6 +50,17 @@ pub record Keeps (numbered : NumberedState) (counted : List Entry) (kept : Optio
   pub few : length cursors ≤ 32
   pub seen : AllByRecursion
       (IsWithin first (length (changes_of numbered.symbols numbered.entries))) cursors
+
+-- these changes are kept, all but the first ones, and those before this place among them were
+-- looked at for the subscriber
+pub record IsRest (state : JournalState) (id : ℕ) (rest : List Notice) (place : ℕ) : Type 0 where
+  pub cursor : Cursor
+  pub at : slice_get state.cursors id ≡ Some cursor
+  pub gone : ℕ
+  pub begun : gone ≤ length (changes state)
+  pub is : rest ≡ drop gone (changes state)
+  pub seen : cursor.seen ≡ gone + place
+  pub within : place ≤ length rest
 
 -- there is room for one more entry, within the journal's limit, and for all its changes
 abbrev pub has_room : ℕ → ℕ → ℕ → ℕ → ℕ → ℕ → ℕ → Bool

@@ -161,8 +161,8 @@ impl Consolidator {
         ensures known { length (journal_in self.new).cursors
             ≡ length (journal_in self.old).cursors }
     {
-        let filter = self.filters.get(id.index());
-        let _counted = self.journal.next_offer(id, filter);
+        // Its terms alone tell where it stands: the filter was asked when it was offered.
+        let _counted = self.journal.next_offer(id, None);
         self.journal.advance_cursor(id);
     }
 

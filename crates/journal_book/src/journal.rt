@@ -2,7 +2,7 @@
 
 ghost use Rattle.std.specs.Prelude.{◌≡◌, ℕ, ◌+◌, ◌<◌, ◌≤◌, ◌^◌, ◌↔◌, ◌∷◌, [], ◌++◌, drop, length, slice_get, IsTrue, IsSome, IfSome, IfNone, IfOk, Some};
 ghost use Rattle.std.specs.Vec.{vec_len, vec_capacity};
-ghost use Rattle.journal_book.specs.Keeping.{CursorMoves};
+ghost use Rattle.journal_book.specs.Keeping.{CursorMoves, IsRest};
 ghost use Rattle.journal_book.specs.Journals.{kept_of};
 
 use crate::cursor::Cursor;
@@ -69,6 +69,13 @@ impl Model for Journal {
 
     ghost invariant = { λ j. Keeps j.numbered j.counted j.most j.entries.items (vec_capacity j.entries)
         j.first j.notices.items (vec_capacity j.notices) j.cursors.items };
+}
+
+/// The changes that are kept, and the place of the first one that wasn't looked at for a subscriber.
+#[derive(Clone, Copy)]
+struct Rest<'a> {
+    changes: &'a [Notice],
+    from: usize,
 }
 
 /// Appends the entry, for which there is room.
@@ -253,8 +260,8 @@ impl Journal {
         ensures offered { subscriptions_of self.new ≡ subscriptions_of self.old }
     {
         let place = self.entries.len();
-        self.counted.count(&entry);
         push_entry(&mut self.entries, entry);
+        self.counted.count(&entry);
         let position = self.numbered.add(&self.entries[place]);
         push_notices(&mut self.notices, self.numbered.latest());
         let_entries_go(&mut self.entries, self.most);
@@ -398,6 +405,19 @@ impl Journal {
         &self.notices.as_slice()[from..]
     }
 
+    /// Returns the changes that are kept, and where those begin that weren't looked at for the
+    /// subscriber.
+    #[inline(always)]
+    fn rest(&self, id: SubscriberId) -> Rest<'_>
+        requires { id < length self.now.cursors }
+        ensures { IsRest self.now id result.changes.now result.from }
+    {
+        Rest {
+            changes: self.notices.as_slice(),
+            from: self.cursors[id.index()].seen - self.first,
+        }
+    }
+
     /// Moves the subscriber's cursor this many places on.
     #[inline(always)]
     fn move_on(&mut self, id: SubscriberId, step: usize)
@@ -416,9 +436,10 @@ impl Journal {
         ensures goes { GoesToNext self.old id result self.new }
         ensures stands { IfSome result (λ _. StandsAtWanted self.new id) }
     {
-        let unseen = self.unseen(id);
-        let step = next_wanted(filter, self.terms(id), unseen);
-        let found = notice_at(unseen, step);
+        let rest = self.rest(id);
+        let place = next_wanted(filter, self.terms(id), rest.changes, rest.from);
+        let found = notice_at(rest.changes, place);
+        let step = place - rest.from;
         self.move_on(id, step);
         found
     }

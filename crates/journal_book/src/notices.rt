@@ -9,7 +9,7 @@ use feed_types::{Best, National, Notice};
 use nbbo_book::Change;
 
 /// Appends the change under this number.
-#[inline(never)]
+#[inline(always)]
 fn push_notice(notices: &mut Vec<Notice>, number: u64, change: &Change)
     requires { vec_len notices.old < vec_capacity notices.old }
     ensures items { notices.new.items

@@ -1,6 +1,7 @@
 //! A book whose entries are numbered.
 
-ghost use Rattle.std.specs.Prelude.{◌≡◌, ◌+◌, ◌^◌, ◌<◌, ◌≤◌, ◌↔◌, length, IsTrue, IfOk};
+ghost use Rattle.std.specs.Prelude.{◌≡◌, ◌+◌, ◌^◌, ◌<◌, ◌≤◌, ◌↔◌, [], length, IsTrue, IfOk};
+ghost use Rattle.std.specs.Vec.{vec_len, vec_capacity};
 ghost use Rattle.feed_types.specs.declared.journal.Entry.{Entry};
 ghost use Rattle.nbbo_book.specs.Books.{FitsBook, venue_of};
 ghost use Rattle.nbbo_book.specs.Eligible.{is_so};
@@ -52,6 +53,21 @@ impl Model for NumberedBook {
 
     ghost invariant = { λ b. NumbersEntries b.book b.limit b.past.items b.earlier b.latest.items
         (vec_capacity b.latest) };
+}
+
+/// Counts these changes as earlier ones, and empties their list.
+#[inline(always)]
+fn pass_changes(earlier: &mut u64, latest: &mut Vec<Change>)
+    requires { earlier.old + vec_len latest.old ≤ 18446744073709551615 }
+    ensures earlier { earlier.new ≡ earlier.old + vec_len latest.old }
+    ensures items { latest.new.items ≡ [] }
+    ensures len { vec_len latest.new ≡ 0 }
+    ensures capacity { vec_capacity latest.new ≡ vec_capacity latest.old }
+{
+    if !latest.is_empty() {
+        *earlier += latest.len() as u64;
+        latest.clear();
+    }
 }
 
 impl NumberedBook {
@@ -127,8 +143,7 @@ impl NumberedBook {
         ensures position { result ≡ length self.new.entries }
     {
         let position = self.book.last_position() + 1;
-        self.earlier += self.latest.len() as u64;
-        self.latest.clear();
+        pass_changes(&mut self.earlier, &mut self.latest);
         self.book.apply(position, entry, &mut self.latest);
         self.past = self.past.with(entry);
         position
