@@ -15,7 +15,7 @@ use Rattle.feed_text.specs.Capture.{CaptureRecord, datagram_record, renewal_reco
 use Rattle.feed_text.specs.ReplayEvents.{ReplayEvent, packet_answered, packet_refused, renewal_answered, skip_answered, self_help_declared}
 use Rattle.feed_text.specs.Emitted.{last_sent, gap_emitted, items_emitted, EmitsAt, EmitsRecord, Emits}
 use Rattle.feed_text.specs.Texts.{EmitsAll}
-use Rattle.feed_text.specs.Replays.{venues_in}
+use Rattle.feed_text.specs.EventReplays.{venues_in}
 use Rattle.feed_types.specs.ListLaws.{get_within}
 
 -- the events that a record emits of its venue, which has this history
@@ -25,7 +25,7 @@ tells_at window gaps (datagram_record venue line bytes) old are = elim (read_or_
   | inl read ↦
       let given = every_answer old.present.name window (last_sent old) old.present.packets read.0 in
       let new : History = after_input old (arrival_of line read.0 given.0) in (
-        packet_answered venue line given.0 ∷ items_emitted venue old new.present.packets ++ gap_emitted window gaps venue new,
+        packet_answered venue line read.0.number (length read.0.messages) given.0 ∷ items_emitted venue old new.present.packets ++ gap_emitted window gaps venue new,
         new,
         inr (record { packet = read.0; rest = read.1; answer = given.0; spells = read.2; taken = record { right = given.1; is = refl }; emitted_is = refl }),
       )

@@ -2,14 +2,14 @@ pub mod Ranges
 pub mod Calls
 pub mod Taking
 pub mod RuleSteps
-pub mod Steps
 pub mod Rest
 pub mod VenueSteps
 pub mod Tales
 pub mod Telling
 pub mod EveryTelling
-pub mod OneText
-pub mod Stopping
+pub mod OneTelling
 pub mod Digits
 pub mod Places
 pub mod Passing
+pub mod Runs
+pub mod OwnSteps

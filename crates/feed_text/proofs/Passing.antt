@@ -1,5 +1,5 @@
 -- A packet that needed no place in the window, and its items emitted one after the other.
-use Rattle.std.proofs.Common.{◌≡◌, ℕ, ◌+◌, List, [], ◌∷◌, ◌++◌, sym, ap, subst, ◌∙◌}
+use Rattle.std.proofs.Common.{◌≡◌, ℕ, ◌+◌, List, [], ◌∷◌, ◌++◌, length, sym, ap, subst, ◌∙◌}
 use Rattle.std.specs.Prelude.{drop, map, Result, Ok, Err, OnOk}
 use Rattle.std.proofs.lemmas.List.{map-append}
 use Rattle.feed_types.specs.declared.item.Numbered.{Numbered}
@@ -18,9 +18,9 @@ use Rattle.line_arbiter.specs.Fits.{Fits}
 use Rattle.line_arbiter.specs.laws.Placing.{place_same}
 use Rattle.feed_text.specs.declared.report.PublishStop.{PublishStop}
 use Rattle.feed_text.specs.ReplayEvents.{ReplayEvent, packet_answered, item_taken}
-use Rattle.feed_text.specs.ReplayStates.{ReplayState, GoesOn, EmitsInto}
+use Rattle.feed_text.specs.ReplayStates.{SinkTaking, ReplayState, GoesOn, EmitsInto}
 use Rattle.feed_text.specs.Following.{ReplayVenue, Follows, SendsReady, EmitsOutcome}
-use Rattle.feed_text.proofs.Tales.{goes_more, tells_more, tells_stop, tells_as}
+use Rattle.feed_text.proofs.Tales.{SinkLaws, goes_more, tells_more, tells_stop, tells_as}
 use Rattle.feed_text.proofs.VenueSteps.{left_ready, outcome_told}
 
 -- the items of a packet from this number on, one by one
@@ -32,36 +32,34 @@ one_more venue n k m now rest e is =
     ∙ ap (λ (j : ℕ). item_taken venue (record { number = n; item = item_of m }) ∷ map (item_taken venue) (numbered_from j (map item_of rest))) e
 
 -- the packet, its items and what is ready after them are the stream's
-pub passed_all : (venue from to : ℕ) (items stream : List Numbered) (line : LineId) (o : Outcome) (t0 t1 t2 t3 : ReplayState) (done : Result (Unit {0}) PublishStop)
+pub passed_all : {K : Type 0} {taking : SinkTaking K} → SinkLaws taking → (venue from to : ℕ) (items stream : List Numbered) (answered : ReplayEvent) (t0 t1 t2 t3 : ReplayState K) (done : Result (Unit {0}) PublishStop)
     → drop from stream ≡ items ++ drop to stream
-    → GoesOn t0 (packet_answered venue line (Ok o) ∷ []) t1
-    → GoesOn t1 (map (item_taken venue) items) t2
-    → EmitsInto t2 (map (item_taken venue) (drop to stream)) t3 done
-    → EmitsInto t0 (packet_answered venue line (Ok o) ∷ map (item_taken venue) (drop from stream)) t3 done
-passed_all venue from to items stream line o t0 t1 t2 t3 done sends head first last =
-    let P : ReplayEvent = packet_answered venue line (Ok o) in
-    tells_as t0 t3 done
-    (ap (λ (hs : List ReplayEvent). P ∷ hs)
+    → GoesOn taking t0 (answered ∷ []) t1
+    → GoesOn taking t1 (map (item_taken venue) items) t2
+    → EmitsInto taking t2 (map (item_taken venue) (drop to stream)) t3 done
+    → EmitsInto taking t0 (answered ∷ map (item_taken venue) (drop from stream)) t3 done
+passed_all {K} {taking} laws venue from to items stream answered t0 t1 t2 t3 done sends head first last =
+    tells_as taking t0 t3 done
+    (ap (λ (hs : List ReplayEvent). answered ∷ hs)
     (sym (map-append (item_taken venue) items (drop to stream)) ∙ ap (map (item_taken venue)) (sym sends)))
-    (tells_more t3 (P ∷ map (item_taken venue) items) (map (item_taken venue) (drop to stream)) done
-    (goes_more (P ∷ []) (map (item_taken venue) items) head first) last)
+    (tells_more laws t3 (answered ∷ map (item_taken venue) items) (map (item_taken venue) (drop to stream)) done
+    (goes_more laws (answered ∷ []) (map (item_taken venue) items) head first) last)
 
 -- a stop within the packet's items
-pub passed_part : (venue from to : ℕ) (items stream : List Numbered) (line : LineId) (o : Outcome) (t0 t1 t2 : ReplayState) (stop : PublishStop)
+pub passed_part : {K : Type 0} {taking : SinkTaking K} → SinkLaws taking → (venue from to : ℕ) (items stream : List Numbered) (answered : ReplayEvent) (t0 t1 t2 : ReplayState K) (stop : PublishStop)
     → drop from stream ≡ items ++ drop to stream
-    → GoesOn t0 (packet_answered venue line (Ok o) ∷ []) t1
-    → EmitsInto t1 (map (item_taken venue) items) t2 (Err stop)
-    → EmitsInto t0 (packet_answered venue line (Ok o) ∷ map (item_taken venue) (drop from stream)) t2 (Err stop)
-passed_part venue from to items stream line o t0 t1 t2 stop sends head first =
-    let P : ReplayEvent = packet_answered venue line (Ok o) in
-    tells_as t0 t2 (Err stop)
-    (ap (λ (hs : List ReplayEvent). P ∷ hs)
+    → GoesOn taking t0 (answered ∷ []) t1
+    → EmitsInto taking t1 (map (item_taken venue) items) t2 (Err stop)
+    → EmitsInto taking t0 (answered ∷ map (item_taken venue) (drop from stream)) t2 (Err stop)
+passed_part {K} {taking} laws venue from to items stream answered t0 t1 t2 stop sends head first =
+    tells_as taking t0 t2 (Err stop)
+    (ap (λ (hs : List ReplayEvent). answered ∷ hs)
     (sym (map-append (item_taken venue) items (drop to stream)) ∙ ap (map (item_taken venue)) (sym sends)))
-    (tells_more t2 (P ∷ []) (map (item_taken venue) items ++ map (item_taken venue) (drop to stream)) (Err stop) head
-    (tells_stop t1 t2 (map (item_taken venue) items) (map (item_taken venue) (drop to stream)) stop first))
+    (tells_more laws t2 (answered ∷ []) (map (item_taken venue) items ++ map (item_taken venue) (drop to stream)) (Err stop) head
+    (tells_stop taking t1 t2 (map (item_taken venue) items) (map (item_taken venue) (drop to stream)) stop first))
 
 -- a next packet was taken, and then everything that is ready was emitted
-pub passed_told : (width place : ℕ) (h : History) (v : ReplayVenue) (mid new : State) (line : LineId) (p : Content) (o : Outcome) (t0 t1 : ReplayState) (done : Result (Unit {0}) PublishStop)
+pub passed_told : {K : Type 0} {taking : SinkTaking K} → (width place : ℕ) (h : History) (v : ReplayVenue) (mid new : State) (line : LineId) (p : Content) (o : Outcome) (t0 t1 : ReplayState K) (done : Result (Unit {0}) PublishStop)
     → Follows width place v h
     → ((packets : List Input) → Fits v.arbiter packets → BringsNext v.arbiter.session v.arbiter.window v.arbiter.sent packets line p)
     → o ≡ outcome_of_next p
@@ -69,10 +67,10 @@ pub passed_told : (width place : ℕ) (h : History) (v : ReplayVenue) (mid new :
     → mid.sent ≡ last_number p
     → KeepsItsSession v.arbiter mid
     → ((from : ℕ) (packets : List Input) → Fits mid packets → SendsPacket from mid.sent p packets
-    → EmitsInto t0 (packet_answered place line (Ok o) ∷ map (item_taken place) (drop (place_of packets from) (stream_of packets))) t1 done)
+    → EmitsInto taking t0 (packet_answered place line p.number (length p.messages) (Ok o) ∷ map (item_taken place) (drop (place_of packets from) (stream_of packets))) t1 done)
     → OnOk done (SendsReady mid new)
-    → EmitsOutcome width place line p h t0 t1 (record { arbiter = new; sent_before = v.sent_before; opens_after = v.opens_after }) done
-passed_told width place h v mid new line p o t0 t1 done f brings is fits sent kept emits ready =
+    → EmitsOutcome taking width place line p h t0 t1 (record { arbiter = new; sent_before = v.sent_before; opens_after = v.opens_after }) done
+passed_told {K} {taking} width place h v mid new line p o t0 t1 done f brings is fits sent kept emits ready =
     let P = h.present.packets in
     let Q = P ++ arrival_of line p (Ok o) ∷ [] in
     let b = brings P f.history.present in
@@ -83,6 +81,6 @@ passed_told width place h v mid new line p o t0 t1 done f brings is fits sent ke
     let outcome : IsOutcome v.arbiter.session v.arbiter.window v.arbiter.sent P p (Ok o) =
     subst (λ (x : Outcome). IsOutcome v.arbiter.session v.arbiter.window v.arbiter.sent P p (Ok x)) (sym is) b.answer in
     outcome_told width place h v new line p (Ok o) t0 t1 done f outcome
-    (tells_as t0 t1 done (ap (λ (n : ℕ). packet_answered place line (Ok o) ∷ map (item_taken place) (drop n (stream_of Q))) (place_same P (record { line = line; packet = p; answer = Ok o }) v.arbiter.sent))
+    (tells_as taking t0 t1 done (ap (λ (n : ℕ). packet_answered place line p.number (length p.messages) (Ok o) ∷ map (item_taken place) (drop n (stream_of Q))) (place_same P (record { line = line; packet = p; answer = Ok o }) v.arbiter.sent))
     (emits v.arbiter.sent Q there sends))
     (left_ready v Q mid new done there kept ready)

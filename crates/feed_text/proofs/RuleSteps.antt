@@ -29,7 +29,7 @@ use Rattle.feed_text.specs.declared.skip_rule.SkipRule.{SkipRule}
 use Rattle.feed_text.specs.Capture.{CaptureRecord, datagram_record, renewal_record, skip_record, self_help_record, record_venue}
 use Rattle.feed_text.specs.Emitted.{last_sent, EmitsAt}
 use Rattle.feed_text.specs.Rules.{IsAhead, PutsIn, SkipsAt, SkipsBefore, first_come, held_at_last, skip_at}
-use Rattle.feed_text.specs.ReplayStates.{ReplayState}
+use Rattle.feed_text.specs.ReplayStates.{SinkTaking, ReplayState}
 use Rattle.feed_text.specs.Following.{ReplayVenue, FollowAll, EmitsNext}
 use Rattle.feed_text.specs.laws.LastSent.{last_all}
 use Rattle.feed_text.specs.laws.Lists.{get_set_same}
@@ -202,10 +202,10 @@ skips_on rule window n gaps (skip_record venue skipped) h after emitted x e = ab
 skips_on rule window n gaps (self_help_record venue on) h after emitted x e = absurd x
 
 -- A skip that the rule puts in takes the venue's front on.
-pub skip_progress : (config : ReplayConfig) (r : CaptureRecord) (n : ℕ) (hs : List History) (vs ws : List ReplayVenue) (t u : ReplayState) → FollowAll config.window vs hs → PutsIn config hs r n
-    → EmitsNext config.window config.gaps (skip_at r n) hs t u ws (Ok tt)
+pub skip_progress : {K : Type 0} (taking : SinkTaking K) (config : ReplayConfig) (r : CaptureRecord) (n : ℕ) (hs : List History) (vs ws : List ReplayVenue) (t u : ReplayState K) → FollowAll config.window vs hs → PutsIn config hs r n
+    → EmitsNext taking config.window config.gaps (skip_at r n) hs t u ws (Ok tt)
     → (front_at vs (record_venue r) + 1 < n) × (n ≤ front_at ws (record_venue r) + 1) × (n < 2 ^ 64)
-skip_progress config r n hs vs ws t u f puts y =
+skip_progress taking config r n hs vs ws t u f puts y =
     let i : ℕ = record_venue r in
     let tells = y.record_tells in
     let some : Some puts.before ≡ Some tells.before = sym puts.at ∙ tells.at in

@@ -9,8 +9,8 @@ use Rattle.std.proofs.lemmas.Option.{slice_get_within}
 use Rattle.feed_text.specs.Capture.{CaptureRecord, self_help_record, record_venue}
 use Rattle.line_arbiter.specs.Histories.{History, new_history}
 use Rattle.feed_text.specs.declared.report.PublishStop.{PublishStop}
-use Rattle.feed_text.specs.Texts.{last_line, last_lines}
-use Rattle.feed_text.specs.ReplayStates.{ReplayState, EmitsInto}
+use Rattle.feed_text.specs.Tellings.{last_told, lasts_told}
+use Rattle.feed_text.specs.ReplayStates.{SinkTaking, ReplayState, EmitsInto}
 use Rattle.feed_text.specs.ReplayEvents.{self_help_declared}
 use Rattle.feed_text.specs.Following.{ReplayVenue, VenueList, Follows, FollowAll, EmitsOne, TakesRecord}
 use Rattle.feed_types.specs.ListLaws.{get_within}
@@ -42,9 +42,9 @@ history_at window vs hs i v f at =
     (h.0, h.1, f.each i v h.0 at h.1)
 
 -- one record
-pub takes_one : (from to : VenueList) (r : CaptureRecord) (old new : ReplayState) (done : Result (Unit {0}) PublishStop) (v w : ReplayVenue) → slice_get from.items (record_venue r) ≡ Some v → to.items ≡ slice_set from.items (record_venue r) w → to.gaps ≡ from.gaps
-    → ((width : ℕ) (h : History) → Follows width (record_venue r) v h → EmitsOne width from.gaps r h old new w done) → TakesRecord from r old new to done
-takes_one from to r old new done v w at set gaps step = record {
+pub takes_one : {K : Type 0} {taking : SinkTaking K} → (from to : VenueList) (r : CaptureRecord) (old new : ReplayState K) (done : Result (Unit {0}) PublishStop) (v w : ReplayVenue) → slice_get from.items (record_venue r) ≡ Some v → to.items ≡ slice_set from.items (record_venue r) w → to.gaps ≡ from.gaps
+    → ((width : ℕ) (h : History) → Follows width (record_venue r) v h → EmitsOne taking width from.gaps r h old new w done) → TakesRecord taking from r old new to done
+takes_one {K} {taking} from to r old new done v w at set gaps step = record {
   gaps = on_ok done gaps;
   count = on_ok done (ap length set ∙ length-set from.items (record_venue r) w);
   emitted = λ window hs f.
@@ -60,9 +60,9 @@ takes_one from to r old new done v w at set gaps step = record {
 }
 
 -- a declaration: the venues and what came to them stay
-pub takes_self_help : (at : VenueList) (venue : ℕ) (on : Bool) (old new : ReplayState) (done : Result (Unit {0}) PublishStop) → venue < length at.items
-    → EmitsInto old (self_help_declared venue on ∷ []) new done → TakesRecord at (self_help_record venue on) old new at done
-takes_self_help at venue on old new done within emits = record {
+pub takes_self_help : {K : Type 0} {taking : SinkTaking K} → (at : VenueList) (venue : ℕ) (on : Bool) (old new : ReplayState K) (done : Result (Unit {0}) PublishStop) → venue < length at.items
+    → EmitsInto taking old (self_help_declared venue on ∷ []) new done → TakesRecord taking at (self_help_record venue on) old new at done
+takes_self_help {K} {taking} at venue on old new done within emits = record {
   gaps = on_ok done refl;
   count = on_ok done refl;
   emitted = λ window hs f.
@@ -108,15 +108,13 @@ follow_next window vs sessions i v f h now =
     length-take_le : (n : ℕ) (xs : List (List ℕ)) → n < length xs → length (take n xs) ≡ n
     length-take_le n xs h = grind (arith, common_steps)
 
--- one more last line
-pub close_more : (hs : List History) (i : ℕ) (h : History) (old new all : List ℕ) → slice_get hs i ≡ Some h → new ≡ old ++ last_line i h → old ++ last_lines i (drop i hs) ≡ all → new ++ last_lines (i + 1) (drop (i + 1) hs) ≡ all
-close_more hs i h old new all at put is =
-    let L = last_lines (i + 1) (drop (i + 1) hs) in
-    ap (λ (t : List ℕ). t ++ L) put ∙ append_assoc old (last_line i h) L ∙ ap (λ (t : List ℕ). old ++ t) (sym (ap (last_lines i) (rest_at hs i h (sym at)))) ∙ is
+-- one more last event
+pub lasts_rest : (hs : List History) (i : ℕ) (h : History) → slice_get hs i ≡ Some h → lasts_told i (drop i hs) ≡ last_told i h ∷ lasts_told (i + 1) (drop (i + 1) hs)
+lasts_rest hs i h at = ap (lasts_told i) (rest_at hs i h (sym at))
 
 -- and then there is none
-pub close_done : (hs : List History) (i : ℕ) (text all : List ℕ) → length hs ≤ i → text ++ last_lines i (drop i hs) ≡ all → text ≡ all
-close_done hs i text all h is = sym (append-nil text) ∙ ap (λ (t : List ℕ). text ++ t) (sym (ap (last_lines i) (drop_of_length-le hs h))) ∙ is
+pub lasts_done : (hs : List History) (i : ℕ) → length hs ≤ i → lasts_told i (drop i hs) ≡ []
+lasts_done hs i h = ap (lasts_told i) (drop_of_length-le hs h)
 
 -- what one more venue lacks
 pub lacks_more : (window : ℕ) (hs : List History) (i : ℕ) (h : History) (old new all : List Lack) → slice_get hs i ≡ Some h → new ≡ old ++ lack_of window i h → old ++ lacks_of window i (drop i hs) ≡ all → new ++ lacks_of window (i + 1) (drop (i + 1) hs) ≡ all

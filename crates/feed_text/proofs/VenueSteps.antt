@@ -29,15 +29,15 @@ use Rattle.line_arbiter.specs.laws.StreamGrowth.{closed_same, closed_skip}
 use Rattle.line_arbiter.specs.laws.FitsHistory.{fits_new, fits_packet, fits_push, fits_renewal, keeping_its_session_is_transitive, outcome_in, renewal_in, shown_more}
 use Rattle.feed_text.specs.declared.report.PublishStop.{PublishStop}
 use Rattle.feed_text.specs.Capture.{datagram_record, renewal_record, skip_record}
-use Rattle.feed_text.specs.Lines.{venue_line, wins_by}
+use Rattle.feed_text.specs.SinkEvents.{told_last}
 use Rattle.feed_text.specs.ReplayEvents.{ReplayEvent, packet_answered, packet_refused, item_taken, renewal_answered, skip_answered}
 use Rattle.feed_text.specs.Emitted.{last_sent, items_emitted, gap_event, gap_emitted, EmitsAt}
-use Rattle.feed_text.specs.Texts.{last_line}
-use Rattle.feed_text.specs.ReplayStates.{ReplayState, EmitsInto}
+use Rattle.feed_text.specs.Tellings.{last_told}
+use Rattle.feed_text.specs.ReplayStates.{SinkTaking, ReplayState, EmitsInto}
 use Rattle.feed_text.specs.Following.{ReplayVenue, Follows, SendsReady, EmitsOutcome, EmitsOne, Renews, GivesUp}
 use Rattle.feed_text.specs.Rules.{HasSentAll}
 use Rattle.feed_text.specs.laws.LastSent.{last_counted}
-use Rattle.feed_text.proofs.Tales.{tells_more, tells_stop, tells_as}
+use Rattle.feed_text.proofs.Tales.{SinkLaws, tells_more, tells_stop, tells_as}
 
 streams_more : (h : History) → length (streams_of h) ≡ length (items_of h.earlier) + length (stream_of h.present.packets)
 streams_more h = ap length (items_push h.earlier h.present) ∙ length-append (items_of h.earlier) (stream_of h.present.packets)
@@ -73,7 +73,7 @@ sent_all {v = v} h f n e =
 
 pub last_is : (h : History) (place number sent a b recovery : ℕ) → number ≡ place → sent ≡ shown (length (streams_of h))
     → a ≡ shown (wins_in (all_begun h) A) → b ≡ shown (wins_in (all_begun h) B) → recovery ≡ shown (wins_in (all_begun h) Recovery)
-    → venue_line number sent (wins_by a b recovery) ≡ last_line place h
+    → told_last number sent a b recovery ≡ last_told place h
 last_is h place number sent a b recovery e s x y z = rw (e, s, x, y, z) refl
 
 pub on_ok : {T E : Type 0} (r : Result T E) {P : Type 0} → P → OnOk r P
@@ -81,24 +81,24 @@ on_ok (Ok x) p = p
 on_ok (Err e) p = tt
 
 -- a packet's datagram, where no gap is asked for
-pub packet_told : (width place : ℕ) (h : History) (v : ReplayVenue) (line : LineId) (bytes rest : List ℕ) (p : Content) (t0 t1 : ReplayState) (done : Result (Unit {0}) PublishStop)
-    → Spells bytes p rest → EmitsOutcome width place line p h t0 t1 v done
-    → EmitsOne width false (datagram_record place line bytes) h t0 t1 v done
-packet_told width place h v line bytes rest p t0 t1 done spells x =
+pub packet_told : {K : Type 0} {taking : SinkTaking K} → (width place : ℕ) (h : History) (v : ReplayVenue) (line : LineId) (bytes rest : List ℕ) (p : Content) (t0 t1 : ReplayState K) (done : Result (Unit {0}) PublishStop)
+    → Spells bytes p rest → EmitsOutcome taking width place line p h t0 t1 v done
+    → EmitsOne taking width false (datagram_record place line bytes) h t0 t1 v done
+packet_told {K} {taking} width place h v line bytes rest p t0 t1 done spells x =
     let Q : List Input = h.present.packets ++ arrival_of line p x.answer ∷ [] in
     record {
-      emitted = packet_answered place line x.answer ∷ items_emitted place h Q ++ [];
+      emitted = packet_answered place line p.number (length p.messages) x.answer ∷ items_emitted place h Q ++ [];
       after = after_input h (arrival_of line p x.answer);
       at = inr (record { packet = p; rest = rest; answer = x.answer; spells = spells; taken = record { right = x.outcome; is = refl }; emitted_is = refl });
-      emits = tells_as t0 t1 done (ap (λ (hs : List ReplayEvent). packet_answered place line x.answer ∷ hs) (sym (append-nil (items_emitted place h Q)))) x.emits;
+      emits = tells_as taking t0 t1 done (ap (λ (hs : List ReplayEvent). packet_answered place line p.number (length p.messages) x.answer ∷ hs) (sym (append-nil (items_emitted place h Q)))) x.emits;
       follows = x.follows;
     }
 
 -- a datagram that is no packet
-pub fault_told : (width place : ℕ) (h : History) (v : ReplayVenue) (line : LineId) (bytes : List ℕ) (fault : PacketFault) (t0 t1 : ReplayState) (done : Result (Unit {0}) PublishStop)
-    → HasFault bytes fault → EmitsInto t0 (packet_refused place line fault ∷ []) t1 done → Follows width place v h
-    → EmitsOne width false (datagram_record place line bytes) h t0 t1 v done
-fault_told width place h v line bytes fault t0 t1 done has emits f = record {
+pub fault_told : {K : Type 0} {taking : SinkTaking K} → (width place : ℕ) (h : History) (v : ReplayVenue) (line : LineId) (bytes : List ℕ) (fault : PacketFault) (t0 t1 : ReplayState K) (done : Result (Unit {0}) PublishStop)
+    → HasFault bytes fault → EmitsInto taking t0 (packet_refused place line fault ∷ []) t1 done → Follows width place v h
+    → EmitsOne taking width false (datagram_record place line bytes) h t0 t1 v done
+fault_told {K} {taking} width place h v line bytes fault t0 t1 done has emits f = record {
   emitted = packet_refused place line fault ∷ [];
   after = h;
   at = inl (record { fault = fault; has = has; same = refl; emitted_is = refl });
@@ -122,42 +122,42 @@ gap_at width place gaps line bytes h after emitted (inr a) =
       spells = a.spells;
       taken = a.taken;
       emitted_is = ap (λ (hs : List ReplayEvent). hs ++ G) a.emitted_is
-          ∙ ap (λ (hs : List ReplayEvent). packet_answered place line a.answer ∷ hs ++ G) (append-nil items);
+          ∙ ap (λ (hs : List ReplayEvent). packet_answered place line a.packet.number (length a.packet.messages) a.answer ∷ hs ++ G) (append-nil items);
     })
 
 -- and then the gap was emitted
-pub gap_added : (width place : ℕ) (h : History) (v : ReplayVenue) (line : LineId) (bytes : List ℕ) (t0 t1 t2 : ReplayState) (done : Result (Unit {0}) PublishStop)
-    → EmitsOne width false (datagram_record place line bytes) h t0 t1 v (Ok tt)
-    → ((P : List Input) → Fits v.arbiter P → EmitsInto t1 (gap_event place (gap_of v.arbiter.session v.arbiter.window v.arbiter.sent P)) t2 done)
-    → EmitsOne width true (datagram_record place line bytes) h t0 t2 v done
-gap_added width place h v line bytes t0 t1 t2 done x gap =
+pub gap_added : {K : Type 0} {taking : SinkTaking K} → SinkLaws taking → (width place : ℕ) (h : History) (v : ReplayVenue) (line : LineId) (bytes : List ℕ) (t0 t1 t2 : ReplayState K) (done : Result (Unit {0}) PublishStop)
+    → EmitsOne taking width false (datagram_record place line bytes) h t0 t1 v (Ok tt)
+    → ((P : List Input) → Fits v.arbiter P → EmitsInto taking t1 (gap_event place (gap_of v.arbiter.session v.arbiter.window v.arbiter.sent P)) t2 done)
+    → EmitsOne taking width true (datagram_record place line bytes) h t0 t2 v done
+gap_added {K} {taking} laws width place h v line bytes t0 t1 t2 done x gap =
     let f : Follows width place v x.after = x.follows in
     let G : List ReplayEvent = gap_event place (gap_of x.after.present.name width (last_sent x.after) x.after.present.packets) in
-    let there : EmitsInto t1 G t2 done = rw (← f.history.session, ← f.window, ← sent_is x.after f) (gap x.after.present.packets f.history.present) in
+    let there : EmitsInto taking t1 G t2 done = rw (← f.history.session, ← f.window, ← sent_is x.after f) (gap x.after.present.packets f.history.present) in
     record {
       emitted = x.emitted ++ G;
       after = x.after;
       at = gap_at width place true line bytes h x.after x.emitted x.at;
-      emits = tells_more t2 x.emitted G done x.emits there;
+      emits = tells_more laws t2 x.emitted G done x.emits there;
       follows = on_ok done f;
     }
 
 -- a stop came before
-pub gap_never : (width place : ℕ) (gaps : Bool) (h : History) (v : ReplayVenue) (line : LineId) (bytes : List ℕ) (t0 t1 : ReplayState) (stop : PublishStop)
-    → EmitsOne width false (datagram_record place line bytes) h t0 t1 v (Err stop)
-    → EmitsOne width gaps (datagram_record place line bytes) h t0 t1 v (Err stop)
-gap_never width place gaps h v line bytes t0 t1 stop x = record {
+pub gap_never : {K : Type 0} {taking : SinkTaking K} → (width place : ℕ) (gaps : Bool) (h : History) (v : ReplayVenue) (line : LineId) (bytes : List ℕ) (t0 t1 : ReplayState K) (stop : PublishStop)
+    → EmitsOne taking width false (datagram_record place line bytes) h t0 t1 v (Err stop)
+    → EmitsOne taking width gaps (datagram_record place line bytes) h t0 t1 v (Err stop)
+gap_never {K} {taking} width place gaps h v line bytes t0 t1 stop x = record {
   emitted = x.emitted ++ gap_emitted width gaps place x.after;
   after = x.after;
   at = gap_at width place gaps line bytes h x.after x.emitted x.at;
-  emits = tells_stop t0 t1 x.emitted (gap_emitted width gaps place x.after) stop x.emits;
+  emits = tells_stop taking t0 t1 x.emitted (gap_emitted width gaps place x.after) stop x.emits;
   follows = tt;
 }
 
-pub renewal_told : (width place : ℕ) (gaps : Bool) (h : History) (v : ReplayVenue) (name : List ℕ) (answer : Result ℕ RenewFault) (t0 t1 : ReplayState) (done : Result (Unit {0}) PublishStop)
-    → Renews width place name h v answer → EmitsInto t0 (renewal_answered place answer ∷ []) t1 done
-    → EmitsOne width gaps (renewal_record place name) h t0 t1 v done
-renewal_told width place gaps h v name answer t0 t1 done x emits = record {
+pub renewal_told : {K : Type 0} {taking : SinkTaking K} → (width place : ℕ) (gaps : Bool) (h : History) (v : ReplayVenue) (name : List ℕ) (answer : Result ℕ RenewFault) (t0 t1 : ReplayState K) (done : Result (Unit {0}) PublishStop)
+    → Renews width place name h v answer → EmitsInto taking t0 (renewal_answered place answer ∷ []) t1 done
+    → EmitsOne taking width gaps (renewal_record place name) h t0 t1 v done
+renewal_told {K} {taking} width place gaps h v name answer t0 t1 done x emits = record {
   emitted = renewal_answered place answer ∷ [];
   after = history_after h name answer;
   at = record { answer = answer; renewed = record { right = x.is; is = refl }; emitted_is = refl };
@@ -192,34 +192,34 @@ left_follows width place h v new a f x = record {
 }
 
 -- a packet was answered, and the items that it made ready were emitted after it
-pub outcome_told : (width place : ℕ) (h : History) (v : ReplayVenue) (new : State) (line : LineId) (p : Content) (answer : Result Outcome LineFault) (t0 t1 : ReplayState) (done : Result (Unit {0}) PublishStop)
+pub outcome_told : {K : Type 0} {taking : SinkTaking K} → (width place : ℕ) (h : History) (v : ReplayVenue) (new : State) (line : LineId) (p : Content) (answer : Result Outcome LineFault) (t0 t1 : ReplayState K) (done : Result (Unit {0}) PublishStop)
     → Follows width place v h
     → IsOutcome v.arbiter.session v.arbiter.window v.arbiter.sent h.present.packets p answer
-    → EmitsInto t0 (packet_answered place line answer ∷ map (item_taken place) (drop (place_of h.present.packets v.arbiter.sent) (stream_of (h.present.packets ++ arrival_of line p answer ∷ [])))) t1 done
+    → EmitsInto taking t0 (packet_answered place line p.number (length p.messages) answer ∷ map (item_taken place) (drop (place_of h.present.packets v.arbiter.sent) (stream_of (h.present.packets ++ arrival_of line p answer ∷ [])))) t1 done
     → OnOk done (Left v (h.present.packets ++ arrival_of line p answer ∷ []) new)
-    → EmitsOutcome width place line p h t0 t1 (record { arbiter = new; sent_before = v.sent_before; opens_after = v.opens_after }) done
-outcome_told width place h v new line p answer t0 t1 done f outcome emits left =
+    → EmitsOutcome taking width place line p h t0 t1 (record { arbiter = new; sent_before = v.sent_before; opens_after = v.opens_after }) done
+outcome_told {K} {taking} width place h v new line p answer t0 t1 done f outcome emits left =
     let Q = h.present.packets ++ arrival_of line p answer ∷ [] in
     record {
       answer = answer;
       outcome = rw (← f.window, ← sent_is h f) (outcome_in h p answer f.history outcome);
-      emits = tells_as t0 t1 done (ap (λ (n : ℕ). packet_answered place line answer ∷ map (item_taken place) (drop n (stream_of Q))) f.sent) emits;
+      emits = tells_as taking t0 t1 done (ap (λ (n : ℕ). packet_answered place line p.number (length p.messages) answer ∷ map (item_taken place) (drop n (stream_of Q))) f.sent) emits;
       follows = on_ok_weaker done (left_follows width place h v new (record { line = line; packet = p; answer = answer }) f) left;
     }
 
 -- a packet was answered, and then everything that is ready was emitted
-pub answered_told : (width place : ℕ) (h : History) (v : ReplayVenue) (mid new : State) (line : LineId) (p : Content) (answer : Result Outcome LineFault) (t0 t1 : ReplayState) (done : Result (Unit {0}) PublishStop)
+pub answered_told : {K : Type 0} {taking : SinkTaking K} → (width place : ℕ) (h : History) (v : ReplayVenue) (mid new : State) (line : LineId) (p : Content) (answer : Result Outcome LineFault) (t0 t1 : ReplayState K) (done : Result (Unit {0}) PublishStop)
     → Follows width place v h
     → ((packets : List Input) → Fits v.arbiter packets → IsOutcome v.arbiter.session v.arbiter.window v.arbiter.sent packets p answer)
     → ((packets : List Input) → Fits v.arbiter packets → Fits mid (packets ++ arrival_of line p answer ∷ []))
     → KeepsItsPlace v.arbiter mid
-    → ((packets : List Input) → Fits mid packets → EmitsInto t0 (packet_answered place line answer ∷ map (item_taken place) (drop (place_of packets mid.sent) (stream_of packets))) t1 done)
+    → ((packets : List Input) → Fits mid packets → EmitsInto taking t0 (packet_answered place line p.number (length p.messages) answer ∷ map (item_taken place) (drop (place_of packets mid.sent) (stream_of packets))) t1 done)
     → OnOk done (SendsReady mid new)
-    → EmitsOutcome width place line p h t0 t1 (record { arbiter = new; sent_before = v.sent_before; opens_after = v.opens_after }) done
-answered_told width place h v mid new line p answer t0 t1 done f outcome fits kept emits sends =
+    → EmitsOutcome taking width place line p h t0 t1 (record { arbiter = new; sent_before = v.sent_before; opens_after = v.opens_after }) done
+answered_told {K} {taking} width place h v mid new line p answer t0 t1 done f outcome fits kept emits sends =
     let Q = h.present.packets ++ arrival_of line p answer ∷ [] in
     outcome_told width place h v new line p answer t0 t1 done f (outcome h.present.packets f.history.present)
-    (tells_as t0 t1 done (ap (λ (n : ℕ). packet_answered place line answer ∷ map (item_taken place) (drop n (stream_of Q))) (ap (place_of Q) kept.sent ∙ place_same h.present.packets (record { line = line; packet = p; answer = answer }) v.arbiter.sent))
+    (tells_as taking t0 t1 done (ap (λ (n : ℕ). packet_answered place line p.number (length p.messages) answer ∷ map (item_taken place) (drop n (stream_of Q))) (ap (place_of Q) kept.sent ∙ place_same h.present.packets (record { line = line; packet = p; answer = answer }) v.arbiter.sent))
     (emits Q (fits h.present.packets f.history.present)))
     (left_ready v Q mid new done (fits h.present.packets f.history.present) kept.session sends)
 
@@ -287,12 +287,12 @@ not_given_up width place h v number fault f is = record {
 }
 
 -- a skip was answered, and the items that it made ready were emitted after it
-pub skip_told : (width place : ℕ) (gaps : Bool) (h : History) (number : ℕ) (v : ReplayVenue) (new : State) (answer : Result (Unit {0}) SkipFault) (t0 t1 : ReplayState) (done : Result (Unit {0}) PublishStop)
+pub skip_told : {K : Type 0} {taking : SinkTaking K} → (width place : ℕ) (gaps : Bool) (h : History) (number : ℕ) (v : ReplayVenue) (new : State) (answer : Result (Unit {0}) SkipFault) (t0 t1 : ReplayState K) (done : Result (Unit {0}) PublishStop)
     → GivesUp width place number h v answer
-    → ((P : List Input) → Fits v.arbiter P → EmitsInto t0 (skip_answered place number answer ∷ map (item_taken place) (drop (place_of P v.arbiter.sent) (stream_of P))) t1 done)
+    → ((P : List Input) → Fits v.arbiter P → EmitsInto taking t0 (skip_answered place number answer ∷ map (item_taken place) (drop (place_of P v.arbiter.sent) (stream_of P))) t1 done)
     → OnOk done (SendsReady v.arbiter new)
-    → EmitsOne width gaps (skip_record place number) h t0 t1 (record { arbiter = new; sent_before = v.sent_before; opens_after = v.opens_after }) done
-skip_told width place gaps h number v new answer t0 t1 done x emits sends =
+    → EmitsOne taking width gaps (skip_record place number) h t0 t1 (record { arbiter = new; sent_before = v.sent_before; opens_after = v.opens_after }) done
+skip_told {K} {taking} width place gaps h number v new answer t0 t1 done x emits sends =
     let k : History = skip_after h number answer in
     let P : List Input = k.present.packets in
     let fits : Fits v.arbiter P = x.sent.history.present in
@@ -308,7 +308,7 @@ skip_told width place gaps h number v new answer t0 t1 done x emits sends =
       emitted = skip_answered place number answer ∷ items_emitted place h P;
       after = k;
       at = record { answer = answer; skipped = record { right = x.is; is = refl }; emitted_is = refl };
-      emits = tells_as t0 t1 done (ap (λ (n : ℕ). skip_answered place number answer ∷ map (item_taken place) (drop n (stream_of P))) x.sent.sent) (emits P fits);
+      emits = tells_as taking t0 t1 done (ap (λ (n : ℕ). skip_answered place number answer ∷ map (item_taken place) (drop n (stream_of P))) x.sent.sent) (emits P fits);
       follows = on_ok_weaker done follows sends;
     }
 

@@ -1,6 +1,6 @@
 -- What a replay keeps of each venue, and that it follows the histories. Cited by private clauses
 -- alone.
-use Rattle.std.specs.Prelude.{◌≡◌, ◌⊎◌, ℕ, Bool, List, [], ◌∷◌, ◌++◌, ◌+◌, length, Some, Result, Ok, Err, OnOk, slice_get, take, drop, map}
+use Rattle.std.specs.Prelude.{◌≡◌, ℕ, Bool, List, [], ◌∷◌, ◌++◌, ◌+◌, length, Some, Result, OnOk, slice_get, drop, map}
 use Rattle.feed_types.specs.declared.line.LineId.{LineId}
 use Rattle.mold_packet.specs.Content.{Content}
 use Rattle.line_arbiter.specs.declared.outcome.Outcome.{Outcome}
@@ -16,20 +16,13 @@ use Rattle.line_arbiter.specs.Skips.{IsSkip}
 use Rattle.line_arbiter.specs.Counts.{shown}
 use Rattle.line_arbiter.specs.States.{State, KeepsAllButSent}
 use Rattle.line_arbiter.specs.Fits.{Fits, FitsHistory}
-use Rattle.feed_text.specs.declared.fault.ReplayFault.{ReplayFault}
-use Rattle.feed_text.specs.declared.fault.ReplayFault.TheVariants as faults
-use Rattle.feed_text.specs.declared.replay.ReplayConfig.{ReplayConfig}
 use Rattle.feed_text.specs.declared.report.PublishStop.{PublishStop}
-use Rattle.feed_text.specs.declared.report.PublishStop.TheVariants.{JournalFull, NoMemory}
 use Rattle.feed_text.specs.Capture.{CaptureRecord, record_venue}
-use Rattle.feed_text.specs.Devices.{Wrote}
 use Rattle.feed_text.specs.ReplayEvents.{ReplayEvent, item_taken, packet_answered}
-use Rattle.feed_text.specs.Emitted.{stream_length, last_sent, items_emitted, EmitsAt, EmitsRecord, Emits}
-use Rattle.feed_text.specs.Rules.{AreTakenOf, IsTakenNext, PutsIn}
-use Rattle.feed_text.specs.Texts.{last_lines}
+use Rattle.feed_text.specs.Emitted.{stream_length, last_sent, items_emitted, EmitsAt, EmitsRecord}
 use Rattle.feed_text.specs.declared.lack.Lack.{Lack}
 use Rattle.feed_text.specs.Lacks.{lacks_of}
-use Rattle.feed_text.specs.ReplayStates.{ReplayState, EmitsInto, GoesOn}
+use Rattle.feed_text.specs.ReplayStates.{SinkTaking, ReplayState, EmitsInto}
 
 -- a venue's arbiter, how many items were sent before the session's present part, as far as a u64
 -- shows that, and the number after which that part opens
@@ -61,31 +54,32 @@ pub record SendsReady (from to : State) : Type 0 where
 
 -- The items that are ready were taken, each once and in sequence. Where all of them were, the
 -- arbiter has sent them, and keeps the rest.
-pub record TakesReady (venue : ℕ) (from to : State) (old new : ReplayState)
-    (done : Result (Unit {0}) PublishStop) : Type 0 where
+pub record TakesReady {K : Type 0} (taking : SinkTaking K) (venue : ℕ) (from to : State)
+    (old new : ReplayState K) (done : Result (Unit {0}) PublishStop) : Type 0 where
   pub emits : (P : List Input) → Fits from P
-      → EmitsInto old (map (item_taken venue) (drop (place_of P from.sent) (stream_of P))) new done
+      → EmitsInto taking old (map (item_taken venue) (drop (place_of P from.sent) (stream_of P)))
+      new done
   pub sent : OnOk done (SendsReady from to)
 
 -- A packet's answer and then the items that it made ready were emitted. Where all of them were, the
 -- venue follows the history with this packet.
-pub record EmitsOutcome (width place : ℕ) (line : LineId) (packet : Content) (h : History)
-    (old new : ReplayState) (v : ReplayVenue) (done : Result (Unit {0}) PublishStop) : Type 0 where
+pub record EmitsOutcome {K : Type 0} (taking : SinkTaking K) (width place : ℕ) (line : LineId)
+    (packet : Content) (h : History) (old new : ReplayState K) (v : ReplayVenue)
+    (done : Result (Unit {0}) PublishStop) : Type 0 where
   pub answer : Result Outcome LineFault
   pub outcome : IsOutcome h.present.name width (last_sent h) h.present.packets packet answer
-  pub emits : EmitsInto old
-      (packet_answered place line answer
+  pub emits : EmitsInto taking old
+      (packet_answered place line packet.number (length packet.messages) answer
       ∷ items_emitted place h (h.present.packets ++ arrival_of line packet answer ∷ []))
       new done
   pub follows : OnOk done (Follows width place v (after_input h (arrival_of line packet answer)))
 
 -- The same, whatever history the venue followed.
-abbrev pub PublishesPacket : ℕ → LineId → Content → ReplayVenue → ReplayState → ReplayVenue
-    → ReplayState
-    → Result (Unit {0}) PublishStop → Type 0
-PublishesPacket place line packet old before new after done =
+abbrev pub PublishesPacket : {K : Type 0} → SinkTaking K → ℕ → LineId → Content → ReplayVenue
+    → ReplayState K → ReplayVenue → ReplayState K → Result (Unit {0}) PublishStop → Type 0
+PublishesPacket taking place line packet old before new after done =
     (width : ℕ) (h : History) → Follows width place old h
-    → EmitsOutcome width place line packet h before after new done
+    → EmitsOutcome taking width place line packet h before after new done
 
 -- A renewal was answered, and the venue follows the history after it.
 pub record Renews (width place : ℕ) (name : List ℕ) (h : History) (v : ReplayVenue)
@@ -102,12 +96,13 @@ pub record GivesUp (width place number : ℕ) (h : History) (v : ReplayVenue)
 
 -- The events of one record were emitted, and where all of them were the venue follows the history
 -- after it.
-pub record EmitsOne (window : ℕ) (gaps : Bool) (r : CaptureRecord) (h : History)
-    (old new : ReplayState) (v : ReplayVenue) (done : Result (Unit {0}) PublishStop) : Type 0 where
+pub record EmitsOne {K : Type 0} (taking : SinkTaking K) (window : ℕ) (gaps : Bool)
+    (r : CaptureRecord) (h : History) (old new : ReplayState K) (v : ReplayVenue)
+    (done : Result (Unit {0}) PublishStop) : Type 0 where
   pub emitted : List ReplayEvent
   pub after : History
   pub at : EmitsAt window gaps r h emitted after
-  pub emits : EmitsInto old emitted new done
+  pub emits : EmitsInto taking old emitted new done
   pub follows : OnOk done (Follows window (record_venue r) v after)
 
 -- the venues of a capture, and whether gap lines are asked for
@@ -124,125 +119,26 @@ pub record FollowAll (window : ℕ) (vs : List ReplayVenue) (hs : List History) 
 
 -- The events of a record were emitted, and where all of them were the venues follow the histories
 -- after it.
-pub record EmitsNext (window : ℕ) (gaps : Bool) (r : CaptureRecord) (hs : List History)
-    (old new : ReplayState) (vs : List ReplayVenue) (done : Result (Unit {0}) PublishStop) : Type 0
-  where
-    pub emitted : List ReplayEvent
-    pub after : List History
-    pub record_tells : EmitsRecord window gaps r hs emitted after
-    pub emits : EmitsInto old emitted new done
-    pub follow : OnOk done (FollowAll window vs after)
+pub record EmitsNext {K : Type 0} (taking : SinkTaking K) (window : ℕ) (gaps : Bool)
+    (r : CaptureRecord) (hs : List History) (old new : ReplayState K) (vs : List ReplayVenue)
+    (done : Result (Unit {0}) PublishStop) : Type 0 where
+  pub emitted : List ReplayEvent
+  pub after : List History
+  pub record_tells : EmitsRecord window gaps r hs emitted after
+  pub emits : EmitsInto taking old emitted new done
+  pub follow : OnOk done (FollowAll window vs after)
 
 -- The venues take a record, whatever histories they follow.
-pub record TakesRecord (from : VenueList) (r : CaptureRecord) (old new : ReplayState)
-    (to : VenueList)
+pub record TakesRecord {K : Type 0} (taking : SinkTaking K) (from : VenueList)
+    (r : CaptureRecord) (old new : ReplayState K) (to : VenueList)
     (done : Result (Unit {0}) PublishStop) : Type 0 where
   pub gaps : OnOk done (to.gaps ≡ from.gaps)
   pub count : OnOk done (length to.items ≡ length from.items)
   pub emitted : (window : ℕ) (hs : List History) → FollowAll window from.items hs
-      → EmitsNext window from.gaps r hs old new to.items done
-
--- These were taken of a record that was read last, the skips before it or these and itself, and
--- their events were emitted.
-pub record TookSome (config : ReplayConfig) (read left : List CaptureRecord) (hs : List History)
-    (old new : ReplayState) (after : List History) : Type 0 where
-  pub taken : List CaptureRecord
-  pub emitted : List ReplayEvent
-  pub are : AreTakenOf config read hs taken left after
-  pub emits : Emits config.window config.gaps taken hs emitted after
-  pub goes : GoesOn old emitted new
-
--- A record was taken, after the skips that the rule puts in before it, and the venues follow the
--- histories after it.
-pub record TookNext (config : ReplayConfig) (r : CaptureRecord) (hs : List History)
-    (old new : ReplayState) (vs : List ReplayVenue) : Type 0 where
-  pub after : List History
-  pub took : TookSome config (r ∷ []) [] hs old new after
-  pub follow : FollowAll config.window vs after
-
--- The skips before a record were taken, and the venues follow the histories after them: none is put
--- in any more.
-pub record TookSkips (config : ReplayConfig) (r : CaptureRecord) (hs : List History)
-    (old new : ReplayState) (vs : List ReplayVenue) : Type 0 where
-  pub after : List History
-  pub took : TookSome config (r ∷ []) (r ∷ []) hs old new after
-  pub follow : FollowAll config.window vs after
-  pub none : (number : ℕ) → PutsIn config after r number → ⊥
-
--- A stop came within a record, or within a skip before it.
-pub record StoppedAt (config : ReplayConfig) (r : CaptureRecord) (hs : List History)
-    (old new : ReplayState) (stop : PublishStop) : Type 0 where
-  pub mid : List History
-  pub state : ReplayState
-  pub took : TookSome config (r ∷ []) (r ∷ []) hs old state mid
-  pub last : CaptureRecord
-  pub left : List CaptureRecord
-  pub is_last : IsTakenNext config mid (r ∷ []) last left
-  pub emitted : List ReplayEvent
-  pub after : List History
-  pub last_tells : EmitsRecord config.window config.gaps last mid emitted after
-  pub stopped : EmitsInto state emitted new (Err stop)
-
--- A record and the skips before it, by the answer; or the skips before it alone.
-abbrev pub TakesNext : ReplayConfig → CaptureRecord → List History → ReplayState → ReplayState
-    → List ReplayVenue → Result (Unit {0}) PublishStop → Type 0
-TakesNext config r hs old new vs (Ok done) = TookNext config r hs old new vs
-TakesNext config r hs old new vs (Err stop) = StoppedAt config r hs old new stop
-
-abbrev pub TakesSkips : ReplayConfig → CaptureRecord → List History → ReplayState → ReplayState
-    → List ReplayVenue → Result (Unit {0}) PublishStop → Type 0
-TakesSkips config r hs old new vs (Ok done) = TookSkips config r hs old new vs
-TakesSkips config r hs old new vs (Err stop) = StoppedAt config r hs old new stop
-
--- The venues stay as many, and gap lines are asked for as before.
-pub record KeepsVenues (from to : VenueList) : Type 0 where
-  pub gaps : to.gaps ≡ from.gaps
-  pub count : length to.items ≡ length from.items
-
--- the venues follow some histories
-abbrev pub FollowSome : ReplayConfig → VenueList → Type 0
-FollowSome config at = (hs : List History) × FollowAll config.window at.items hs
-
--- The venues' last lines follow the old text, whatever histories the venues follow.
-abbrev pub PrintsLast : VenueList → List ℕ → List ℕ → Type 0
-PrintsLast at old new =
-    (window : ℕ) (hs : List History) → FollowAll window at.items hs → new ≡ old ++ last_lines 0 hs
+      → EmitsNext taking window from.gaps r hs old new to.items done
 
 -- What the venues lack follows the old list, whatever histories the venues follow.
 abbrev pub LeavesLacks : VenueList → List Lack → List Lack → Type 0
 LeavesLacks at old new =
     (window : ℕ) (hs : List History) → FollowAll window at.items hs
     → new ≡ old ++ lacks_of window 0 hs
-
--- the text that is still to be written after a stop, where `whole` is the length of the text of the
--- records before: all of it after a full journal, or that of these records
-abbrev pub left_by : PublishStop → ℕ → List ℕ → List ℕ
-left_by JournalFull whole text = text
-left_by NoMemory whole text = take whole text
-
-abbrev pub fault_by : PublishStop → ReplayFault
-fault_by JournalFull = faults.JournalFull
-fault_by NoMemory = faults.NoMemory
-
--- The text was written, or the writer failed within it.
-pub record Stops {W : Type 0} (adds : W → List ℕ → W → Type 0) (failures : W → ℕ)
-    (stop : PublishStop) (whole : ℕ) (text : List ℕ) (before after : W)
-    (fault : ReplayFault) : Type 0 where
-  pub ways : ((fault ≡ fault_by stop) × adds before (left_by stop whole text) after)
-      ⊎ ((fault ≡ faults.WriteFailed) × Wrote adds before (left_by stop whole text) after
-      × (failures after ≡ failures before + 1))
-
--- the last lines, and a writer that took all of them, or a front of them
-pub record WritesLast (at : VenueList) (Takes : List ℕ → Type 0) : Type 0 where
-  pub lines : List ℕ
-  pub are : PrintsLast at [] lines
-  pub taken : Takes lines
-
--- The results of writing the last lines, by the answer.
-abbrev pub Closes : {W : Type 0} (adds : W → List ℕ → W → Type 0) (failures : W → ℕ)
-    (at : VenueList) (before after : W) → Result (Unit {0}) ReplayFault → Type 0
-Closes adds failures at before after (Ok done) = WritesLast at (λ lines. adds before lines after)
-Closes adds failures at before after (Err faults.NoMemory) = after ≡ before
-Closes adds failures at before after (Err faults.WriteFailed) =
-    WritesLast at (λ lines. Wrote adds before lines after) × (failures after ≡ failures before + 1)
-Closes adds failures at before after _ = ⊥

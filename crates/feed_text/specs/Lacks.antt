@@ -5,11 +5,11 @@ use Rattle.line_arbiter.specs.Streams.{gap_of}
 use Rattle.line_arbiter.specs.Histories.{History}
 use Rattle.feed_text.specs.declared.lack.Lack.{Lack}
 use Rattle.feed_text.specs.declared.replay.ReplayConfig.{ReplayConfig}
-use Rattle.feed_text.specs.Capture.{CaptureRecord}
 use Rattle.feed_text.specs.Devices.{Reading}
 use Rattle.feed_text.specs.Emitted.{last_sent}
-use Rattle.feed_text.specs.Replays.{HasRead}
-use Rattle.feed_text.specs.Texts.{AreAllTaken}
+use Rattle.feed_text.specs.EventReplays.{venues_in}
+use Rattle.feed_text.specs.Formats.{TimedRecord, Parsing, HasReadRecords}
+use Rattle.feed_text.specs.Told.{AreAllTaken}
 
 -- what a venue lacks by its gap
 abbrev pub lack_by : ℕ → Option Request → List Lack
@@ -27,14 +27,15 @@ lacks_of window venue [] = []
 lacks_of window venue (h ∷ hs) = lack_of window venue h ++ lacks_of window (venue + 1) hs
 
 -- A whole capture was read, and what its venues lack at the end was appended.
-pub record AppendsLacks {R : Type 0} (reading : Reading R) (config : ReplayConfig) (from to : R)
-    (old new : List Lack) : Type 0 where
-  pub records : List CaptureRecord
+pub record AppendsLacks {R S F : Type 0} (reading : Reading R) (parsing : Parsing S F)
+    (config : ReplayConfig) (from to : R) (start finish : S) (old new : List Lack) : Type 0 where
+  pub records : List TimedRecord
   pub calls : ℕ
   pub mid : R
-  pub read : HasRead reading config from calls mid records []
+  pub read : HasReadRecords reading parsing (venues_in config) from calls mid start records finish
+      []
   pub end : reading.ends mid to
-  pub taken : List CaptureRecord
+  pub taken : List TimedRecord
   pub histories : List History
   pub are_taken : AreAllTaken config records taken histories
   pub lacks : new ≡ old ++ lacks_of config.window 0 histories

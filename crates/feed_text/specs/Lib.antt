@@ -14,6 +14,17 @@ pub mod Replays
 pub mod Lacks
 pub mod Placing
 pub mod Pages
+pub mod SinkEvents
+pub mod Tellings
+pub mod Formats
+pub mod TextPages
+pub mod TextPageLaws
+pub mod EventLines
+pub mod OwnFormats
+pub mod OwnFormatLaws
+pub mod Told
+pub mod EventReplays
+pub mod Running
 pub mod StandardError
 pub mod LackTexts
 -- laws, which proofs of the crates above cite

@@ -1,67 +1,88 @@
--- What a replay keeps of all venues together: its journal, and the text that waits to be written.
--- Cited by private clauses alone.
-use Rattle.std.specs.Prelude.{◌≡◌, ℕ, ◌<◌, ◌≤◌, List, ◌∷◌, ◌++◌, length, Result, Ok, Err}
+-- What a replay keeps of all venues together: its journal, the time of the record at hand, and its
+-- sink. Cited by private clauses alone.
+use Rattle.std.specs.Prelude.{◌≡◌, ℕ, ◌<◌, ◌≤◌, List, [], ◌∷◌, ◌++◌, length, Option, Result, Ok, Err}
 use Rattle.feed_types.specs.declared.journal.Entry.{Entry}
 use Rattle.feed_text.specs.declared.report.ReplaySink.{ReplaySink}
 use Rattle.feed_text.specs.declared.report.PublishStop.{PublishStop}
-use Rattle.feed_text.specs.declared.report.PublishStop.TheVariants.{JournalFull, NoMemory}
+use Rattle.feed_text.specs.declared.report.PublishStop.TheVariants.{JournalFull, SinkFailed}
 use Rattle.feed_text.specs.ReplayEvents.{ReplayEvent, entries_after, entries_of}
-use Rattle.feed_text.specs.Texts.{text_of}
+use Rattle.feed_text.specs.SinkEvents.{SinkEvent, TimedEvent, at_time}
+use Rattle.feed_text.specs.Tellings.{own_told, told_of}
 
--- the symbols, the number of venues, the capacity of the journal, its entries, and the text
-pub record ReplayState : Type 0 where
+-- How sinks of a type go on: they take these events, or fail within them. These are members of the
+-- trait EventSink.
+pub record SinkTaking (K : Type 0) : Type 1 where
+  pub takes : K → List TimedEvent → K → Type 0
+  pub fails : K → List TimedEvent → K → Type 0
+
+-- the symbols, the number of venues, the capacity of the journal, its entries, the time of the
+-- record at hand, and the sink
+pub record ReplayState (K : Type 0) : Type 0 where
   pub symbols : List (List ℕ)
   pub venues : ℕ
   pub journal : ℕ
   pub entries : List Entry
-  pub text : List ℕ
+  pub time : Option ℕ
+  pub sink : K
 
-abbrev pub state_of_replay : ReplaySink → ReplayState
+abbrev pub state_of_replay : {K : Type 0} → ReplaySink K → ReplayState K
 state_of_replay report = record {
   symbols = report.journal.symbols;
   venues = report.journal.venues;
   journal = report.journal.journal;
   entries = report.journal.entries;
-  text = report.text.items;
+  time = report.time;
+  sink = report.sink;
 }
 
--- the state after these events
-abbrev pub state_after : ReplayState → List ReplayEvent → ReplayState
-state_after state emitted = record {
-  symbols = state.symbols;
-  venues = state.venues;
-  journal = state.journal;
-  entries = entries_of state.entries emitted;
-  text = state.text ++ text_of state.symbols state.entries emitted;
-}
+-- what a sink is told of these events, from a state on
+abbrev pub told_from : {K : Type 0} → ReplayState K → List ReplayEvent → List TimedEvent
+told_from state emitted = at_time state.time (told_of state.symbols state.entries emitted)
 
-abbrev pub IsWithinJournal : ReplayState → Type 0
+abbrev pub IsWithinJournal : {K : Type 0} → ReplayState K → Type 0
 IsWithinJournal state = length state.entries ≤ state.journal
 
--- nothing of the old text is lost
-pub record Grows (old new : List ℕ) : Type 0 where
-  pub more : List ℕ
-  pub behind : new ≡ old ++ more
-
 -- The state goes on with these events.
-pub record GoesOn (old : ReplayState) (emitted : List ReplayEvent) (new : ReplayState) : Type 0
-  where
-    pub is : new ≡ state_after old emitted
-    pub within : IsWithinJournal old → IsWithinJournal new
+pub record GoesOn {K : Type 0} (taking : SinkTaking K) (old : ReplayState K)
+    (emitted : List ReplayEvent) (new : ReplayState K) : Type 0 where
+  pub symbols : new.symbols ≡ old.symbols
+  pub venues : new.venues ≡ old.venues
+  pub journal : new.journal ≡ old.journal
+  pub time : new.time ≡ old.time
+  pub entries : new.entries ≡ entries_of old.entries emitted
+  pub took : taking.takes old.sink (told_from old emitted) new.sink
+  pub within : IsWithinJournal old → IsWithinJournal new
 
 -- The state goes on with the first of these events, and the journal has no room for the next one.
-pub record GoesToFull (old : ReplayState) (emitted : List ReplayEvent) (new : ReplayState) : Type 0
-  where
-    pub first : List ReplayEvent
-    pub next : ReplayEvent
-    pub others : List ReplayEvent
-    pub emitted_is : emitted ≡ first ++ next ∷ others
-    pub goes : GoesOn old first new
-    pub full : new.journal < length (entries_after new.entries next)
+pub record GoesToFull {K : Type 0} (taking : SinkTaking K) (old : ReplayState K)
+    (emitted : List ReplayEvent) (new : ReplayState K) : Type 0 where
+  pub first : List ReplayEvent
+  pub next : ReplayEvent
+  pub others : List ReplayEvent
+  pub emitted_is : emitted ≡ first ++ next ∷ others
+  pub goes : GoesOn taking old first new
+  pub full : new.journal < length (entries_after new.entries next)
+
+-- The sink failed within the first of these events, which have room in the journal.
+pub record FailsWithin {K : Type 0} (taking : SinkTaking K) (old : ReplayState K)
+    (emitted : List ReplayEvent) (new : ReplayState K) : Type 0 where
+  pub first : List ReplayEvent
+  pub others : List ReplayEvent
+  pub emitted_is : emitted ≡ first ++ others
+  pub within : IsWithinJournal old → length (entries_of old.entries first) ≤ old.journal
+  pub failed : taking.fails old.sink (told_from old first) new.sink
 
 -- The results of emitting these events, by the answer.
-abbrev pub EmitsInto : ReplayState → List ReplayEvent → ReplayState → Result (Unit {0}) PublishStop
-    → Type 0
-EmitsInto old emitted new (Ok done) = GoesOn old emitted new
-EmitsInto old emitted new (Err JournalFull) = GoesToFull old emitted new
-EmitsInto old emitted new (Err NoMemory) = Grows old.text new.text
+abbrev pub EmitsInto : {K : Type 0} → SinkTaking K → ReplayState K → List ReplayEvent → ReplayState K
+    → Result (Unit {0}) PublishStop → Type 0
+EmitsInto taking old emitted new (Ok done) = GoesOn taking old emitted new
+EmitsInto taking old emitted new (Err JournalFull) = GoesToFull taking old emitted new
+EmitsInto taking old emitted new (Err SinkFailed) = FailsWithin taking old emitted new
+
+-- The results of giving the sink an event, as those of any event of the machine that is told so and
+-- leaves the journal unchanged.
+abbrev pub EmitsPlain : {K : Type 0} → SinkTaking K → ReplayState K → SinkEvent → ReplayState K
+    → Result (Unit {0}) PublishStop → Type 0
+EmitsPlain taking old event new done =
+    (h : ReplayEvent) → entries_after old.entries h ≡ old.entries → own_told old.entries h ≡ event
+    → EmitsInto taking old (h ∷ []) new done

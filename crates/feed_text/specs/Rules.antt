@@ -12,6 +12,7 @@ use Rattle.feed_text.specs.declared.skip_rule.SkipRule.{SkipRule}
 use Rattle.feed_text.specs.declared.skip_rule.SkipRule.TheVariants.{Never, Join, Gaps}
 use Rattle.feed_text.specs.declared.replay.ReplayConfig.{ReplayConfig}
 use Rattle.feed_text.specs.Capture.{CaptureRecord, datagram_record, renewal_record, skip_record, self_help_record, record_venue}
+use Rattle.feed_text.specs.Formats.{TimedRecord, timed_record}
 use Rattle.feed_text.specs.ReplayEvents.{ReplayEvent}
 use Rattle.feed_text.specs.Emitted.{last_sent, EmitsRecord}
 
@@ -76,27 +77,28 @@ pub record PutsIn (config : ReplayConfig) (histories : List History) (r : Captur
 abbrev pub skip_at : CaptureRecord → ℕ → CaptureRecord
 skip_at r number = skip_record (record_venue r) number
 
--- the rule puts this record in before another one
-abbrev pub PutsInRecord : ReplayConfig → List History → CaptureRecord → CaptureRecord → Type 0
+-- the rule puts this record in before another one, at the same time
+abbrev pub PutsInRecord : ReplayConfig → List History → TimedRecord → TimedRecord → Type 0
 PutsInRecord config histories r skip =
-    (number : ℕ) × PutsIn config histories r number × (skip ≡ skip_at r number)
+    (number : ℕ) × PutsIn config histories r.what number
+    × (skip ≡ timed_record (skip_at r.what number) r.time)
 
 -- the record that a replay takes next of these, and those that are left then: a skip that the rule
 -- puts in before the first of them, or that one
-abbrev pub IsTakenNext : ReplayConfig → List History → List CaptureRecord → CaptureRecord
-    → List CaptureRecord → Type 0
+abbrev pub IsTakenNext : ReplayConfig → List History → List TimedRecord → TimedRecord
+    → List TimedRecord → Type 0
 IsTakenNext config histories [] taken left = ⊥
 IsTakenNext config histories (r ∷ rs) taken left =
     (PutsInRecord config histories r taken × (left ≡ r ∷ rs))
-    ⊎ (((number : ℕ) → PutsIn config histories r number → ⊥) × (taken ≡ r) × (left ≡ rs))
+    ⊎ (((number : ℕ) → PutsIn config histories r.what number → ⊥) × (taken ≡ r) × (left ≡ rs))
 
 -- Of these records a replay takes these, one after another, from these histories on, and is left
 -- with others and those histories. Without a rule they are the records.
-abbrev pub AreTakenOf : ReplayConfig → List CaptureRecord → List History → List CaptureRecord
-    → List CaptureRecord → List History → Type 0
+abbrev pub AreTakenOf : ReplayConfig → List TimedRecord → List History → List TimedRecord
+    → List TimedRecord → List History → Type 0
 AreTakenOf config records old [] left new = (left ≡ records) × (new ≡ old)
 AreTakenOf config records old (t ∷ ts) left new =
-    (others : List CaptureRecord) × (emitted : List ReplayEvent) × (mid : List History)
+    (others : List TimedRecord) × (emitted : List ReplayEvent) × (mid : List History)
     × IsTakenNext config old records t others
-    × EmitsRecord config.window config.gaps t old emitted mid
+    × EmitsRecord config.window config.gaps t.what old emitted mid
     × AreTakenOf config others mid ts left new

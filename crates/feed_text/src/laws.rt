@@ -5,9 +5,12 @@ ghost use Rattle.feed_text.specs.declared.replay.ReplayConfig.{ReplayConfig};
 ghost use Rattle.feed_text.specs.Capture.{CaptureRecord, HoldsBytes, IsRecord, NoRecord, capture_of};
 ghost use Rattle.feed_text.specs.ReplayEvents.{ReplayEvent};
 ghost use Rattle.feed_text.specs.Emitted.{Emits, EmitsAt};
-ghost use Rattle.feed_text.specs.Texts.{AreAllTaken, EmitsAll, IsLinesOf, IsTextOf, IsLinesToFull};
+ghost use Rattle.feed_text.specs.EventReplays.{venues_in};
+ghost use Rattle.feed_text.specs.Formats.{TimedRecord};
+ghost use Rattle.feed_text.specs.SinkEvents.{TimedEvent};
+ghost use Rattle.feed_text.specs.Texts.{EmitsAll};
+ghost use Rattle.feed_text.specs.Told.{AreAllTaken, IsToldOf, IsToldOfAll, IsToldToFull};
 ghost use Rattle.feed_text.specs.declared.skip_rule.SkipRule.{SkipRule};
-ghost use Rattle.feed_text.specs.Replays.{venues_in};
 ghost use Rattle.feed_text.specs.Rules.{SkipsAt, skip_at};
 ghost use Rattle.feed_text.specs.VenueItems.{items_taken};
 
@@ -20,28 +23,28 @@ pub fn one_reading()
         → capture_of xs r ≡ capture_of ys s → (xs ≡ ys) × (r ≡ s) }
 {}
 
-/// Records emit one list of events, and have one text: what meets the definition is the same. So do
-/// the lines of records, and those up to a full journal; and records have either the one or the
-/// other.
-pub fn one_text()
+/// Records emit one list of events, and one list is told of them: what meets the definition is the
+/// same. So is what is told of a whole capture, and up to a full journal; and of records either the
+/// one or the other is told.
+pub fn one_telling()
     ensures emitted { (window : ℕ) (gaps : Bool) (records : List CaptureRecord)
         (old new last : List History) (t u : List ReplayEvent)
         → Emits window gaps records old t new → Emits window gaps records old u last
         → (t ≡ u) × (new ≡ last) }
-    ensures text { (config : ReplayConfig) (records : List CaptureRecord) (t u : List ℕ)
-        → IsTextOf config records t → IsTextOf config records u → t ≡ u }
-    ensures lines { (config : ReplayConfig) (records : List CaptureRecord) (t u : List ℕ)
-        → IsLinesOf config records t → IsLinesOf config records u → t ≡ u }
-    ensures full { (config : ReplayConfig) (records : List CaptureRecord) (t u : List ℕ)
-        → IsLinesToFull config records t → IsLinesToFull config records u → t ≡ u }
-    ensures either { (config : ReplayConfig) (records : List CaptureRecord) (t u : List ℕ)
-        → IsLinesOf config records t → IsLinesToFull config records u → ⊥ }
+    ensures capture { (config : ReplayConfig) (records : List TimedRecord) (t u : List TimedEvent)
+        → IsToldOfAll config records t → IsToldOfAll config records u → t ≡ u }
+    ensures records { (config : ReplayConfig) (records : List TimedRecord) (t u : List TimedEvent)
+        → IsToldOf config records t → IsToldOf config records u → t ≡ u }
+    ensures full { (config : ReplayConfig) (records : List TimedRecord) (t u : List TimedEvent)
+        → IsToldToFull config records t → IsToldToFull config records u → t ≡ u }
+    ensures either { (config : ReplayConfig) (records : List TimedRecord) (t u : List TimedEvent)
+        → IsToldOf config records t → IsToldToFull config records u → ⊥ }
 {
     mold_packet::one_reading();
     line_arbiter::one_outcome();
 }
 
-/// Records emit events, whatever they are: with [`one_text`], exactly one list of events. So no
+/// Records emit events, whatever they are: with [`one_telling`], exactly one list of events. So no
 /// clause over emitted events is empty.
 pub fn every_capture_tells()
     ensures { (config : ReplayConfig) (records : List CaptureRecord)
@@ -63,7 +66,7 @@ pub fn items_are_the_streams()
 /// Without a rule what is taken of a capture's records are these records; and a skip that a rule
 /// puts in is made.
 pub fn rules_put_in_skips_that_are_made()
-    ensures never { (config : ReplayConfig) (records taken : List CaptureRecord)
+    ensures never { (config : ReplayConfig) (records taken : List TimedRecord)
         (histories : List History) → config.skips ≡ SkipRule.Never
         → AreAllTaken config records taken histories → taken ≡ records }
     ensures made { (rule : SkipRule) (window number : ℕ) (gaps : Bool) (r : CaptureRecord)

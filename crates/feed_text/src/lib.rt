@@ -1,51 +1,63 @@
-//! From the bytes of a capture to the lines that a replay prints.
+//! From the bytes of a capture to the events that a replay tells a sink, and the lines of one.
 //!
 //! A capture is a list of records, one after the other: a datagram as it came on a line of a venue,
 //! the name of a venue's next session, a number below which what a venue lacks is given up, or a
-//! declaration of self-help (`specs/Capture.antt`). The
-//! records emit events (`specs/Emitted.antt`), by the arbiter's definitions over everything that
-//! came to the record's venue before. The events make a journal (`specs/ReplayEvents.antt`): each
-//! item that is taken is an entry, and each declaration that changes something.
+//! declaration of self-help. A format reads them ([`RecordFormat`]): the project's own is
+//! [`OwnFormat`] (`specs/Capture.antt`), and other crates have others. The records emit events
+//! (`specs/Emitted.antt`), by the arbiter's definitions over everything that came to the record's
+//! venue before. The events make a journal (`specs/ReplayEvents.antt`): each item that is taken is
+//! an entry, and each declaration that changes something.
 //!
-//! The text (`specs/Texts.antt`) is the line of each event, after it the best lines of the changes
-//! of the national best that its entry makes, and at the end a line for each venue.
+//! A sink is told each event at the time of its record, after it the national bests that its entry
+//! changes, and at the end a last event of each venue (`specs/Told.antt`). [`EventSink`] is the
+//! trait of sinks. [`TextSink`] writes the line of each event (`specs/EventLines.antt`).
 //!
-//! The contract is that of [`replay::replay`]: where it answers Ok, what was read is a whole capture
-//! that has room in the journal, and what was written is its text and nothing else. Each fault
-//! comes only when its cause did. JournalFull says exactly where the journal was full: what was
-//! written is the lines up to there. After the other faults it is the text of the records read, or
-//! a prefix of it where the writer failed (`specs/Replays.antt`).
+//! The contract is that of [`replay::replay_events`], for any format and sink: where it answers Ok,
+//! what was read is a whole capture that has room in the journal, and the sink took what is told of
+//! it and nothing else. Each fault comes only when its cause did. JournalFull says exactly where
+//! the journal was full: the sink took what is told up to there. After the other faults it took
+//! what the records read tell, or failed within that (`specs/EventReplays.antt`).
+//! [`replay::replay`] is the same from the own format to text (`specs/Replays.antt`).
 //!
-//! A replay reads and writes through two traits, [`CaptureIn`] and [`TextOut`], whose
-//! laws say what a call does. `memory.rt` has devices over memory, `system.rt` over the standard streams.
+//! A replay reads and writes through two traits, [`CaptureIn`] and [`TextOut`], whose laws say what
+//! a call does. `memory.rt` has devices over memory, `system.rt` over the standard streams.
 //!
-//! `laws.rt` says that a capture has one reading, and its records one text.
+//! `laws.rt` says that a capture has one reading, and that one list of events is told of it.
 //!
-//! Begin with `replay.rt`, then `specs/Texts.antt`; `venue.rt` has a venue, `report.rt` the journal
-//! and the text of all venues, `lines.rt` the lines.
+//! Begin with `replay.rt`, then `specs/EventReplays.antt` and `specs/Told.antt`; `venue.rt` has a
+//! venue, `report.rt` the journal and the sink of all venues, `lines.rt` the lines.
 #![tactic(auto)]
 
 mod capture;
 mod count;
 mod devices;
 mod digit_tables;
+mod event;
+mod event_sink;
 mod fault;
 mod fields;
 mod formats;
-mod input;
 mod lack;
 mod lack_lines;
 mod laws;
 mod lines;
 mod memory;
 mod output;
+mod own_format;
 mod page;
+mod parts;
+mod record_format;
 pub mod replay;
+mod replay_stop;
 mod report;
+mod rule_skips;
+mod run;
 mod skip_rule;
 mod skipping;
 mod standard_error;
 mod system;
+mod text_page;
+mod text_sink;
 mod unread;
 mod venue;
 mod venues;
@@ -53,20 +65,28 @@ mod venues;
 pub use capture::{Parse, Record, parse_record};
 pub use count::Count;
 pub use devices::{CaptureIn, ReadStop, TextOut, WriteStop};
+pub use event::Event;
+pub use event_sink::{EventSink, SinkStop};
 pub use fault::ReplayFault;
 pub use formats::{BestFormat, StatsFormat};
 pub use lack::Lack;
 pub use lack_lines::write_lacks;
 pub use laws::{
-    every_capture_tells, items_are_the_streams, one_reading, one_text,
+    every_capture_tells, items_are_the_streams, one_reading, one_telling,
     rules_put_in_skips_that_are_made,
 };
-pub use lines::{put_best, put_venue};
+pub use lines::{put_best, put_change, put_venue};
 pub use memory::{MemoryIn, MemoryOut};
 pub use output::write_all;
+pub use own_format::OwnFormat;
 pub use page::LineBuffer;
+pub use parts::{put_bytes, put_name, put_number, put_price};
+pub use record_format::{CAPTURE_ROOM, RecordFormat, Step, is_complete};
+pub use replay_stop::{ReplayStop, Replayed};
 pub use skip_rule::SkipRule;
 pub use skipping::skip_before;
 pub use standard_error::{write_number, write_stderr};
 pub use system::{StreamIn, StreamOut};
-pub use unread::{RECORDS_ROOM, ReadBuffer, ReadStep};
+pub use text_page::TextPage;
+pub use text_sink::TextSink;
+pub use unread::{ReadBuffer, ReadStep};

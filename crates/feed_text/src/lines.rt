@@ -6,6 +6,7 @@
 ghost use Rattle.std.specs.Prelude.{◌≡◌, ◌+◌, ◌<◌, ◌≤◌, ◌++◌, codes, length, IsTrue, Ok, OnOk, OnErr};
 ghost use Rattle.feed_text.specs.Lines.{field, line_end, packet_head, packet_line, fault_line, refused_tail, outcome_tail, item_word, item_line, side_field, state_tail, best_line, gap_line, renew_line, skip_line, on_word, declare_line, venue_line, wins_by};
 ghost use Rattle.feed_types.specs.Text.{best_text};
+ghost use Rattle.feed_text.specs.Pages.{KeepsRoom};
 ghost use Rattle.feed_text.specs.Placing.{Placed};
 ghost use Rattle.journal_book.specs.Changes.{notice_of};
 
@@ -137,6 +138,7 @@ pub(crate) fn put_packet(
     ensures line { OnOk result
         (text.new.items ≡ text.old.items ++ packet_line venue line outcome.now) }
     ensures part { OnErr result (text.new.items ≡ text.old.items) }
+    ensures room { KeepsRoom text.old text.new result }
 {
     text.make_room(LINE)?;
     let at = text.end;
@@ -155,6 +157,7 @@ pub(crate) fn put_fault(
 ) -> Result<(), AllocError>
     ensures line { OnOk result (text.new.items ≡ text.old.items ++ fault_line venue line code) }
     ensures part { OnErr result (text.new.items ≡ text.old.items) }
+    ensures room { KeepsRoom text.old text.new result }
 {
     text.make_room(LINE)?;
     let at = text.end;
@@ -202,6 +205,7 @@ pub(crate) fn put_item(
 ) -> Result<(), AllocError>
     ensures line { OnOk result (text.new.items ≡ text.old.items ++ item_line venue item.now) }
     ensures part { OnErr result (text.new.items ≡ text.old.items) }
+    ensures room { KeepsRoom text.old text.new result }
 {
     text.make_room(LINE)?;
     let at = text.end;
@@ -267,14 +271,11 @@ fn place_state(room: &mut [u8], at: usize, state: NationalState) -> usize
 
 /// Appends the line of a change of the national best, under this number.
 #[inline(never)]
-pub(crate) fn put_change(
-    text: &mut LineBuffer,
-    number: u64,
-    change: &Change,
-) -> Result<(), AllocError>
+pub fn put_change(text: &mut LineBuffer, number: u64, change: &Change) -> Result<(), AllocError>
     ensures line { OnOk result
         (text.new.items ≡ text.old.items ++ best_line (notice_of number change.now)) }
     ensures part { OnErr result (text.new.items ≡ text.old.items) }
+    ensures room { KeepsRoom text.old text.new result }
 {
     text.make_room(BEST_LINE)?;
     let at = text.end;
@@ -295,6 +296,7 @@ pub(crate) fn put_change(
 pub fn put_best(text: &mut LineBuffer, notice: &Notice) -> Result<(), AllocError>
     ensures line { OnOk result (text.new.items ≡ text.old.items ++ best_line notice.now) }
     ensures part { OnErr result (text.new.items ≡ text.old.items) }
+    ensures room { KeepsRoom text.old text.new result }
 {
     let change = Change {
         position: notice.position,
@@ -312,6 +314,7 @@ pub(crate) fn put_gap(
 ) -> Result<(), AllocError>
     ensures line { OnOk result (text.new.items ≡ text.old.items ++ gap_line venue request.now) }
     ensures part { OnErr result (text.new.items ≡ text.old.items) }
+    ensures room { KeepsRoom text.old text.new result }
 {
     text.make_room(LINE)?;
     let at = text.end;
@@ -348,6 +351,7 @@ pub(crate) fn put_declared(
 ) -> Result<(), AllocError>
     ensures line { OnOk result (text.new.items ≡ text.old.items ++ declare_line venue on position) }
     ensures part { OnErr result (text.new.items ≡ text.old.items) }
+    ensures room { KeepsRoom text.old text.new result }
 {
     text.make_room(LINE)?;
     let at = text.end;
@@ -374,6 +378,7 @@ pub(crate) fn put_renewal(
 ) -> Result<(), AllocError>
     ensures line { OnOk result (text.new.items ≡ text.old.items ++ renew_line venue renewal.now) }
     ensures part { OnErr result (text.new.items ≡ text.old.items) }
+    ensures room { KeepsRoom text.old text.new result }
 {
     text.make_room(LINE)?;
     let at = text.end;
@@ -400,6 +405,7 @@ pub(crate) fn put_skip(
 ) -> Result<(), AllocError>
     ensures line { OnOk result (text.new.items ≡ text.old.items ++ skip_line venue number skip.now) }
     ensures part { OnErr result (text.new.items ≡ text.old.items) }
+    ensures room { KeepsRoom text.old text.new result }
 {
     text.make_room(LINE)?;
     let at = text.end;
@@ -430,6 +436,7 @@ pub fn put_venue(
     ensures line { OnOk result
         (text.new.items ≡ text.old.items ++ venue_line venue sent (wins_by a b recovery)) }
     ensures part { OnErr result (text.new.items ≡ text.old.items) }
+    ensures room { KeepsRoom text.old text.new result }
 {
     text.make_room(VENUE_LINE)?;
     let at = text.end;

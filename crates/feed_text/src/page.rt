@@ -1,11 +1,15 @@
 //! The text that waits to be written, and room for a line after it.
-ghost use Rattle.std.specs.Prelude.{◌≡◌, ◌≤◌, [], length, take, OnOk};
+ghost use Rattle.std.specs.Prelude.{◌≡◌, ◌≤◌, [], length, IfOk, IsOk, OnOk};
+ghost use Rattle.feed_text.specs.Pages.{memory_of};
 
 use std::alloc::{AllocError, Global};
 use std::marker::Model;
 
 /// The bytes by which a line buffer grows.
 static MORE: [u8; 2048] = [0; 2048];
+
+/// The bytes of a page, and of a line after it.
+const PAGE_SIZE: usize = 67_584;
 
 /// A text that grows by lines. A line's room is made before it is placed, so that its parts need no
 /// test.
@@ -44,6 +48,17 @@ impl LineBuffer {
         }
     }
 
+    /// An empty text with memory for a page of 65,536 bytes, and for a line after it.
+    pub fn for_page(alloc: Global) -> Result<LineBuffer, AllocError>
+        ensures items { IfOk result (λ text. text.items ≡ []) }
+        ensures room { IfOk result (λ text. text.room ≡ 67584) }
+    {
+        Ok(LineBuffer {
+            bytes: vec![in alloc; 0u8; PAGE_SIZE]?,
+            end: 0,
+        })
+    }
+
     /// The length of the text in bytes.
     pub fn len(&self) -> usize
         ensures value { result ≡ length self.now.items }
@@ -58,18 +73,10 @@ impl LineBuffer {
         &self.bytes[..self.end]
     }
 
-    /// Keeps the first `len` bytes.
-    pub fn truncate(&mut self, len: usize)
-        ensures items { self.new.items ≡ take len self.old.items }
-    {
-        if len < self.end {
-            self.end = len;
-        }
-    }
-
     /// Empties the text. Its memory stays.
     pub fn clear(&mut self)
         ensures items { self.new.items ≡ [] }
+        ensures size { memory_of self.new ≡ memory_of self.old }
     {
         self.end = 0;
     }
@@ -80,6 +87,8 @@ impl LineBuffer {
         requires { bytes ≤ 1024 }
         ensures kept { self.new.items ≡ self.old.items }
         ensures room { OnOk result (bytes ≤ self.new.room) }
+        ensures size { memory_of self.old ≤ memory_of self.new }
+        ensures fits { bytes ≤ self.old.room → IsOk result }
     {
         if self.bytes.len() - self.end < bytes {
             return self.grow();
@@ -92,6 +101,7 @@ impl LineBuffer {
     fn grow(&mut self) -> Result<(), AllocError>
         ensures kept { self.new.items ≡ self.old.items }
         ensures room { OnOk result (1024 ≤ self.new.room) }
+        ensures size { memory_of self.old ≤ memory_of self.new }
     {
         self.bytes.extend_from_slice(&MORE)
     }

@@ -1,28 +1,30 @@
 //! The replay of a capture.
-ghost use Rattle.std.specs.Prelude.{◌≡◌, ◌<◌, ◌≤◌, ℕ, List, [], length, IfOk, OnErr, OnOk};
-ghost use Rattle.std.specs.List.{IsDistinct};
-ghost use Rattle.std.specs.Str.{bytes_eq};
+ghost use Rattle.std.specs.Prelude.{◌≡◌, ◌≤◌, ◌+◌, length, vec_capacity, IfOk, OnOk};
 ghost use Rattle.journal_book.specs.NumberedBooks.{new_numbered};
-ghost use Rattle.feed_types.specs.declared.line.LineId.{LineId};
-ghost use Rattle.line_arbiter.specs.Histories.{History};
-ghost use Rattle.feed_text.specs.Capture.{IsRecord, datagram_record, record_of};
-ghost use Rattle.feed_text.specs.Following.{Closes, FollowAll, FollowSome, KeepsVenues, LeavesLacks, Stops, TakesSkips, fault_by, left_by};
+ghost use Rattle.feed_text.specs.EventReplays.{AnswersRun, venues_in};
+ghost use Rattle.feed_text.specs.Following.{LeavesLacks};
 ghost use Rattle.feed_text.specs.Lacks.{AppendsLacks};
-ghost use Rattle.feed_text.specs.Replays.{CanReplay, Replays};
-ghost use Rattle.feed_text.specs.ReplayStates.{state_of_replay};
+ghost use Rattle.feed_text.specs.OwnFormats.{own_parsing};
+ghost use Rattle.feed_text.specs.Replays.{AnswersReplay, CanReplay, stop_by};
+ghost use Rattle.feed_text.specs.Running.{ClosesSink, IsReplayStart};
+ghost use Rattle.feed_text.specs.Told.{told_facts};
 
-use crate::capture::{Parse, Record, parse_record};
 use crate::devices::{CaptureIn, TextOut};
+use crate::event_sink::EventSink;
 use crate::fault::ReplayFault;
-use crate::input::fill;
 use crate::lack::Lack;
-use crate::output::{flush, flush_full};
+use crate::own_format::OwnFormat;
 use crate::page::LineBuffer;
-use crate::report::{PublishStop, ReplaySink};
+use crate::record_format::{CAPTURE_ROOM, RecordFormat};
+use crate::replay_stop::{ReplayStop, Replayed};
+use crate::report::ReplaySink;
+use crate::run::run;
 use crate::skip_rule::SkipRule;
-use crate::unread::{RECORDS_ROOM, ReadBuffer};
+use crate::text_page::TextPage;
+use crate::text_sink::TextSink;
+use crate::unread::ReadBuffer;
 use crate::venues::Venues;
-use feed_types::{SymbolName, VenueId};
+use feed_types::SymbolName;
 use journal_book::NumberedBook;
 use std::alloc::{AllocError, Global};
 
@@ -48,190 +50,207 @@ pub struct ReplayConfig<'a> {
     pub turns: u64,
 }
 
-/// Keeps the text that is still to be written after a stop: all of it where the journal is full,
-/// and the first `whole` bytes, which are the text of the records before, where memory was refused.
-/// Returns the fault of the stop.
-fn keep_told(stop: PublishStop, text: &mut LineBuffer, whole: usize) -> ReplayFault
-    ensures fault { result ≡ fault_by stop }
-    ensures left { text.new.items ≡ left_by stop whole text.old.items }
-{
-    match stop {
-        PublishStop::JournalFull => ReplayFault::JournalFull,
-        PublishStop::NoMemory => {
-            text.truncate(whole);
-            ReplayFault::NoMemory
-        }
-    }
+/// What a replay takes memory for, before it reads anything.
+struct Prepared {
+    venues: Venues,
+    journal: NumberedBook,
+    unread: ReadBuffer<CAPTURE_ROOM>,
 }
 
-/// Writes what was emitted before the stop. Returns the fault of the stop, or that the writer
-/// failed.
-fn stopped<W: TextOut>(
-    stop: PublishStop,
-    text: &mut LineBuffer,
-    whole: usize,
-    writer: &mut W,
-) -> ReplayFault
-    ensures { Stops W.adds W.failures stop whole text.old.items writer.old writer.new result }
-{
-    let fault = keep_told(stop, text, whole);
-    match flush(text, writer) {
-        Ok(()) => fault,
-        Err(failed) => failed,
-    }
-}
-
-/// An empty journal, and no text. The symbols are few enough and distinct, so that only want of
-/// memory fails.
-fn new_report(alloc: Global, config: &ReplayConfig<'_>) -> Result<ReplaySink, AllocError>
-    requires some { 1 ≤ length config.now.sessions.now }
-    requires few { length config.now.sessions.now ≤ 16 }
-    requires symbols { length config.now.symbols.now ≤ 4096 }
-    requires distinct { IsDistinct bytes_eq config.now.symbols.now }
-    ensures journal { IfOk result (λ report. report.journal
-        ≡ new_numbered config.now.symbols.now (length config.now.sessions.now) config.now.journal) }
-    ensures text { IfOk result (λ report. report.text.items ≡ []) }
+/// An empty journal. The symbols are few enough and distinct, so that only want of memory fails.
+fn new_journal(alloc: Global, config: &ReplayConfig<'_>) -> Result<NumberedBook, AllocError>
+    requires { CanReplay config.now }
+    ensures { IfOk result (λ journal. journal
+        ≡ new_numbered config.now.symbols.now (venues_in config.now) config.now.journal) }
 {
     match NumberedBook::new(alloc, config.symbols, config.sessions.len(), config.journal) {
-        Ok(journal) => Ok(ReplaySink {
-            journal,
-            text: LineBuffer::new(alloc),
-        }),
+        Ok(journal) => Ok(journal),
         Err(_) => Err(AllocError),
     }
 }
 
-/// Writes the last lines, and appends what each venue lacks.
-fn close<W: TextOut>(
-    venues: &Venues,
-    mut text: LineBuffer,
-    writer: &mut W,
+/// Takes all the memory that a replay needs: for the venues' windows, the symbols, the bytes of a
+/// capture and what the venues may lack.
+fn prepare(
+    alloc: Global,
+    config: &ReplayConfig<'_>,
     lacks: &mut Vec<Lack>,
-) -> Result<(), ReplayFault>
-    requires { text.items ≡ [] }
-    ensures closes { Closes W.adds W.failures venues.now writer.old writer.new result }
-    ensures lacks { OnOk result (LeavesLacks venues.now lacks.old.items lacks.new.items) }
+) -> Result<Prepared, AllocError>
+    requires { CanReplay config.now }
+    ensures prepared { IfOk result (λ made.
+        IsReplayStart config.now made.unread made.venues made.journal) }
+    ensures lacks { lacks.new.items ≡ lacks.old.items }
+    ensures room { OnOk result (length lacks.new.items + 16 ≤ vec_capacity lacks.new) }
 {
-    venues.put_last(&mut text)?;
-    venues.put_lacks(lacks)?;
-    flush(&mut text, writer)
+    lacks.reserve(16)?;
+    Ok(Prepared {
+        venues: Venues::new(alloc, config.sessions, config.window, config.gaps)?,
+        journal: new_journal(alloc, config)?,
+        unread: ReadBuffer::new(alloc)?,
+    })
 }
 
-/// Takes the skips that the rule puts in before a datagram of these bytes, one after the other, and
-/// publishes the events of each.
-#[inline(never)]
-fn take_skips(
-    config: &ReplayConfig<'_>,
-    venues: &mut Venues,
-    venue: VenueId,
-    bytes: &[u8],
-    report: &mut ReplaySink,
-) -> Result<(), PublishStop>
-    requires venue { venue < length venues.old.items }
-    requires venues { report.old.journal.venues ≡ length venues.old.items }
-    requires gaps { venues.old.gaps ≡ config.now.gaps }
-    requires follow { FollowSome config.now venues.old }
-    ensures kept { OnOk result (KeepsVenues venues.old venues.new) }
-    ensures journal { OnOk result (report.new.journal.venues ≡ report.old.journal.venues) }
-    ensures taken { (line : LineId) (hs : List History)
-        → FollowAll config.now.window venues.old.items hs
-        → TakesSkips config.now (datagram_record venue line bytes.now) hs
-        (state_of_replay report.old) (state_of_replay report.new) venues.new.items result }
+/// Gives the sink the venues' last events, shows all, and appends what each venue lacks.
+fn close<F, K: EventSink>(
+    venues: &Venues,
+    sink: &mut K,
+    lacks: &mut Vec<Lack>,
+) -> Result<(), ReplayStop<F>>
+    requires { length lacks.old.items + length venues.now.items ≤ vec_capacity lacks.old }
+    ensures closes { ClosesSink K.takes K.fails K.is_shown venues.now sink.old sink.new result }
+    ensures lacks { OnOk result (LeavesLacks venues.now lacks.old.items lacks.new.items) }
 {
-    while let Some(number) = venues.skip_before(config, venue, bytes) {
-        venues.skip_to(venue, number, report)?;
-    }
+    venues.tell_last(sink)?;
+    sink.show()?;
+    venues.put_lacks(lacks);
     Ok(())
 }
 
-/// Takes the skips before a record where there is a rule for them.
-// Without a rule the loop over records goes past it at once. The record isn't lent any further: it
-// would be kept in memory then, which took some 15 instructions a record.
+/// Reads a capture of a format to its end ([`replay_events`]), with the memory that it needs.
 #[inline(always)]
-fn follow_rule(
+fn replay_prepared<R: CaptureIn, F: RecordFormat, K: EventSink>(
     config: &ReplayConfig<'_>,
-    venues: &mut Venues,
-    next: &Record<'_>,
-    report: &mut ReplaySink,
-) -> Result<(), PublishStop>
-    requires kind { IsRecord (length venues.old.items) (record_of next.now) }
-    requires venues { report.old.journal.venues ≡ length venues.old.items }
-    requires gaps { venues.old.gaps ≡ config.now.gaps }
-    requires follow { FollowSome config.now venues.old }
-    ensures kept { OnOk result (KeepsVenues venues.old venues.new) }
-    ensures journal { OnOk result (report.new.journal.venues ≡ report.old.journal.venues) }
-    ensures taken { (hs : List History) → FollowAll config.now.window venues.old.items hs
-        → TakesSkips config.now (record_of next.now) hs (state_of_replay report.old)
-        (state_of_replay report.new) venues.new.items result }
+    prepared: Prepared,
+    format: &mut F,
+    reader: &mut R,
+    sink: K,
+    lacks: &mut Vec<Lack>,
+) -> Replayed<K, F::Fault>
+    requires can { CanReplay config.now }
+    requires of_venues { F.venues format.old ≡ venues_in config.now }
+    requires starts { IsReplayStart config.now prepared.unread prepared.venues prepared.journal }
+    requires room { length lacks.old.items + 16 ≤ vec_capacity lacks.old }
+    ensures replays { AnswersRun
+        (record { gives = R.gives; ends = R.ends; failures = R.failures; fails = R.fails })
+        (record { reads = F.reads; wants = F.wants; is_bad = F.is_bad; is_whole = F.is_whole })
+        (record { takes = K.takes; fails = K.fails }) K.is_shown
+        config.now (told_facts config.now) reader.old reader.new format.old format.new
+        sink result.sink result.outcome }
+    ensures lacks { OnOk result.outcome (AppendsLacks
+        (record { gives = R.gives; ends = R.ends; failures = R.failures; fails = R.fails })
+        (record { reads = F.reads; wants = F.wants; is_bad = F.is_bad; is_whole = F.is_whole })
+        config.now reader.old reader.new format.old format.new lacks.old.items lacks.new.items) }
 {
-    match config.skips {
-        SkipRule::Never => Ok(()),
-        _ => match next {
-            Record::Datagram { venue, bytes, .. } => {
-                take_skips(config, venues, *venue, bytes, report)
-            }
-            _ => Ok(()),
+    let Prepared {
+        mut venues,
+        journal,
+        mut unread,
+    } = prepared;
+    let mut report = ReplaySink {
+        journal,
+        time: None,
+        sink,
+    };
+    let outcome = match run(
+        config,
+        format,
+        reader,
+        &mut unread,
+        &mut venues,
+        &mut report,
+    ) {
+        Ok(()) => close(&venues, &mut report.sink, lacks),
+        Err(stop) => Err(stop),
+    };
+    let ReplaySink { sink, .. } = report;
+    Replayed { sink, outcome }
+}
+
+/// Reads a capture of a format to its end, and gives a sink the events of its records and then the
+/// venues' last ones. Where the configuration has a rule for it, what a venue lacks is given up as
+/// though the capture had skips for it. What each venue lacks at the end is appended to `lacks`.
+///
+/// What the sink took is shown before the reader is called again, so that a pipe shows lines as
+/// they come, and before a fault is answered. Every call of the reader is a turn, also one that was
+/// interrupted. Memory is taken before anything is read. What was journaled is counted and given to
+/// the sink and not kept, so that a capture of a whole day takes no more than a short one.
+#[inline(always)]
+pub fn replay_events<R: CaptureIn, F: RecordFormat, K: EventSink>(
+    alloc: Global,
+    config: &ReplayConfig<'_>,
+    format: &mut F,
+    reader: &mut R,
+    sink: K,
+    lacks: &mut Vec<Lack>,
+) -> Replayed<K, F::Fault>
+    requires can { CanReplay config.now }
+    requires of_venues { F.venues format.old ≡ venues_in config.now }
+    ensures replays { AnswersRun
+        (record { gives = R.gives; ends = R.ends; failures = R.failures; fails = R.fails })
+        (record { reads = F.reads; wants = F.wants; is_bad = F.is_bad; is_whole = F.is_whole })
+        (record { takes = K.takes; fails = K.fails }) K.is_shown
+        config.now (told_facts config.now) reader.old reader.new format.old format.new
+        sink result.sink result.outcome }
+    ensures lacks { OnOk result.outcome (AppendsLacks
+        (record { gives = R.gives; ends = R.ends; failures = R.failures; fails = R.fails })
+        (record { reads = F.reads; wants = F.wants; is_bad = F.is_bad; is_whole = F.is_whole })
+        config.now reader.old reader.new format.old format.new lacks.old.items lacks.new.items) }
+{
+    match prepare(alloc, config, lacks) {
+        Ok(prepared) => replay_prepared(config, prepared, format, reader, sink, lacks),
+        Err(AllocError) => Replayed {
+            sink,
+            outcome: Err(ReplayStop::NoMemory),
         },
     }
 }
 
-/// Reads a capture to its end, and writes the lines of its records and then those of its venues.
-/// Where the configuration has a rule for it, what a venue lacks is given up as though the capture
-/// had skips for it. What each venue lacks at the end is appended to `lacks`.
-///
-/// What is ready is written before the reader is called again, so that a pipe shows lines as they
-/// come, and before a fault of the input, of the journal or of memory is answered. Every call of
-/// the reader is a turn, also one that was interrupted. Memory is taken for the venues' windows,
-/// the symbols, the bytes of a read and a text of about 65,536 bytes. What was journaled is counted
-/// and printed and not kept, so that a capture of a whole day takes no more than a short one.
+/// A replay of a capture to text that ended: the writer, as the last call left it, and how the
+/// replay ended.
+#[derive(Drop)]
+pub struct ReplayRun<W> {
+    pub writer: W,
+    pub outcome: Result<(), ReplayFault>,
+}
+
+/// Returns the fault of a stop.
+fn fault_of(stop: ReplayStop<()>) -> ReplayFault
+    ensures { stop_by result ≡ stop }
+{
+    match stop {
+        ReplayStop::ReadFailed => ReplayFault::ReadFailed,
+        ReplayStop::SinkFailed => ReplayFault::WriteFailed,
+        ReplayStop::Bad(()) => ReplayFault::BadRecord,
+        ReplayStop::Short => ReplayFault::ShortRecord,
+        ReplayStop::TooManyTurns => ReplayFault::TooManyTurns,
+        ReplayStop::JournalFull => ReplayFault::JournalFull,
+        ReplayStop::NoMemory => ReplayFault::NoMemory,
+    }
+}
+
+/// Reads a capture of the project's own format to its end, and writes the lines of its records'
+/// events and then those of its venues ([`replay_events`]). The text waits in a page of 65,536
+/// bytes.
 #[inline(never)]
 pub fn replay<R: CaptureIn, W: TextOut>(
     alloc: Global,
     config: &ReplayConfig<'_>,
     reader: &mut R,
-    writer: &mut W,
+    writer: W,
     lacks: &mut Vec<Lack>,
-) -> Result<(), ReplayFault>
+) -> ReplayRun<W>
     requires { CanReplay config.now }
-    ensures replays { Replays
+    ensures replays { AnswersReplay
         (record { gives = R.gives; ends = R.ends; failures = R.failures; fails = R.fails })
         (record { adds = W.adds; failures = W.failures })
-        config.now reader.old reader.new writer.old writer.new result }
-    ensures lacks { OnOk result (AppendsLacks
+        config.now (told_facts config.now) reader.old reader.new
+        writer result.writer result.outcome }
+    ensures lacks { OnOk result.outcome (AppendsLacks
         (record { gives = R.gives; ends = R.ends; failures = R.failures; fails = R.fails })
-        config.now reader.old reader.new lacks.old.items lacks.new.items) }
+        own_parsing config.now reader.old reader.new (venues_in config.now) (venues_in config.now)
+        lacks.old.items lacks.new.items) }
 {
-    let mut venues = Venues::new(alloc, config.sessions, config.window, config.gaps)?;
-    let mut report = new_report(alloc, config)?;
-    let mut unread: ReadBuffer<RECORDS_ROOM> = ReadBuffer::new(alloc)?;
-    let mut turns = config.turns;
-    'records: loop {
-        match parse_record(config.sessions.len(), unread.bytes()) {
-            Parse::Whole(record, len) => {
-                let whole = report.text.len();
-                if let Err(stop) = follow_rule(config, &mut venues, &record, &mut report) {
-                    return Err(stopped(stop, &mut report.text, whole, writer));
-                }
-                match venues.take(record, &mut report) {
-                    Ok(()) => unread.advance(len),
-                    Err(stop) => return Err(stopped(stop, &mut report.text, whole, writer)),
-                }
-                flush_full(&mut report.text, writer)?;
-            }
-            Parse::Bad => {
-                flush(&mut report.text, writer)?;
-                return Err(ReplayFault::BadRecord);
-            }
-            Parse::Wants(wanted) => {
-                flush(&mut report.text, writer)?;
-                if fill(&mut unread, reader, wanted, &mut turns)? {
-                    continue;
-                }
-                if !unread.is_empty() {
-                    return Err(ReplayFault::ShortRecord);
-                }
-                return close(&venues, report.text, writer, lacks);
-            }
-        }
+    let Ok(text) = LineBuffer::for_page(alloc) else {
+        return ReplayRun {
+            writer,
+            outcome: Err(ReplayFault::NoMemory),
+        };
+    };
+    let sink = TextSink::new(TextPage::new(text, writer));
+    let mut format = OwnFormat::new(config.sessions.len());
+    let replayed = replay_events(alloc, config, &mut format, reader, sink, lacks);
+    ReplayRun {
+        writer: replayed.sink.into_writer(),
+        outcome: replayed.outcome.map_err(fault_of),
     }
 }

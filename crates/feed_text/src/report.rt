@@ -1,96 +1,129 @@
-//! The sink of a replay's events: they are journaled and printed.
-ghost use Rattle.std.specs.Prelude.{◌≡◌, ◌<◌, ◌≤◌, ◌∷◌, [], ◌+◌, ◌++◌, length, flat_map, OnOk};
+//! The journal of a replay, and the sink of its events.
+ghost use Rattle.std.specs.Prelude.{◌≡◌, ◌<◌, ◌≤◌, ◌∷◌, [], ◌+◌, ◌++◌, length, map, OnErr, OnOk};
 ghost use Rattle.journal_book.specs.Changes.{notices_from};
 ghost use Rattle.feed_text.specs.ReplayEvents.{item_taken, self_help_declared};
-ghost use Rattle.feed_text.specs.Lines.{best_line};
-ghost use Rattle.feed_text.specs.ReplayStates.{Grows, EmitsInto, state_of_replay};
-ghost use Rattle.feed_text.specs.declared.report.PublishStop.TheVariants.{NoMemory};
+ghost use Rattle.feed_text.specs.SinkEvents.{at_time, timed_event, told_best, told_by};
+ghost use Rattle.feed_text.specs.ReplayStates.{EmitsInto, EmitsPlain, state_of_replay};
+ghost use Rattle.feed_text.specs.declared.report.PublishStop.TheVariants.{SinkFailed};
 
-use crate::lines::{put_change, put_declared, put_item};
-use crate::page::LineBuffer;
+use crate::event::Event;
+use crate::event_sink::{EventSink, SinkStop};
 use feed_types::{Numbered, VenueId};
 use journal_book::{EntryChanges, JournalFault, NumberedBook};
-use std::alloc::AllocError;
 
 /// Why a record's events were not published to their end.
 #[derive(Clone, Copy, Debug, PartialEq, Eq)]
 pub enum PublishStop {
     /// The journal is full, and the next event needs one more entry.
     JournalFull,
-    /// Memory was refused.
-    NoMemory,
+    /// The sink failed.
+    SinkFailed,
 }
 
-impl From<AllocError> for PublishStop {
-    ghost from_gives = { λ _ e. e ≡ NoMemory };
+impl From<SinkStop> for PublishStop {
+    ghost from_gives = { λ _ e. e ≡ SinkFailed };
 
-    fn from(_error: AllocError) -> PublishStop {
-        PublishStop::NoMemory
+    fn from(_stop: SinkStop) -> PublishStop {
+        PublishStop::SinkFailed
     }
 }
 
-/// The journal of a replay, and the text that waits to be written.
+/// The journal of a replay, the time of the record at hand, and the sink of the events.
 #[derive(Drop)]
-pub struct ReplaySink {
+pub struct ReplaySink<K> {
     pub journal: NumberedBook,
-    pub text: LineBuffer,
+    pub time: Option<u64>,
+    pub sink: K,
 }
 
-/// Prints the changes that the last entry made.
+/// Gives the sink the changes that the last entry made.
 #[inline(always)]
-fn put_bests(text: &mut LineBuffer, latest: EntryChanges<'_>) -> Result<(), AllocError>
+fn tell_bests<K: EventSink>(
+    sink: &mut K,
+    time: Option<u64>,
+    latest: EntryChanges<'_>,
+) -> Result<(), SinkStop>
     requires { latest.first + length latest.changes.now ≤ 18446744073709551615 }
-    ensures lines { OnOk result (text.new.items ≡ text.old.items
-        ++ flat_map best_line (notices_from latest.entry.first latest.entry.changes.now)) }
-    ensures grows { Grows text.old.items text.new.items }
+    ensures took { OnOk result (K.takes sink.old
+        (at_time time (map told_best (notices_from latest.entry.first latest.entry.changes.now)))
+        sink.new) }
+    ensures failed { OnErr result (K.fails sink.old
+        (at_time time (map told_best (notices_from latest.entry.first latest.entry.changes.now)))
+        sink.new) }
 {
     let mut number = latest.first;
     for change in latest.changes {
-        put_change(text, number, change)?;
+        sink.take(time, &Event::Best { number, change })?;
         number += 1;
     }
     Ok(())
 }
 
-impl ReplaySink {
-    /// Journals the venue's next item, and prints its line and those of the changes that it makes.
+impl<K: EventSink> ReplaySink<K> {
+    /// Gives the sink an event that leaves the journal unchanged.
+    #[inline(always)]
+    pub fn tell(&mut self, event: &Event<'_>) -> Result<(), PublishStop>
+        ensures { EmitsPlain (record { takes = K.takes; fails = K.fails })
+            (state_of_replay self.old) (told_by event.now) (state_of_replay self.new) result }
+    {
+        self.sink.take(self.time, event)?;
+        Ok(())
+    }
+
+    /// Journals the venue's next item, and gives the sink the item and the changes that it makes.
     #[inline(always)]
     pub fn take_item(&mut self, venue: VenueId, numbered: &Numbered) -> Result<(), PublishStop>
         requires { venue < self.old.journal.venues }
-        ensures { EmitsInto (state_of_replay self.old) (item_taken venue numbered.now ∷ [])
+        ensures { EmitsInto (record { takes = K.takes; fails = K.fails })
+            (state_of_replay self.old) (item_taken venue numbered.now ∷ [])
             (state_of_replay self.new) result }
     {
         if !self.journal.has_room() {
             return Err(PublishStop::JournalFull);
         }
-        // Journaled before its line is placed: what the book keeps of the symbol is fetched
+        // Journaled before the sink is told: what the book keeps of the symbol is fetched
         // meanwhile.
         self.journal.record(venue, *numbered);
-        put_item(&mut self.text, venue, numbered)?;
-        put_bests(&mut self.text, self.journal.latest())?;
+        let item = Event::Item {
+            venue,
+            item: numbered,
+        };
+        self.sink.take(self.time, &item)?;
+        tell_bests(&mut self.sink, self.time, self.journal.latest())?;
         Ok(())
     }
 
-    /// Journals a declaration, unless that is declared already, and prints its line and those of
-    /// the changes that it makes.
+    /// Journals a declaration, unless that is declared already, and gives the sink it and the
+    /// changes that it makes.
     #[inline(never)]
     pub fn declare(&mut self, venue: VenueId, on: bool) -> Result<(), PublishStop>
         requires { venue < self.old.journal.venues }
-        ensures { EmitsInto (state_of_replay self.old) (self_help_declared venue on ∷ [])
+        ensures { EmitsInto (record { takes = K.takes; fails = K.fails })
+            (state_of_replay self.old) (self_help_declared venue on ∷ [])
             (state_of_replay self.new) result }
     {
         match self.journal.declare(venue, on) {
             Ok(position) => {
-                put_declared(&mut self.text, venue, on, Some(position))?;
-                put_bests(&mut self.text, self.journal.latest())?;
+                let declaration = Event::Declaration {
+                    venue,
+                    on,
+                    position: Some(position),
+                };
+                self.sink.take(self.time, &declaration)?;
+                tell_bests(&mut self.sink, self.time, self.journal.latest())?;
                 Ok(())
             }
             Err(JournalFault::AlreadySo) => {
-                put_declared(&mut self.text, venue, on, None)?;
+                let declaration = Event::Declaration {
+                    venue,
+                    on,
+                    position: None,
+                };
+                self.sink.take(self.time, &declaration)?;
                 Ok(())
             }
             Err(JournalFault::JournalFull) => Err(PublishStop::JournalFull),
-            Err(_) => Err(PublishStop::NoMemory),
+            Err(_) => unreachable!(),
         }
     }
 }

@@ -6,10 +6,6 @@ use crate::devices::{CaptureIn, ReadStop};
 use std::alloc::{AllocError, Global};
 use std::marker::Model;
 
-/// How many bytes of a capture are held at most: a longest record, which has 65,539, and about as much
-/// again.
-pub const RECORDS_ROOM: usize = 131_072;
-
 /// How many bytes are read at most by one call of a reader: no more than stay in a processor's cache.
 const MOST_READ: usize = 131_072;
 
@@ -214,6 +210,7 @@ impl<const ROOM: usize> ReadBuffer<ROOM> {
             → (R.failures reader.new ≡ R.failures reader.old + 1) × (self.new ≡ self.old) }
         ensures fails { result ≡ ReadStep.Failed → R.fails reader.old reader.new }
         ensures kept { (result ≡ ReadStep.Failed → ⊥) → R.failures reader.new ≡ R.failures reader.old }
+        ensures bound { length self.new ≤ ROOM }
     {
         let wanted = MOST_READ.min(ROOM - self.len());
         let end = make_room::<ROOM>(&mut self.bytes, self.start, self.end, wanted);

@@ -1,5 +1,5 @@
 //! One venue of a replay: its lines, and what they bring.
-ghost use Rattle.std.specs.Prelude.{◌≡◌, ℕ, Bool, false, List, ◌∷◌, ◌++◌, ◌<◌, ◌≤◌, length, drop, map, Ok, IfOk, OnOk};
+ghost use Rattle.std.specs.Prelude.{◌≡◌, ℕ, Bool, false, List, [], ◌∷◌, ◌+◌, ◌++◌, ◌<◌, ◌≤◌, length, drop, map, None, Ok, IfOk, OnErr, OnOk, vec_capacity};
 ghost use Rattle.feed_types.specs.Sessions.{numbered_from};
 ghost use Rattle.quote_payload.specs.Payload.{item_of};
 ghost use Rattle.line_arbiter.specs.InOrder.{SendsPacket};
@@ -12,13 +12,14 @@ ghost use Rattle.feed_text.specs.Capture.{datagram_record, renewal_record, skip_
 ghost use Rattle.feed_text.specs.ReplayEvents.{item_taken, packet_answered};
 ghost use Rattle.feed_text.specs.Emitted.{gap_event};
 ghost use Rattle.feed_text.specs.Lacks.{lack_of};
-ghost use Rattle.feed_text.specs.Texts.{last_line};
+ghost use Rattle.feed_text.specs.SinkEvents.{timed_event};
+ghost use Rattle.feed_text.specs.Tellings.{last_told};
 ghost use Rattle.feed_text.specs.ReplayStates.{EmitsInto, state_of_replay};
 ghost use Rattle.feed_text.specs.Following.{Follows, SendsReady, TakesReady, PublishesPacket, EmitsOne, GivesUp, Renews};
 
+use crate::event::Event;
+use crate::event_sink::{EventSink, SinkStop};
 use crate::lack::Lack;
-use crate::lines::{put_fault, put_gap, put_packet, put_renewal, put_skip, put_venue};
-use crate::page::LineBuffer;
 use crate::report::{PublishStop, ReplaySink};
 use feed_types::{Anything, LineId, Numbered, VenueId};
 use line_arbiter::{Arbiter, LineFault, Outcome, RenewFault, SkipFault};
@@ -55,14 +56,14 @@ impl Model for VenueReplay {
 
 /// Publishes each item that is ready.
 #[inline(never)]
-fn publish_each(
+fn publish_each<K: EventSink>(
     arbiter: &mut Arbiter<Anything>,
     venue: VenueId,
-    report: &mut ReplaySink,
+    report: &mut ReplaySink<K>,
 ) -> Result<(), PublishStop>
     requires { venue < report.old.journal.venues }
-    ensures { TakesReady venue arbiter.old arbiter.new (state_of_replay report.old)
-        (state_of_replay report.new) result }
+    ensures { TakesReady (record { takes = K.takes; fails = K.fails }) venue
+        arbiter.old arbiter.new (state_of_replay report.old) (state_of_replay report.new) result }
 {
     while let Some(next) = arbiter.next_ready() {
         report.take_item(venue, &next)?;
@@ -73,14 +74,14 @@ fn publish_each(
 
 /// Publishes each item that is ready. Most often there is none, which one look shows.
 #[inline(always)]
-fn publish_ready(
+fn publish_ready<K: EventSink>(
     arbiter: &mut Arbiter<Anything>,
     venue: VenueId,
-    report: &mut ReplaySink,
+    report: &mut ReplaySink<K>,
 ) -> Result<(), PublishStop>
     requires { venue < report.old.journal.venues }
-    ensures { TakesReady venue arbiter.old arbiter.new (state_of_replay report.old)
-        (state_of_replay report.new) result }
+    ensures { TakesReady (record { takes = K.takes; fails = K.fails }) venue
+        arbiter.old arbiter.new (state_of_replay report.old) (state_of_replay report.new) result }
 {
     match arbiter.next_ready() {
         Some(_) => publish_each(arbiter, venue, report),
@@ -90,13 +91,14 @@ fn publish_ready(
 
 /// Publishes the items that a packet's messages are, one by one.
 #[inline(always)]
-fn publish_messages(
+fn publish_messages<K: EventSink>(
     venue: VenueId,
     packet: &Packet<'_>,
-    report: &mut ReplaySink,
+    report: &mut ReplaySink<K>,
 ) -> Result<(), PublishStop>
     requires { venue < report.old.journal.venues }
-    ensures { EmitsInto (state_of_replay report.old)
+    ensures { EmitsInto (record { takes = K.takes; fails = K.fails })
+        (state_of_replay report.old)
         (map (item_taken venue)
         (numbered_from packet.now.number (map item_of packet.now.messages)))
         (state_of_replay report.new) result }
@@ -118,7 +120,7 @@ fn publish_messages(
 /// Has the book prefetch what the quotations among the first of these messages will read of it,
 /// where that pays.
 #[inline(never)]
-fn prefetch(venue: VenueId, mut messages: Messages<'_>, report: &mut ReplaySink)
+fn prefetch<K: EventSink>(venue: VenueId, mut messages: Messages<'_>, report: &mut ReplaySink<K>)
     ensures { report.new ≡ report.old }
 {
     for _ in 0..MOST_AHEAD {
@@ -135,7 +137,7 @@ fn prefetch(venue: VenueId, mut messages: Messages<'_>, report: &mut ReplaySink)
 
 /// Has the book prefetch for a packet of several messages.
 #[inline(always)]
-fn look_ahead(venue: VenueId, packet: &Packet<'_>, report: &mut ReplaySink)
+fn look_ahead<K: EventSink>(venue: VenueId, packet: &Packet<'_>, report: &mut ReplaySink<K>)
     ensures { report.new ≡ report.old }
 {
     if packet.count() > 1 {
@@ -143,48 +145,75 @@ fn look_ahead(venue: VenueId, packet: &Packet<'_>, report: &mut ReplaySink)
     }
 }
 
+/// Tells the sink a packet's answer.
+#[inline(always)]
+fn tell_answer<K: EventSink>(
+    venue: VenueId,
+    line: LineId,
+    packet: &Packet<'_>,
+    answer: &Result<Outcome, LineFault>,
+    report: &mut ReplaySink<K>,
+) -> Result<(), PublishStop>
+    ensures { EmitsInto (record { takes = K.takes; fails = K.fails })
+        (state_of_replay report.old)
+        (packet_answered venue line packet.now.number (length packet.now.messages) answer.now
+        ∷ [])
+        (state_of_replay report.new) result }
+{
+    report.tell(&Event::Packet {
+        venue,
+        line,
+        number: packet.number(),
+        count: packet.count(),
+        answer,
+    })
+}
+
 /// Publishes the answer of a packet that was the next one, its items, and what is ready after them.
 #[inline(always)]
-fn publish_next(
+fn publish_next<K: EventSink>(
     arbiter: &mut Arbiter<Anything>,
     venue: VenueId,
     line: LineId,
     packet: &Packet<'_>,
     outcome: Outcome,
-    report: &mut ReplaySink,
+    report: &mut ReplaySink<K>,
 ) -> Result<(), PublishStop>
     requires { venue < report.old.journal.venues }
     ensures emits { (from : ℕ) (packets : List Input) → Fits arbiter.old packets
         → SendsPacket from arbiter.old.sent packet.now packets
-        → EmitsInto (state_of_replay report.old)
-        (packet_answered venue line (Ok outcome)
+        → EmitsInto (record { takes = K.takes; fails = K.fails })
+        (state_of_replay report.old)
+        (packet_answered venue line packet.now.number (length packet.now.messages) (Ok outcome)
         ∷ map (item_taken venue) (drop (place_of packets from) (stream_of packets)))
         (state_of_replay report.new) result }
     ensures sent { OnOk result (SendsReady arbiter.old arbiter.new) }
 {
-    put_packet(&mut report.text, venue, line, &Ok(outcome))?;
+    tell_answer(venue, line, packet, &Ok(outcome), report)?;
     publish_messages(venue, packet, report)?;
     publish_ready(arbiter, venue, report)
 }
 
 /// Publishes the answer of a packet, and what is ready then.
 #[inline(always)]
-fn publish_answer(
+fn publish_answer<K: EventSink>(
     arbiter: &mut Arbiter<Anything>,
     venue: VenueId,
     line: LineId,
+    packet: &Packet<'_>,
     answer: &Result<Outcome, LineFault>,
-    report: &mut ReplaySink,
+    report: &mut ReplaySink<K>,
 ) -> Result<(), PublishStop>
     requires { venue < report.old.journal.venues }
     ensures emits { (packets : List Input) → Fits arbiter.old packets
-        → EmitsInto (state_of_replay report.old)
-        (packet_answered venue line answer.now
+        → EmitsInto (record { takes = K.takes; fails = K.fails })
+        (state_of_replay report.old)
+        (packet_answered venue line packet.now.number (length packet.now.messages) answer.now
         ∷ map (item_taken venue) (drop (place_of packets arbiter.old.sent) (stream_of packets)))
         (state_of_replay report.new) result }
     ensures sent { OnOk result (SendsReady arbiter.old arbiter.new) }
 {
-    put_packet(&mut report.text, venue, line, answer)?;
+    tell_answer(venue, line, packet, answer, report)?;
     publish_ready(arbiter, venue, report)
 }
 
@@ -221,41 +250,47 @@ impl VenueReplay {
 
     /// Takes any packet, and publishes its outcome and each item that is ready then.
     #[inline(never)]
-    fn take_any(
+    fn take_any<K: EventSink>(
         &mut self,
         venue: VenueId,
         line: LineId,
         packet: &Packet<'_>,
-        report: &mut ReplaySink,
+        report: &mut ReplaySink<K>,
     ) -> Result<(), PublishStop>
         requires { venue < report.old.journal.venues }
-        ensures { PublishesPacket venue line packet.now self.old (state_of_replay report.old)
-            self.new (state_of_replay report.new) result }
+        ensures { PublishesPacket (record { takes = K.takes; fails = K.fails }) venue line
+            packet.now self.old (state_of_replay report.old) self.new
+            (state_of_replay report.new) result }
     {
         match self.arbiter.take(line, packet) {
-            Ok(outcome) => publish_answer(&mut self.arbiter, venue, line, &Ok(outcome), report),
-            Err(fault) => publish_answer(&mut self.arbiter, venue, line, &Err(fault), report),
+            Ok(outcome) => {
+                publish_answer(&mut self.arbiter, venue, line, packet, &Ok(outcome), report)
+            }
+            Err(fault) => {
+                publish_answer(&mut self.arbiter, venue, line, packet, &Err(fault), report)
+            }
         }
     }
 
     /// Takes a packet, and publishes its outcome and each item that is ready then. Most go past the
     /// window.
     #[inline(always)]
-    fn take_packet(
+    fn take_packet<K: EventSink>(
         &mut self,
         venue: VenueId,
         line: LineId,
         packet: &Packet<'_>,
-        report: &mut ReplaySink,
+        report: &mut ReplaySink<K>,
     ) -> Result<(), PublishStop>
         requires { venue < report.old.journal.venues }
-        ensures { PublishesPacket venue line packet.now self.old (state_of_replay report.old)
-            self.new (state_of_replay report.new) result }
+        ensures { PublishesPacket (record { takes = K.takes; fails = K.fails }) venue line
+            packet.now self.old (state_of_replay report.old) self.new
+            (state_of_replay report.new) result }
     {
         if !self.arbiter.is_next(packet) {
             return match self.arbiter.repeat(packet) {
                 Some(outcome) => {
-                    publish_answer(&mut self.arbiter, venue, line, &Ok(outcome), report)
+                    publish_answer(&mut self.arbiter, venue, line, packet, &Ok(outcome), report)
                 }
                 None => self.take_any(venue, line, packet, report),
             };
@@ -266,42 +301,45 @@ impl VenueReplay {
     }
 
     /// Takes a datagram of a line, and publishes its outcome and each item that is ready then.
-    fn take_datagram(
+    fn take_datagram<K: EventSink>(
         &mut self,
         venue: VenueId,
         line: LineId,
         bytes: &[u8],
-        report: &mut ReplaySink,
+        report: &mut ReplaySink<K>,
     ) -> Result<(), PublishStop>
         requires { venue < report.old.journal.venues }
         ensures { (width : ℕ) (h : History) → Follows width venue self.old h
-            → EmitsOne width false (datagram_record venue line bytes.now) h
+            → EmitsOne (record { takes = K.takes; fails = K.fails })
+            width false (datagram_record venue line bytes.now) h
             (state_of_replay report.old) (state_of_replay report.new) self.new result }
     {
         match read_packet(bytes) {
             Ok(packet) => self.take_packet(venue, line, &packet, report),
-            Err(fault) => {
-                put_fault(&mut report.text, venue, line, fault.code())?;
-                Ok(())
-            }
+            Err(fault) => report.tell(&Event::Refusal { venue, line, fault }),
         }
     }
 
     /// Publishes the gap, if one is left. It is a call of its own, so that the loop over records
     /// has the registers.
     #[inline(never)]
-    fn publish_gap(&self, venue: VenueId, report: &mut ReplaySink) -> Result<(), PublishStop>
+    fn publish_gap<K: EventSink>(
+        &self,
+        venue: VenueId,
+        report: &mut ReplaySink<K>,
+    ) -> Result<(), PublishStop>
         ensures { (P : List Input) → Fits self.now.arbiter P
-            → EmitsInto (state_of_replay report.old)
+            → EmitsInto (record { takes = K.takes; fails = K.fails })
+            (state_of_replay report.old)
             (gap_event venue
             (gap_of self.now.arbiter.session self.now.arbiter.window self.now.arbiter.sent P))
             (state_of_replay report.new) result }
     {
         match self.arbiter.gap() {
-            Some(request) => {
-                put_gap(&mut report.text, venue, &request)?;
-                Ok(())
-            }
+            Some(request) => report.tell(&Event::Gap {
+                venue,
+                request: &request,
+            }),
             None => Ok(()),
         }
     }
@@ -309,17 +347,18 @@ impl VenueReplay {
     /// Takes a datagram of a line, and publishes its outcome, each item that is ready then, and
     /// where gaps are asked for the one that is left.
     #[inline(always)]
-    pub fn take(
+    pub fn take<K: EventSink>(
         &mut self,
         venue: VenueId,
         line: LineId,
         bytes: &[u8],
         gaps: bool,
-        report: &mut ReplaySink,
+        report: &mut ReplaySink<K>,
     ) -> Result<(), PublishStop>
         requires { venue < report.old.journal.venues }
         ensures { (width : ℕ) (h : History) → Follows width venue self.old h
-            → EmitsOne width gaps (datagram_record venue line bytes.now) h
+            → EmitsOne (record { takes = K.takes; fails = K.fails })
+            width gaps (datagram_record venue line bytes.now) h
             (state_of_replay report.old) (state_of_replay report.new) self.new result }
     {
         let emitted = self.take_datagram(venue, line, bytes, report);
@@ -344,19 +383,22 @@ impl VenueReplay {
 
     /// Begins the next session under this name, where it may begin, and publishes the answer.
     #[inline(never)]
-    pub fn renew(
+    pub fn renew<K: EventSink>(
         &mut self,
         venue: VenueId,
         session: [u8; 10],
-        report: &mut ReplaySink,
+        report: &mut ReplaySink<K>,
     ) -> Result<(), PublishStop>
         ensures { (width : ℕ) (gaps : Bool) (h : History) → Follows width venue self.old h
-            → EmitsOne width gaps (renewal_record venue session) h
+            → EmitsOne (record { takes = K.takes; fails = K.fails })
+            width gaps (renewal_record venue session) h
             (state_of_replay report.old) (state_of_replay report.new) self.new result }
     {
         let answer = self.next_session(session);
-        put_renewal(&mut report.text, venue, &answer)?;
-        Ok(())
+        report.tell(&Event::Renewal {
+            venue,
+            answer: &answer,
+        })
     }
 
     /// Gives up what is missing below the number, where it may be. Nothing that it makes ready is
@@ -375,47 +417,58 @@ impl VenueReplay {
     /// Gives up what is missing below the number, where it may be, and publishes the answer and
     /// each item that is ready then.
     #[inline(never)]
-    pub fn skip_to(
+    pub fn skip_to<K: EventSink>(
         &mut self,
         venue: VenueId,
         number: u64,
-        report: &mut ReplaySink,
+        report: &mut ReplaySink<K>,
     ) -> Result<(), PublishStop>
         requires { venue < report.old.journal.venues }
         ensures { (width : ℕ) (gaps : Bool) (h : History) → Follows width venue self.old h
-            → EmitsOne width gaps (skip_record venue number) h
+            → EmitsOne (record { takes = K.takes; fails = K.fails })
+            width gaps (skip_record venue number) h
             (state_of_replay report.old) (state_of_replay report.new) self.new result }
     {
         let answer = self.give_up(number);
-        put_skip(&mut report.text, venue, number, &answer)?;
+        report.tell(&Event::Skip {
+            venue,
+            number,
+            answer: &answer,
+        })?;
         publish_each(&mut self.arbiter, venue, report)
     }
 
-    /// Appends what the venue lacks, if it lacks anything.
-    pub fn put_lack(&self, lacks: &mut Vec<Lack>) -> Result<(), AllocError>
-        ensures { OnOk result
-            ((width place : ℕ) (h : History) → Follows width place self.now h
-            → lacks.new.items ≡ lacks.old.items ++ lack_of width place h) }
+    /// Appends what the venue lacks, if it lacks anything. There is memory for it.
+    pub fn put_lack(&self, lacks: &mut Vec<Lack>)
+        requires { length lacks.old.items < vec_capacity lacks.old }
+        ensures lack { (width place : ℕ) (h : History) → Follows width place self.now h
+            → lacks.new.items ≡ lacks.old.items ++ lack_of width place h }
+        ensures most { length lacks.new.items ≤ length lacks.old.items + 1 }
+        ensures capacity { vec_capacity lacks.new ≡ vec_capacity lacks.old }
     {
         if let Some(gap) = self.arbiter.gap() {
-            lacks.push(Lack::of(self.arbiter.venue(), &gap))?;
+            lacks.push_reserved(Lack::of(self.arbiter.venue(), &gap));
         }
-        Ok(())
     }
 
-    /// Appends the venue's last line.
-    pub fn put_last(&self, text: &mut LineBuffer) -> Result<(), AllocError>
-        ensures { OnOk result
+    /// Gives the sink the venue's last event.
+    pub fn tell_last<K: EventSink>(&self, sink: &mut K) -> Result<(), SinkStop>
+        ensures took { OnOk result
             ((width place : ℕ) (h : History) → Follows width place self.now h
-            → text.new.items ≡ text.old.items ++ last_line place h) }
+            → K.takes sink.old (timed_event None (last_told place h) ∷ []) sink.new) }
+        ensures failed { OnErr result
+            ((width place : ℕ) (h : History) → Follows width place self.now h
+            → K.fails sink.old (timed_event None (last_told place h) ∷ []) sink.new) }
     {
-        put_venue(
-            text,
-            self.arbiter.venue(),
-            self.sent(),
-            self.arbiter.wins(LineId::A),
-            self.arbiter.wins(LineId::B),
-            self.arbiter.wins(LineId::Recovery),
+        sink.take(
+            None,
+            &Event::Last {
+                venue: self.arbiter.venue(),
+                sent: self.sent(),
+                a: self.arbiter.wins(LineId::A),
+                b: self.arbiter.wins(LineId::B),
+                recovery: self.arbiter.wins(LineId::Recovery),
+            },
         )
     }
 }

@@ -1,15 +1,17 @@
 //! The venues of a replay.
-ghost use Rattle.std.specs.Prelude.{◌≡◌, ◌<◌, ◌≤◌, ℕ, List, IfOk, MatchOption, OnOk, length, map};
+ghost use Rattle.std.specs.Prelude.{◌≡◌, ◌<◌, ◌≤◌, ◌+◌, ℕ, List, IfOk, MatchOption, None, OnErr, OnOk, length, map, vec_capacity};
 ghost use Rattle.feed_text.specs.Capture.{IsRecord, datagram_record, record_of, skip_record};
 ghost use Rattle.feed_types.specs.declared.line.LineId.{LineId};
 ghost use Rattle.line_arbiter.specs.Histories.{History, new_history};
+ghost use Rattle.feed_text.specs.SinkEvents.{at_time};
+ghost use Rattle.feed_text.specs.Tellings.{lasts_told};
 ghost use Rattle.feed_text.specs.ReplayStates.{state_of_replay};
-ghost use Rattle.feed_text.specs.Following.{FollowAll, LeavesLacks, PrintsLast, TakesRecord};
+ghost use Rattle.feed_text.specs.Following.{FollowAll, LeavesLacks, TakesRecord};
 ghost use Rattle.feed_text.specs.Rules.{PutsIn};
 
 use crate::capture::Record;
+use crate::event_sink::{EventSink, SinkStop};
 use crate::lack::Lack;
-use crate::page::LineBuffer;
 use crate::replay::ReplayConfig;
 use crate::report::{PublishStop, ReplaySink};
 use crate::venue::VenueReplay;
@@ -58,15 +60,16 @@ impl Venues {
 
     /// Gives up what the venue lacks below the number, where it may be, and publishes the events of
     /// that.
-    pub fn skip_to(
+    pub fn skip_to<K: EventSink>(
         &mut self,
         venue: VenueId,
         number: u64,
-        report: &mut ReplaySink,
+        report: &mut ReplaySink<K>,
     ) -> Result<(), PublishStop>
         requires venue { venue < length self.old.items }
         requires venues { report.old.journal.venues ≡ length self.old.items }
-        ensures { TakesRecord self.old (skip_record venue number)
+        ensures { TakesRecord (record { takes = K.takes; fails = K.fails }) self.old
+            (skip_record venue number)
             (state_of_replay report.old) (state_of_replay report.new) self.new result }
     {
         let replay = &mut self.venues[venue.index()];
@@ -74,14 +77,19 @@ impl Venues {
     }
 
     /// Takes a record, and publishes its events. After a stop no other record can be taken: for a
-    /// full journal all events that had room were published, and where memory was refused some may
-    /// be.
+    /// full journal all events that had room were published, and where the sink failed it did so
+    /// within some of the first.
     // For the reason that parse_record is inlined, too.
     #[inline(always)]
-    pub fn take(&mut self, next: Record<'_>, report: &mut ReplaySink) -> Result<(), PublishStop>
+    pub fn take<K: EventSink>(
+        &mut self,
+        next: Record<'_>,
+        report: &mut ReplaySink<K>,
+    ) -> Result<(), PublishStop>
         requires kind { IsRecord (length self.old.items) (record_of next) }
         requires venues { report.old.journal.venues ≡ length self.old.items }
-        ensures { TakesRecord self.old (record_of next.entry)
+        ensures { TakesRecord (record { takes = K.takes; fails = K.fails }) self.old
+            (record_of next.entry)
             (state_of_replay report.old) (state_of_replay report.new) self.new result }
     {
         match next {
@@ -118,22 +126,27 @@ impl Venues {
         replay.skip_before_datagram(config.skips, config.window, bytes)
     }
 
-    /// Appends what each venue lacks, of each that lacks anything.
-    pub fn put_lacks(&self, lacks: &mut Vec<Lack>) -> Result<(), AllocError>
-        ensures { OnOk result (LeavesLacks self.now lacks.old.items lacks.new.items) }
+    /// Appends what each venue lacks, of each that lacks anything. There is memory for them.
+    pub fn put_lacks(&self, lacks: &mut Vec<Lack>)
+        requires { length lacks.old.items + length self.now.items ≤ vec_capacity lacks.old }
+        ensures { LeavesLacks self.now lacks.old.items lacks.new.items }
     {
         for venue in &self.venues {
-            venue.put_lack(lacks)?;
+            venue.put_lack(lacks);
         }
-        Ok(())
     }
 
-    /// Appends the venues' last lines.
-    pub fn put_last(&self, text: &mut LineBuffer) -> Result<(), AllocError>
-        ensures { OnOk result (PrintsLast self.now text.old.items text.new.items) }
+    /// Gives the sink the venues' last events.
+    pub fn tell_last<K: EventSink>(&self, sink: &mut K) -> Result<(), SinkStop>
+        ensures took { OnOk result
+            ((window : ℕ) (hs : List History) → FollowAll window self.now.items hs
+            → K.takes sink.old (at_time None (lasts_told 0 hs)) sink.new) }
+        ensures failed { OnErr result
+            ((window : ℕ) (hs : List History) → FollowAll window self.now.items hs
+            → K.fails sink.old (at_time None (lasts_told 0 hs)) sink.new) }
     {
         for venue in &self.venues {
-            venue.put_last(text)?;
+            venue.tell_last(sink)?;
         }
         Ok(())
     }

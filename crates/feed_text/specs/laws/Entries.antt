@@ -1,25 +1,15 @@
--- The entries and the text of events after events, and that a journal only grows.
-use Rattle.std.proofs.Common.{◌≡◌, ℕ, Bool, true, false, ◌≤◌, List, [], ◌∷◌, ◌++◌, length, refl, sym, ap, ◌∙◌, arith, append_assoc, length-append}
+-- The entries of events after events, and that a journal only grows.
+use Rattle.std.proofs.Common.{◌≡◌, Bool, true, false, ◌≤◌, List, [], ◌∷◌, ◌++◌, length, refl, arith, length-append}
 use Rattle.std.specs.Prelude.{if◌then◌else◌}
 use Rattle.feed_types.specs.declared.journal.Entry.{Entry}
 use Rattle.feed_types.specs.declared.journal.Entry.TheVariants.{Consumed, SelfHelp}
 use Rattle.nbbo_book.specs.Eligible.{is_so}
 use Rattle.feed_text.specs.ReplayEvents.{ReplayEvent, packet_answered, packet_refused, item_taken, gap_left, renewal_answered, skip_answered, self_help_declared, entries_after, entries_of}
-use Rattle.feed_text.specs.Texts.{lines_of, text_of}
 
 pub entries_more : (old : List Entry) (xs ys : List ReplayEvent)
     → entries_of old (xs ++ ys) ≡ entries_of (entries_of old xs) ys
 entries_more old [] ys = refl
 entries_more old (x ∷ xs) ys = entries_more (entries_after old x) xs ys
-
-pub text_more : (symbols : List (List ℕ)) (old : List Entry) (xs ys : List ReplayEvent)
-    → text_of symbols old (xs ++ ys)
-    ≡ text_of symbols old xs ++ text_of symbols (entries_of old xs) ys
-text_more symbols old [] ys = refl
-text_more symbols old (x ∷ xs) ys =
-    ap (λ (t : List ℕ). lines_of symbols old x ++ t) (text_more symbols (entries_after old x) xs ys)
-    ∙ sym (append_assoc (lines_of symbols old x) (text_of symbols (entries_after old x) xs)
-    (text_of symbols (entries_of (entries_after old x) xs) ys))
 
 if_grows : (b : Bool) (old : List Entry) (e : Entry)
     → length old ≤ length (if b then old else old ++ e ∷ [])
@@ -27,7 +17,7 @@ if_grows true old e = omega arith
 if_grows false old e = let n = length-append old (e ∷ []) in omega arith
 
 after_grows : (old : List Entry) (h : ReplayEvent) → length old ≤ length (entries_after old h)
-after_grows old (packet_answered venue line answer) = omega arith
+after_grows old (packet_answered venue line number count answer) = omega arith
 after_grows old (packet_refused venue line fault) = omega arith
 after_grows old (item_taken venue numbered) =
     let n = length-append old (Consumed venue numbered ∷ []) in omega arith

@@ -74,10 +74,11 @@ no_gap_items place window true venue h =
 
 -- of a packet's events
 packet_items : (place window : ℕ) (gaps : Bool) (venue : ℕ) (line : LineId)
-    (answer : Result Outcome LineFault) (xs : List Numbered) (h : History)
-    → items_taken place (packet_answered venue line answer ∷ map (item_taken venue) xs ++
-    gap_emitted window gaps venue h) ≡ items_taken place (map (item_taken venue) xs)
-packet_items place window gaps venue line answer xs h =
+    (number count : ℕ) (answer : Result Outcome LineFault) (xs : List Numbered) (h : History)
+    → items_taken place (packet_answered venue line number count answer
+    ∷ map (item_taken venue) xs ++ gap_emitted window gaps venue h)
+    ≡ items_taken place (map (item_taken venue) xs)
+packet_items place window gaps venue line number count answer xs h =
     flat_map-append (taken_by place) (map (item_taken venue) xs) (gap_emitted window gaps venue h)
     ∙ ap (λ (ys : List Numbered). items_taken place (map (item_taken venue) xs) ++ ys)
     (no_gap_items place window gaps venue h)
@@ -109,7 +110,8 @@ module _ (window : ℕ) (gaps : Bool) (venue : ℕ) where
   ready_items line bytes old new emitted t =
       let ready : List Numbered = drop (stream_length old) (stream_of new.present.packets) in
       ap (items_taken venue) t.emitted_is
-      ∙ packet_items venue window gaps venue line t.answer ready new ∙ items_same venue ready
+      ∙ packet_items venue window gaps venue line t.packet.number
+      (length t.packet.messages) t.answer ready new ∙ items_same venue ready
 
   -- the items that a skip made ready
   pub skip_items : (number : ℕ) (old new : History) (emitted : List ReplayEvent)
@@ -205,7 +207,8 @@ no_items : (window : ℕ) (gaps : Bool) (place : ℕ) (r : CaptureRecord) (old n
 no_items window gaps place (datagram_record venue line bytes) old new emitted away t = elim t [
   | inl f ↦ ap (items_taken place) f.emitted_is ∙ no_gap_items place window gaps venue new
   | inr p ↦ ap (items_taken place) p.emitted_is
-      ∙ packet_items place window gaps venue line p.answer
+      ∙ packet_items place window gaps venue line p.packet.number
+      (length p.packet.messages) p.answer
       (drop (stream_length old) (stream_of new.present.packets)) new
       ∙ items_other place venue (drop (stream_length old) (stream_of new.present.packets)) away
 ]

@@ -1,20 +1,32 @@
-use Rattle.std.proofs.Common.{[], ◌∷◌, refl}
+use Rattle.std.proofs.Common.{[], ◌∷◌, length}
 use Rattle.std.specs.Prelude.{drop, map}
 use Rattle.std.proofs.lemmas.Result.{err_from_is_err_and}
 use Rattle.line_arbiter.specs.Streams.{place_of, stream_of}
-use Rattle.feed_text.specs.ReplayEvents.{item_taken, packet_answered}
+use Rattle.feed_text.specs.ReplayEvents.{ReplayEvent, item_taken, packet_answered}
 use Rattle.feed_text.specs.ReplayStates.{state_of_replay}
-use Rattle.feed_text.proofs.Tales.{grows_as, line_goes, tells_more}
+use Rattle.feed_text.proofs.Tales.{SinkLaws, laws_by, tells_more, tells_stop}
+use Rattle.feed_text.proofs.venue.publish_answer.Given.{Over}
 use Rattle.feed_text.proofs.venue.publish_answer.Goals as goal
 
+laws_of : (g : Over) → SinkLaws (record { takes = g.K.EventSink.takes; fails = g.K.EventSink.fails })
+laws_of g = laws_by g.met.K.EventSink.takes_none g.met.K.EventSink.takes_more g.met.K.EventSink.fails_after g.met.K.EventSink.fails_longer
+
 pub returns-clause-emits : goal.returns-clause-emits
-returns-clause-emits c = λ packets f.
-    tells_more (state_of_replay c.publish_ready.new.report) (packet_answered c.args.venue c.args.line c.args.answer.now ∷ [])
+returns-clause-emits g c = λ packets f.
+    let answered : ReplayEvent = packet_answered c.args.venue c.args.line c.args.packet.now.number (length c.args.packet.now.messages) c.args.answer.now in
+    tells_more (laws_of g) (state_of_replay c.publish_ready.new.report) (answered ∷ [])
     (map (item_taken c.args.venue) (drop (place_of packets c.args.arbiter.now.sent) (stream_of packets))) c.publish_ready.result
-    (line_goes (state_of_replay c.args.report.now) (packet_answered c.args.venue c.args.line c.args.answer.now) c.put_packet.new.text.items refl c.in_ok-put_packet.ensures.line)
+    c.in_ok-tell_answer.ensures
     (c.publish_ready.ensures.emits packets f)
 
-pub returns-in_err-put_packet-clause-emits : goal.returns-in_err-put_packet-clause-emits
-returns-in_err-put_packet-clause-emits c = λ packets f.
+pub publish_ready-requires : goal.publish_ready-requires
+publish_ready-requires g c = rw c.in_ok-tell_answer.ensures.venues c.requires
+
+pub returns-in_err-tell_answer-clause-emits : goal.returns-in_err-tell_answer-clause-emits
+returns-in_err-tell_answer-clause-emits g c = λ packets f.
+    let answered : ReplayEvent = packet_answered c.args.venue c.args.line c.args.packet.now.number (length c.args.packet.now.messages) c.args.answer.now in
     let p = err_from_is_err_and c.from_residual.result c.from_residual.ensures.1 in
-    rw (p.1, p.2) (grows_as c.in_err-put_packet.ensures.part)
+    rw (p.1, p.2)
+    (tells_stop (record { takes = g.K.EventSink.takes; fails = g.K.EventSink.fails }) (state_of_replay c.args.report.now) (state_of_replay c.tell_answer.new.report) (answered ∷ [])
+    (map (item_taken c.args.venue) (drop (place_of packets c.args.arbiter.now.sent) (stream_of packets))) c.in_err-tell_answer.field-0.0
+    c.in_err-tell_answer.ensures)

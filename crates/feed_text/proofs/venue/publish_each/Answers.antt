@@ -7,33 +7,37 @@ use Rattle.line_arbiter.specs.laws.FitsHistory.{keeping_all_but_sent_is_reflexiv
 use Rattle.feed_text.specs.ReplayEvents.{item_taken}
 use Rattle.feed_text.specs.ReplayStates.{state_of_replay}
 use Rattle.feed_text.proofs.Rest.{rest_at, rest_end, rest_next, no_more}
-use Rattle.feed_text.proofs.Tales.{took_none, took_one, took_all, took_stop, same_venues}
+use Rattle.feed_text.proofs.Tales.{SinkLaws, laws_by, took_none, took_one, took_all, took_stop}
+use Rattle.feed_text.proofs.venue.publish_each.Given.{Over}
 use Rattle.feed_text.proofs.venue.publish_each.Goals as goal
 
+laws_of : (g : Over) → SinkLaws (record { takes = g.K.EventSink.takes; fails = g.K.EventSink.fails })
+laws_of g = laws_by g.met.K.EventSink.takes_none g.met.K.EventSink.takes_more g.met.K.EventSink.fails_after g.met.K.EventSink.fails_longer
+
 pub loop-next-init : goal.loop-next-init
-loop-next-init c = record {
+loop-next-init g c = record {
   fits = λ P f. f;
   kept = keeping_all_but_sent_is_reflexive;
   venues = refl;
-  emitted = λ P f. took_none _ (state_of_replay c.args.report.now);
+  emitted = λ P f. took_none (laws_of g) _ (state_of_replay c.args.report.now);
 }
 
 pub loop-next-preserved : goal.loop-next-preserved
-loop-next-preserved c = record {
+loop-next-preserved g c = record {
   fits = λ P f. c.advance.ensures.fits P (c.loop-next.invariant.fits P f);
   kept = keeping_all_but_sent_is_transitive c.loop-next.invariant.kept c.advance.ensures.after.kept;
-  venues = same_venues _ c.in_ok-take_item.ensures ∙ c.loop-next.invariant.venues;
+  venues = c.in_ok-take_item.ensures.venues ∙ c.loop-next.invariant.venues;
   emitted = λ P f.
       let fits = c.loop-next.invariant.fits P f in
       let one_more : place_of P c.advance.new.self.sent ≡ place_of P c.loop-next.arbiter.sent + 1 =
       ap (place_of P) c.advance.ensures.after.sent ∙ place_next fits in
-      took_one (item_taken c.args.venue c.in-Some.next) _
+      took_one (laws_of g) (item_taken c.args.venue c.in-Some.next) _
       (ap (map (item_taken c.args.venue)) (rest_next (stream_of P) (place_of P c.loop-next.arbiter.sent) (place_of P c.advance.new.self.sent) c.in-Some.next (c.in-Some.ensures.stream P fits) one_more))
       (c.loop-next.invariant.emitted P f) c.in_ok-take_item.ensures;
 }
 
 pub returns : goal.returns
-returns c = record {
+returns g c = record {
   emits = λ P f.
       let here = c.next_ready.ensures.stream P (c.loop-next.invariant.fits P f) in
       took_all (ap (map (item_taken c.args.venue)) (rest_end (stream_of P) (place_of P c.loop-next.arbiter.sent) (sym c.in_default.is ∙ here))) (c.loop-next.invariant.emitted P f);
@@ -49,11 +53,11 @@ returns c = record {
 }
 
 pub returns-in_err-take_item : goal.returns-in_err-take_item
-returns-in_err-take_item c =
+returns-in_err-take_item g c =
     let p = err_from_is_err_and c.from_residual.result c.from_residual.ensures.1 in
     rw (p.1, p.2) (record {
       emits = λ P f.
-          took_stop (state_of_replay c.take_item.new.self) (item_taken c.args.venue c.in-Some.next) _ c.in_err-take_item.field-0.0
+          took_stop (laws_of g) (state_of_replay c.take_item.new.self) (item_taken c.args.venue c.in-Some.next) _ c.in_err-take_item.field-0.0
           (ap (map (item_taken c.args.venue)) (rest_at (stream_of P) (place_of P c.loop-next.arbiter.sent) c.in-Some.next (c.in-Some.ensures.stream P (c.loop-next.invariant.fits P f))))
           (c.loop-next.invariant.emitted P f) c.in_err-take_item.ensures;
       sent = tt;

@@ -10,12 +10,12 @@ use Rattle.feed_text.proofs.Tales.{Took}
 use Rattle.feed_text.proofs.venue.publish_each.Given as goal
 
 abbrev pub invariant-loop-next : goal.invariant-loop-next
-invariant-loop-next l = record {
+invariant-loop-next g l = record {
   fits : (P : List Input) → Fits l.fn.arbiter P → Fits l.arbiter P;
   kept : KeepsAllButSent l.fn.arbiter l.arbiter;
   venues : l.report.journal.venues ≡ l.fn.report.journal.venues;
-  emitted : (P : List Input) → Fits l.fn.arbiter P → Took (map (item_taken l.venue) (drop (place_of P l.fn.arbiter.sent) (stream_of P))) (map (item_taken l.venue) (drop (place_of P l.arbiter.sent) (stream_of P))) (state_of_replay l.fn.report) (state_of_replay l.report);
+  emitted : (P : List Input) → Fits l.fn.arbiter P → Took (record { takes = g.K.EventSink.takes; fails = g.K.EventSink.fails }) (map (item_taken l.venue) (drop (place_of P l.fn.arbiter.sent) (stream_of P))) (map (item_taken l.venue) (drop (place_of P l.arbiter.sent) (stream_of P))) (state_of_replay l.fn.report) (state_of_replay l.report);
 }
 
 abbrev pub decreases-loop-next : goal.decreases-loop-next
-decreases-loop-next l = 2 ^ 64 - l.arbiter.sent
+decreases-loop-next g l = 2 ^ 64 - l.arbiter.sent

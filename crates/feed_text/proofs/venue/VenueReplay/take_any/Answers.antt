@@ -5,7 +5,7 @@ use Rattle.feed_text.proofs.VenueSteps.{answered_told}
 use Rattle.feed_text.proofs.venue.VenueReplay.take_any.Goals as goal
 
 pub returns-in-Ok : goal.returns-in-Ok
-returns-in-Ok c = λ width h f.
+returns-in-Ok g c = λ width h f.
     answered_told width c.args.venue h
     (record { arbiter = c.self.inside.arbiter; sent_before = c.self.inside.sent_before; opens_after = c.self.inside.opens_after })
     c.take.new.self c.publish_answer.new.arbiter c.args.line c.args.packet.now (Ok c.in-Ok.outcome)
@@ -15,7 +15,7 @@ returns-in-Ok c = λ width h f.
     c.publish_answer.ensures.emits c.publish_answer.ensures.sent
 
 pub returns-in-Err : goal.returns-in-Err
-returns-in-Err c = λ width h f.
+returns-in-Err g c = λ width h f.
     answered_told width c.args.venue h
     (record { arbiter = c.self.inside.arbiter; sent_before = c.self.inside.sent_before; opens_after = c.self.inside.opens_after })
     c.take.new.self c.publish_answer-in-Err.new.arbiter c.args.line c.args.packet.now (Err c.in-Err.fault)

@@ -8,8 +8,8 @@ use Rattle.feed_text.proofs.VenueSteps.{answered_told}
 use Rattle.feed_text.proofs.venue.VenueReplay.take_packet.Goals as goal
 
 pub returns : goal.returns
-returns c = λ width h f.
-    subst (λ (r : ReplaySink). EmitsOutcome width c.args.venue c.args.line c.args.packet.now h (state_of_replay r) (state_of_replay c.publish_next.new.report)
+returns g c = λ width h f.
+    subst (λ (r : ReplaySink g.row.K.Denot). EmitsOutcome (record { takes = g.K.EventSink.takes; fails = g.K.EventSink.fails }) width c.args.venue c.args.line c.args.packet.now h (state_of_replay r) (state_of_replay c.publish_next.new.report)
     (record { arbiter = c.publish_next.new.arbiter; sent_before = c.self.inside.sent_before; opens_after = c.self.inside.opens_after }) c.publish_next.result) c.look_ahead.ensures
     (passed_told width c.args.venue h
     (record { arbiter = c.self.inside.arbiter; sent_before = c.self.inside.sent_before; opens_after = c.self.inside.opens_after })
@@ -22,7 +22,7 @@ returns c = λ width h f.
     c.publish_next.ensures.emits c.publish_next.ensures.sent)
 
 pub returns-in-Some : goal.returns-in-Some
-returns-in-Some c = λ width h f.
+returns-in-Some g c = λ width h f.
     answered_told width c.args.venue h
     (record { arbiter = c.self.inside.arbiter; sent_before = c.self.inside.sent_before; opens_after = c.self.inside.opens_after })
     c.self.inside.arbiter c.publish_answer.new.arbiter c.args.line c.args.packet.now (Ok c.in-Some.outcome)

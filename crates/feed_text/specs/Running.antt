@@ -1,0 +1,159 @@
+-- What is known while a replay runs. Cited by private clauses alone.
+use Rattle.std.specs.Prelude.{◌≡◌, ◌⊎◌, ℕ, ◌+◌, ◌≤◌, List, [], ◌∷◌, length, map, None, Result, Ok, Err}
+use Rattle.journal_book.specs.NumberedBooks.{NumberedState, new_numbered}
+use Rattle.line_arbiter.specs.Histories.{History}
+use Rattle.feed_text.specs.declared.replay.ReplayConfig.{ReplayConfig}
+use Rattle.feed_text.specs.declared.replay_stop.ReplayStop.{ReplayStop}
+use Rattle.feed_text.specs.declared.replay_stop.ReplayStop.TheVariants.{JournalFull, SinkFailed}
+use Rattle.feed_text.specs.declared.report.PublishStop.{PublishStop}
+use Rattle.feed_text.specs.declared.report.PublishStop.TheVariants as stops
+use Rattle.feed_text.specs.Devices.{Reading}
+use Rattle.feed_text.specs.Emitted.{EmitsRecord, Emits}
+use Rattle.feed_text.specs.EventReplays.{AnswersRun, venues_in}
+use Rattle.feed_text.specs.Following.{ReplayVenue, VenueList, FollowAll}
+use Rattle.feed_text.specs.Formats.{TimedRecord, Parsing, HasReadRecords, what_of}
+use Rattle.feed_text.specs.ReplayEvents.{ReplayEvent}
+use Rattle.feed_text.specs.ReplayStates.{SinkTaking, ReplayState, EmitsInto, GoesOn}
+use Rattle.feed_text.specs.Rules.{AreTakenOf, IsTakenNext, PutsIn}
+use Rattle.feed_text.specs.SinkEvents.{TimedEvent, at_time}
+use Rattle.feed_text.specs.Tellings.{lasts_told}
+use Rattle.feed_text.specs.Texts.{HasJournalRoom, new_histories}
+use Rattle.feed_text.specs.Told.{AreAllTaken, TakenEmit, told_facts, told_first}
+
+-- The venues stay as many, and gap lines are asked for as before.
+pub record KeepsVenues (from to : VenueList) : Type 0 where
+  pub gaps : to.gaps ≡ from.gaps
+  pub count : length to.items ≡ length from.items
+
+-- the venues follow some histories
+abbrev pub FollowSome : ReplayConfig → VenueList → Type 0
+FollowSome config at = (hs : List History) × FollowAll config.window at.items hs
+
+-- These were taken of a record that was read last, the skips before it or these and itself, and
+-- their events were emitted.
+pub record TookSome {K : Type 0} (taking : SinkTaking K) (config : ReplayConfig)
+    (read left : List TimedRecord) (hs : List History) (old new : ReplayState K)
+    (after : List History) : Type 0 where
+  pub taken : List TimedRecord
+  pub emitted : List ReplayEvent
+  pub are : AreTakenOf config read hs taken left after
+  pub emits : Emits config.window config.gaps (map what_of taken) hs emitted after
+  pub goes : GoesOn taking old emitted new
+
+-- A record was taken, after the skips that the rule puts in before it, and the venues follow the
+-- histories after it.
+pub record TookNext {K : Type 0} (taking : SinkTaking K) (config : ReplayConfig)
+    (r : TimedRecord) (hs : List History) (old new : ReplayState K) (vs : List ReplayVenue)
+    : Type 0 where
+  pub after : List History
+  pub took : TookSome taking config (r ∷ []) [] hs old new after
+  pub follow : FollowAll config.window vs after
+
+-- The skips before a record were taken, and the venues follow the histories after them: none is put
+-- in any more.
+pub record TookSkips {K : Type 0} (taking : SinkTaking K) (config : ReplayConfig)
+    (r : TimedRecord) (hs : List History) (old new : ReplayState K) (vs : List ReplayVenue)
+    : Type 0 where
+  pub after : List History
+  pub took : TookSome taking config (r ∷ []) (r ∷ []) hs old new after
+  pub follow : FollowAll config.window vs after
+  pub none : (number : ℕ) → PutsIn config after r.what number → ⊥
+
+-- A stop came within a record, or within a skip before it.
+pub record StoppedAt {K : Type 0} (taking : SinkTaking K) (config : ReplayConfig)
+    (r : TimedRecord) (hs : List History) (old new : ReplayState K) (stop : PublishStop)
+    : Type 0 where
+  pub mid : List History
+  pub state : ReplayState K
+  pub took : TookSome taking config (r ∷ []) (r ∷ []) hs old state mid
+  pub last : TimedRecord
+  pub left : List TimedRecord
+  pub is_last : IsTakenNext config mid (r ∷ []) last left
+  pub emitted : List ReplayEvent
+  pub after : List History
+  pub last_tells : EmitsRecord config.window config.gaps last.what mid emitted after
+  pub stopped : EmitsInto taking state emitted new (Err stop)
+
+-- A record and the skips before it, by the answer; or the skips before it alone.
+abbrev pub TakesNext : {K : Type 0} → SinkTaking K → ReplayConfig → TimedRecord → List History
+    → ReplayState K → ReplayState K → List ReplayVenue → Result (Unit {0}) PublishStop → Type 0
+TakesNext taking config r hs old new vs (Ok done) = TookNext taking config r hs old new vs
+TakesNext taking config r hs old new vs (Err stop) = StoppedAt taking config r hs old new stop
+
+abbrev pub TakesSkips : {K : Type 0} → SinkTaking K → ReplayConfig → TimedRecord → List History
+    → ReplayState K → ReplayState K → List ReplayVenue → Result (Unit {0}) PublishStop → Type 0
+TakesSkips taking config r hs old new vs (Ok done) = TookSkips taking config r hs old new vs
+TakesSkips taking config r hs old new vs (Err stop) = StoppedAt taking config r hs old new stop
+
+-- Nothing came yet.
+pub record IsReplayStart (config : ReplayConfig) (held : List ℕ) (at : VenueList)
+    (journal : NumberedState) : Type 0 where
+  pub unread : held ≡ []
+  pub follow : FollowAll config.window at.items (new_histories config)
+  pub gaps : at.gaps ≡ config.gaps
+  pub journal_is : journal ≡ new_numbered config.symbols.now (venues_in config) config.journal
+
+-- The sink showed what it took, and the stop is this one; or it failed.
+abbrev pub ShowsBefore : {F K : Type 0} → (K → List TimedEvent → K → Type 0)
+    → (K → List TimedEvent → K → Type 0) → (K → Type 0) → ReplayStop F → K → K → ReplayStop F
+    → Type 0
+ShowsBefore takes fails is_shown stop before after result =
+    ((result ≡ stop) × takes before [] after × is_shown after)
+    ⊎ ((result ≡ SinkFailed) × fails before [] after)
+
+-- The same for a full journal; where the sink failed it is left as it is.
+abbrev pub StopsShown : {F K : Type 0} → (K → List TimedEvent → K → Type 0)
+    → (K → List TimedEvent → K → Type 0) → (K → Type 0) → PublishStop → K → K → ReplayStop F
+    → Type 0
+StopsShown takes fails is_shown stops.JournalFull before after result =
+    ShowsBefore takes fails is_shown JournalFull before after result
+StopsShown takes fails is_shown stops.SinkFailed before after result =
+    (result ≡ SinkFailed) × (after ≡ before)
+
+-- The sink took the venues' last events, whatever histories the venues follow, and shows all; or it
+-- failed within them.
+abbrev pub ClosesSink : {F K : Type 0} → (K → List TimedEvent → K → Type 0)
+    → (K → List TimedEvent → K → Type 0) → (K → Type 0) → VenueList → K → K
+    → Result (Unit {0}) (ReplayStop F) → Type 0
+ClosesSink takes fails is_shown at before after (Ok done) =
+    ((window : ℕ) (hs : List History) → FollowAll window at.items hs
+    → takes before (at_time None (lasts_told 0 hs)) after)
+    × is_shown after
+ClosesSink takes fails is_shown at before after (Err SinkFailed) =
+    (window : ℕ) (hs : List History) → FollowAll window at.items hs
+    → fails before (at_time None (lasts_told 0 hs)) after
+ClosesSink takes fails is_shown at before after _ = ⊥
+
+-- A whole capture was read by fewer than `turns` calls, one more call showed the end, the sink took
+-- what its records tell, and the venues follow the histories that they lead to.
+pub record RanToEnd {R S F K : Type 0} (reading : Reading R) (parsing : Parsing S F)
+    (taking : SinkTaking K) (config : ReplayConfig) (from to : R) (start finish : S)
+    (before after : K) (vs : List ReplayVenue) : Type 0 where
+  pub records : List TimedRecord
+  pub calls : ℕ
+  pub mid : R
+  pub within : calls + 1 ≤ config.turns
+  pub read : HasReadRecords reading parsing (venues_in config) from calls mid start records finish
+      []
+  pub is_whole : parsing.is_whole finish
+  pub end : reading.ends mid to
+  pub taken : List TimedRecord
+  pub emitted : List ReplayEvent
+  pub histories : List History
+  pub are_taken : AreAllTaken config records taken histories
+  pub emits : TakenEmit config taken emitted histories
+  pub room : HasJournalRoom config emitted
+  pub follow : FollowAll config.window vs histories
+  pub count : length vs ≡ venues_in config
+  pub took : taking.takes before (told_first config taken emitted histories emits) after
+
+-- The results of reading a capture to its end, before the venues' last events.
+abbrev pub RunsToEnd : {R S F K : Type 0} (reading : Reading R) (parsing : Parsing S F)
+    (taking : SinkTaking K) (is_shown : K → Type 0) (config : ReplayConfig) (from to : R)
+    (start finish : S) (before after : K) (vs : List ReplayVenue)
+    → Result (Unit {0}) (ReplayStop F) → Type 0
+RunsToEnd reading parsing taking is_shown config from to start finish before after vs (Ok done) =
+    RanToEnd reading parsing taking config from to start finish before after vs
+RunsToEnd reading parsing taking is_shown config from to start finish before after vs (Err stop) =
+    AnswersRun reading parsing taking is_shown config (told_facts config) from to start finish
+    before after (Err stop)

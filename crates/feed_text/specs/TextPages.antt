@@ -1,0 +1,26 @@
+-- What sinks that write some text of each event make of events.
+use Rattle.std.specs.Prelude.{◌≡◌, ℕ, ◌+◌, List, ◌++◌, flat_map}
+use Rattle.feed_text.specs.Devices.{Wrote}
+use Rattle.feed_text.specs.declared.text_page.TextPage.{TextPage}
+use Rattle.feed_text.specs.SinkEvents.{TimedEvent}
+
+-- The writer took a front of this text, and failed.
+pub record FailsPage {W : Type 0} (adds : W → List ℕ → W → Type 0) (failures : W → ℕ)
+    (before : TextPage W) (text : List ℕ) (after : TextPage W) : Type 0 where
+  pub wrote : Wrote adds before.writer text after.writer
+  pub failed : failures after.writer ≡ failures before.writer + 1
+
+-- What the writer took, then what waits, is what waited, then the text of the events.
+pub record TakesText {W : Type 0} (text_of : TimedEvent → List ℕ) (adds : W → List ℕ → W → Type 0)
+    (failures : W → ℕ) (before : TextPage W) (events : List TimedEvent) (after : TextPage W)
+    : Type 0 where
+  pub shown : List ℕ
+  pub wrote : adds before.writer shown after.writer
+  pub all : before.text.items ++ flat_map text_of events ≡ shown ++ after.text.items
+  pub kept : failures after.writer ≡ failures before.writer
+
+-- The writer took a front of what waited and the text of the events, and failed.
+abbrev pub FailsText : {W : Type 0} → (TimedEvent → List ℕ) → (W → List ℕ → W → Type 0) → (W → ℕ)
+    → TextPage W → List TimedEvent → TextPage W → Type 0
+FailsText text_of adds failures before events after =
+    FailsPage adds failures before (before.text.items ++ flat_map text_of events) after

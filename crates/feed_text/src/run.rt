@@ -1,0 +1,89 @@
+//! The loop over the records of a capture.
+ghost use Rattle.std.specs.Prelude.{◌≡◌, length};
+ghost use Rattle.feed_text.specs.Replays.{CanReplay};
+ghost use Rattle.feed_text.specs.Running.{IsReplayStart, RunsToEnd, ShowsBefore, StopsShown};
+
+use crate::devices::CaptureIn;
+use crate::event_sink::{EventSink, SinkStop};
+use crate::record_format::{CAPTURE_ROOM, RecordFormat, Step, is_complete};
+use crate::replay::ReplayConfig;
+use crate::replay_stop::ReplayStop;
+use crate::report::{PublishStop, ReplaySink};
+use crate::rule_skips::follow_rule;
+use crate::unread::{ReadBuffer, ReadStep};
+use crate::venues::Venues;
+
+/// Shows what the sink took before a stop. Returns the stop, or that the sink failed.
+fn show_before<F: Copy, K: EventSink>(stop: ReplayStop<F>, sink: &mut K) -> ReplayStop<F>
+    ensures { ShowsBefore K.takes K.fails K.is_shown stop sink.old sink.new result }
+{
+    match sink.show() {
+        Ok(()) => stop,
+        Err(SinkStop::Failed) => ReplayStop::SinkFailed,
+    }
+}
+
+/// Shows what the sink took before a full journal. Returns why the replay stops.
+fn stopped<F: Copy, K: EventSink>(stop: PublishStop, sink: &mut K) -> ReplayStop<F>
+    ensures { StopsShown K.takes K.fails K.is_shown stop sink.old sink.new result }
+{
+    match stop {
+        PublishStop::JournalFull => show_before(ReplayStop::JournalFull, sink),
+        PublishStop::SinkFailed => ReplayStop::SinkFailed,
+    }
+}
+
+/// Reads a capture to its end, and gives the sink what its records emit.
+// One loop for each format and sink, whose calls are all inlined.
+#[inline(always)]
+pub fn run<R: CaptureIn, F: RecordFormat, K: EventSink>(
+    config: &ReplayConfig<'_>,
+    format: &mut F,
+    reader: &mut R,
+    unread: &mut ReadBuffer<CAPTURE_ROOM>,
+    venues: &mut Venues,
+    report: &mut ReplaySink<K>,
+) -> Result<(), ReplayStop<F::Fault>>
+    requires can { CanReplay config.now }
+    requires starts { IsReplayStart config.now unread.old venues.old report.old.journal }
+    requires of_venues { F.venues format.old ≡ length config.now.sessions.now }
+    ensures { RunsToEnd
+        (record { gives = R.gives; ends = R.ends; failures = R.failures; fails = R.fails })
+        (record { reads = F.reads; wants = F.wants; is_bad = F.is_bad; is_whole = F.is_whole })
+        (record { takes = K.takes; fails = K.fails }) K.is_shown
+        config.now reader.old reader.new format.old format.new report.old.sink report.new.sink
+        venues.new.items result }
+{
+    let mut turns = config.turns;
+    'pieces: loop {
+        match format.next(unread.bytes()) {
+            Step::Came { record, time, len } => {
+                report.time = time;
+                if let Err(stop) = follow_rule(config, venues, &record, report) {
+                    return Err(stopped(stop, &mut report.sink));
+                }
+                if let Err(stop) = venues.take(record, report) {
+                    return Err(stopped(stop, &mut report.sink));
+                }
+                unread.advance(len);
+            }
+            Step::Passed(len) => unread.advance(len),
+            Step::Bad(fault) => {
+                return Err(show_before(ReplayStop::Bad(fault), &mut report.sink));
+            }
+            Step::Wants => {
+                report.sink.show()?;
+                if turns == 0 {
+                    return Err(ReplayStop::TooManyTurns);
+                }
+                turns -= 1;
+                match unread.read_from(reader) {
+                    ReadStep::Went => {}
+                    ReadStep::Failed => return Err(ReplayStop::ReadFailed),
+                    ReadStep::Ended if is_complete(format, unread) => return Ok(()),
+                    ReadStep::Ended => return Err(ReplayStop::Short),
+                }
+            }
+        }
+    }
+}
