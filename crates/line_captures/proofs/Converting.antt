@@ -1,167 +1,146 @@
--- A conversion, by what was copied from its reader of records.
-use Rattle.std.proofs.Common.{◌≡◌, ℕ, zero, suc, ◌+◌, List, [], ◌∷◌, ◌++◌, Option, Some, None, Result, Ok, Err, length, take, min, refl, sym, ap, subst, ◌∙◌, arith, append-nil}
-use Rattle.std.proofs.Math.Seq.{take-length}
-use Rattle.std.proofs.lemmas.List.{take-append-le}
-use Rattle.packet_capture.specs.Captures.{Context}
-use Rattle.feed_text.specs.declared.fault.ReplayFault.{ReplayFault}
-use Rattle.feed_text.specs.declared.fault.ReplayFault.TheVariants.{ReadFailed, WriteFailed, BadRecord, ShortRecord, TooManyTurns, JournalFull, NoMemory}
-use Rattle.feed_text.specs.Devices.{Reading, Writing, Wrote}
-use Rattle.line_captures.specs.declared.captured_line.CapturedLine.{CapturedLine}
-use Rattle.line_captures.specs.declared.fault.InputFault.{InputFault}
-use Rattle.line_captures.specs.declared.fault.InputFault.TheVariants.{BadCapture, ShortCapture}
-use Rattle.line_captures.specs.declared.report.LinesFault.{LinesFault}
-use Rattle.line_captures.specs.declared.report.LinesFault.TheVariants.{Run}
-use Rattle.line_captures.specs.declared.report.CaptureReport.{CaptureReport}
-use Rattle.line_captures.specs.Records.{spelled}
-use Rattle.line_captures.specs.Readers.{CapturePoint, LineReader, FailsBy, FailsRecords, IsFault, count_of, all_failures, new_reader, new_point, records_reading}
-use Rattle.line_captures.specs.Reports.{HasReadPieces, ReportsPoint, BeginsNoPiece, IsRestOf, IsKnownBy, outcome_by}
-use Rattle.line_captures.specs.ReaderLaws.{HasGivenRecords, has_given, whole_capture}
-use Rattle.line_captures.specs.Conversions.{Copies, HasCopied, WroteCapture, WroteRecords, AnswersConversion, Converts}
+-- What is known while a capture is converted.
+use Rattle.std.proofs.Common.{◌≡◌, ℕ, ◌+◌, List, [], ◌∷◌, ◌++◌, length, drop, take, map, append_assoc, append-nil, refl, sym, ap, subst, ◌∙◌}
+use Rattle.std.specs.Prelude.{⊤, All, flat_map}
+use Rattle.std.proofs.lemmas.Grind.{flat_map-append}
+use Rattle.std.proofs.lemmas.List.{map-append}
+use Rattle.std.proofs.lemmas.List.Elements.{All-nil, All-cons, All-append}
+use Rattle.std.proofs.Math.Seq.{take-append-add}
+use Rattle.feed_text.specs.Capture.{IsRecord, bytes_of_record}
+use Rattle.feed_text.specs.Devices.{Reading, Writing, HasGiven, Moved, Wrote}
+use Rattle.feed_text.specs.Formats.{TimedRecord, Parsing, TakesPiece, HasReadRecords, what_of}
+use Rattle.line_captures.specs.Conversions.{HasConverted, spelled}
 
-front_same : (n : ℕ) (bytes : List ℕ) → take n bytes ≡ take (min n (length bytes)) bytes
-front_same zero bytes = let none : min 0 (length bytes) ≡ 0 = omega arith in ap (λ m. take m bytes) (sym none)
-front_same (suc n) [] = let none : min (suc n) (length {A = ℕ} []) ≡ 0 = omega arith in ap (λ m. take m []) (sym none)
-front_same (suc n) (x ∷ xs) =
-    let one : min (suc n) (length (x ∷ xs)) ≡ suc (min n (length xs)) = omega arith in
-    ap (λ (ys : List ℕ). x ∷ ys) (front_same n xs) ∙ ap (λ m. take m (x ∷ xs)) (sym one)
+-- the laws of a reader, a format and a writer
+pub record Laws {R S F W : Type 0} (reading : Reading R) (parsing : Parsing S F) (writing : Writing W) : Type 0 where
+  pub gives_none : (s : R) → reading.gives s 0 [] s
+  pub gives_more : (s t u : R) (m n : ℕ) (xs ys : List ℕ) → reading.gives s m xs t → reading.gives t n ys u → reading.gives s (m + n) (xs ++ ys) u
+  pub reads_none : (s : S) (xs : List ℕ) → parsing.reads s xs [] s xs
+  pub reads_more : (s t u : S) (xs ys zs : List ℕ) (rs qs : List TimedRecord) → parsing.reads s xs rs t ys → parsing.reads t ys qs u zs → parsing.reads s xs (rs ++ qs) u zs
+  pub reads_longer : (s t : S) (xs ys more : List ℕ) (rs : List TimedRecord) → parsing.reads s xs rs t ys → parsing.reads s (xs ++ more) rs t (ys ++ more)
+  pub adds_none : (s : W) → writing.adds s [] s
+  pub adds_more : (s t u : W) (xs ys : List ℕ) → writing.adds s xs t → writing.adds t ys u → writing.adds s (xs ++ ys) u
 
--- a front of some bytes is one of more bytes
-pub front_wrote : {W : Type 0} (adds : W → List ℕ → W → Type 0) (before after : W) (bytes more all : List ℕ) → bytes ++ more ≡ all → Wrote adds before bytes after → Wrote adds before all after
-front_wrote {W} adds before after bytes more all e w =
-    let A : List ℕ → Type 0 = λ xs. adds before xs after in
-    let n = min w.count (length bytes) in
-    record { count = n; taken = subst A (front_same w.count bytes ∙ sym (take-append-le n bytes more (omega arith)) ∙ ap (take n) e) w.taken }
+-- `calls` calls read records and then this rest, and the bytes of the records are those that the
+-- writer took, and then those that wait.
+pub record Copied {R S F W : Type 0} (reading : Reading R) (parsing : Parsing S F) (writing : Writing W) (venues : ℕ)
+    (from : R) (calls : ℕ) (to : R) (start finish : S) (rest : List ℕ) (before after : W) (waits : List ℕ) : Type 0 where
+  pub records : List TimedRecord
+  pub read : HasReadRecords reading parsing venues from calls to start records finish rest
+  pub shown : List ℕ
+  pub took : writing.adds before shown after
+  pub all : spelled records ≡ shown ++ waits
 
--- nothing is pending, so that all records were given
-all_given : (given pending all : List ℕ) → pending ≡ [] → given ++ pending ≡ all → given ≡ all
-all_given given pending all none e = sym (append-nil given) ∙ ap (λ (xs : List ℕ). given ++ xs) (sym none) ∙ e
+spelled_more : (rs qs : List TimedRecord) → spelled (rs ++ qs) ≡ spelled rs ++ spelled qs
+spelled_more rs qs =
+    ap (flat_map bytes_of_record) (map-append what_of rs qs) ∙ flat_map-append bytes_of_record (map what_of rs) (map what_of qs)
 
--- what was given was written, and the reader led on
-wrote_records : {R W : Type 0} (reading : Reading R) (Takes : W → List ℕ → W → Type 0) (lines : List CapturedLine) (IsLeft : Context → List ℕ → Type 0) (Then : R → Type 0) (from : R) (before after : W) (calls : ℕ) (given : List ℕ) (mid : LineReader R) (point : CapturePoint)
-    → (g : HasGivenRecords reading lines from calls given mid) → point ≡ mid.point → IsLeft mid.point.context mid.unread → Takes before (spelled g.records) after → Then mid.inner
-    → WroteRecords reading Takes lines IsLeft Then from before after point
-wrote_records {R} {W} reading Takes lines IsLeft Then from before after calls given mid point g e left wrote came =
-    let P : CapturePoint → Type 0 = λ p. WroteRecords reading Takes lines IsLeft Then from before after p in
-    subst P (sym e) (record {
-      calls = g.inner_calls;
-      mid = mid.inner;
-      records = g.records;
-      rest = mid.unread;
-      read = g.read;
-      left = left;
-      wrote = wrote;
-      came_to = came;
-    })
+module _ {R S F W : Type 0} {reading : Reading R} {parsing : Parsing S F} {writing : Writing W} {venues : ℕ} (laws : Laws reading parsing writing)
+    {from : R} {start : S} where
+  -- pieces with these records were read
+  read_more : {to : R} {calls : ℕ} {finish next : S} {rest left seen : List ℕ} (rs qs : List TimedRecord) (len : ℕ) → seen ≡ rest → left ≡ drop len rest
+      → TakesPiece parsing.reads finish seen qs len next → All (IsRecord venues) (map what_of qs)
+      → HasReadRecords reading parsing venues from calls to start rs finish rest
+      → HasReadRecords reading parsing venues from calls to start (rs ++ qs) next left
+  read_more {finish = finish} {next = next} {rest = rest} rs qs len same gone piece are x =
+      let read : parsing.reads finish rest qs next (drop len rest) = subst (λ (bs : List ℕ). parsing.reads finish bs qs next (drop len bs)) same piece.read in
+      record {
+        each = subst (All (IsRecord venues)) (sym (map-append what_of rs qs)) (All-append (IsRecord venues) (map what_of rs) (map what_of qs) x.each are);
+        bytes = x.bytes;
+        given = x.given;
+        read = rw gone (laws.reads_more start finish next x.bytes rest (drop len rest) rs qs x.read read);
+      }
 
--- a reader that failed, by the fault of its input
-fails_so : {R W : Type 0} (reading : Reading R) (writing : Writing W) (lines : List CapturedLine) (from : R) (t : LineReader R) (before after : W) (fault : Option InputFault) → t.fault ≡ fault
-    → HasCopied (records_reading reading) (λ mid. FailsRecords reading.ends reading.fails mid t) (λ bytes. writing.adds before bytes after) (new_reader lines from)
-    → all_failures reading.failures t ≡ all_failures reading.failures (new_reader lines from) + 1
-    → AnswersConversion reading writing lines from t.inner before after t.point (outcome_by fault (Err ReadFailed))
-fails_so {R} {W} reading writing lines from t before after None e c more =
-    let g = has_given reading lines from c.calls c.bytes c.mid c.read in
-    let f = c.came_to in
-    let A : List ℕ → Type 0 = λ xs. writing.adds before xs after in
-    let F : Option InputFault → Type 0 = λ o. FailsBy reading.ends reading.fails c.mid.inner t.inner o in
-    let none : count_of t.fault ≡ 0 = ap count_of e in (
-      wrote_records reading writing.adds lines BeginsNoPiece (λ mid. reading.fails mid t.inner) from before after c.calls c.bytes c.mid t.point g (ap (λ (x : LineReader R). x.point) f.same)
-          (f.stop, f.stops) (subst A (all_given c.bytes c.mid.pending (spelled g.records) f.pending g.given_is) c.taken) (subst F e f.inner),
-      omega (arith, more, none),
-    )
-fails_so {R} {W} reading writing lines from t before after (Some (BadCapture fault)) e c more =
-    let g = has_given reading lines from c.calls c.bytes c.mid c.read in
-    let f = c.came_to in
-    let A : List ℕ → Type 0 = λ xs. writing.adds before xs after in
-    let F : Option InputFault → Type 0 = λ o. FailsBy reading.ends reading.fails c.mid.inner t.inner o in
-    let I : Option InputFault → Type 0 = λ o. IsFault c.mid.point.context c.mid.unread o in
-    wrote_records reading writing.adds lines (IsRestOf (BadCapture fault)) (λ mid. IsKnownBy reading (BadCapture fault) mid t.inner) from before after c.calls c.bytes c.mid t.point g (ap (λ (x : LineReader R). x.point) f.same)
-    (subst I e f.is) (subst A (all_given c.bytes c.mid.pending (spelled g.records) f.pending g.given_is) c.taken) (sym (subst F e f.inner))
-fails_so {R} {W} reading writing lines from t before after (Some ShortCapture) e c more =
-    let g = has_given reading lines from c.calls c.bytes c.mid c.read in
-    let f = c.came_to in
-    let A : List ℕ → Type 0 = λ xs. writing.adds before xs after in
-    let F : Option InputFault → Type 0 = λ o. FailsBy reading.ends reading.fails c.mid.inner t.inner o in
-    let I : Option InputFault → Type 0 = λ o. IsFault c.mid.point.context c.mid.unread o in
-    wrote_records reading writing.adds lines (IsRestOf ShortCapture) (λ mid. IsKnownBy reading ShortCapture mid t.inner) from before after c.calls c.bytes c.mid t.point g (ap (λ (x : LineReader R). x.point) f.same)
-    (subst I e f.is) (subst A (all_given c.bytes c.mid.pending (spelled g.records) f.pending g.given_is) c.taken) (subst F e f.inner)
-
--- a front of all records was written, and the reader is where it was
-stopped_so : {R W : Type 0} (reading : Reading R) (writing : Writing W) (lines : List CapturedLine) (from : R) (t : LineReader R) (before after : W)
-    → HasCopied (records_reading reading) (λ mid. mid ≡ t) (λ bytes. Wrote writing.adds before bytes after) (new_reader lines from)
-    → WroteRecords reading (Wrote writing.adds) lines (λ context rest. Unit {0}) (λ mid. mid ≡ t.inner) from before after t.point
-stopped_so {R} {W} reading writing lines from t before after c =
-    let g = has_given reading lines from c.calls c.bytes c.mid c.read in
-    wrote_records reading (Wrote writing.adds) lines (λ context rest. Unit {0}) (λ mid. mid ≡ t.inner) from before after c.calls c.bytes c.mid t.point g (ap (λ (x : LineReader R). x.point) (sym c.came_to))
-    tt (front_wrote writing.adds before after c.bytes c.mid.pending (spelled g.records) g.given_is c.taken) (ap (λ (x : LineReader R). x.inner) c.came_to)
-
--- all that was given is a front of itself
-all_front : {W : Type 0} (adds : W → List ℕ → W → Type 0) (before after : W) (bytes : List ℕ) → adds before bytes after → Wrote adds before bytes after
-all_front {W} adds before after bytes taken =
-    let A : List ℕ → Type 0 = λ xs. adds before xs after in
-    record { count = length bytes; taken = subst A (sym (take-length bytes)) taken }
-
-sound_still : {R W : Type 0} (reading : Reading R) (writing : Writing W) (lines : List CapturedLine) (from : R) (t : LineReader R) (Takes : List ℕ → Type 0)
-    → HasCopied (records_reading reading) (λ mid. mid ≡ t) Takes (new_reader lines from) → t.fault ≡ None
-sound_still {R} {W} reading writing lines from t Takes c =
-    let g = has_given reading lines from c.calls c.bytes c.mid c.read in
-    ap (λ (x : LineReader R). x.fault) (sym c.came_to) ∙ g.sound
-
--- the results of copying are those of the conversion
-converts_so : {R W : Type 0} (reading : Reading R) (writing : Writing W) (lines : List CapturedLine) (from : R) (t : LineReader R) (before after : W) (outcome : Result (Unit {0}) ReplayFault)
-    → Copies (records_reading reading) writing (new_reader lines from) t before after outcome
-    → AnswersConversion reading writing lines from t.inner before after t.point (outcome_by t.fault outcome)
-converts_so {R} {W} reading writing lines from t before after (Ok done) c =
-    let g = has_given reading lines from c.calls c.bytes c.mid c.read in
-    let f = c.came_to in
-    let A : List ℕ → Type 0 = λ xs. writing.adds before xs after in
-    let P : CapturePoint → Type 0 = λ p. WroteCapture reading writing lines from t.inner before after p in
-    let U : List ℕ → Type 0 = λ xs. HasReadPieces reading lines from g.inner_calls c.mid.inner g.records c.mid.point xs in
-    let read = subst U f.unread g.read in
-    subst P (sym (ap (λ (x : LineReader R). x.point) f.same)) (record {
-      calls = g.inner_calls;
-      mid = c.mid.inner;
-      records = g.records;
-      read = read;
-      is_capture = whole_capture lines read.bytes read.pieces c.mid.point.context g.records read.are read.records_are f.begun;
-      end = f.inner;
-      wrote = subst A (all_given c.bytes c.mid.pending (spelled g.records) f.pending g.given_is) c.taken;
-    })
-converts_so reading writing lines from t before after (Err ReadFailed) c = fails_so reading writing lines from t before after t.fault refl c.0 c.1
-converts_so {R} {W} reading writing lines from t before after (Err WriteFailed) c =
-    let O : Option InputFault → Type 0 = λ o. AnswersConversion reading writing lines from t.inner before after t.point (outcome_by o (Err WriteFailed)) in
-    subst O (sym (sound_still reading writing lines from t (λ bytes. Wrote writing.adds before bytes after) c.0)) (stopped_so reading writing lines from t before after c.0, c.1)
-converts_so {R} {W} reading writing lines from t before after (Err TooManyTurns) c =
-    let O : Option InputFault → Type 0 = λ o. AnswersConversion reading writing lines from t.inner before after t.point (outcome_by o (Err TooManyTurns)) in
-    subst O (sym (sound_still reading writing lines from t (λ bytes. writing.adds before bytes after) c)) (stopped_so reading writing lines from t before after (record {
-      calls = c.calls;
-      mid = c.mid;
-      bytes = c.bytes;
-      read = c.read;
-      taken = all_front writing.adds before after c.bytes c.taken;
-      came_to = c.came_to;
-    }))
-converts_so reading writing lines from t before after (Err BadRecord) c = absurd c
-converts_so reading writing lines from t before after (Err ShortRecord) c = absurd c
-converts_so reading writing lines from t before after (Err JournalFull) c = absurd c
-converts_so reading writing lines from t before after (Err NoMemory) c = absurd c
-
-pub converts_by : {R W : Type 0} (reading : Reading R) (writing : Writing W) (lines : List CapturedLine) (from : R) (s t : LineReader R) (before after : W) (outcome : Result (Unit {0}) ReplayFault) (report : CaptureReport R)
-    → s ≡ new_reader lines from → Copies (records_reading reading) writing s t before after outcome
-    → report.input ≡ t.inner → ReportsPoint t.point report → report.outcome ≡ outcome_by t.fault outcome
-    → Converts reading writing lines from report before after
-converts_by {R} {W} reading writing lines from s t before after outcome report new copies input point told =
-    let C : LineReader R → Type 0 = λ x. Copies (records_reading reading) writing x t before after outcome in
-    let I : R → Type 0 = λ r. AnswersConversion reading writing lines from r before after t.point (outcome_by t.fault outcome) in
-    let O : Result (Unit {0}) LinesFault → Type 0 = λ o. AnswersConversion reading writing lines from report.input before after t.point o in
-    record {
-      point = t.point;
-      reports = point;
-      answers = subst O (sym told) (subst I (sym input) (converts_so reading writing lines from t before after outcome (subst C new copies)));
+  module _ {before : W} where
+    pub copied_none : (calls : ℕ) (rest waits : List ℕ) → calls ≡ 0 → rest ≡ [] → waits ≡ []
+        → Copied reading parsing writing venues from calls from start start rest before before waits
+    copied_none calls rest waits none empty idle = record {
+      records = [];
+      read = record { each = All-nil (IsRecord venues); bytes = []; given = rw none (laws.gives_none from); read = rw empty (laws.reads_none start []) };
+      shown = [];
+      took = laws.adds_none before;
+      all = sym idle;
     }
 
-pub converts_nothing : {R W : Type 0} (reading : Reading R) (writing : Writing W) (lines : List CapturedLine) (from : R) (before after : W) (report : CaptureReport R)
-    → report.input ≡ from → ReportsPoint new_point report → report.outcome ≡ Err (Run NoMemory) → after ≡ before
-    → Converts reading writing lines from report before after
-converts_nothing {R} {W} reading writing lines from before after report input point told same =
-    let O : Result (Unit {0}) LinesFault → Type 0 = λ o. AnswersConversion reading writing lines from report.input before after new_point o in
-    record { point = new_point; reports = point; answers = subst O (sym told) (input, same, refl) }
+    -- a record came, and its bytes wait
+    pub copied_record : {to : R} {calls : ℕ} {finish next : S} {rest left seen waits longer : List ℕ} {after : W} (r : TimedRecord) (len : ℕ) → seen ≡ rest → left ≡ drop len rest
+        → TakesPiece parsing.reads finish seen (r ∷ []) len next → IsRecord venues r.what → longer ≡ waits ++ bytes_of_record r.what
+        → Copied reading parsing writing venues from calls to start finish rest before after waits
+        → Copied reading parsing writing venues from calls to start next left before after longer
+    copied_record {waits = waits} r len same gone piece is more x = record {
+      records = x.records ++ r ∷ [];
+      read = read_more x.records (r ∷ []) len same gone piece (All-cons (IsRecord venues) r.what [] is (All-nil (IsRecord venues))) x.read;
+      shown = x.shown;
+      took = x.took;
+      all = spelled_more x.records (r ∷ []) ∙ ap (λ (l : List ℕ). l ++ spelled (r ∷ [])) x.all ∙ append_assoc x.shown waits (spelled (r ∷ []))
+          ∙ ap (λ (l : List ℕ). x.shown ++ (waits ++ l)) (append-nil (bytes_of_record r.what)) ∙ ap (λ (l : List ℕ). x.shown ++ l) (sym more);
+    }
+
+    -- a piece without a record was passed
+    pub copied_passed : {to : R} {calls : ℕ} {finish next : S} {rest left seen waits : List ℕ} {after : W} (len : ℕ) → seen ≡ rest → left ≡ drop len rest
+        → TakesPiece parsing.reads finish seen [] len next
+        → Copied reading parsing writing venues from calls to start finish rest before after waits
+        → Copied reading parsing writing venues from calls to start next left before after waits
+    copied_passed len same gone piece x = record {
+      records = x.records ++ [];
+      read = read_more x.records [] len same gone piece (All-nil (IsRecord venues)) x.read;
+      shown = x.shown;
+      took = x.took;
+      all = ap spelled (append-nil x.records) ∙ x.all;
+    }
+
+    -- more bytes came
+    pub copied_read : {mid to : R} {calls : ℕ} {finish : S} {rest longer waits : List ℕ} {after : W} (all : ℕ) → calls + 1 ≡ all → HasGiven reading.gives mid to rest longer 1
+        → Copied reading parsing writing venues from calls mid start finish rest before after waits
+        → Copied reading parsing writing venues from all to start finish longer before after waits
+    copied_read {mid = mid} {to = to} {calls = calls} {finish = finish} {rest = rest} all count m x = record {
+      records = x.records;
+      read = record {
+        each = x.read.each;
+        bytes = x.read.bytes ++ m.bytes;
+        given = rw (← count) (laws.gives_more from mid to calls 1 x.read.bytes m.bytes x.read.given m.given);
+        read = rw m.behind (laws.reads_longer start finish x.read.bytes rest m.bytes x.records x.read.read);
+      };
+      shown = x.shown;
+      took = x.took;
+      all = x.all;
+    }
+
+    -- a front of what waited was written
+    pub copied_written : {to : R} {calls : ℕ} {finish : S} {rest waits left : List ℕ} {after last : W} → Moved writing.adds after last waits left
+        → Copied reading parsing writing venues from calls to start finish rest before after waits
+        → Copied reading parsing writing venues from calls to start finish rest before last left
+    copied_written {left = left} {after = after} {last = last} m x = record {
+      records = x.records;
+      read = x.read;
+      shown = x.shown ++ m.shown;
+      took = laws.adds_more before after last x.shown m.shown x.took m.taken;
+      all = x.all ∙ ap (λ (l : List ℕ). x.shown ++ l) m.left ∙ sym (append_assoc x.shown m.shown left);
+    }
+
+    -- the format that is left as it was
+    pub copied_kept : {to : R} {calls : ℕ} {finish next : S} {rest waits : List ℕ} {after : W} → next ≡ finish
+        → Copied reading parsing writing venues from calls to start finish rest before after waits
+        → Copied reading parsing writing venues from calls to start next rest before after waits
+    copied_kept {to = to} {calls = calls} {rest = rest} {waits = waits} {after = after} e x =
+        subst (λ (s : S). Copied reading parsing writing venues from calls to start s rest before after waits) (sym e) x
+
+    -- of what waited a front was written
+    pub unwritten : {to : R} {calls : ℕ} {finish : S} {rest waits : List ℕ} {after last : W} → Wrote writing.adds after waits last
+        → Copied reading parsing writing venues from calls to start finish rest before after waits
+        → HasConverted reading parsing venues from start finish (λ rest. ⊤) (λ calls mid. mid ≡ to) (λ text. Wrote writing.adds before text last)
+    unwritten {to = to} {calls = calls} {rest = rest} {waits = waits} {after = after} {last = last} part x =
+        let front : take (length x.shown + part.count) (spelled x.records) ≡ x.shown ++ take part.count waits =
+        ap (take (length x.shown + part.count)) x.all ∙ take-append-add x.shown waits part.count in
+        record {
+          records = x.records;
+          calls = calls;
+          mid = to;
+          rest = rest;
+          read = x.read;
+          left = tt;
+          came_to = refl;
+          written = record {
+            count = length x.shown + part.count;
+            taken = subst (λ (l : List ℕ). writing.adds before l last) (sym front) (laws.adds_more before after last x.shown (take part.count waits) x.took part.taken);
+          };
+        }

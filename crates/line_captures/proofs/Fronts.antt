@@ -1,7 +1,6 @@
 -- What stands at the front of bytes: a piece of some bytes, of which there are as many, or less than the
 -- longest one.
-use Rattle.std.proofs.Common.{◌≡◌, ℕ, ◌<◌, ◌≤◌, List, [], ◌∷◌, ◌++◌, length, take, drop, refl, sym, ap, ◌∙◌, arith, inl, inr, append-nil, length-take-le}
-use Rattle.std.proofs.lemmas.List.{drop-append-le}
+use Rattle.std.proofs.Common.{◌≡◌, ℕ, ◌<◌, ◌≤◌, List, length, take, ap, ◌∙◌, arith, inl, inr, length-take-le}
 use Rattle.packet_capture.specs.declared.fields.ByteOrder.{ByteOrder}
 use Rattle.packet_capture.specs.declared.fields.ByteOrder.TheVariants.{Big}
 use Rattle.packet_capture.specs.declared.reader.Format.{Format}
@@ -9,14 +8,8 @@ use Rattle.packet_capture.specs.declared.reader.Format.TheVariants.{Start, InSav
 use Rattle.packet_capture.specs.declared.savefile.Savefile.{Savefile}
 use Rattle.packet_capture.specs.declared.stop.Stop.TheVariants.{Wants}
 use Rattle.packet_capture.specs.Fields.{u32_in}
-use Rattle.packet_capture.specs.Frames.{FrameContent}
 use Rattle.packet_capture.specs.Stops.{StopsInHeader, StopsInRecord, StopsInLen}
 use Rattle.packet_capture.specs.Captures.{Context, PieceContent, IsBlockPiece, IsPieceIn, IsPiece, StopsInSection, StopsIn, StopsReading}
-use Rattle.feed_text.specs.Capture.{CaptureRecord}
-use Rattle.line_captures.specs.declared.captured_line.CapturedLine.{CapturedLine}
-use Rattle.line_captures.specs.Records.{AreOfFrame, AreOfFrames}
-use Rattle.line_captures.specs.Readers.{CapturePoint, TakesPieces}
-use Rattle.line_captures.specs.Steps.{PutsPiece}
 
 -- ---- pieces
 
@@ -71,27 +64,3 @@ few_in (InSection order) before bytes n h = section_few order before bytes n h
 
 pub few_unread : (before : Context) (bytes : List ℕ) (n : ℕ) → StopsReading before bytes (Wants n) → length bytes < 1048593
 few_unread before bytes n h = few_in before.format before bytes n h
-
--- ---- one piece
-
-pub one_frame : (lines : List CapturedLine) (f : FrameContent) (records : List CaptureRecord) → AreOfFrame lines f records → AreOfFrames lines (f ∷ []) records
-one_frame lines f records h = (records, [], h, refl, sym (append-nil records))
-
--- a piece is pieces
-pub takes_one : ((before after : Context) (bytes more : List ℕ) (p : PieceContent)
-    → IsPiece before bytes p after → IsPiece before (bytes ++ more) p after)
-    → (lines : List CapturedLine) (a b : CapturePoint) (bytes pending given : List ℕ) (p : PieceContent)
-    → IsPiece a.context bytes p b.context → PutsPiece lines p a.progress pending b.progress given
-    → TakesPieces lines a bytes pending b (drop p.len bytes) given
-takes_one law lines a b bytes pending given p is puts =
-    let left : (more : List ℕ) → drop p.len bytes ++ more ≡ drop p.len (bytes ++ more) = λ more.
-    sym (drop-append-le p.len bytes more (piece_len a.context bytes p b.context is).1) in
-    record {
-      pieces = p ∷ [];
-      counts = puts.counts;
-      are = λ more. (b.context, law a.context b.context bytes more p is, (refl, left more));
-      records = puts.records;
-      of_frames = puts.of_frames;
-      each = puts.each;
-      given_is = puts.given_is;
-    }

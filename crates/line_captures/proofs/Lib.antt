@@ -1,9 +1,5 @@
 pub mod Fronts
 pub mod Finding
 pub mod Listed
-pub mod Pages
-pub mod ReadCalls
-pub mod TakingPieces
-pub mod Results
-pub mod Copying
+pub mod Packets
 pub mod Converting

@@ -1,108 +1,68 @@
--- The results of a conversion of a packet capture into the project's own format.
-use Rattle.std.specs.Prelude.{◌≡◌, ℕ, ◌+◌, List, [], Result, Ok, Err}
-use Rattle.feed_text.specs.declared.fault.ReplayFault.{ReplayFault}
-use Rattle.feed_text.specs.declared.fault.ReplayFault.TheVariants.{ReadFailed, WriteFailed, BadRecord, ShortRecord, TooManyTurns, JournalFull, NoMemory}
-use Rattle.packet_capture.specs.Captures.{Context}
-use Rattle.feed_text.specs.Capture.{CaptureRecord}
+-- The results of a conversion of a capture into the project's own format.
+use Rattle.std.specs.Prelude.{◌≡◌, ⊤, ℕ, ◌+◌, ◌≤◌, List, [], Result, Ok, Err, map, flat_map}
+use Rattle.feed_text.specs.declared.replay_stop.ReplayStop.{ReplayStop}
+use Rattle.feed_text.specs.declared.replay_stop.ReplayStop.TheVariants.{ReadFailed, SinkFailed, Bad, Short, TooManyTurns, JournalFull, NoMemory}
+use Rattle.feed_text.specs.Capture.{bytes_of_record}
 use Rattle.feed_text.specs.Devices.{Reading, Writing, Wrote}
-use Rattle.line_captures.specs.declared.captured_line.CapturedLine.{CapturedLine}
-use Rattle.line_captures.specs.declared.report.LinesFault.{LinesFault}
-use Rattle.line_captures.specs.declared.report.LinesFault.TheVariants.{Input, Run}
-use Rattle.line_captures.specs.declared.report.CaptureReport.{CaptureReport}
-use Rattle.line_captures.specs.Records.{IsCaptureOf, spelled}
-use Rattle.line_captures.specs.Readers.{CapturePoint, new_point}
-use Rattle.line_captures.specs.Reports.{HasReadPieces, BeginsNoPiece, IsRestOf, IsKnownBy, ReportsPoint}
+use Rattle.feed_text.specs.Formats.{TimedRecord, Parsing, HasReadRecords, IsCutOff, what_of}
 
--- ---- bytes from a reader to a writer. Only private clauses cite this part.
+-- the bytes of records
+abbrev pub spelled : List TimedRecord → List ℕ
+spelled records = flat_map bytes_of_record (map what_of records)
 
--- some calls read these bytes, and led to a state from which the reader came to its last one so
-pub record HasCopied {R : Type 0} (reading : Reading R) (Then : R → Type 0)
-    (Takes : List ℕ → Type 0) (from : R) : Type 0 where
+-- Some calls read records and then a rest of this kind, the reader came to its last state so, and
+-- the writer took the bytes of the records so.
+pub record HasConverted {R S F : Type 0} (reading : Reading R) (parsing : Parsing S F) (venues : ℕ)
+    (from : R) (start finish : S) (IsLeft : List ℕ → Type 0) (CameTo : ℕ → R → Type 0)
+    (IsWritten : List ℕ → Type 0) : Type 0 where
+  pub records : List TimedRecord
   pub calls : ℕ
   pub mid : R
-  pub bytes : List ℕ
-  pub read : reading.gives from calls bytes mid
-  pub taken : Takes bytes
-  pub came_to : Then mid
-
--- The results of copying, by the answer: all that came was written, or of the last bytes a front.
-abbrev pub Copies : {R W : Type 0} (reading : Reading R) (writing : Writing W)
-    (from to : R) (before after : W) → Result (Unit {0}) ReplayFault → Type 0
-Copies reading writing from to before after (Ok done) =
-    HasCopied reading (λ mid. reading.ends mid to) (λ bytes. writing.adds before bytes after) from
-Copies reading writing from to before after (Err ReadFailed) =
-    HasCopied reading (λ mid. reading.fails mid to) (λ bytes. writing.adds before bytes after) from
-    × (reading.failures to ≡ reading.failures from + 1)
-Copies reading writing from to before after (Err WriteFailed) =
-    HasCopied reading (λ mid. mid ≡ to) (λ bytes. Wrote writing.adds before bytes after) from
-    × (writing.failures after ≡ writing.failures before + 1)
-Copies reading writing from to before after (Err TooManyTurns) =
-    HasCopied reading (λ mid. mid ≡ to) (λ bytes. writing.adds before bytes after) from
-Copies reading writing from to before after (Err BadRecord) = ⊥
-Copies reading writing from to before after (Err ShortRecord) = ⊥
-Copies reading writing from to before after (Err JournalFull) = ⊥
-Copies reading writing from to before after (Err NoMemory) = ⊥
-
--- ---- a conversion
-
--- A whole packet capture was read, one more call showed the end, and its records were written.
-pub record WroteCapture {R W : Type 0} (reading : Reading R) (writing : Writing W)
-    (lines : List CapturedLine) (from to : R) (before after : W) (point : CapturePoint)
-    : Type 0 where
-  pub calls : ℕ
-  pub mid : R
-  pub records : List CaptureRecord
-  pub read : HasReadPieces reading lines from calls mid records point []
-  pub is_capture : IsCaptureOf lines read.bytes records
-  pub end : reading.ends mid to
-  pub wrote : writing.adds before (spelled records) after
-
--- Some calls read pieces and then a rest of this kind, and the records of the pieces were written:
--- all of them, or a front of their bytes.
-pub record WroteRecords {R W : Type 0} (reading : Reading R)
-    (Takes : W → List ℕ → W → Type 0) (lines : List CapturedLine)
-    (IsLeft : Context → List ℕ → Type 0) (Then : R → Type 0)
-    (from : R) (before after : W) (point : CapturePoint) : Type 0 where
-  pub calls : ℕ
-  pub mid : R
-  pub records : List CaptureRecord
   pub rest : List ℕ
-  pub read : HasReadPieces reading lines from calls mid records point rest
-  pub left : IsLeft point.context rest
-  pub wrote : Takes before (spelled records) after
-  pub came_to : Then mid
+  pub read : HasReadRecords reading parsing venues from calls mid start records finish rest
+  pub left : IsLeft rest
+  pub came_to : CameTo calls mid
+  pub written : IsWritten (spelled records)
 
--- The results of a conversion, by its answer.
-abbrev pub AnswersConversion : {R W : Type 0} (reading : Reading R) (writing : Writing W)
-    (lines : List CapturedLine) (from to : R) (before after : W) (point : CapturePoint)
-    → Result (Unit {0}) LinesFault → Type 0
-AnswersConversion reading writing lines from to before after point (Ok done) =
-    WroteCapture reading writing lines from to before after point
-AnswersConversion reading writing lines from to before after point (Err (Input fault)) =
-    WroteRecords reading writing.adds lines (IsRestOf fault) (λ mid. IsKnownBy reading fault mid to)
-    from before after point
-AnswersConversion reading writing lines from to before after point (Err (Run ReadFailed)) =
-    WroteRecords reading writing.adds lines BeginsNoPiece (λ mid. reading.fails mid to)
-    from before after point
+-- The results of a conversion by at most `turns` calls, by its answer.
+abbrev pub AnswersConversion : {R S F W : Type 0} (reading : Reading R) (parsing : Parsing S F)
+    (writing : Writing W) (venues turns : ℕ) (from to : R) (start finish : S) (before after : W)
+    → Result (Unit {0}) (ReplayStop F) → Type 0
+AnswersConversion reading parsing writing venues turns from to start finish before after
+    (Ok done) =
+    HasConverted reading parsing venues from start finish
+    (λ rest. (rest ≡ []) × parsing.is_whole finish)
+    (λ calls mid. (calls + 1 ≤ turns) × reading.ends mid to)
+    (λ text. writing.adds before text after)
+AnswersConversion reading parsing writing venues turns from to start finish before after
+    (Err (Bad fault)) =
+    HasConverted reading parsing venues from start finish
+    (λ rest. parsing.is_bad finish rest fault) (λ calls mid. mid ≡ to)
+    (λ text. writing.adds before text after)
+AnswersConversion reading parsing writing venues turns from to start finish before after
+    (Err Short) =
+    HasConverted reading parsing venues from start finish
+    (IsCutOff parsing finish) (λ calls mid. reading.ends mid to)
+    (λ text. writing.adds before text after)
+AnswersConversion reading parsing writing venues turns from to start finish before after
+    (Err ReadFailed) =
+    HasConverted reading parsing venues from start finish
+    (parsing.wants finish) (λ calls mid. reading.fails mid to)
+    (λ text. writing.adds before text after)
     × (reading.failures to ≡ reading.failures from + 1)
-AnswersConversion reading writing lines from to before after point (Err (Run WriteFailed)) =
-    WroteRecords reading (Wrote writing.adds) lines (λ context rest. Unit {0}) (λ mid. mid ≡ to)
-    from before after point
+AnswersConversion reading parsing writing venues turns from to start finish before after
+    (Err TooManyTurns) =
+    HasConverted reading parsing venues from start finish
+    (parsing.wants finish) (λ calls mid. (calls ≡ turns) × (mid ≡ to))
+    (λ text. writing.adds before text after)
+AnswersConversion reading parsing writing venues turns from to start finish before after
+    (Err SinkFailed) =
+    HasConverted reading parsing venues from start finish
+    (λ rest. ⊤) (λ calls mid. mid ≡ to)
+    (λ text. Wrote writing.adds before text after)
     × (writing.failures after ≡ writing.failures before + 1)
-AnswersConversion reading writing lines from to before after point (Err (Run TooManyTurns)) =
-    WroteRecords reading (Wrote writing.adds) lines (λ context rest. Unit {0}) (λ mid. mid ≡ to)
-    from before after point
-AnswersConversion reading writing lines from to before after point (Err (Run NoMemory)) =
-    (to ≡ from) × (after ≡ before) × (point ≡ new_point)
-AnswersConversion reading writing lines from to before after point (Err (Run BadRecord)) = ⊥
-AnswersConversion reading writing lines from to before after point (Err (Run ShortRecord)) = ⊥
-AnswersConversion reading writing lines from to before after point (Err (Run JournalFull)) = ⊥
-
--- The results of a conversion, and its report.
-pub record Converts {R W : Type 0} (reading : Reading R) (writing : Writing W)
-    (lines : List CapturedLine) (from : R) (report : CaptureReport R) (before after : W)
-    : Type 0 where
-  pub point : CapturePoint
-  pub reports : ReportsPoint point report
-  pub answers : AnswersConversion reading writing lines from report.input before after point
-      report.outcome
+AnswersConversion reading parsing writing venues turns from to start finish before after
+    (Err NoMemory) =
+    (to ≡ from) × (finish ≡ start) × (after ≡ before)
+AnswersConversion reading parsing writing venues turns from to start finish before after
+    (Err JournalFull) = ⊥

@@ -1,9 +1,9 @@
 -- What is counted of the frames of a packet capture. A count stays at 2^64 - 1 once it is there.
-use Rattle.std.specs.Prelude.{◌≡◌, ℕ, zero, suc, ◌+◌, Bool, true, false, List, [], ◌∷◌, nat_lt, if◌then◌else◌, min, flat_map}
+use Rattle.std.specs.Prelude.{◌≡◌, ℕ, zero, suc, ◌+◌, Bool, true, false, List, [], ◌∷◌, nat_lt, if◌then◌else◌, min, flat_map, Option}
 use Rattle.std.specs.List.{AllZip, count_by, sum_by}
 use Rattle.std.specs.Option.{option_to_list}
 use Rattle.packet_capture.specs.declared.fault.FrameFault.{FrameFault}
-use Rattle.packet_capture.specs.declared.fault.FrameFault.TheVariants.{UnknownLink, NotIp, ShortFrame, BadIpHeader, NotUdp, Fragment, ExtensionHeader, BadUdpLength}
+use Rattle.packet_capture.specs.declared.fault.FrameFault.TheVariants.{UnknownLink, ShortFrame, BadIpHeader, Fragment, ExtensionHeader, BadUdpLength}
 use Rattle.packet_capture.specs.Captures.{PieceContent, frames_of}
 use Rattle.packet_capture.specs.Datagrams.{DatagramContent, CarriesDatagram}
 use Rattle.packet_capture.specs.FrameFaults.{HasFrameFault}
@@ -29,13 +29,11 @@ IsFate lines frame (no_datagram fault) = HasFrameFault frame.link frame.bytes fa
 
 abbrev pub goes_to_line : FrameFate → Bool
 goes_to_line to_line = true
-goes_to_line elsewhere = false
-goes_to_line (no_datagram fault) = false
+goes_to_line _ = false
 
 abbrev pub goes_elsewhere : FrameFate → Bool
-goes_elsewhere to_line = false
 goes_elsewhere elsewhere = true
-goes_elsewhere (no_datagram fault) = false
+goes_elsewhere _ = false
 
 -- whether the fate is a fault of this kind
 abbrev pub is_without : (FrameFault → Bool) → FrameFate → Bool
@@ -46,43 +44,21 @@ is_without kind (no_datagram fault) = kind fault
 -- the kinds of faults that are counted together
 abbrev pub is_fragment : FrameFault → Bool
 is_fragment Fragment = true
-is_fragment UnknownLink = false
-is_fragment NotIp = false
-is_fragment ShortFrame = false
-is_fragment BadIpHeader = false
-is_fragment NotUdp = false
-is_fragment ExtensionHeader = false
-is_fragment BadUdpLength = false
+is_fragment _ = false
 
 abbrev pub is_cut : FrameFault → Bool
 is_cut ShortFrame = true
-is_cut Fragment = false
-is_cut UnknownLink = false
-is_cut NotIp = false
-is_cut BadIpHeader = false
-is_cut NotUdp = false
-is_cut ExtensionHeader = false
-is_cut BadUdpLength = false
+is_cut _ = false
 
 abbrev pub is_malformed : FrameFault → Bool
 is_malformed BadIpHeader = true
 is_malformed BadUdpLength = true
-is_malformed ShortFrame = false
-is_malformed Fragment = false
-is_malformed UnknownLink = false
-is_malformed NotIp = false
-is_malformed NotUdp = false
-is_malformed ExtensionHeader = false
+is_malformed _ = false
 
 abbrev pub is_unreadable : FrameFault → Bool
 is_unreadable UnknownLink = true
 is_unreadable ExtensionHeader = true
-is_unreadable BadIpHeader = false
-is_unreadable BadUdpLength = false
-is_unreadable ShortFrame = false
-is_unreadable Fragment = false
-is_unreadable NotIp = false
-is_unreadable NotUdp = false
+is_unreadable _ = false
 
 -- a count after this many more
 abbrev pub count_after : ℕ → ℕ → ℕ
@@ -127,3 +103,36 @@ pub record CountsPieces (lines : List CapturedLine) (before : Progress) (pieces 
   pub passed : after.passed
       ≡ passed_after before.passed fates
       (falls_after before.last_time (times_of (frames_of pieces)))
+
+-- before the first piece
+abbrev pub new_progress : Progress
+new_progress = record {
+  position = 0;
+  last_time = 0;
+  passed = record {
+    fragments = 0;
+    cut = 0;
+    malformed = 0;
+    not_read = 0;
+    disordered = 0;
+    elsewhere = 0;
+    to_lines = 0;
+  };
+}
+
+-- ---- one frame. Only private clauses cite this part.
+
+-- a frame is counted by its fate
+pub record CountsFrame (lines : List CapturedLine) (frame : FrameContent)
+    (before after : PassedOver) : Type 0 where
+  pub fate : FrameFate
+  pub is : IsFate lines frame fate
+  pub after_is : after ≡ passed_after before (fate ∷ []) 0
+
+-- the progress after the time of a frame, if it has one
+abbrev pub timed_after : Progress → Option ℕ → Progress
+timed_after progress time = record {
+  position = progress.position;
+  last_time = last_after progress.last_time (option_to_list time);
+  passed = passed_after progress.passed [] (falls_after progress.last_time (option_to_list time));
+}

@@ -1,11 +1,8 @@
 pub mod Lines
 pub mod Lists
 pub mod Records
-pub mod Readers
-pub mod ReaderLaws
-pub mod Steps
-pub mod Taps
-pub mod Reports
-pub mod Conversions
 pub mod Counts
 pub mod CountLaws
+pub mod PacketFormats
+pub mod PacketFormatLaws
+pub mod Conversions

@@ -1,12 +1,11 @@
 -- The records of a packet capture for lines: those of the datagrams that its frames carry to them,
 -- in the order of the frames.
-use Rattle.std.specs.Prelude.{◌≡◌, ℕ, ◌<◌, ◌⊎◌, List, [], ◌∷◌, ◌++◌, flat_map, length, Some, slice_get}
+use Rattle.std.specs.Prelude.{◌≡◌, ℕ, ◌<◌, ◌⊎◌, List, [], ◌∷◌, length, Some, slice_get}
 use Rattle.packet_capture.specs.declared.fault.FrameFault.{FrameFault}
 use Rattle.packet_capture.specs.Datagrams.{DatagramContent, CarriesDatagram}
 use Rattle.packet_capture.specs.FrameFaults.{HasFrameFault}
 use Rattle.packet_capture.specs.Frames.{FrameContent}
-use Rattle.packet_capture.specs.Captures.{IsCapture}
-use Rattle.feed_text.specs.Capture.{CaptureRecord, datagram_record, bytes_of_record}
+use Rattle.feed_text.specs.Capture.{CaptureRecord, datagram_record}
 use Rattle.line_captures.specs.declared.captured_line.CapturedLine.{CapturedLine}
 use Rattle.line_captures.specs.Lines.{GoesTo, GoesToNone}
 
@@ -27,21 +26,6 @@ AreOfFrame lines frame records =
     × AreOfDatagram lines d records)
     ⊎ ((fault : FrameFault) × HasFrameFault frame.link frame.bytes fault × (records ≡ []))
 
--- the records of frames, one frame after the other
-abbrev pub AreOfFrames : List CapturedLine → List FrameContent → List CaptureRecord → Type 0
-AreOfFrames lines [] records = records ≡ []
-AreOfFrames lines (frame ∷ frames) records =
-    (first : List CaptureRecord) × (others : List CaptureRecord)
-    × AreOfFrame lines frame first × AreOfFrames lines frames others
-    × (records ≡ first ++ others)
-
--- the bytes are a whole capture, and these are its records
-pub record IsCaptureOf (lines : List CapturedLine) (bytes : List ℕ) (records : List CaptureRecord)
-    : Type 0 where
-  pub frames : List FrameContent
-  pub capture : IsCapture bytes frames
-  pub are : AreOfFrames lines frames records
-
 -- a record of some line, of which the length fits into two bytes
 pub record IsOfLine (lines : List CapturedLine) (r : CaptureRecord) : Type 0 where
   pub line : CapturedLine
@@ -50,7 +34,3 @@ pub record IsOfLine (lines : List CapturedLine) (r : CaptureRecord) : Type 0 whe
   pub place : ℕ
   pub listed : Some line ≡ slice_get lines place
   pub short : length bytes < 65536
-
--- the bytes of records
-abbrev pub spelled : List CaptureRecord → List ℕ
-spelled records = flat_map bytes_of_record records

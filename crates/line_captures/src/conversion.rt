@@ -1,69 +1,145 @@
-//! A packet capture in the project's own format.
-ghost use Rattle.std.specs.Prelude.{◌≡◌, ◌<◌, IfOk, length};
-ghost use Rattle.line_captures.specs.Conversions.{Converts, Copies};
+//! A capture in the project's own format.
+ghost use Rattle.std.specs.Prelude.{◌≡◌, ◌+◌, ◌≤◌, ◌<◌, ◌++◌, [], ◌∷◌, ◌/◌, ◌%◌, IfOk, OnErr, OnOk, length};
+ghost use Rattle.feed_text.specs.Capture.{HasNumber, bytes_of_record, payload_of, record_of};
+ghost use Rattle.feed_text.specs.Devices.{Moved, Wrote};
+ghost use Rattle.line_captures.specs.Conversions.{AnswersConversion};
 
-use crate::captured_line::CapturedLine;
-use crate::lines_in::{LineBuffers, LinesIn};
-use crate::report::CaptureReport;
-use feed_text::{CaptureIn, ReadStop, ReplayFault, TextOut, write_all};
+use feed_text::{
+    CAPTURE_ROOM, CaptureIn, ReadBuffer, ReadStep, Record, RecordFormat, ReplayStop, SinkStop,
+    Step, TextOut, WriteStop, is_complete, write_all,
+};
+use feed_types::VenueId;
 use std::alloc::{AllocError, Global};
 
-/// How many bytes of records are copied at once.
-const PAGE: usize = 65_536;
+/// How many bytes of records wait at most for the writer.
+const PAGE: usize = 131_072;
 
-/// Writes all that the reader gives, up to its end, by at most this many calls of it.
-fn copy_all<R: CaptureIn, W: TextOut>(
-    reader: &mut R,
-    page: &mut [u8],
-    turns: u64,
-    writer: &mut W,
-) -> Result<(), ReplayFault>
-    requires { 0 < length page.old }
-    ensures { Copies
-        (record { gives = R.gives; ends = R.ends; failures = R.failures; fails = R.fails })
-        (record { adds = W.adds; failures = W.failures })
-        reader.old reader.new writer.old writer.new result }
+/// How many may wait before another record is read: as many as leave room for a longest one, which
+/// has 65,539.
+const FULL: usize = 65_533;
+
+/// Takes the memory for the bytes of a capture, and for those of records.
+fn make_buffers(alloc: Global) -> Result<(ReadBuffer<CAPTURE_ROOM>, ReadBuffer<PAGE>), AllocError>
+    ensures { IfOk result (λ made. (made.0 ≡ []) × (made.1 ≡ [])) }
 {
-    for _ in 0..turns {
-        match reader.read(page) {
-            Ok(0) => return Ok(()),
-            Ok(count) => {
-                if write_all(&page[..count], writer).is_err() {
-                    return Err(ReplayFault::WriteFailed);
+    Ok((ReadBuffer::new(alloc)?, ReadBuffer::new(alloc)?))
+}
+
+/// Appends the bytes of a record of this kind, with the bytes that its length counts.
+#[inline(always)]
+fn put_bytes(page: &mut ReadBuffer<PAGE>, venue: VenueId, kind: u8, payload: &[u8])
+    requires len { length payload.now < 65536 }
+    requires room { length page.old ≤ 65533 }
+    ensures { page.new ≡ page.old ++ (venue ∷ kind ∷ length payload.now / 256
+        ∷ length payload.now % 256 ∷ payload.now) }
+{
+    let len = payload.len();
+    page.push(&[
+        venue.index() as u8,
+        kind,
+        (len / 256) as u8,
+        (len % 256) as u8,
+    ]);
+    page.push(payload);
+}
+
+/// Appends the bytes of a record.
+#[inline(always)]
+#[tactic(auto, unfolding(feed_text::specs::Capture::number_bytes))]
+fn put_record(page: &mut ReadBuffer<PAGE>, next: &Record<'_>)
+    requires len { length (payload_of (record_of next.now)) < 65536 }
+    requires number { HasNumber (record_of next.now) }
+    requires room { length page.old ≤ 65533 }
+    ensures { page.new ≡ page.old ++ bytes_of_record (record_of next.now) }
+{
+    match next {
+        Record::Datagram { venue, line, bytes } => put_bytes(page, *venue, line.letter(), bytes),
+        Record::Renewal { venue, session } => put_bytes(page, *venue, b'N', session),
+        Record::Skip { venue, number } => put_bytes(page, *venue, b'K', &number.to_be_bytes()),
+        Record::SelfHelp { venue, on: true } => put_bytes(page, *venue, b'H', &[]),
+        Record::SelfHelp { venue, on: false } => put_bytes(page, *venue, b'W', &[]),
+    }
+}
+
+/// Writes all of the page.
+#[inline(never)]
+fn write_page<W: TextOut>(page: &mut ReadBuffer<PAGE>, writer: &mut W) -> Result<(), SinkStop>
+    ensures written { OnOk result (Moved W.adds writer.old writer.new page.old page.new) }
+    ensures none { OnOk result (page.new ≡ []) }
+    ensures failed { OnErr result (W.failures writer.new ≡ W.failures writer.old + 1) }
+    ensures part { OnErr result (Wrote W.adds writer.old page.old writer.new) }
+    ensures kept { OnOk result (W.failures writer.new ≡ W.failures writer.old) }
+{
+    match write_all(page.bytes(), writer) {
+        Ok(()) => {
+            page.advance(page.len());
+            Ok(())
+        }
+        Err(WriteStop::Failed) => Err(SinkStop::Failed),
+    }
+}
+
+/// Writes all of the page, once it has no room for a longest record.
+#[inline(always)]
+fn write_full<W: TextOut>(page: &mut ReadBuffer<PAGE>, writer: &mut W) -> Result<(), SinkStop>
+    ensures written { OnOk result (Moved W.adds writer.old writer.new page.old page.new) }
+    ensures room { OnOk result (length page.new ≤ 65533) }
+    ensures failed { OnErr result (W.failures writer.new ≡ W.failures writer.old + 1) }
+    ensures part { OnErr result (Wrote W.adds writer.old page.old writer.new) }
+    ensures kept { OnOk result (W.failures writer.new ≡ W.failures writer.old) }
+{
+    if page.len() > FULL {
+        return write_page(page, writer);
+    }
+    Ok(())
+}
+
+/// Reads a capture of any format to its end, by at most `turns` calls of the reader, and writes its
+/// records in the project's own format, in order. What is ready is written before each call of the
+/// reader. Its memory, some 1.3 MB, is asked for before anything is read.
+pub fn convert<R: CaptureIn, F: RecordFormat, W: TextOut>(
+    alloc: Global,
+    turns: u64,
+    format: &mut F,
+    reader: &mut R,
+    writer: &mut W,
+) -> Result<(), ReplayStop<F::Fault>>
+    ensures { AnswersConversion
+        (record { gives = R.gives; ends = R.ends; failures = R.failures; fails = R.fails })
+        (record { reads = F.reads; wants = F.wants; is_bad = F.is_bad; is_whole = F.is_whole })
+        (record { adds = W.adds; failures = W.failures })
+        (F.venues format.old) turns reader.old reader.new format.old format.new
+        writer.old writer.new result }
+{
+    let Ok((mut unread, mut page)) = make_buffers(alloc) else {
+        return Err(ReplayStop::NoMemory);
+    };
+    let mut left = turns;
+    'pieces: loop {
+        match format.next(unread.bytes()) {
+            Step::Came { record, len, .. } => {
+                put_record(&mut page, &record);
+                unread.advance(len);
+                write_full(&mut page, writer)?;
+            }
+            Step::Passed(len) => unread.advance(len),
+            Step::Bad(fault) => {
+                write_page(&mut page, writer)?;
+                return Err(ReplayStop::Bad(fault));
+            }
+            Step::Wants => {
+                write_page(&mut page, writer)?;
+                if left == 0 {
+                    return Err(ReplayStop::TooManyTurns);
+                }
+                left -= 1;
+                match unread.read_from(reader) {
+                    ReadStep::Went => {}
+                    ReadStep::Failed => return Err(ReplayStop::ReadFailed),
+                    ReadStep::Ended if is_complete(format, &unread) => return Ok(()),
+                    ReadStep::Ended => return Err(ReplayStop::Short),
                 }
             }
-            Err(ReadStop::Interrupted) => {}
-            Err(ReadStop::Failed) => return Err(ReplayFault::ReadFailed),
         }
     }
-    Err(ReplayFault::TooManyTurns)
-}
-
-/// The memory of a conversion.
-fn make_buffers(alloc: Global) -> Result<(LineBuffers, Vec<u8>), AllocError>
-    ensures { IfOk result (λ made. length made.1.items ≡ 65536) }
-{
-    Ok((LineBuffers::new(alloc)?, vec![in alloc; 0u8; PAGE]?))
-}
-
-/// Reads a packet capture to its end, and writes the records of its lines' datagrams in the project's
-/// own format, in the order of the capture, by at most `turns` calls of the reader of records.
-pub fn convert<R: CaptureIn + Drop, W: TextOut>(
-    alloc: Global,
-    lines: &[CapturedLine],
-    turns: u64,
-    input: R,
-    writer: &mut W,
-) -> CaptureReport<R>
-    ensures { Converts
-        (record { gives = R.gives; ends = R.ends; failures = R.failures; fails = R.fails })
-        (record { adds = W.adds; failures = W.failures })
-        lines.now input result writer.old writer.new }
-{
-    let Ok((buffers, mut page)) = make_buffers(alloc) else {
-        return CaptureReport::without_memory(input);
-    };
-    let mut reader = LinesIn::new(buffers, lines, input);
-    let outcome = copy_all(&mut reader, page.as_mut_slice(), turns, writer);
-    reader.into_report(outcome)
 }

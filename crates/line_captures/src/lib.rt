@@ -1,35 +1,27 @@
-//! Packet captures as captures: the records of the datagrams that a pcap or pcapng file has for some
-//! lines, in this project's own format.
+//! Packet captures (pcap or pcapng) as a format of records: those of the datagrams that a capture
+//! has for some lines, each at the time of its frame.
 //!
-//! A [`LinesIn`] reads the capture's bytes from a reader and is a reader of the records' bytes, which
-//! allocates nothing once it is made. A [`CapturedLine`] is an address and port with the venue and the
-//! line whose datagrams go there.
+//! A [`PacketFormat`] is a format of `feed_text`: a replay reads its records one by one, and nothing
+//! is copied or allocated. A [`CapturedLine`] is an address and port with the venue and the line
+//! whose datagrams go there.
 //!
-//! Contract: what it gave, then what is pending, are the records of the frames of whole pieces, in file
-//! order, each frame's datagram for the first line that takes it, and nothing else
-//! (`specs/Readers.antt`, over `specs/Records.antt` and `specs/Lines.antt`). [`convert`] writes those
-//! records, and `replay_run::replay_lines` replays them. A [`CaptureTap`] gives exactly what the reader below
-//! it gives, and tells a [`DatagramSink`] of the datagrams (`specs/Taps.antt`); which ones is tested, not proved.
-//! Begin at `lines_in.rt`.
+//! Contract: what it read are whole pieces, and their records are those of their frames, in file
+//! order, each frame's datagram for the first line that takes it, at the frame's own time, and
+//! nothing else; and all frames are counted, by what became of them (`specs/PacketFormats.antt`,
+//! over `specs/Records.antt`, `specs/Lines.antt` and `specs/Counts.antt`). [`convert`] writes the
+//! records of any format in the project's own (`specs/Conversions.antt`).
+//!
+//! Begin at `packet_format.rt`.
 #![tactic(auto)]
 
-mod capture_tap;
 mod captured_line;
 mod conversion;
-mod fault;
-mod frames;
 mod line_list;
-mod lines_in;
+mod packet_format;
 mod passed_over;
-mod pieces;
-mod report;
 
-pub use capture_tap::{CaptureTap, DatagramSink};
 pub use captured_line::CapturedLine;
 pub use conversion::convert;
-pub use fault::InputFault;
-pub use frames::LineDatagram;
 pub use line_list::{are_apart, lines_at};
-pub use lines_in::{LineBuffers, LinesIn};
+pub use packet_format::PacketFormat;
 pub use passed_over::PassedOver;
-pub use report::{CaptureReport, LinesFault};

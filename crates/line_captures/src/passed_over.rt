@@ -1,7 +1,6 @@
 //! What of a capture was passed over.
 ghost use Rattle.std.specs.Prelude.{◌≡◌, [], ◌∷◌};
-ghost use Rattle.line_captures.specs.Counts.{to_line, elsewhere, no_datagram, passed_after, count_after};
-ghost use Rattle.line_captures.specs.Steps.{timed_after};
+ghost use Rattle.line_captures.specs.Counts.{to_line, elsewhere, no_datagram, passed_after, count_after, timed_after};
 
 use packet_capture::FrameFault;
 

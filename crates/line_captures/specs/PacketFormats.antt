@@ -1,0 +1,101 @@
+-- Packet captures for lines, as a format of records.
+use Rattle.std.specs.Prelude.{◌≡◌, ◌≢◌, ℕ, List, [], ◌∷◌, ◌++◌, map}
+use Rattle.packet_capture.specs.declared.fault.CaptureFault.{CaptureFault}
+use Rattle.packet_capture.specs.declared.reader.Format.TheVariants.{Start}
+use Rattle.packet_capture.specs.declared.stop.Stop.{Stop}
+use Rattle.packet_capture.specs.declared.stop.Stop.TheVariants as stops
+use Rattle.packet_capture.specs.Captures.{Context, PieceContent, IsCapture, ArePieces, StopsReading, frames_in, frames_of, new_context}
+use Rattle.packet_capture.specs.Frames.{FrameContent}
+use Rattle.feed_text.specs.Capture.{CaptureRecord, record_of}
+use Rattle.feed_text.specs.declared.record_format.Step.{Step}
+use Rattle.feed_text.specs.declared.record_format.Step.TheVariants.{Came, Passed, Wants, Bad}
+use Rattle.feed_text.specs.Formats.{TimedRecord, Parsing, timed_record}
+use Rattle.line_captures.specs.declared.captured_line.CapturedLine.{CapturedLine}
+use Rattle.line_captures.specs.declared.passed_over.Progress.{Progress}
+use Rattle.line_captures.specs.Counts.{CountsPieces, new_progress}
+use Rattle.line_captures.specs.Records.{AreOfFrame}
+
+-- the lines, of which there are this many venues, what the pieces that were read say of the next
+-- one, and what was counted of them
+pub record PacketState : Type 0 where
+  pub lines : List CapturedLine
+  pub venues : ℕ
+  pub context : Context
+  pub progress : Progress
+
+-- before the first piece
+abbrev pub new_packets : ℕ → List CapturedLine → PacketState
+new_packets venues lines = record {
+  lines = lines;
+  venues = venues;
+  context = new_context;
+  progress = new_progress;
+}
+
+-- a record at the time of its frame
+abbrev pub timed_at : FrameContent → CaptureRecord → TimedRecord
+timed_at frame what = timed_record what frame.time
+
+-- the records of frames, one frame after the other, each at the time of its frame
+abbrev pub AreTimed : List CapturedLine → List FrameContent → List TimedRecord → Type 0
+AreTimed lines [] records = records ≡ []
+AreTimed lines (frame ∷ frames) records =
+    (first : List CaptureRecord) × (others : List TimedRecord)
+    × AreOfFrame lines frame first × AreTimed lines frames others
+    × (records ≡ map (timed_at frame) first ++ others)
+
+-- The bytes begin with whole pieces, whatever follows, which are counted, and these are the records
+-- of their frames.
+pub record ReadsPackets (before : PacketState) (bytes : List ℕ) (records : List TimedRecord)
+    (after : PacketState) (rest : List ℕ) : Type 0 where
+  pub pieces : List PieceContent
+  pub are : (more : List ℕ)
+      → ArePieces before.context (bytes ++ more) pieces after.context (rest ++ more)
+  pub timed : AreTimed before.lines (frames_of pieces) records
+  pub counts : CountsPieces before.lines before.progress pieces after.progress
+  pub lines : after.lines ≡ before.lines
+  pub venues : after.venues ≡ before.venues
+
+-- less than a piece stands there
+abbrev pub wants_packets : PacketState → List ℕ → Type 0
+wants_packets s bytes = (n : ℕ) × StopsReading s.context bytes (stops.Wants n)
+
+-- no piece stands there
+abbrev pub is_bad_packets : PacketState → List ℕ → CaptureFault → Type 0
+is_bad_packets s bytes fault = StopsReading s.context bytes (stops.Bad fault)
+
+-- a piece at least was read
+abbrev pub is_whole_packets : PacketState → Type 0
+is_whole_packets s = s.context.format ≢ Start
+
+-- how packet captures go on
+abbrev pub packet_parsing : Parsing PacketState CaptureFault
+packet_parsing = record {
+  reads = ReadsPackets;
+  wants = wants_packets;
+  is_bad = is_bad_packets;
+  is_whole = is_whole_packets;
+}
+
+-- the bytes are a whole capture, and these are its records
+pub record IsCaptureOf (lines : List CapturedLine) (bytes : List ℕ) (records : List TimedRecord)
+    : Type 0 where
+  pub frames : List FrameContent
+  pub capture : IsCapture bytes frames
+  pub are : AreTimed lines frames records
+
+-- ---- one step. Only private clauses cite this part.
+
+-- the step of a piece
+abbrev pub IsStepOf : List CapturedLine → PieceContent → Step CaptureFault → Type 0
+IsStepOf lines piece (Came r time len) =
+    (len ≡ piece.len) × AreTimed lines (frames_in piece) (timed_record (record_of r) time ∷ [])
+IsStepOf lines piece (Passed len) = (len ≡ piece.len) × AreTimed lines (frames_in piece) []
+IsStepOf lines piece Wants = ⊥
+IsStepOf lines piece (Bad fault) = ⊥
+
+-- the step where no piece is read
+abbrev pub IsStopStep : Stop → Step CaptureFault → Type 0
+IsStopStep (stops.Wants n) Wants = Unit {0}
+IsStopStep (stops.Bad fault) (Bad told) = told ≡ fault
+IsStopStep stop step = ⊥
