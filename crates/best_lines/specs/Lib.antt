@@ -1,9 +1,0 @@
-pub mod Lines
-pub mod Cutting
-pub mod CuttingLaws
-pub mod Rows
-pub mod Times
-pub mod Writers
-pub mod WriterLaws
-pub mod Words
-pub mod Taking

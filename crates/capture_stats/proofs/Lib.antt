@@ -1,4 +1,0 @@
-pub mod Numbers
-pub mod Placing
-pub mod Putting
-pub mod Written

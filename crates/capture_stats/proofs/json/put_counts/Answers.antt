@@ -1,8 +1,0 @@
-use Rattle.std.proofs.Common.{codes}
-use Rattle.capture_stats.proofs.Putting.{put_last, put_two}
-use Rattle.capture_stats.proofs.json.put_counts.Goals as goal
-
-pub returns : goal.returns
-returns c =
-    put_two c.extend_from_slice.result c.args.text.now.items c.put_pieces.new.text.items c.extend_from_slice.new.self.items _ (codes "}") c.in_ok-put_pieces.ensures
-    (put_last c.extend_from_slice.result c.put_pieces.new.text.items c.extend_from_slice.new.self.items (codes "}") c.extend_from_slice.ensures.items)

@@ -1,6 +1,0 @@
-use Rattle.capture_stats.specs.Json.{venue_json}
-use Rattle.capture_stats.proofs.Putting.{venue_put}
-use Rattle.capture_stats.proofs.json.put_venues.Goals as goal
-
-pub loop-place-preserved : goal.loop-place-preserved
-loop-place-preserved c = venue_put venue_json c.args.venues.now c.loop-place.place c.args.text.now.items c.loop-place.text.items c.put_venue.new.text.items c.loop-place.invariant c.in_ok-put_venue.ensures

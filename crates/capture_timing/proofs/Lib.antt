@@ -1,4 +1,0 @@
-pub mod Leading
-pub mod Noting
-pub mod Places
-pub mod Sharing

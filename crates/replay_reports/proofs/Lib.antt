@@ -1,0 +1,10 @@
+pub mod Appending
+pub mod CsvReading
+pub mod Adding
+pub mod Placing
+pub mod Leading
+pub mod Noting
+pub mod Sharing
+pub mod Places
+pub mod Timed
+pub mod Putting

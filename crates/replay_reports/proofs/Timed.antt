@@ -1,0 +1,342 @@
+-- How the packets of venues run in time, after one event more.
+use Rattle.std.proofs.Common.{◌≡◌, ℕ, zero, suc, ◌+◌, ◌/◌, ◌<◌, ◌==◌, ◌⊎◌, inl, inr, Bool, true, false, cond, List, [], ◌∷◌, ◌++◌, Option, Some, Result, Ok, Err, length, replicate, reverse, slice_index_or, refl, sym, ap, subst, ◌∙◌, arith, eq-eqb}
+use Rattle.std.specs.Prelude.{◌&&◌, flat_map, nat_lt, slice_get, slice_set}
+use Rattle.std.proofs.lemmas.Bool.{and_left, cases_eq, ne_eqb}
+use Rattle.std.proofs.lemmas.List.{map-append, reverse-append}
+use Rattle.std.proofs.lemmas.Option.{slice_get_within}
+use Rattle.feed_types.specs.declared.line.LineId.{LineId}
+use Rattle.feed_types.specs.declared.line.LineId.TheVariants.{A, B}
+use Rattle.line_arbiter.specs.declared.faults.RenewFault.{RenewFault}
+use Rattle.line_arbiter.specs.declared.outcome.LineFault.{LineFault}
+use Rattle.line_arbiter.specs.declared.outcome.Outcome.{Outcome}
+use Rattle.line_arbiter.specs.declared.outcome.Outcome.TheVariants.{Taken, Heartbeat, Ended, Ahead}
+use Rattle.feed_text.specs.declared.event.Event.{Event}
+use Rattle.feed_text.specs.SinkEvents.{SinkEvent, TimedEvent, timed_event, told_by, told_packet, told_renewal}
+use Rattle.replay_reports.specs.declared.times.peak_rate.PeakRate.{PeakRate}
+use Rattle.replay_reports.specs.declared.times.times.Times.{Times}
+use Rattle.replay_reports.specs.declared.times.timed_stats.TimedStats.{TimedStats}
+use Rattle.replay_reports.specs.declared.counts.venue_stats.VenueStats.{VenueStats}
+use Rattle.replay_reports.specs.declared.times.venue_timing.VenueTiming.{VenueTiming}
+use Rattle.replay_reports.specs.counts.Counts.{missing_in}
+use Rattle.replay_reports.specs.times.Leads.{AreLeadsOf, MessageOn, come_on, leads_of}
+use Rattle.replay_reports.specs.times.Rates.{IsRateOf, MessagesAt, messages_at}
+use Rattle.replay_reports.specs.times.Spells.{AreSpellsOf, MissingAt, missing_at}
+use Rattle.replay_reports.specs.counts.Stats.{Counted, counted_after, each_venue, nothing_at, nothing_counted, untimed, venue_after}
+use Rattle.replay_reports.specs.counts.StatsLaws.{counted_twice}
+use Rattle.replay_reports.specs.times.Timing.{AreTimesOf, AreVenuesTimed, IsLacking, IsTimed, IsVenueTimed, begins_session, came_after, came_at, clock_of, has_numbers, is_accepted, leads_before, messages_of, messages_told, missing_after, notes_told}
+use Rattle.replay_reports.proofs.Noting.{got_other, got_same}
+
+-- ---- a venue to which the event didn't come
+
+-- nothing of it changes for the venue
+pub record IsElsewhere (n : ℕ) (e : TimedEvent) (events : List TimedEvent) : Type 0 where
+  pub came : came_after n (clock_of e.time) e.event (came_at n events) ≡ came_at n events
+  pub begins : begins_session n e.event ≡ false
+  pub accepted : is_accepted n e.event ≡ false
+
+before_same : (window : ℕ) (one two : LineId) (n : ℕ) (e : TimedEvent) (events : List TimedEvent)
+    → begins_session n e.event ≡ false → leads_before window one two n events ≡ leads_before window one two n (e ∷ events)
+before_same window one two n e events begins =
+    sym (ap (λ (b : Bool). cond b (leads_of window one two (came_at n events)) [] ++ leads_before window one two n events)
+    begins)
+
+notes_same : (n : ℕ) (e : TimedEvent) (events : List TimedEvent) → is_accepted n e.event ≡ false
+    → notes_told n events ≡ notes_told n (e ∷ events)
+notes_same n e events accepted =
+    sym (ap (λ (b : Bool). cond b (missing_at (clock_of e.time) (nat_lt 0 (missing_after n (e ∷ events))) ∷ []) []
+    ++ notes_told n events) accepted)
+
+untouched : (window n : ℕ) (e : TimedEvent) (events : List TimedEvent) (v : VenueTiming)
+    → IsElsewhere n e events → IsVenueTimed window n events v → IsVenueTimed window n (e ∷ events) v
+untouched window n e events v away timed = record {
+  leads =
+      subst (λ (came : List MessageOn). AreLeadsOf window came (leads_before window A B n (e ∷ events))
+      (leads_before window B A n (e ∷ events)) v.leads) (sym away.came)
+      (subst (λ (a : List ℕ). AreLeadsOf window (came_at n events) a (leads_before window B A n (e ∷ events)) v.leads)
+      (before_same window A B n e events away.begins)
+      (subst (λ (b : List ℕ). AreLeadsOf window (came_at n events) (leads_before window A B n events) b v.leads)
+      (before_same window B A n e events away.begins) timed.leads));
+  missing = subst (λ (notes : List MissingAt). AreSpellsOf notes v.missing) (notes_same n e events away.accepted)
+      timed.missing;
+}
+
+-- no venue of these
+pub all_untouched : (window : ℕ) (e : TimedEvent) (events : List TimedEvent) (vs : List VenueTiming)
+    → ((n : ℕ) → n < length vs → IsElsewhere n e events) → AreVenuesTimed window events vs
+    → AreVenuesTimed window (e ∷ events) vs
+all_untouched window e events vs away timed = λ n v got.
+    untouched window n e events v (away n (slice_get_within vs n v got)) (timed n v got)
+
+-- one venue changes, to which the event came
+pub one_touched : (window venue place : ℕ) (e : TimedEvent) (events : List TimedEvent) (vs : List VenueTiming)
+    (old new : VenueTiming) → place ≡ venue → slice_get vs place ≡ Some old
+    → ((n : ℕ) → (n ≡ venue → ⊥) → IsElsewhere n e events)
+    → (IsVenueTimed window venue events old → IsVenueTimed window venue (e ∷ events) new)
+    → AreVenuesTimed window events vs → AreVenuesTimed window (e ∷ events) (slice_set vs place new)
+one_touched window venue place e events vs old new at was away more timed = λ n v got.
+    elim (cases_eq n place) [
+      | inl same ↦
+          let is : new ≡ v = got_same vs place new v
+          (subst (λ (k : ℕ). slice_get (slice_set vs place new) k ≡ Some v) same got) in
+          subst (λ (k : ℕ). IsVenueTimed window k (e ∷ events) v) (sym (same ∙ at))
+          (subst (λ (x : VenueTiming). IsVenueTimed window venue (e ∷ events) x) is
+          (more (subst (λ (k : ℕ). IsVenueTimed window k events old) at (timed place old was))))
+      | inr apart ↦
+          untouched window n e events v (away n (λ is. apart (is ∙ sym at)))
+          (timed n v (sym (got_other vs place n new apart) ∙ got))
+    ]
+
+-- ---- a packet that wasn't refused
+
+module _ (venue : ℕ) (line : LineId) (number count : ℕ) where
+  abbrev pub Heard : ℕ → Outcome → SinkEvent
+  Heard at outcome = told_packet at line number count (Ok outcome)
+
+  came_elsewhere : (n clock : ℕ) (outcome : Outcome) (came : List MessageOn) → (venue == n) ≡ false
+      → came_after n clock (Heard venue outcome) came ≡ came
+  came_elsewhere n clock (Taken new repeated) came apart =
+      ap (λ (b : Bool). cond b (come_on line number count clock came) came)
+      (and_left (venue == n) (has_numbers number count) apart)
+  came_elsewhere n clock Heartbeat came apart = refl
+  came_elsewhere n clock Ended came apart = refl
+  came_elsewhere n clock Ahead came apart = refl
+
+  pub heard_elsewhere : (n : ℕ) (time : Option ℕ) (outcome : Outcome) (events : List TimedEvent) → (n ≡ venue → ⊥)
+      → IsElsewhere n (timed_event time (Heard venue outcome)) events
+  heard_elsewhere n time outcome events apart =
+      let not : (venue == n) ≡ false = ne_eqb venue n (λ e. apart (sym e)) in
+      record {
+        came = came_elsewhere n (clock_of time) outcome (came_at n events) not;
+        begins = refl;
+        accepted = not;
+      }
+
+  came_here : (clock : ℕ) (outcome : Outcome) (came : List MessageOn)
+      → came_after 0 clock (Heard 0 outcome) came ≡ came_after venue clock (Heard venue outcome) came
+  came_here clock (Taken new repeated) came =
+      ap (λ (b : Bool). cond (b && has_numbers number count) (come_on line number count clock came) came)
+      (sym (eq-eqb venue venue refl))
+  came_here clock Heartbeat came = refl
+  came_here clock Ended came = refl
+  came_here clock Ahead came = refl
+
+  pub heard_here : (window clock : ℕ) (time : Option ℕ) (outcome : Outcome) (events : List TimedEvent)
+      (old new : VenueTiming) (is_missing : Bool) → clock_of time ≡ clock
+      → nat_lt 0 (missing_after venue (timed_event time (Heard venue outcome) ∷ events)) ≡ is_missing
+      → ((window : ℕ) (came : List MessageOn) (a b : List ℕ) → AreLeadsOf window came a b old.leads
+      → AreLeadsOf window (came_after 0 clock (Heard 0 outcome) came) a b new.leads)
+      → ((notes : List MissingAt) → AreSpellsOf notes old.missing
+      → AreSpellsOf (missing_at clock is_missing ∷ notes) new.missing)
+      → IsVenueTimed window venue events old
+      → IsVenueTimed window venue (timed_event time (Heard venue outcome) ∷ events) new
+  heard_here window clock time outcome events old new is_missing at lacks leads missing timed =
+      let e = timed_event time (Heard venue outcome) in
+      let came : came_after 0 clock (Heard 0 outcome) (came_at venue events) ≡ came_at venue (e ∷ events) =
+      came_here clock outcome (came_at venue events)
+      ∙ ap (λ (t : ℕ). came_after venue t (Heard venue outcome) (came_at venue events)) (sym at) in
+      let notes : missing_at clock is_missing ∷ notes_told venue events ≡ notes_told venue (e ∷ events) =
+      ap (λ (t : ℕ). missing_at t is_missing ∷ notes_told venue events) (sym at)
+      ∙ ap (λ (b : Bool). missing_at (clock_of time) b ∷ notes_told venue events) (sym lacks)
+      ∙ ap (λ (b : Bool). cond b (missing_at (clock_of time) (nat_lt 0 (missing_after venue (e ∷ events))) ∷ []) []
+      ++ notes_told venue events) (sym (eq-eqb venue venue refl)) in
+      record {
+        leads = subst (λ (c : List MessageOn). AreLeadsOf window c (leads_before window A B venue events)
+            (leads_before window B A venue events) new.leads) came
+            (leads window (came_at venue events) (leads_before window A B venue events)
+            (leads_before window B A venue events) timed.leads);
+        missing = subst (λ (ns : List MissingAt). AreSpellsOf ns new.missing) notes
+            (missing (notes_told venue events) timed.missing);
+      }
+
+-- ---- a next session
+
+pub renewed_elsewhere : (venue ordinal n : ℕ) (time : Option ℕ) (events : List TimedEvent) → (n ≡ venue → ⊥)
+    → IsElsewhere n (timed_event time (told_renewal venue (Ok ordinal))) events
+renewed_elsewhere venue ordinal n time events apart =
+    let not : (venue == n) ≡ false = ne_eqb venue n (λ e. apart (sym e)) in
+    record {
+      came = ap (λ (b : Bool). cond b [] (came_at n events)) not;
+      begins = not;
+      accepted = refl;
+    }
+
+pub renewed_here : (window venue ordinal : ℕ) (time : Option ℕ) (events : List TimedEvent) (old new : VenueTiming)
+    → ((window : ℕ) (came : List MessageOn) (a b : List ℕ) → AreLeadsOf window came a b old.leads
+    → AreLeadsOf window [] (leads_of window A B came ++ a) (leads_of window B A came ++ b) new.leads)
+    → new.missing ≡ old.missing → IsVenueTimed window venue events old
+    → IsVenueTimed window venue (timed_event time (told_renewal venue (Ok ordinal)) ∷ events) new
+renewed_here window venue ordinal time events old new leads missing timed =
+    let so : true ≡ (venue == venue) = sym (eq-eqb venue venue refl) in
+    let came = came_at venue events in
+    let before = λ (one two : LineId) (b : Bool).
+    cond b (leads_of window one two came) [] ++ leads_before window one two venue events in
+    record {
+      leads =
+          subst (λ (b : Bool). AreLeadsOf window (cond b [] came)
+          (cond b (leads_of window A B came) [] ++ leads_before window A B venue events)
+          (cond b (leads_of window B A came) [] ++ leads_before window B A venue events) new.leads) so
+          (leads window came (leads_before window A B venue events) (leads_before window B A venue events) timed.leads);
+      missing = subst (λ m. AreSpellsOf (notes_told venue events) m) (sym missing) timed.missing;
+    }
+
+-- ---- what is missing, by the counts
+
+each_index : (after : ℕ → VenueStats → VenueStats) (k n i : ℕ) (d : VenueStats) → i < n
+    → slice_index_or (each_venue after k (replicate n d)) i d ≡ after (k + i) d
+each_index after k zero i d within = absurd (omega (arith, within))
+each_index after k (suc n) zero d within = ap (λ (m : ℕ). after m d) (omega arith)
+each_index after k (suc n) (suc i) d within =
+    let at : k + 1 + i ≡ k + suc i = omega arith in
+    each_index after (k + 1) n i d (omega (arith, within)) ∙ ap (λ (m : ℕ). after m d) at
+
+each_length : (after : ℕ → VenueStats → VenueStats) (k n : ℕ) (d : VenueStats)
+    → length (each_venue after k (replicate n d)) ≡ n
+each_length after k zero d = refl
+each_length after k (suc n) d = ap suc (each_length after (k + 1) n d)
+
+-- the counts after one event more
+pub counts_more : (n : ℕ) (old new : Counted) (e : TimedEvent) (events : List TimedEvent)
+    → old ≡ counted_after (nothing_counted n) (untimed (reverse events)) → new ≡ counted_after old (e.event ∷ [])
+    → new ≡ counted_after (nothing_counted n) (untimed (reverse (e ∷ events)))
+counts_more n old new e events was more =
+    more ∙ ap (λ (c : Counted). counted_after c (e.event ∷ [])) was
+    ∙ counted_twice (nothing_counted n) (untimed (reverse events)) (e.event ∷ [])
+    ∙ ap (λ (es : List SinkEvent). counted_after (nothing_counted n) es)
+    (sym (map-append (λ x. x.event) (reverse events) (e ∷ []))
+    ∙ ap untimed (sym (reverse-append (e ∷ []) events)))
+
+pub missing_counted : (n venue : ℕ) (c : Counted) (events : List TimedEvent)
+    → c ≡ counted_after (nothing_counted n) (untimed (reverse events)) → venue < n
+    → missing_in (slice_index_or c.venues venue nothing_at) ≡ missing_after venue events
+missing_counted n venue c events is within =
+    let zero_and : 0 + venue ≡ venue = omega arith in
+    ap (λ (x : Counted). missing_in (slice_index_or x.venues venue nothing_at)) is
+    ∙ ap missing_in (each_index (venue_after (untimed (reverse events))) 0 n venue nothing_at within
+    ∙ ap (λ (m : ℕ). venue_after (untimed (reverse events)) m nothing_at) zero_and)
+
+pub counted_length : (n : ℕ) (c : Counted) (events : List TimedEvent)
+    → c ≡ counted_after (nothing_counted n) (untimed (reverse events)) → length c.venues ≡ n
+counted_length n c events is =
+    ap (λ (x : Counted). length x.venues) is
+    ∙ each_length (venue_after (untimed (reverse events))) 0 n nothing_at
+
+-- ---- one element more
+
+pub got_pushed : {X : Type 0} (xs : List X) (x y : X) (n : ℕ) → slice_get (xs ++ x ∷ []) n ≡ Some y
+    → (slice_get xs n ≡ Some y) ⊎ ((x ≡ y) × (n ≡ length xs))
+got_pushed [] x y zero is = inr (cc, refl)
+got_pushed [] x y (suc n) is = absurd cc
+got_pushed (z ∷ xs) x y zero is = inl is
+got_pushed (z ∷ xs) x y (suc n) is = elim (got_pushed xs x y n is) [
+  | inl before ↦ inl before
+  | inr last ↦ inr (last.0, ap suc last.1)
+]
+
+-- ---- the sink takes one event more
+
+pub timed_more : (window : ℕ) (events : List TimedEvent) (e : TimedEvent) (old new : TimedStats) (is_missing : Bool)
+    → IsTimed window events old → new.stats ≡ counted_after old.stats (e.event ∷ [])
+    → ((venue : ℕ) → venue < length new.stats.venues → is_accepted venue e.event ≡ true
+    → is_missing ≡ nat_lt 0 (missing_in (slice_index_or new.stats.venues venue nothing_at)))
+    → length new.times.venues.items ≡ length old.times.venues.items
+    → (IsLacking (length old.times.venues.items) is_missing e events → AreTimesOf window events old.times
+    → AreTimesOf window (e ∷ events) new.times)
+    → IsTimed window (e ∷ events) new
+timed_more window events e old new is_missing timed counted lacks kept takes =
+    let n = length old.times.venues.items in
+    let counts = counts_more n old.stats new.stats e events timed.counts counted in
+    let venues = counted_length n new.stats (e ∷ events) counts in
+    record {
+      counts = subst (λ (k : ℕ). new.stats ≡ counted_after (nothing_counted k) (untimed (reverse (e ∷ events))))
+          (sym kept) counts;
+      times = takes
+          (λ venue within accepted.
+          lacks venue (subst (λ (k : ℕ). venue < k) (sym venues) within) accepted
+          ∙ ap (nat_lt 0) (missing_counted n venue new.stats (e ∷ events) counts within))
+          timed.times;
+    }
+
+-- an event that brings no packet and begins no session changes nothing
+pub record IsIdle (e : SinkEvent) : Type 0 where
+  pub came : (n clock : ℕ) (came : List MessageOn) → came_after n clock e came ≡ came
+  pub begins : (n : ℕ) → begins_session n e ≡ false
+  pub accepted : (n : ℕ) → is_accepted n e ≡ false
+  pub silent : (clock : ℕ) → messages_of clock e ≡ []
+
+-- an event that brings no packet leaves the rates
+pub rates_kept : (window : ℕ) (time : Option ℕ) (events : List TimedEvent) (e : SinkEvent) (old new : Times)
+    → ((clock : ℕ) → messages_of clock e ≡ []) → new.in_second ≡ old.in_second
+    → new.in_millisecond ≡ old.in_millisecond
+    → (AreVenuesTimed window events old.venues.items
+    → AreVenuesTimed window (timed_event time e ∷ events) new.venues.items)
+    → AreTimesOf window events old → AreTimesOf window (timed_event time e ∷ events) new
+rates_kept window time events e old new silent second millisecond venues timed =
+    let rate = λ (length : ℕ) (r s : PeakRate) (same : s ≡ r) (is : IsRateOf length (flat_map messages_told events) r).
+    subst (λ (x : PeakRate). IsRateOf length (flat_map messages_told (timed_event time e ∷ events)) x) (sym same)
+    (subst (λ (ms : List MessagesAt). IsRateOf length (ms ++ flat_map messages_told events) r)
+    (sym (silent (clock_of time))) is) in
+    record {
+      second = rate 1000000000 old.in_second new.in_second second timed.second;
+      millisecond = rate 1000000 old.in_millisecond new.in_millisecond millisecond timed.millisecond;
+      venues = venues timed.venues;
+    }
+
+pub idle_timed : (window : ℕ) (time : Option ℕ) (events : List TimedEvent) (t : Times) (e k : Event) → e ≡ k
+    → IsIdle (told_by k) → AreTimesOf window events t
+    → AreTimesOf window (timed_event time (told_by e) ∷ events) t
+idle_timed window time events t e k is idle timed =
+    subst (λ (x : Event). AreTimesOf window (timed_event time (told_by x) ∷ events) t) (sym is)
+    (rates_kept window time events (told_by k) t t idle.silent refl refl
+    (all_untouched window (timed_event time (told_by k)) events t.venues.items
+    (λ n within. record {
+      came = idle.came n (clock_of time) (came_at n events);
+      begins = idle.begins n;
+      accepted = idle.accepted n;
+    })) timed)
+
+-- a rate after one packet more
+pub rate_more : (length : ℕ) (time : Option ℕ) (events : List TimedEvent) (e : SinkEvent) (clock count messages : ℕ)
+    (old new : PeakRate) → messages_of (clock_of time) e ≡ messages_at (clock_of time) count ∷ []
+    → clock_of time ≡ clock → messages ≡ count
+    → ((l time : ℕ) (came : List MessagesAt) → clock / length ≡ time / l → IsRateOf l came old
+    → IsRateOf l (messages_at time messages ∷ came) new)
+    → IsRateOf length (flat_map messages_told events) old
+    → IsRateOf length (flat_map messages_told (timed_event time e ∷ events)) new
+rate_more length time events e clock count messages old new brings at same more is =
+    subst (λ (ms : List MessagesAt). IsRateOf length (ms ++ flat_map messages_told events) new) (sym brings)
+    (subst (λ (m : ℕ). IsRateOf length (messages_at (clock_of time) m ∷ flat_map messages_told events) new) same
+    (more length (clock_of time) (flat_map messages_told events) (ap (λ (t : ℕ). t / length) (sym at)) is))
+
+-- ---- venues after a packet, or after a renewal, by its answer
+
+pub heard_answered : (window venue : ℕ) (line : LineId) (number count : ℕ) (time : Option ℕ) (events : List TimedEvent)
+    (is_missing : Bool) (old new : List VenueTiming) (answer : Result Outcome LineFault) (outcome : Outcome)
+    → answer ≡ Ok outcome
+    → IsLacking (length old) is_missing (timed_event time (told_packet venue line number count answer)) events
+    → (IsLacking (length old) is_missing (timed_event time (told_packet venue line number count (Ok outcome))) events
+    → AreVenuesTimed window events old
+    → AreVenuesTimed window (timed_event time (told_packet venue line number count (Ok outcome)) ∷ events) new)
+    → AreVenuesTimed window events old
+    → AreVenuesTimed window (timed_event time (told_packet venue line number count answer) ∷ events) new
+heard_answered window venue line number count time events is_missing old new answer outcome is lacking more timed =
+    subst (λ (a : Result Outcome LineFault).
+    AreVenuesTimed window (timed_event time (told_packet venue line number count a) ∷ events) new) (sym is)
+    (more (subst (λ (a : Result Outcome LineFault).
+    IsLacking (length old) is_missing (timed_event time (told_packet venue line number count a)) events) is lacking) timed)
+
+pub refused_timed : (window venue : ℕ) (line : LineId) (number count : ℕ) (time : Option ℕ) (events : List TimedEvent)
+    (vs : List VenueTiming) (answer : Result Outcome LineFault) (fault : LineFault) → answer ≡ Err fault
+    → AreVenuesTimed window events vs
+    → AreVenuesTimed window (timed_event time (told_packet venue line number count answer) ∷ events) vs
+refused_timed window venue line number count time events vs answer fault is timed =
+    subst (λ (a : Result Outcome LineFault).
+    AreVenuesTimed window (timed_event time (told_packet venue line number count a) ∷ events) vs) (sym is)
+    (all_untouched window (timed_event time (told_packet venue line number count (Err fault))) events vs
+    (λ n within. record { came = refl; begins = refl; accepted = refl }) timed)
+
+pub renewal_refused : (window venue : ℕ) (time : Option ℕ) (events : List TimedEvent) (vs : List VenueTiming)
+    (fault : RenewFault) → AreVenuesTimed window events vs
+    → AreVenuesTimed window (timed_event time (told_renewal venue (Err fault)) ∷ events) vs
+renewal_refused window venue time events vs fault timed =
+    all_untouched window (timed_event time (told_renewal venue (Err fault))) events vs
+    (λ n within. record { came = refl; begins = refl; accepted = refl }) timed

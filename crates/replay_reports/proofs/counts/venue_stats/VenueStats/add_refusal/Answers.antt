@@ -1,0 +1,17 @@
+use Rattle.replay_reports.proofs.Adding.{refused_a, refused_b, refused_recovery}
+use Rattle.replay_reports.proofs.counts.venue_stats.VenueStats.add_refusal.Goals as goal
+
+pub returns-in-A : goal.returns-in-A
+returns-in-A c = λ venue.
+    refused_a c.args.self.now c.args.line venue c.args.fault c.add_refusal.new.self c.in-A.is
+    (c.add_refusal.ensures c.args.line venue)
+
+pub returns-in-B : goal.returns-in-B
+returns-in-B c = λ venue.
+    refused_b c.args.self.now c.args.line venue c.args.fault c.add_refusal-in-B.new.self c.in-B.is
+    (c.add_refusal-in-B.ensures c.args.line venue)
+
+pub returns-in-Recovery : goal.returns-in-Recovery
+returns-in-Recovery c = λ venue.
+    refused_recovery c.args.self.now c.args.line venue c.args.fault c.add_refusal-in-Recovery.new.self
+    c.in-Recovery.is (c.add_refusal-in-Recovery.ensures c.args.line venue)

@@ -1,0 +1,5 @@
+pub mod rows
+pub mod counts
+pub mod times
+pub mod Texts
+pub mod TextLaws

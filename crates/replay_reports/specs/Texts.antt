@@ -1,0 +1,43 @@
+-- The counts as a text.
+use Rattle.std.specs.Prelude.{◌≡◌, ℕ, List, [], ◌++◌, reverse}
+use Rattle.feed_text.specs.SinkEvents.{TimedEvent}
+use Rattle.feed_text.specs.declared.formats.StatsFormat.{StatsFormat}
+use Rattle.feed_text.specs.declared.formats.StatsFormat.TheVariants.{Table, Json}
+use Rattle.replay_reports.specs.declared.times.figures.TimeFigures.{TimeFigures}
+use Rattle.replay_reports.specs.declared.times.timed_stats.TimedStats.{TimedStats}
+use Rattle.replay_reports.specs.counts.Json.{stats_json}
+use Rattle.replay_reports.specs.counts.Stats.{Counted, counted_after, nothing_counted, untimed}
+use Rattle.replay_reports.specs.counts.Table.{stats_table}
+use Rattle.replay_reports.specs.times.TimeFigures.{AreFigures}
+use Rattle.replay_reports.specs.times.Timing.{IsTimed}
+use Rattle.replay_reports.specs.times.TimesJson.{times_json}
+use Rattle.replay_reports.specs.times.TimesTable.{times_table}
+
+-- what more is said follows a table, and stands among the members of an object
+abbrev pub text_of_stats : StatsFormat → Counted → List ℕ → List ℕ
+text_of_stats Table c more = stats_table c ++ more
+text_of_stats Json c more = stats_json c more
+
+abbrev pub text_of_times : StatsFormat → TimeFigures → List ℕ
+text_of_times Table f = times_table f
+text_of_times Json f = times_json f
+
+-- The text of counts, and of figures of the events that the sink took.
+pub record IsTimedText (format : StatsFormat) (t : TimedStats) (text : List ℕ) : Type 0 where
+  pub figures : TimeFigures
+  pub are : (window : ℕ) (events : List TimedEvent) → IsTimed window events t
+      → AreFigures window events figures
+  pub text_is : text ≡ text_of_stats format t.stats (text_of_times format figures)
+
+-- the text of the statistics of these events, of this many venues
+abbrev pub text_of_events : StatsFormat → ℕ → List TimedEvent → List ℕ
+text_of_events format venues events =
+    text_of_stats format (counted_after (nothing_counted venues) (untimed events)) []
+
+-- The same with their times, where the first arrivals of this many messages of a venue are kept.
+pub record IsTextOfTimes (format : StatsFormat) (venues window : ℕ) (events : List TimedEvent)
+    (text : List ℕ) : Type 0 where
+  pub figures : TimeFigures
+  pub are : AreFigures window (reverse events) figures
+  pub text_is : text ≡ text_of_stats format
+      (counted_after (nothing_counted venues) (untimed events)) (text_of_times format figures)

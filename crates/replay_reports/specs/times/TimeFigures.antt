@@ -1,0 +1,47 @@
+-- The figures of how a replay's packets run in time.
+use Rattle.std.specs.Prelude.{◌≡◌, ℕ, ◌^◌, ◌<◌, List, flat_map, is_some, length, slice_get, sum, Some, if◌then◌else◌}
+use Rattle.feed_types.specs.declared.line.LineId.TheVariants.{A, B}
+use Rattle.feed_text.specs.SinkEvents.{TimedEvent}
+use Rattle.replay_reports.specs.declared.times.figures.DurationTimes.{DurationTimes}
+use Rattle.replay_reports.specs.declared.times.figures.SpellTimes.{SpellTimes}
+use Rattle.replay_reports.specs.declared.times.figures.TimeFigures.{TimeFigures}
+use Rattle.replay_reports.specs.declared.times.figures.VenueTimes.{VenueTimes}
+use Rattle.replay_reports.specs.times.Durations.{IsShareBound}
+use Rattle.replay_reports.specs.times.Figures.{capped, longest_of}
+use Rattle.replay_reports.specs.times.Rates.{most_in_period}
+use Rattle.replay_reports.specs.times.Spells.{MissingAt, missing_since, spells_of}
+use Rattle.replay_reports.specs.times.Timing.{leads_told, messages_told, notes_told}
+
+-- how many durations there are, bounds of half of them and of 99 of a hundred, and the longest
+pub record AreDurationTimes (durations : List ℕ) (t : DurationTimes) : Type 0 where
+  pub count : t.count ≡ capped (length durations)
+  pub half : length durations < 2 ^ 64 → IsShareBound 50 durations t.half
+  pub most : length durations < 2 ^ 64 → IsShareBound 99 durations t.most
+  pub longest : t.longest ≡ longest_of durations
+
+-- how many spells are over, how long they took together and the longest, and whether one is open
+pub record AreSpellTimes (notes : List MissingAt) (t : SpellTimes) : Type 0 where
+  pub count : t.count ≡ capped (length (spells_of notes))
+  pub total : t.total ≡ capped (sum (spells_of notes))
+  pub longest : t.longest ≡ longest_of (spells_of notes)
+  pub standing : t.standing ≡ (if is_some (missing_since notes) then 1 else 0)
+
+-- of a venue: where A is first, where B is first, and its spells with messages missing
+pub record AreVenueTimes (window venue : ℕ) (events : List TimedEvent) (t : VenueTimes)
+    : Type 0 where
+  pub a : AreDurationTimes (leads_told window A B venue events) t.a
+  pub b : AreDurationTimes (leads_told window B A venue events) t.b
+  pub missing : AreSpellTimes (notes_told venue events) t.missing
+
+abbrev pub AreTimesOfEach : ℕ → List TimedEvent → List VenueTimes → Type 0
+AreTimesOfEach window events times =
+    (place : ℕ) (t : VenueTimes) → slice_get times place ≡ Some t
+    → AreVenueTimes window place events t
+
+-- of all venues: the most messages of a second and of a millisecond, and the times of each venue
+pub record AreFigures (window : ℕ) (events : List TimedEvent) (f : TimeFigures) : Type 0 where
+  pub second : f.in_second
+      ≡ capped (most_in_period 1000000000 (flat_map messages_told events))
+  pub millisecond : f.in_millisecond
+      ≡ capped (most_in_period 1000000 (flat_map messages_told events))
+  pub venues : AreTimesOfEach window events f.venues.items

@@ -1,0 +1,51 @@
+-- The times of a capture as a table.
+use Rattle.std.specs.Prelude.{ℕ, List, [], ◌∷◌, ◌++◌, codes, length}
+use Rattle.replay_reports.specs.declared.times.figures.DurationTimes.{DurationTimes}
+use Rattle.replay_reports.specs.declared.times.figures.SpellTimes.{SpellTimes}
+use Rattle.replay_reports.specs.declared.times.figures.TimeFigures.{TimeFigures}
+use Rattle.replay_reports.specs.declared.times.figures.VenueTimes.{VenueTimes}
+use Rattle.replay_reports.specs.counts.Pieces.{first_texts, pieces_text, rows_text}
+use Rattle.replay_reports.specs.times.TimesJson.{no_times}
+
+-- the number of a venue, and the heads of the columns
+abbrev pub times_heading : ℕ → List ℕ
+times_heading place =
+    pieces_text 0 ((codes "\n\nvenue ", place) ∷ [])
+    ++ codes "\n                                 half within   99 % within       longest"
+
+-- durations after this label, and how many there are
+abbrev pub durations_table : List ℕ → DurationTimes → List ℕ
+durations_table label t =
+    rows_text ((label, t.half, t.most, t.longest) ∷ [])
+    ++ pieces_text 14 ((codes "\n    messages                  ", t.count) ∷ [])
+
+abbrev pub spells_table : SpellTimes → List ℕ
+spells_table t =
+    pieces_text 14 (
+    (codes "\n  spells with gaps, over      ", t.count)
+    ∷ (codes "\n    nanoseconds in all        ", t.total)
+    ∷ (codes "\n    the longest               ", t.longest)
+    ∷ (codes "\n  spells with gaps, open      ", t.standing)
+    ∷ [])
+
+abbrev pub venue_times_table : ℕ → VenueTimes → List ℕ
+venue_times_table place t =
+    times_heading place
+    ++ (durations_table (codes "\n  line B after line A         ") t.a
+    ++ (durations_table (codes "\n  line A after line B         ") t.b ++ spells_table t.missing))
+
+abbrev pub venues_times_table : List VenueTimes → ℕ → List ℕ
+venues_times_table venues n = first_texts venue_times_table no_times venues n
+
+abbrev pub rates_table : ℕ → ℕ → List ℕ
+rates_table second millisecond =
+    codes "\nin time, nanoseconds"
+    ++ pieces_text 14 (
+    (codes "\n  messages, busiest second    ", second)
+    ∷ (codes "\n    busiest millisecond       ", millisecond)
+    ∷ [])
+
+abbrev pub times_table : TimeFigures → List ℕ
+times_table f =
+    rates_table f.in_second f.in_millisecond
+    ++ (venues_times_table f.venues.items (length f.venues.items) ++ codes "\n")

@@ -1,0 +1,35 @@
+//! Reports of a replay: sinks of its events that print rows of the national bests, or its
+//! statistics.
+//!
+//! A [`BestRows`] writes the row of each national best that changed, in its [`RowStyle`], after the
+//! format's header: text, comma-separated values or JSON lines. A row's time is that of its own
+//! event (`specs/rows/RowSinks.antt`). A [`Stats`] writes nothing: it counts events for each venue,
+//! each of its lines and the national bests (`specs/counts/Counts.antt`: a filter, then a count or a
+//! sum). A [`TimedStats`] also holds how a packet capture's lines run in time
+//! (`specs/times/Timing.antt`). [`stats_text`] and [`timed_stats_text`] give the text of either, as a
+//! table or as JSON (`specs/Texts.antt`).
+//!
+//! Begin at `rows/row_sink.rt`, or at `counts/stats.rt`.
+#![tactic(auto)]
+
+mod counts;
+mod rows;
+mod text;
+mod times;
+
+pub use counts::gap_stats::{GapStats, SequenceStats};
+pub use counts::line_stats::{LineStats, Refusals};
+pub use counts::stats::{StateStats, Stats};
+pub use counts::venue_stats::{ItemStats, SessionStats, VenueStats};
+pub use rows::read_back::csv_reads_back;
+pub use rows::row_sink::BestRows;
+pub use rows::style::{RowStyle, has_times};
+pub use text::{stats_text, timed_stats_text};
+pub use times::durations::Durations;
+pub use times::figures::{DurationTimes, SpellTimes, TimeFigures, VenueTimes};
+pub use times::line_leads::LineLeads;
+pub use times::missing_spells::MissingSpells;
+pub use times::peak_rate::PeakRate;
+pub use times::timed_stats::TimedStats;
+pub use times::times::Times;
+pub use times::venue_timing::VenueTiming;

@@ -1,0 +1,12 @@
+//! How a replay's packets run in time.
+
+pub(crate) mod durations;
+pub(crate) mod figures;
+pub(crate) mod line_leads;
+pub(crate) mod missing_spells;
+pub(crate) mod peak_rate;
+pub(crate) mod timed_stats;
+pub(crate) mod times;
+pub(crate) mod times_json;
+pub(crate) mod times_table;
+pub(crate) mod venue_timing;

@@ -1,0 +1,196 @@
+//! By how much which line of a venue is first.
+ghost use Rattle.std.specs.Prelude.{◌≡◌, ◌⊎◌, ℕ, ◌+◌, ◌%◌, ◌^◌, ◌<◌, ◌≤◌, List, [], IfOk, ◌∷◌, ◌++◌, Ok, length, max, if◌then◌else◌};
+ghost use Rattle.feed_types.specs.declared.line.LineId.TheVariants.{A, B};
+ghost use Rattle.feed_text.specs.SinkEvents.{told_packet};
+ghost use Rattle.replay_reports.specs.times.Timing.{came_after, has_numbers};
+ghost use Rattle.replay_reports.specs.times.Leads.{AreLeadsOf, MessageOn, come_on, held_after, lead_by, leads_of, message_on};
+
+use crate::times::durations::Durations;
+use crate::times::venue_timing::HeardPacket;
+use feed_types::LineId;
+use line_arbiter::Outcome;
+use std::alloc::{AllocError, Global};
+
+/// The first arrival of a message.
+#[derive(Clone, Copy, Debug, PartialEq, Eq)]
+struct FirstArrival {
+    /// The message's number; 0 where there is none.
+    number: u64,
+    time: u64,
+    line: LineId,
+    /// Whether the other line has brought it, too.
+    is_met: bool,
+}
+
+impl FirstArrival {
+    /// Returns what is held after a message of the same place came.
+    fn after(self, line: LineId, number: u64, time: u64) -> FirstArrival
+        ensures { result ≡ held_after self (message_on line number time) }
+    {
+        if self.number < number {
+            return FirstArrival {
+                number,
+                time,
+                line,
+                is_met: false,
+            };
+        }
+        let is_second = self.number == number && self.line != line;
+        FirstArrival {
+            number: self.number,
+            time: self.time,
+            line: self.line,
+            is_met: self.is_met || is_second,
+        }
+    }
+
+    /// Returns how long the second line took, where it now brings the message that is held.
+    fn lead(self, line: LineId, number: u64, time: u64) -> Option<u64>
+        ensures { result ≡ lead_by self (message_on line number time) }
+    {
+        if self.number != number || self.is_met || self.line == line {
+            return None;
+        }
+        Some(time.saturating_sub(self.time))
+    }
+}
+
+/// No arrival.
+const NONE: FirstArrival = FirstArrival {
+    number: 0,
+    time: 0,
+    line: LineId::A,
+    is_met: false,
+};
+
+/// Returns the place of the next number, of this many places, where a number has this one.
+#[inline(always)]
+fn place_after(place: u64, size: u64) -> u64
+    requires { 0 < size }
+    ensures { (number : ℕ) → place ≡ number % size → result ≡ (number + 1) % size }
+{
+    let left = size.saturating_sub(place);
+    if left > 1 {
+        return place + 1;
+    }
+    0
+}
+
+/// By how much which of two lines is first: of each message that both bring, how long the second one
+/// takes, by the line that brings it first. A message isn't counted where the one `window` numbers
+/// further has come before.
+#[derive(Drop)]
+pub struct LineLeads {
+    arrivals: Vec<FirstArrival>,
+    /// How long line B takes where line A is first.
+    pub a: Durations,
+    /// How long line A takes where line B is first.
+    pub b: Durations,
+}
+
+impl LineLeads {
+    /// No arrival yet.
+    pub(crate) fn new(alloc: Global, window: usize) -> Result<LineLeads, AllocError>
+        ensures { IfOk result (λ leads. 0 < window → AreLeadsOf window [] [] [] leads) }
+    {
+        Ok(LineLeads {
+            arrivals: vec![in alloc; NONE; window]?,
+            a: Durations::new(alloc)?,
+            b: Durations::new(alloc)?,
+        })
+    }
+
+    /// Begins the next session, of which nothing came. The leads of the sessions before stay.
+    pub(crate) fn renew(&mut self)
+        ensures { (window : ℕ) (came : List MessageOn) (before_a before_b : List ℕ)
+            → AreLeadsOf window came before_a before_b self.old
+            → AreLeadsOf window [] (leads_of window A B came ++ before_a)
+            (leads_of window B A came ++ before_b) self.new }
+    {
+        self.arrivals.as_mut_slice().fill(NONE);
+    }
+
+    /// Notes that a message came on line A or B at a time in nanoseconds. `place` is its number's.
+    #[inline(always)]
+    fn note(&mut self, place: u64, line: LineId, number: u64, time: u64)
+        requires place { place ≡ number % max (length self.old.arrivals.items) 1 }
+        requires line { (line ≡ A) ⊎ (line ≡ B) }
+        requires number { 0 < number }
+        ensures size { length self.new.arrivals.items ≡ length self.old.arrivals.items }
+        ensures leads { (window : ℕ) (came : List MessageOn) (before_a before_b : List ℕ)
+            → AreLeadsOf window came before_a before_b self.old
+            → AreLeadsOf window (message_on line number time ∷ came) before_a before_b self.new }
+    {
+        let Some(first) = self.arrivals.get_mut(place as usize) else {
+            return;
+        };
+        let held = *first;
+        *first = held.after(line, number, time);
+        let Some(took) = held.lead(line, number, time) else {
+            return;
+        };
+        match held.line {
+            LineId::B => self.b.add(took),
+            _ => self.a.add(took),
+        }
+    }
+
+    /// Notes the messages of a packet that was taken. Those of a packet with numbers that no message
+    /// has don't count.
+    #[inline(always)]
+    fn note_packet(&mut self, packet: HeardPacket)
+        ensures { (window : ℕ) (came : List MessageOn) (before_a before_b : List ℕ)
+            → AreLeadsOf window came before_a before_b self.old
+            → AreLeadsOf window
+            (if has_numbers packet.number packet.count
+            then come_on packet.line packet.number packet.count packet.time came else came)
+            before_a before_b self.new }
+    {
+        if packet.number == 0 {
+            return;
+        }
+        if packet.number - 1 > u64::MAX - u64::from(packet.count) {
+            return;
+        }
+        self.note_all(packet.line, packet.number, packet.count, packet.time);
+    }
+
+    /// Notes the messages of a packet that was answered so.
+    #[inline(always)]
+    pub(crate) fn note_answered(&mut self, packet: HeardPacket, outcome: &Outcome)
+        ensures { (window : ℕ) (came : List MessageOn) (before_a before_b : List ℕ)
+            → AreLeadsOf window came before_a before_b self.old
+            → AreLeadsOf window
+            (came_after 0 packet.time
+            (told_packet 0 packet.line packet.number packet.count (Ok outcome.now)) came)
+            before_a before_b self.new }
+    {
+        match outcome {
+            Outcome::Taken { .. } => self.note_packet(packet),
+            Outcome::Heartbeat => {}
+            Outcome::Ended => {}
+            Outcome::Ahead => {}
+        }
+    }
+
+    /// Notes that messages from a number on came on a line at a time in nanoseconds. What comes on
+    /// Recovery doesn't count.
+    fn note_all(&mut self, line: LineId, number: u64, count: u16, time: u64)
+        requires number { 0 < number }
+        requires last { number + count ≤ 2 ^ 64 }
+        ensures { (window : ℕ) (came : List MessageOn) (before_a before_b : List ℕ)
+            → AreLeadsOf window came before_a before_b self.old
+            → AreLeadsOf window (come_on line number count time came) before_a before_b self.new }
+    {
+        match line {
+            LineId::A | LineId::B => {}
+            LineId::Recovery => return,
+        }
+        let size = (self.arrivals.len() as u64).max(1);
+        let mut place = number % size;
+        for offset in 0..u64::from(count) {
+            self.note(place, line, number + offset, time);
+            place = place_after(place, size);
+        }
+    }
+}

@@ -1,0 +1,63 @@
+//! The sink of events that counts them and says how their packets run in time.
+ghost use Rattle.std.specs.Prelude.{◌≡◌, ◌<◌, [], IfOk, length};
+ghost use Rattle.replay_reports.specs.counts.Stats.{nothing_counted};
+ghost use Rattle.replay_reports.specs.times.Timing.{IsTimed};
+
+use crate::counts::stats::Stats;
+use crate::times::times::Times;
+use feed_text::{Event, EventSink, SinkStop};
+use std::alloc::{AllocError, Global};
+
+/// The counts of a capture whose records have times, and how its packets run in time. As a sink of
+/// events it writes nothing, and no call of it fails. A time that isn't known counts as of 1970.
+#[derive(Drop)]
+pub struct TimedStats {
+    pub stats: Stats,
+    pub times: Times,
+}
+
+impl TimedStats {
+    /// Of this many venues, to which nothing came. It keeps the first arrivals of `window` messages
+    /// of each, to tell which line is first. Its memory is asked for here and never again.
+    pub fn new(alloc: Global, venues: usize, window: usize) -> Result<TimedStats, AllocError>
+        ensures count { IfOk result (λ t. length t.times.venues.items ≡ venues) }
+        ensures counts { IfOk result (λ t. t.stats ≡ nothing_counted venues) }
+        ensures timed { IfOk result (λ t. 0 < window → IsTimed window [] t) }
+    {
+        Ok(TimedStats {
+            stats: Stats::new(alloc, venues)?,
+            times: Times::new(alloc, venues, window)?,
+        })
+    }
+}
+
+impl EventSink for TimedStats {
+    ghost use Rattle.replay_reports.specs.times.TimedSinks.{TakesTimed};
+    ghost use Rattle.replay_reports.specs.times.TimedLaws.{takes_more_timed, takes_none_timed};
+
+    ghost takes = { TakesTimed };
+
+    ghost fails = { λ before events after. ⊥ };
+
+    ghost is_shown = { λ s. Unit {0} };
+
+    ghost takes_none = { takes_none_timed };
+
+    ghost takes_more = { takes_more_timed };
+
+    ghost fails_after = { λ s t u xs ys took failed. failed };
+
+    ghost fails_longer = { λ s t xs ys failed. failed };
+
+    #[inline(always)]
+    fn take(&mut self, time: Option<u64>, event: &Event<'_>) -> Result<(), SinkStop> {
+        self.stats.add(event);
+        let is_missing = self.stats.lacks(event);
+        self.times.take(time, event, is_missing);
+        Ok(())
+    }
+
+    fn show(&mut self) -> Result<(), SinkStop> {
+        Ok(())
+    }
+}
