@@ -283,27 +283,32 @@ record Reaches (s : Session) (window place k : ℕ) (ms : List (List ℕ)) (hs :
 -- a packet that is answered, and makes items ready
 abbrev told_of : ℕ → Session → List Input → Arrival → List ReplayEvent
 told_of place s P a =
-    packet_answered place A a.answer ∷ items_emitted place (came s P) (P ++ Arrived a ∷ []) ++ []
+    packet_answered place A a.packet.number (length a.packet.messages) a.answer
+    ∷ items_emitted place (came s P) (P ++ Arrived a ∷ []) ++ []
 
 tells_one : (s : Session) (window place : ℕ) (P : List Input) (p : Content) (hs : List History) (a : Arrival)
     → Arrived a ≡ arrival_of A p a.answer → slice_get hs place ≡ Some (came s P) → IsContent p → p.ignored ≡ 0
     → IsOutcome s.name window (last_sent (came s P)) P p a.answer
     → EmitsRecord window false (datagram_record place A (spelling p)) hs (told_of place s P a)
     (slice_set hs place (came s (P ++ Arrived a ∷ [])))
-tells_one s window place P p hs a is there content none answer = record {
-  before = came s P;
-  after = came s (P ++ Arrived a ∷ []);
-  at = there;
-  emits = inr (record {
-    packet = p;
-    rest = [];
-    answer = a.answer;
-    spells = spells p content none;
-    taken = record { right = answer; is = ap (λ (x : Input). came s (P ++ x ∷ [])) is };
-    emitted_is = refl;
-  });
-  others = refl;
-}
+tells_one s window place P p hs a is there content none answer =
+    let arrived : a ≡ record { line = A; packet = p; answer = a.answer } = cc in
+    let same : a.packet ≡ p = ap (λ (x : Arrival). x.packet) arrived in
+    record {
+      before = came s P;
+      after = came s (P ++ Arrived a ∷ []);
+      at = there;
+      emits = inr (record {
+        packet = p;
+        rest = [];
+        answer = a.answer;
+        spells = spells p content none;
+        taken = record { right = answer; is = ap (λ (x : Input). came s (P ++ x ∷ [])) is };
+        emitted_is = ap (λ (q : Content). packet_answered place A q.number (length q.messages) a.answer
+            ∷ items_emitted place (came s P) (P ++ Arrived a ∷ []) ++ []) same;
+      });
+      others = refl;
+    }
 
 one_entry : (place : ℕ) (s : Session) (P : List Input) (a : Arrival)
     → length (stream_of (P ++ Arrived a ∷ [])) ≡ length (stream_of P) + 1

@@ -28,7 +28,9 @@ use Rattle.feed_text.specs.declared.replay.ReplayConfig.{ReplayConfig}
 use Rattle.feed_text.specs.Capture.{CaptureRecord, datagram_record, renewal_record, skip_record, self_help_record, record_venue}
 use Rattle.feed_text.specs.ReplayEvents.{ReplayEvent, packet_answered, packet_refused, item_taken, gap_left, renewal_answered, skip_answered, self_help_declared, entries_after, entries_of}
 use Rattle.feed_text.specs.Emitted.{last_sent, stream_length, gap_event, gap_emitted, EmitsFault, EmitsPacket, EmitsSkip, EmitsAt, EmitsRecord}
-use Rattle.feed_text.specs.Texts.{IsLinesToFull}
+use Rattle.feed_text.specs.Formats.{TimedRecord, what_of}
+use Rattle.feed_text.specs.SinkEvents.{TimedEvent}
+use Rattle.feed_text.specs.Told.{IsToldToFull}
 use Rattle.feed_text.specs.VenueItems.{taken_by, items_taken}
 use Rattle.feed_text.specs.laws.Lists.{get_set_same, get_set_other, same_or_not}
 use Rattle.feed_text.specs.laws.Entries.{entries_more}
@@ -279,7 +281,7 @@ module _ (s : Setting) (gaps : Bool) (lane : 1 ≤ s.lane) (hs : List History) (
       → LastRan s (datagram_record venue line bytes) hs E emitted first
   packet_stops line bytes first others next new t room short =
       ready_stops (datagram_record venue line bytes) (Packet venue line (slice_of bytes)) (steps.packet_done t.answer)
-      (packet_answered venue line t.answer) (drop (stream_length h) (stream_of new.present.packets)) gaps first others
+      (packet_answered venue line t.packet.number (length t.packet.messages) t.answer) (drop (stream_length h) (stream_of new.present.packets)) gaps first others
       next new (packet_begins s gaps lane hs E venue h there kept line bytes (first ++ next ∷ others) new t)
       (λ l. refl) (λ l. refl) (λ place. refl) (λ n. (n, refl, refl)) (sym t.emitted_is)
       (ready_behind s gaps lane hs E venue h there kept line bytes (first ++ next ∷ others) new t) room short
@@ -402,10 +404,12 @@ only_front : (place : ℕ) (session : Session) (rs : List CaptureRecord) (r : Ca
 only_front place session [] r all = (tt, all.0)
 only_front place session (x ∷ rs) r all = (let f = only_front place session rs r all.1 in ((all.0, f.0), f.1))
 
-pub full_run : (config : ReplayConfig) (lane : ℕ) (filters : List Terms) (records : List CaptureRecord)
-    (lines : List ℕ) → 1 ≤ lane → (x : IsLinesToFull config records lines)
-    → IsRunToFull (replay_setting config lane filters) x.earlier x.last (x.emitted ++ x.first)
-full_run config lane filters records lines some x =
+pub full_run : (config : ReplayConfig) (lane : ℕ) (filters : List Terms) (records : List TimedRecord)
+    (told : List TimedEvent) → 1 ≤ lane → (x : IsToldToFull config records told)
+    → IsRunToFull (replay_setting config lane filters) (map what_of x.taken) x.last.what (x.emitted ++ x.first)
+full_run config lane filters records told some x =
+    let earlier : List CaptureRecord = map what_of x.taken in
+    let last : CaptureRecord = x.last.what in
     let s : Setting = replay_setting config lane filters in
     let hs : List History = x.histories in
     let E : List Entry = entries_of [] x.emitted in
@@ -417,16 +421,16 @@ full_run config lane filters records lines some x =
     let short : config.journal < length (entries_after F x.next) =
     subst (λ (l : List Entry). config.journal < length l) past_end x.full in
     let before_fits : length E ≤ config.journal = (let g = entries_grow E x.first in omega arith) in
-    let ran : RanAll s x.earlier (map new_history config.sessions.now) [] x.emitted hs =
-    all_ran s config.gaps some x.earlier (map new_history config.sessions.now) hs [] x.emitted
+    let ran : RanAll s earlier (map new_history config.sessions.now) [] x.emitted hs =
+    all_ran s config.gaps some earlier (map new_history config.sessions.now) hs [] x.emitted
     (new_each config) x.emits before_fits in
     let run : IsRun s (new_world s) ran.0 (outcomes_of [] x.emitted) (world_of hs E) =
     subst (λ (w : World). IsRun s w ran.0 (outcomes_of [] x.emitted) (world_of hs E))
     (with_venues [] (map consumed_all (map new_history config.sessions.now)) (map new_venue config.sessions.now)
     (begins config.sessions.now)) ran.2 in
-    let l : LastRan s x.last hs E x.emitted x.first =
-    last_ran s config.gaps some hs x.after E x.last x.emitted x.first x.others x.next
-    (all_kept config x.earlier x.emitted hs x.emits) x.last_tells room short in
+    let l : LastRan s last hs E x.emitted x.first =
+    last_ran s config.gaps some hs x.after E last x.emitted x.first x.others x.next
+    (all_kept config earlier x.emitted hs x.emits) x.last_emits room short in
     let whole : outcomes_of [] x.emitted ++ (outcomes_of E x.first ++ l.pushed) ≡ outcomes_of []
     (x.emitted ++ x.first) ++ l.pushed =
     sym (append_assoc (outcomes_of [] x.emitted) (outcomes_of E x.first) l.pushed)
@@ -441,14 +445,14 @@ full_run config lane filters records lines some x =
       done = l.events;
       refused = l.refused;
       stops = l.stops;
-      only = λ place session may. (let f = only_front place session x.earlier x.last may in
-          all_more (BringsOnly place session) ran.0 l.events (events_only place session x.earlier ran.0 ran.1 f.0)
-          (stops_only place session x.last l.events l.refused l.stops f.1));
+      only = λ place session may. (let f = only_front place session earlier last may in
+          all_more (BringsOnly place session) ran.0 l.events (events_only place session earlier ran.0 ran.1 f.0)
+          (stops_only place session last l.events l.refused l.stops f.1));
       pushed = l.pushed;
       full = l.full;
       run = all;
       entries = l.entries_are ∙ sym told_first;
-      items = l.items (λ place h there. taken_are_streams config x.earlier x.emitted hs x.emits place h there);
+      items = l.items (λ place h there. taken_are_streams config earlier x.emitted hs x.emits place h there);
       notices = notices_all s.symbols [] (x.emitted ++ x.first);
       headline = headline s (ran.0 ++ l.events) (outcomes_of [] (x.emitted ++ x.first) ++ l.pushed) l.full all;
       next = l.next;

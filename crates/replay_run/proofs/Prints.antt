@@ -1,121 +1,103 @@
--- What is printed is what a run leads to.
-use Rattle.std.proofs.Common.{ℕ, List, Result, Ok, Err, inl, inr}
-use Rattle.feed_text.specs.declared.fault.ReplayFault.{ReplayFault}
-use Rattle.feed_text.specs.declared.fault.ReplayFault.TheVariants.{ReadFailed, WriteFailed, BadRecord, ShortRecord, TooManyTurns, JournalFull, NoMemory}
+-- What is told is what a run leads to.
+use Rattle.std.proofs.Common.{ℕ, List, Result, Ok, Err, map, inl, inr}
 use Rattle.feed_text.specs.declared.replay.ReplayConfig.{ReplayConfig}
-use Rattle.feed_text.specs.Capture.{CaptureRecord}
-use Rattle.feed_text.specs.Devices.{Reading, Writing}
-use Rattle.feed_text.specs.Texts.{IsLinesOf, IsLinesToFull, IsTextOf}
-use Rattle.feed_text.specs.Replays.{TextFacts, WroteAll, WroteLines, WroteLinesUntil, WrotePrefix, AnswersReplay, texts_of, Replays}
-use Rattle.replay_run.specs.Printed.{AreLinesOfRun, AreLinesOfRunToFull, IsTextOfRun, texts_of_run}
+use Rattle.feed_text.specs.declared.replay_stop.ReplayStop.{ReplayStop}
+use Rattle.feed_text.specs.declared.replay_stop.ReplayStop.TheVariants.{ReadFailed, SinkFailed, Bad, Short, TooManyTurns, JournalFull, NoMemory}
+use Rattle.feed_text.specs.Devices.{Reading}
+use Rattle.feed_text.specs.EventReplays.{AnswersRun, IsToldPart, ReadAndTold}
+use Rattle.feed_text.specs.Formats.{Parsing, TimedRecord, what_of}
+use Rattle.feed_text.specs.ReplayStates.{SinkTaking}
+use Rattle.feed_text.specs.SinkEvents.{TimedEvent}
+use Rattle.feed_text.specs.Told.{IsToldOf, IsToldOfAll, IsToldSome, IsToldToFull, ToldFacts, told_facts}
+use Rattle.replay_run.specs.Printed.{IsToldOfPartRun, IsToldOfRun, IsToldOfRunToFull, IsToldOfWholeRun, facts_of_run}
 use Rattle.replay_run.proofs.Runs.{replay_run}
 use Rattle.replay_run.proofs.FullRuns.{full_run}
 
-pub lines_of_run : (config : ReplayConfig) (records : List CaptureRecord) (lines : List ℕ)
-    → IsLinesOf config records lines → AreLinesOfRun config records lines
-lines_of_run config records lines x = record {
-  are = x;
-  run = λ lane filters some. replay_run config lane filters x.taken x.emitted x.histories some x.emits x.room;
-}
-
-pub text_of_run : (config : ReplayConfig) (records : List CaptureRecord) (text : List ℕ)
-    → IsTextOf config records text → IsTextOfRun config records text
-text_of_run config records text x = record {
+pub told_of_run : (config : ReplayConfig) (records : List TimedRecord) (told : List TimedEvent)
+    → IsToldOf config records told → IsToldOfRun config records told
+told_of_run config records told x = record {
   is = x;
-  run = λ lane filters some. replay_run config lane filters x.taken x.emitted x.histories some x.emits x.room;
+  run = λ lane filters some. replay_run config lane filters (map what_of x.taken) x.emitted x.histories some x.emits x.room;
 }
 
-pub lines_to_full : (config : ReplayConfig) (records : List CaptureRecord) (lines : List ℕ)
-    → IsLinesToFull config records lines → AreLinesOfRunToFull config records lines
-lines_to_full config records lines x =
-    record { are = x; run = λ lane filters some. full_run config lane filters records lines some x }
+pub told_of_whole_run : (config : ReplayConfig) (records : List TimedRecord) (told : List TimedEvent)
+    → IsToldOfAll config records told → IsToldOfWholeRun config records told
+told_of_whole_run config records told x = record {
+  is = x;
+  run = λ lane filters some. replay_run config lane filters (map what_of x.taken) x.emitted x.histories some x.emits x.room;
+}
 
--- ---- where more is said of the texts
+pub told_of_part_run : (config : ReplayConfig) (records : List TimedRecord) (told : List TimedEvent)
+    → IsToldSome config records told → IsToldOfPartRun config records told
+told_of_part_run config records told x = record {
+  is = x;
+  run = λ lane filters some. replay_run config lane filters (map what_of x.taken) x.emitted x.histories some x.emits x.room;
+}
 
--- each text of which one definition holds meets the other, too
-record Implies (one other : TextFacts) : Type 0 where
-  text : (records : List CaptureRecord) (text : List ℕ) → one.IsText records text → other.IsText records text
-  lines : (records : List CaptureRecord) (text : List ℕ) → one.AreLines records text → other.AreLines records text
-  full : (records : List CaptureRecord) (text : List ℕ) → one.AreLinesToFull records text
-      → other.AreLinesToFull records text
+pub told_to_full : (config : ReplayConfig) (records : List TimedRecord) (told : List TimedEvent)
+    → IsToldToFull config records told → IsToldOfRunToFull config records told
+told_to_full config records told x =
+    record { is = x; run = λ lane filters some. full_run config lane filters records told some x }
 
-module _ {R W : Type 0} (reading : Reading R) (writing : Writing W) (config : ReplayConfig) where
-  to_more : {One Other : List CaptureRecord → List ℕ → Type 0} {IsLeft : List ℕ → Type 0} {from : R} {calls : ℕ}
-      {to : R} {before after : W}
-      → ((records : List CaptureRecord) (text : List ℕ) → One records text → Other records text)
-      → WroteLines reading writing config One IsLeft from calls to before after
-      → WroteLines reading writing config Other IsLeft from calls to before after
-  to_more more x =
-      record {
-        records = x.records;
-        rest = x.rest;
-        left = x.left;
-        read = x.read;
-        lines = x.lines;
-        are =
-            more x.records x.lines x.are;
-        wrote = x.wrote;
-      }
+-- ---- where more is said of what is told
 
-  until_more : {One Other : List CaptureRecord → List ℕ → Type 0} {IsLeft : List ℕ → Type 0} {Then : R → Type 0}
-      {from : R} {before after : W}
-      → ((records : List CaptureRecord) (text : List ℕ) → One records text → Other records text)
-      → WroteLinesUntil reading writing config One IsLeft Then from before after
-      → WroteLinesUntil reading writing config Other IsLeft Then from before after
-  until_more more x = record { calls = x.calls; mid = x.mid; replays = to_more more x.replays; came_to = x.came_to }
+-- all that meets one definition meets the other, too
+record Implies (one other : ToldFacts) : Type 0 where
+  records : (rs : List TimedRecord) (told : List TimedEvent) → one.OfRecords rs told → other.OfRecords rs told
+  capture : (rs : List TimedRecord) (told : List TimedEvent) → one.OfCapture rs told → other.OfCapture rs told
+  full : (rs : List TimedRecord) (told : List TimedEvent) → one.ToFull rs told → other.ToFull rs told
+  some : (rs : List TimedRecord) (told : List TimedEvent) → one.OfSome rs told → other.OfSome rs told
 
-  front_more : {one other : TextFacts} {from to : R} {before after : W} → Implies one other
-      → WrotePrefix reading writing config one from to before after
-      → WrotePrefix reading writing config other from to before after
-  front_more more x = record {
+part_more : {one other : ToldFacts} → Implies one other → (rs : List TimedRecord) (told : List TimedEvent)
+    → IsToldPart one rs told → IsToldPart other rs told
+part_more more rs told x = elim x [
+  | inl some ↦ inl (more.some rs told some)
+  | inr others ↦ elim others [
+    | inl full ↦ inr (inl (more.full rs told full))
+    | inr capture ↦ inr (inr (more.capture rs told capture))
+  ]
+]
+
+module _ {R S F K : Type 0} (reading : Reading R) (parsing : Parsing S F) (taking : SinkTaking K) (is_shown : K → Type 0)
+    (config : ReplayConfig) (from to : R) (start finish : S) (before after : K) where
+  told_more : {IsLeft : List ℕ → Type 0} {CameTo : ℕ → R → Type 0} {One Other : List TimedRecord → List TimedEvent → Type 0}
+      {Took : List TimedEvent → Type 0} {venues : ℕ}
+      → ((rs : List TimedRecord) (told : List TimedEvent) → One rs told → Other rs told)
+      → ReadAndTold reading parsing venues from start finish IsLeft CameTo One Took
+      → ReadAndTold reading parsing venues from start finish IsLeft CameTo Other Took
+  told_more more x = record {
     records = x.records;
+    calls = x.calls;
+    mid = x.mid;
     rest = x.rest;
-    calls = x.calls;
-    mid = x.mid;
     read = x.read;
-    text = x.text;
-    is = elim x.is [
-      | inl lines ↦ inl (more.lines x.records x.text lines.0, lines.1)
-      | inr others ↦ elim others [
-        | inl full ↦ inr (inl (more.full x.records x.text full.0, full.1))
-        | inr all ↦ inr (inr (more.text x.records x.text all.0, all.1, all.2))
-      ]
-    ];
-    wrote = x.wrote;
+    left = x.left;
+    came_to = x.came_to;
+    told = x.told;
+    is = more x.records x.told x.is;
+    took = x.took;
   }
 
-  all_more : {One Other : List CaptureRecord → List ℕ → Type 0} {from to : R} {before after : W}
-      → ((records : List CaptureRecord) (text : List ℕ) → One records text → Other records text)
-      → WroteAll reading writing config One from to before after
-      → WroteAll reading writing config Other from to before after
-  all_more more x = record {
-    records = x.records;
-    calls = x.calls;
-    within = x.within;
-    mid = x.mid;
-    read = x.read;
-    end = x.end;
-    text = x.text;
-    is = more x.records x.text x.is;
-    wrote = x.wrote;
-  }
+  by_more : (one other : ToldFacts) → Implies one other → (answer : Result (Unit {0}) (ReplayStop F))
+      → AnswersRun reading parsing taking is_shown config one from to start finish before after answer
+      → AnswersRun reading parsing taking is_shown config other from to start finish before after answer
+  by_more one other more (Ok done) x = told_more more.capture x
+  by_more one other more (Err (Bad fault)) x = told_more more.records x
+  by_more one other more (Err Short) x = told_more more.records x
+  by_more one other more (Err TooManyTurns) x = told_more more.records x
+  by_more one other more (Err JournalFull) x = told_more more.full x
+  by_more one other more (Err ReadFailed) x = (told_more more.records x.0, x.1)
+  by_more one other more (Err SinkFailed) x = told_more (part_more more) x
+  by_more one other more (Err NoMemory) x = x
 
-  by_more : (one other : TextFacts) (from to : R) (before after : W) → Implies one other
-      → (answer : Result (Unit {0}) ReplayFault) → AnswersReplay reading writing config one from to before after answer
-      → AnswersReplay reading writing config other from to before after answer
-  by_more one other from to before after more (Ok done) x = all_more more.text x
-  by_more one other from to before after more (Err BadRecord) x = until_more more.lines x
-  by_more one other from to before after more (Err ShortRecord) x = until_more more.lines x
-  by_more one other from to before after more (Err TooManyTurns) x = to_more more.lines x
-  by_more one other from to before after more (Err JournalFull) x = until_more more.full x
-  by_more one other from to before after more (Err ReadFailed) x = (until_more more.lines x.0, x.1)
-  by_more one other from to before after more (Err WriteFailed) x = (front_more more x.0, x.1)
-  by_more one other from to before after more (Err NoMemory) x = until_more more.lines x
-
-pub replays_run : {R W : Type 0} (reading : Reading R) (writing : Writing W) (config : ReplayConfig) (from to : R)
-    (before after : W) (answer : Result (Unit {0}) ReplayFault)
-    → Replays reading writing config from to before after answer
-    → AnswersReplay reading writing config (texts_of_run config) from to before after answer
-replays_run reading writing config from to before after answer x =
-    by_more reading writing config (texts_of config) (texts_of_run config) from to before after
-    (record { text = text_of_run config; lines = lines_of_run config; full = lines_to_full config }) answer x
+  pub replays_run : (answer : Result (Unit {0}) (ReplayStop F))
+      → AnswersRun reading parsing taking is_shown config (told_facts config) from to start finish before after answer
+      → AnswersRun reading parsing taking is_shown config (facts_of_run config) from to start finish before after answer
+  replays_run answer x =
+      by_more (told_facts config) (facts_of_run config)
+      (record {
+        records = told_of_run config;
+        capture = told_of_whole_run config;
+        full = told_to_full config;
+        some = told_of_part_run config;
+      }) answer x

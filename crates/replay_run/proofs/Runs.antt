@@ -619,7 +619,7 @@ venue_items place records events emitted h items half are = record {
 journaled_after : (place : ℕ) (E : List Entry) (x : ReplayEvent)
     → items_in (entries_after E x) place ≡ items_in E place ++ taken_by place x
 journaled_after place E (item_taken venue numbered) = items_put place E (entry.Consumed venue numbered)
-journaled_after place E (packet_answered venue line answer) = sym (append-nil (items_in E place))
+journaled_after place E (packet_answered venue line number count answer) = sym (append-nil (items_in E place))
 journaled_after place E (packet_refused venue line fault) = sym (append-nil (items_in E place))
 journaled_after place E (gap_left venue request) = sym (append-nil (items_in E place))
 journaled_after place E (renewal_answered venue answer) = sym (append-nil (items_in E place))
@@ -642,7 +642,7 @@ journaled_items place E (x ∷ xs) =
 
 entries_begin : (E : List Entry) (x : ReplayEvent) → (more : List Entry) × (entries_after E x ≡ E ++ more)
 entries_begin E (item_taken venue numbered) = (entry.Consumed venue numbered ∷ [], refl)
-entries_begin E (packet_answered venue line answer) = ([], sym (append-nil E))
+entries_begin E (packet_answered venue line number count answer) = ([], sym (append-nil E))
 entries_begin E (packet_refused venue line fault) = ([], sym (append-nil E))
 entries_begin E (gap_left venue request) = ([], sym (append-nil E))
 entries_begin E (renewal_answered venue answer) = ([], sym (append-nil E))

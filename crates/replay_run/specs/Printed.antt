@@ -1,11 +1,11 @@
--- What a replay prints is what a run of the machine leads to.
-use Rattle.std.specs.Prelude.{ℕ, ◌≤◌, List, ◌++◌}
+-- What a sink is told of a replay is what a run of the machine leads to.
+use Rattle.std.specs.Prelude.{◌≤◌, ℕ, List, ◌++◌, map}
 use Rattle.filter_terms.specs.declared.terms.Terms.{Terms}
 use Rattle.feed_core.specs.Worlds.{Setting}
 use Rattle.feed_text.specs.declared.replay.ReplayConfig.{ReplayConfig}
-use Rattle.feed_text.specs.Capture.{CaptureRecord}
-use Rattle.feed_text.specs.Texts.{IsLinesOf, IsLinesToFull, IsTextOf}
-use Rattle.feed_text.specs.Replays.{TextFacts}
+use Rattle.feed_text.specs.Formats.{TimedRecord, what_of}
+use Rattle.feed_text.specs.SinkEvents.{TimedEvent}
+use Rattle.feed_text.specs.Told.{IsToldOf, IsToldOfAll, IsToldSome, IsToldToFull, ToldFacts}
 use Rattle.replay_run.specs.Events.{replay_setting, IsReplayRun}
 use Rattle.replay_run.specs.Full.{IsRunToFull}
 
@@ -14,28 +14,39 @@ abbrev pub InAnySetting : ReplayConfig → (Setting → Type 0) → Type 0
 InAnySetting config Is =
     (lane : ℕ) (filters : List Terms) → 1 ≤ lane → Is (replay_setting config lane filters)
 
--- the lines of records, where the events of what is taken of them are a run
-pub record AreLinesOfRun (config : ReplayConfig) (records : List CaptureRecord) (lines : List ℕ)
-    : Type 0 where
-  pub are : IsLinesOf config records lines
-  pub run : InAnySetting config (λ s. IsReplayRun s are.taken are.emitted are.histories)
+-- what is told of records, where the events of what is taken of them are a run
+pub record IsToldOfRun (config : ReplayConfig) (records : List TimedRecord)
+    (told : List TimedEvent) : Type 0 where
+  pub is : IsToldOf config records told
+  pub run : InAnySetting config
+      (λ s. IsReplayRun s (map what_of is.taken) is.emitted is.histories)
 
--- the text of a capture, where the events of what is taken of its records are a run
-pub record IsTextOfRun (config : ReplayConfig) (records : List CaptureRecord) (text : List ℕ)
-    : Type 0 where
-  pub is : IsTextOf config records text
-  pub run : InAnySetting config (λ s. IsReplayRun s is.taken is.emitted is.histories)
+-- what is told of a whole capture, where the events of what is taken of its records are a run
+pub record IsToldOfWholeRun (config : ReplayConfig) (records : List TimedRecord)
+    (told : List TimedEvent) : Type 0 where
+  pub is : IsToldOfAll config records told
+  pub run : InAnySetting config
+      (λ s. IsReplayRun s (map what_of is.taken) is.emitted is.histories)
 
--- the lines of records up to a full journal, where the events of what is taken are a run up to it
-pub record AreLinesOfRunToFull (config : ReplayConfig) (records : List CaptureRecord)
-    (lines : List ℕ) : Type 0 where
-  pub are : IsLinesToFull config records lines
-  pub run : InAnySetting config (λ s. IsRunToFull s are.earlier are.last (are.emitted ++ are.first))
+-- what is told of some of the records, where the events of what is taken of them are a run
+pub record IsToldOfPartRun (config : ReplayConfig) (records : List TimedRecord)
+    (told : List TimedEvent) : Type 0 where
+  pub is : IsToldSome config records told
+  pub run : InAnySetting config
+      (λ s. IsReplayRun s (map what_of is.taken) is.emitted is.histories)
 
--- the texts that a replay writes are those of a run
-abbrev pub texts_of_run : ReplayConfig → TextFacts
-texts_of_run config = record {
-  IsText = IsTextOfRun config;
-  AreLines = AreLinesOfRun config;
-  AreLinesToFull = AreLinesOfRunToFull config;
+-- what is told up to a full journal, where the events of what is taken are a run up to it
+pub record IsToldOfRunToFull (config : ReplayConfig) (records : List TimedRecord)
+    (told : List TimedEvent) : Type 0 where
+  pub is : IsToldToFull config records told
+  pub run : InAnySetting config
+      (λ s. IsRunToFull s (map what_of is.taken) is.last.what (is.emitted ++ is.first))
+
+-- what a sink is told is what a run leads to
+abbrev pub facts_of_run : ReplayConfig → ToldFacts
+facts_of_run config = record {
+  OfRecords = IsToldOfRun config;
+  OfCapture = IsToldOfWholeRun config;
+  ToFull = IsToldOfRunToFull config;
+  OfSome = IsToldOfPartRun config;
 }

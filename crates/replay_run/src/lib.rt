@@ -1,11 +1,11 @@
-//! A replay is a run of the machine over events, so that the headline holds of what it prints.
+//! A replay is a run of the machine over events, so that the headline holds of what it tells.
 //!
 //! A replay takes a record at a time, and keeps no list of events and no machine. All the same,
 //! what it emits of a capture is what the machine does over the capture's records as events, with
 //! each item that is ready pushed and consumed at once (`specs/Events.antt`); and where it stops
 //! since its journal is full, the machine refuses the next event for that reason
-//! (`specs/Full.antt`). So what is printed is that of a run (`specs/Printed.antt`), and [`replay`]
-//! says so of what it wrote.
+//! (`specs/Full.antt`). So what a sink is told is that of a run (`specs/Printed.antt`), and
+//! [`replay`] says so, for any format of captures and any sink.
 #![tactic(auto)]
 
 ghost use Rattle.std.specs.Prelude.{◌≡◌, ◌<◌, ◌≤◌, ◌+◌, ◌^◌, ℕ, List, OnOk, Some, length, slice_get};
@@ -17,19 +17,20 @@ ghost use Rattle.filter_terms.specs.declared.terms.Terms.{Terms};
 ghost use Rattle.feed_core.specs.Worlds.{Setting};
 ghost use Rattle.feed_text.specs.declared.replay.ReplayConfig.{ReplayConfig};
 ghost use Rattle.feed_text.specs.Capture.{CaptureRecord};
+ghost use Rattle.feed_text.specs.EventReplays.{AnswersRun, venues_in};
+ghost use Rattle.feed_text.specs.Formats.{TimedRecord};
 ghost use Rattle.feed_text.specs.Lacks.{AppendsLacks};
 ghost use Rattle.feed_text.specs.ReplayEvents.{ReplayEvent};
-ghost use Rattle.feed_text.specs.Texts.{EmitsAll, HasJournalRoom, IsLinesOf, IsLinesToFull, IsTextOf};
-ghost use Rattle.feed_text.specs.Replays.{CanReplay, AnswersReplay};
+ghost use Rattle.feed_text.specs.Replays.{CanReplay};
+ghost use Rattle.feed_text.specs.SinkEvents.{TimedEvent};
+ghost use Rattle.feed_text.specs.Texts.{EmitsAll, HasJournalRoom};
+ghost use Rattle.feed_text.specs.Told.{IsToldOf, IsToldOfAll, IsToldSome, IsToldToFull};
 ghost use Rattle.replay_run.specs.Events.{IsReplayRun, replay_setting};
 ghost use Rattle.replay_run.specs.Moving.{ComesThrough};
-ghost use Rattle.replay_run.specs.Printed.{AreLinesOfRun, AreLinesOfRunToFull, IsTextOfRun, texts_of_run};
+ghost use Rattle.replay_run.specs.Printed.{IsToldOfPartRun, IsToldOfRun, IsToldOfRunToFull, IsToldOfWholeRun, facts_of_run};
 
-mod lines;
-
-use feed_text::replay::ReplayConfig;
-use feed_text::{CaptureIn, Lack, ReplayFault, TextOut};
-pub use lines::replay_lines;
+use feed_text::replay::{ReplayConfig, replay_events};
+use feed_text::{CaptureIn, EventSink, Lack, RecordFormat, Replayed};
 use std::alloc::Global;
 
 /// The events that records emit are a run of the machine over the records as events, and the
@@ -42,15 +43,19 @@ pub fn a_replay_is_a_run()
         → IsReplayRun (replay_setting config lane filters) records emitted histories }
 {}
 
-/// So the text of a whole capture, the lines of its records and the lines up to a full journal are
-/// those of a run.
-pub fn a_text_is_that_of_a_run()
-    ensures text { (config : ReplayConfig) (records : List CaptureRecord) (text : List ℕ)
-        → IsTextOf config records text → IsTextOfRun config records text }
-    ensures lines { (config : ReplayConfig) (records : List CaptureRecord) (lines : List ℕ)
-        → IsLinesOf config records lines → AreLinesOfRun config records lines }
-    ensures full { (config : ReplayConfig) (records : List CaptureRecord) (lines : List ℕ)
-        → IsLinesToFull config records lines → AreLinesOfRunToFull config records lines }
+/// So what is told of records, of some of them, of a whole capture and up to a full journal is
+/// that of a run.
+pub fn what_is_told_is_of_a_run()
+    ensures records { (config : ReplayConfig) (records : List TimedRecord)
+        (told : List TimedEvent)
+        → IsToldOf config records told → IsToldOfRun config records told }
+    ensures capture { (config : ReplayConfig) (records : List TimedRecord)
+        (told : List TimedEvent)
+        → IsToldOfAll config records told → IsToldOfWholeRun config records told }
+    ensures some { (config : ReplayConfig) (records : List TimedRecord) (told : List TimedEvent)
+        → IsToldSome config records told → IsToldOfPartRun config records told }
+    ensures full { (config : ReplayConfig) (records : List TimedRecord) (told : List TimedEvent)
+        → IsToldToFull config records told → IsToldOfRunToFull config records told }
 {}
 
 /// And the machine moves: whatever the messages of a session are, some events bring its packets to
@@ -65,25 +70,31 @@ pub fn a_session_comes_through()
         → ComesThrough s place (session_of_messages name messages) }
 {}
 
-/// Reads a capture to its end, and writes its text ([`feed_text::replay::replay`]): that of a run
-/// of the machine over what is taken of the capture's records, of which the headline holds. So are
-/// the lines that are written before a fault is answered. What each venue lacks at the end is
-/// appended to `lacks`.
-pub fn replay<R: CaptureIn, W: TextOut>(
+/// Reads a capture of a format to its end, and gives a sink the events of its records
+/// ([`feed_text::replay::replay_events`]): those of a run of the machine over what is taken of the
+/// records, of which the headline holds. So is what the sink is told before a fault is answered.
+/// What each venue lacks at the end is appended to `lacks`.
+#[inline(always)]
+pub fn replay<R: CaptureIn, F: RecordFormat, K: EventSink>(
     alloc: Global,
     config: &ReplayConfig<'_>,
+    format: &mut F,
     reader: &mut R,
-    writer: &mut W,
+    sink: K,
     lacks: &mut Vec<Lack>,
-) -> Result<(), ReplayFault>
-    requires { CanReplay config.now }
-    ensures headline { AnswersReplay
+) -> Replayed<K, F::Fault>
+    requires can { CanReplay config.now }
+    requires of_venues { F.venues format.old ≡ venues_in config.now }
+    ensures headline { AnswersRun
         (record { gives = R.gives; ends = R.ends; failures = R.failures; fails = R.fails })
-        (record { adds = W.adds; failures = W.failures })
-        config.now (texts_of_run config.now) reader.old reader.new writer.old writer.new result }
-    ensures lacks { OnOk result (AppendsLacks
+        (record { reads = F.reads; wants = F.wants; is_bad = F.is_bad; is_whole = F.is_whole })
+        (record { takes = K.takes; fails = K.fails }) K.is_shown
+        config.now (facts_of_run config.now) reader.old reader.new format.old format.new
+        sink result.sink result.outcome }
+    ensures lacks { OnOk result.outcome (AppendsLacks
         (record { gives = R.gives; ends = R.ends; failures = R.failures; fails = R.fails })
-        config.now reader.old reader.new lacks.old.items lacks.new.items) }
+        (record { reads = F.reads; wants = F.wants; is_bad = F.is_bad; is_whole = F.is_whole })
+        config.now reader.old reader.new format.old format.new lacks.old.items lacks.new.items) }
 {
-    feed_text::replay::replay(alloc, config, reader, writer, lacks)
+    replay_events(alloc, config, format, reader, sink, lacks)
 }
