@@ -7,19 +7,21 @@ use Rattle.clap.specs.Walk.{Row, Text, first_of, one_of}
 use Rattle.clap.specs.Faults.{fault_of}
 use Rattle.clap.specs.declared.error.kind.ErrorKind.{ErrorKind}
 use Rattle.clap.specs.declared.error.kind.ErrorKind.TheVariants.{DisplayHelp, DisplayVersion, OutOfMemory}
-use Rattle.command_words.specs.CapturedLines.{HasCapturedLinesFault}
-use Rattle.command_words.specs.CommandLine.{Gives, GivesBadFormat, GivesBests, GivesCounted, GivesNoConversion, GivesNoFeed, GivesNoListening, GivesNoStats, GivesNoTask, GivesNone, IsAccepted, IsConverting, IsCount, IsCounting, IsFlag, IsGivenCount, IsListening, IsRefused, IsWindowOf, RefusesBy, convert_values_of, lines_refusal_by, listen_values_of, stats_values_of}
-use Rattle.feed_text.specs.declared.formats.BestFormat.{BestFormat}
-use Rattle.feed_text.specs.declared.formats.StatsFormat.{StatsFormat}
-use Rattle.command_words.specs.StatsFormats.{NamesStatsFormat}
+use Rattle.command_words.specs.CapturedLines.{HasInputFault}
+use Rattle.command_words.specs.CommandLine.{GivesNoConversion, IsAccepted, IsCommand, IsRefused, RefusesBy, lines_refusal_by, values_of}
+use Rattle.command_words.specs.FeedRequests.{GivesFeed}
+use Rattle.command_words.specs.ListenRequests.{GivesNoListening}
+use Rattle.command_words.specs.OptionValues.{IsCount, IsFlag, IsGivenCount, IsWindowOf}
+use Rattle.command_words.specs.RunRequests.{GivesBadFormat, GivesNoRun, GivesNoStats, GivesOutput}
 use Rattle.command_words.specs.BestFormats.{HasFormatFault, NamesFormat}
 use Rattle.command_words.specs.declared.best_format.FormatFault.{FormatFault}
 use Rattle.command_words.specs.Commands.{nbbo_app}
 use Rattle.command_words.specs.declared.addresses.LinesFault.{LinesFault}
 use Rattle.command_words.specs.declared.addresses.LinesFault.TheVariants as lines
-use Rattle.command_words.specs.declared.replay_settings.ReplaySettings.{ReplaySettings}
+use Rattle.command_words.specs.declared.feed_settings.FeedSettings.{FeedSettings}
+use Rattle.command_words.specs.declared.run_output.RunOutput.{RunOutput}
 use Rattle.command_words.specs.declared.refusal.Refusal.{Refusal}
-use Rattle.command_words.specs.declared.refusal.Refusal.TheVariants.{Shown, Usage, NotText, BadSession, TooManySessions, BadLines, BadRequest, BadFormat, BadEnd, KeptUnfollowed, BadSymbol, TooManySymbols, DuplicateSymbol, NoMemory}
+use Rattle.command_words.specs.declared.refusal.Refusal.TheVariants.{Shown, Usage, NotText, BadLines, NoMemory}
 
 not_some : {A : Type 0} (x : A) → Some x ≡ None → ⊥
 not_some x e = let bad : true ≡ false = ap is_some e in absurd (cc)
@@ -65,53 +67,37 @@ pub IsGivenCount-none : (text : Option Text) → ((t : Text) → text ≡ Some t
 IsGivenCount-none None unread = refl
 IsGivenCount-none (Some t) unread = λ numeral few. absurd (unread t refl (numeral, omega arith))
 
--- the format that the options give, and that they give none
-pub gives_bests : (rows : List Row) (flag : Bool) (text : Option Text) (r : Result (Option BestFormat) FormatFault) → IsFlag (one_of (codes "best-only") rows) flag → text ≡ first_of (codes "format") rows → IfOk r (NamesFormat flag text) → IfOk r (GivesBests rows)
-gives_bests rows flag text (Ok bests) given e told = record { best_only = flag; flag = given; format = subst (λ (t : Option Text). NamesFormat flag t bests) e told }
-gives_bests rows flag text (Err fault) given e told = tt
+-- the lines that the options ask for, and that they give no format
+pub gives_output : (rows : List Row) (flag : Bool) (text : Option Text) (r : Result RunOutput FormatFault) → IsFlag (one_of (codes "best-only") rows) flag → text ≡ first_of (codes "format") rows → IfOk r (NamesFormat flag text) → IfOk r (GivesOutput rows)
+gives_output rows flag text (Ok output) given e told = record { best_only = flag; flag = given; format = subst (λ (t : Option Text). NamesFormat flag t output) e told }
+gives_output rows flag text (Err fault) given e told = tt
 
-pub gives_bad_format : (rows : List Row) (flag : Bool) (text : Option Text) (r : Result (Option BestFormat) FormatFault) → IsFlag (one_of (codes "best-only") rows) flag → text ≡ first_of (codes "format") rows → IfErr r (λ _. HasFormatFault flag text) → IfErr r (λ _. GivesBadFormat rows)
-gives_bad_format rows flag text (Ok bests) given e told = tt
+pub gives_bad_format : (rows : List Row) (flag : Bool) (text : Option Text) (r : Result RunOutput FormatFault) → IsFlag (one_of (codes "best-only") rows) flag → text ≡ first_of (codes "format") rows → IfErr r (λ _. HasFormatFault flag text) → IfErr r (λ _. GivesBadFormat rows)
+gives_bad_format rows flag text (Ok output) given e told = tt
 gives_bad_format rows flag text (Err fault) given e told = record { best_only = flag; flag = given; fault = subst (λ (t : Option Text). HasFormatFault flag t) e told }
 
--- a fault of the list of lines is the refusal, where the settings are right
-pub GivesNone-lines : (rows : List Row) (settings : ReplaySettings) (list : Text) (fault : LinesFault) → Gives rows settings → first_of (codes "lines") rows ≡ Some list → HasCapturedLinesFault list (length settings.feed.sessions.items) fault → GivesNone rows (lines_refusal_by fault)
-GivesNone-lines rows settings list lines.BadLines given listed fault = record { settings = settings; given = given; list = list; listed = listed; fault = fault }
-GivesNone-lines rows settings list lines.NoMemory given listed fault = tt
-
--- why the values of stats give no settings: as those of a replay, or for the list of lines
-pub GivesNoStats-feed : (rows : List Row) (refusal : Refusal) → GivesNoFeed rows refusal → GivesNoStats rows refusal
-GivesNoStats-feed rows (Shown text) none = absurd none
-GivesNoStats-feed rows (Usage text) none = absurd none
-GivesNoStats-feed rows NotText none = absurd none
-GivesNoStats-feed rows NoMemory none = tt
-GivesNoStats-feed rows BadSession none = none
-GivesNoStats-feed rows TooManySessions none = none
-GivesNoStats-feed rows BadLines none = absurd none
-GivesNoStats-feed rows BadRequest none = absurd none
-GivesNoStats-feed rows BadFormat none = absurd none
-GivesNoStats-feed rows BadEnd none = absurd none
-GivesNoStats-feed rows KeptUnfollowed none = absurd none
-GivesNoStats-feed rows BadSymbol none = none
-GivesNoStats-feed rows TooManySymbols none = none
-GivesNoStats-feed rows DuplicateSymbol none = none
-
-pub GivesNoStats-lines : (rows : List Row) (settings : ReplaySettings) (format : StatsFormat) (list : Text) (fault : LinesFault) → GivesCounted rows settings → NamesStatsFormat (first_of (codes "format") rows) format → first_of (codes "lines") rows ≡ Some list → HasCapturedLinesFault list (length settings.feed.sessions.items) fault → GivesNoStats rows (lines_refusal_by fault)
-GivesNoStats-lines rows settings format list lines.BadLines given named listed fault = record { settings = settings; given = given; format = format; named = named; list = list; listed = listed; fault = fault }
-GivesNoStats-lines rows settings format list lines.NoMemory given named listed fault = tt
+-- a fault of the list of lines is the refusal, where the settings of the feed and the output are right
+pub GivesNoRun-lines : (rows : List Row) (IsOutput : RunOutput → Type 0) (IsFault : Type 0) (feed : FeedSettings) (output : RunOutput) (fault : LinesFault) → GivesFeed rows feed → IsOutput output → HasInputFault (first_of (codes "lines") rows) (length feed.sessions.items) fault → GivesNoRun rows IsOutput IsFault (lines_refusal_by fault)
+GivesNoRun-lines rows IsOutput IsFault feed output lines.BadLines given prints fault = (feed.sessions.items, given.sessions, (feed.symbols.items, given.symbols, (output, prints, fault)))
+GivesNoRun-lines rows IsOutput IsFault feed output lines.NoMemory given prints fault = tt
 
 -- one subcommand isn't another one
-not_both : (words : List Text) → IsListening words → IsConverting words → ⊥
+not_both : (words : List Text) → IsCommand (codes "listen") words → IsCommand (codes "convert") words → ⊥
 not_both words listens converts = let bad : Some (codes "listen") ≡ Some (codes "convert") = sym listens ∙ converts in absurd (cc)
 
-not_listening_and_counting : (words : List Text) → IsListening words → IsCounting words → ⊥
+not_listening_and_counting : (words : List Text) → IsCommand (codes "listen") words → IsCommand (codes "stats") words → ⊥
 not_listening_and_counting words listens counts = let bad : Some (codes "listen") ≡ Some (codes "stats") = sym listens ∙ counts in absurd (cc)
 
-not_converting_and_counting : (words : List Text) → IsConverting words → IsCounting words → ⊥
+not_converting_and_counting : (words : List Text) → IsCommand (codes "convert") words → IsCommand (codes "stats") words → ⊥
 not_converting_and_counting words converts counts = let bad : Some (codes "convert") ≡ Some (codes "stats") = sym converts ∙ counts in absurd (cc)
 
-listens_for_none : (words : List Text) (refusal : Refusal) → IsAccepted words → IsListening words → GivesNoListening (listen_values_of words) refusal → GivesNoTask words refusal
-listens_for_none words refusal taken listens none = record {
+-- the values of the options of listen are refused
+pub IsRefused-listening : (words : List Text) (refusal : Refusal) → IsAccepted words → IsCommand (codes "listen") words → GivesNoListening (values_of (codes "listen") words) refusal → IsRefused words refusal
+IsRefused-listening words (Shown text) taken listens none = absurd none
+IsRefused-listening words (Usage text) taken listens none = absurd none
+IsRefused-listening words NotText taken listens none = absurd none
+IsRefused-listening words NoMemory taken listens none = tt
+IsRefused-listening words refusal taken listens none = record {
   taken = taken;
   listening = λ again. none;
   converting = λ converts. absurd (not_both words listens converts);
@@ -119,31 +105,8 @@ listens_for_none words refusal taken listens none = record {
   replaying = λ not_listening not_converting not_counting. absurd (not_listening listens);
 }
 
--- the values of the options of listen are refused
-pub IsRefused-listening : (words : List Text) (refusal : Refusal) → IsAccepted words → IsListening words → GivesNoListening (listen_values_of words) refusal → IsRefused words refusal
-IsRefused-listening words (Shown text) taken listens none = absurd none
-IsRefused-listening words (Usage text) taken listens none = absurd none
-IsRefused-listening words NotText taken listens none = absurd none
-IsRefused-listening words NoMemory taken listens none = tt
-IsRefused-listening words BadSession taken listens none = listens_for_none words BadSession taken listens none
-IsRefused-listening words TooManySessions taken listens none = listens_for_none words TooManySessions taken listens none
-IsRefused-listening words BadLines taken listens none = listens_for_none words BadLines taken listens none
-IsRefused-listening words BadRequest taken listens none = listens_for_none words BadRequest taken listens none
-IsRefused-listening words BadFormat taken listens none = absurd none
-IsRefused-listening words BadEnd taken listens none = listens_for_none words BadEnd taken listens none
-IsRefused-listening words KeptUnfollowed taken listens none = listens_for_none words KeptUnfollowed taken listens none
-IsRefused-listening words BadSymbol taken listens none = listens_for_none words BadSymbol taken listens none
-IsRefused-listening words TooManySymbols taken listens none = listens_for_none words TooManySymbols taken listens none
-IsRefused-listening words DuplicateSymbol taken listens none = listens_for_none words DuplicateSymbol taken listens none
-
 -- the values of the option of convert are refused
-pub IsRefused-converting : (words : List Text) (refusal : Refusal) → IsAccepted words → IsConverting words → GivesNoConversion (convert_values_of words) refusal → IsRefused words refusal
-IsRefused-converting words (Shown text) taken converts none = absurd none
-IsRefused-converting words (Usage text) taken converts none = absurd none
-IsRefused-converting words NotText taken converts none = absurd none
-IsRefused-converting words NoMemory taken converts none = tt
-IsRefused-converting words BadSession taken converts none = absurd none
-IsRefused-converting words TooManySessions taken converts none = absurd none
+pub IsRefused-converting : (words : List Text) (refusal : Refusal) → IsAccepted words → IsCommand (codes "convert") words → GivesNoConversion (values_of (codes "convert") words) refusal → IsRefused words refusal
 IsRefused-converting words BadLines taken converts none = record {
   taken = taken;
   listening = λ listens. absurd (not_both words listens converts);
@@ -151,39 +114,22 @@ IsRefused-converting words BadLines taken converts none = record {
   counting = λ counts. absurd (not_converting_and_counting words converts counts);
   replaying = λ not_listening not_converting not_counting. absurd (not_converting converts);
 }
-IsRefused-converting words BadRequest taken converts none = absurd none
-IsRefused-converting words BadFormat taken converts none = absurd none
-IsRefused-converting words BadEnd taken converts none = absurd none
-IsRefused-converting words KeptUnfollowed taken converts none = absurd none
-IsRefused-converting words BadSymbol taken converts none = absurd none
-IsRefused-converting words TooManySymbols taken converts none = absurd none
-IsRefused-converting words DuplicateSymbol taken converts none = absurd none
+IsRefused-converting words NoMemory taken converts none = tt
+IsRefused-converting words _ taken converts none = absurd none
 
-counts_none : (words : List Text) (refusal : Refusal) → IsAccepted words → IsCounting words → GivesNoStats (stats_values_of words) refusal → GivesNoTask words refusal
-counts_none words refusal taken counts none = record {
+-- the values of the options of stats are refused
+pub IsRefused-counting : (words : List Text) (refusal : Refusal) → IsAccepted words → IsCommand (codes "stats") words → GivesNoStats (values_of (codes "stats") words) refusal → IsRefused words refusal
+IsRefused-counting words (Shown text) taken counts none = absurd none
+IsRefused-counting words (Usage text) taken counts none = absurd none
+IsRefused-counting words NotText taken counts none = absurd none
+IsRefused-counting words NoMemory taken counts none = tt
+IsRefused-counting words refusal taken counts none = record {
   taken = taken;
   listening = λ listens. absurd (not_listening_and_counting words listens counts);
   converting = λ converts. absurd (not_converting_and_counting words converts counts);
   counting = λ again. none;
   replaying = λ not_listening not_converting not_counting. absurd (not_counting counts);
 }
-
--- the values of the options of stats are refused
-pub IsRefused-counting : (words : List Text) (refusal : Refusal) → IsAccepted words → IsCounting words → GivesNoStats (stats_values_of words) refusal → IsRefused words refusal
-IsRefused-counting words (Shown text) taken counts none = absurd none
-IsRefused-counting words (Usage text) taken counts none = absurd none
-IsRefused-counting words NotText taken counts none = absurd none
-IsRefused-counting words NoMemory taken counts none = tt
-IsRefused-counting words BadSession taken counts none = counts_none words BadSession taken counts none
-IsRefused-counting words TooManySessions taken counts none = counts_none words TooManySessions taken counts none
-IsRefused-counting words BadLines taken counts none = counts_none words BadLines taken counts none
-IsRefused-counting words BadRequest taken counts none = absurd none
-IsRefused-counting words BadFormat taken counts none = counts_none words BadFormat taken counts none
-IsRefused-counting words BadEnd taken counts none = absurd none
-IsRefused-counting words KeptUnfollowed taken counts none = absurd none
-IsRefused-counting words BadSymbol taken counts none = counts_none words BadSymbol taken counts none
-IsRefused-counting words TooManySymbols taken counts none = counts_none words TooManySymbols taken counts none
-IsRefused-counting words DuplicateSymbol taken counts none = counts_none words DuplicateSymbol taken counts none
 
 -- an error of clap by one of its kinds is the refusal
 pub IsRefused-by : (words : List Text) (kind : ErrorKind) (refusal : Refusal) → RefusesBy kind refusal → (kind ≡ OutOfMemory) ⊎ IsAmong kind (fault_of nbbo_app words) → IsRefused words refusal
@@ -192,20 +138,10 @@ IsRefused-by words kind (Shown text) is (inl memory) = elim is [
   | inr version ↦ let bad : DisplayVersion ≡ OutOfMemory = sym version ∙ memory in absurd (cc)
 ]
 IsRefused-by words kind (Shown text) is (inr among) = (kind, is, among)
-IsRefused-by words kind NotText is among = absurd is
 IsRefused-by words kind (Usage text) is (inl memory) = absurd (is.1 memory)
 IsRefused-by words kind (Usage text) is (inr among) = (kind, is.0, among)
 IsRefused-by words kind NoMemory is among = tt
-IsRefused-by words kind BadSession is among = absurd is
-IsRefused-by words kind TooManySessions is among = absurd is
-IsRefused-by words kind BadLines is among = absurd is
-IsRefused-by words kind BadRequest is among = absurd is
-IsRefused-by words kind BadFormat is among = absurd is
-IsRefused-by words kind BadEnd is among = absurd is
-IsRefused-by words kind KeptUnfollowed is among = absurd is
-IsRefused-by words kind BadSymbol is among = absurd is
-IsRefused-by words kind TooManySymbols is among = absurd is
-IsRefused-by words kind DuplicateSymbol is among = absurd is
+IsRefused-by words kind _ is among = absurd is
 
 -- where the values of an option are, and where it has none
 pub all_found : (found all : Option (List Text)) (words : List Text) → Some words ≡ found → found ≡ all → words ≡ unwrap_or all []

@@ -3,6 +3,8 @@ use Rattle.std.specs.Prelude.{◌≡◌, ℕ, Bool, true, false, List, Option, S
 use Rattle.std.specs.Str.{bytes_eq}
 use Rattle.feed_text.specs.declared.formats.BestFormat.{BestFormat}
 use Rattle.feed_text.specs.declared.formats.BestFormat.TheVariants.{Text, Csv, Json}
+use Rattle.command_words.specs.declared.run_output.RunOutput.{RunOutput}
+use Rattle.command_words.specs.declared.run_output.RunOutput.TheVariants.{Lines, Bests}
 
 -- the format of this name
 abbrev pub format_named : List ℕ → Option BestFormat
@@ -13,12 +15,12 @@ format_named name =
 
 -- All lines are printed where the best ones alone aren't asked for, and these by the format that is
 -- named, or as they are.
-abbrev pub NamesFormat : Bool → Option (List ℕ) → Option BestFormat → Type 0
-NamesFormat false None bests = bests ≡ None
-NamesFormat false (Some name) bests = ⊥
-NamesFormat true None bests = bests ≡ Some Text
-NamesFormat true (Some name) bests =
-    (format : BestFormat) × (format_named name ≡ Some format) × (bests ≡ Some format)
+abbrev pub NamesFormat : Bool → Option (List ℕ) → RunOutput → Type 0
+NamesFormat false None output = output ≡ Lines
+NamesFormat false (Some name) output = ⊥
+NamesFormat true None output = output ≡ Bests Text
+NamesFormat true (Some name) output =
+    (format : BestFormat) × (format_named name ≡ Some format) × (output ≡ Bests format)
 
 -- A format is named where all lines are printed, or one that there isn't.
 abbrev pub HasFormatFault : Bool → Option (List ℕ) → Type 0

@@ -4,9 +4,13 @@ pub mod CapturedLines
 pub mod CommandLine
 pub mod Commands
 pub mod EndRules
+pub mod FeedRequests
 pub mod ListenOptions
+pub mod ListenRequests
+pub mod OptionValues
 pub mod Options
 pub mod ReplayOptions
+pub mod RunRequests
 pub mod Sessions
 pub mod SkipRules
 pub mod StatsFormats

@@ -2,6 +2,7 @@
 ghost use Rattle.std.specs.Prelude.{◌≡◌, IfErr, IfOk, option_map};
 ghost use Rattle.command_words.specs.BestFormats.{HasFormatFault, NamesFormat, format_named};
 
+use crate::run_output::RunOutput;
 use feed_text::BestFormat;
 
 /// The format is none of those that there are, or is given where all lines are printed.
@@ -23,19 +24,19 @@ fn format_named(name: &str) -> Option<BestFormat>
     }
 }
 
-/// The format of the best lines where they alone are printed, `Text` where none is named, or `None`
-/// where all lines are printed: then no format may be named.
-pub fn read_format(best_only: bool, name: Option<&str>) -> Result<Option<BestFormat>, FormatFault>
+/// The lines that are printed: all, or the best ones alone in the format that is named, `Text` where
+/// none is. Where all lines are printed no format may be named.
+pub fn read_output(best_only: bool, name: Option<&str>) -> Result<RunOutput, FormatFault>
     ensures ok { IfOk result (NamesFormat best_only (option_map (λ name. name.now) name.entry)) }
     ensures err { IfErr result (λ _.
         HasFormatFault best_only (option_map (λ name. name.now) name.entry)) }
 {
     match name {
-        None if best_only => Ok(Some(BestFormat::Text)),
-        None => Ok(None),
+        None if best_only => Ok(RunOutput::Bests(BestFormat::Text)),
+        None => Ok(RunOutput::Lines),
         Some(_) if !best_only => Err(FormatFault),
         Some(name) => match format_named(name) {
-            Some(format) => Ok(Some(format)),
+            Some(format) => Ok(RunOutput::Bests(format)),
             None => Err(FormatFault),
         },
     }

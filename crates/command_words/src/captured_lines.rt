@@ -1,9 +1,10 @@
 //! The lines of a packet capture on the command line.
-ghost use Rattle.std.specs.Prelude.{◌*◌, ◌≤◌, IfOk, IfErr, OnOk};
+ghost use Rattle.std.specs.Prelude.{◌*◌, ◌≤◌, IfOk, IfErr, OnOk, option_map};
 ghost use Rattle.line_captures.specs.Lists.{AreOfVenues};
-ghost use Rattle.command_words.specs.CapturedLines.{HasAllLinesFault, HasCapturedLinesFault, NameAllLines, NameCapturedLines};
+ghost use Rattle.command_words.specs.CapturedLines.{HasAllLinesFault, HasCapturedLinesFault, HasInputFault, NameAllLines, NameCapturedLines, NamesInput, captured_lines_in};
 
 use crate::addresses::{LinesFault, read_lines};
+use crate::run_input::RunInput;
 use feed_types::MAX_VENUES;
 use line_captures::{CapturedLine, are_apart, lines_at};
 use std::alloc::Global;
@@ -26,6 +27,19 @@ pub fn read_captured_lines(
         return Err(LinesFault::BadLines);
     }
     Ok(lines)
+}
+
+/// The input for `venues` venues: a packet capture where a list of its lines is given.
+pub fn read_input(alloc: Global, list: Option<&str>, venues: usize) -> Result<RunInput, LinesFault>
+    requires { venues ≤ 16 }
+    ensures ok { IfOk result (NamesInput (option_map (λ list. list.now) list.entry) venues) }
+    ensures venues { IfOk result (λ input. AreOfVenues venues (captured_lines_in input)) }
+    ensures err { IfErr result (HasInputFault (option_map (λ list. list.now) list.entry) venues) }
+{
+    match list {
+        Some(list) => Ok(RunInput::Packets(read_captured_lines(alloc, list, venues)?)),
+        None => Ok(RunInput::Own),
+    }
 }
 
 /// The lines that a list names, two for each of as many venues as it has addresses for.

@@ -5,31 +5,31 @@ ghost use Rattle.clap.specs.Simple.{subcommand_of, subcommand_rows_of};
 ghost use Rattle.clap.specs.Values.{kind_of};
 ghost use Rattle.clap.specs.Walk.{first_of, one_of, rows_of};
 ghost use Rattle.command_words.specs.Addresses.{HasLinesFault, NameLines, NamesNoRequest, NamesRequest};
-ghost use Rattle.command_words.specs.CommandLine.{Asks, Gives, GivesBadFormat, GivesBests, GivesFeed, GivesListening, GivesNoFeed, GivesNoListening, GivesNone, IsCount, IsFlag, IsGivenCount, IsRefused, IsAccepted, IsWindowOf, RefusesBy, lines_in, symbol_words_in};
+ghost use Rattle.command_words.specs.CommandLine.{Asks, GivesConversion, GivesNoConversion, IsRefused, IsAccepted, RefusesBy};
+ghost use Rattle.command_words.specs.FeedRequests.{GivesFeed, GivesNoFeed};
+ghost use Rattle.command_words.specs.ListenRequests.{GivesListening, GivesNoListening};
+ghost use Rattle.command_words.specs.OptionValues.{IsCount, IsFlag, IsGivenCount, IsWindowOf, lines_in, symbol_words_in};
 ghost use Rattle.command_words.specs.Commands.{nbbo_app};
 ghost use Rattle.command_words.specs.EndRules.{NamesEndRule, NamesNoEndRule};
 ghost use Rattle.command_words.specs.Symbols.{HasSymbolsFault, NameSymbols};
 
 use crate::addresses::{LinesFault, RequestFault, read_lines, read_request};
-use crate::best_format::{FormatFault, read_format};
+use crate::captured_lines::read_all_lines;
 use crate::commands::nbbo_command;
 use crate::end_rule::{EndRule, EndRuleFault, read_end_rule};
 use crate::feed_settings::FeedSettings;
-use crate::limits::{DEFAULT_COUNT, DEFAULT_WINDOW};
-use crate::line_tasks::{conversion_of, replay_task};
+use crate::limits::DEFAULT_WINDOW;
 use crate::listen_counts::{datagrams_of, kept_of, usual_journal};
 use crate::listen_settings::ListenSettings;
 use crate::refusal::Refusal;
-use crate::replay_settings::ReplaySettings;
+use crate::run_words::{replay_of, stats_of};
 use crate::sessions::read_sessions;
-use crate::skip_words::skips_of;
-use crate::stats_words::stats_of;
 use crate::symbols::{SymbolsFault, read_symbols};
 use crate::task::Task;
 use clap::error::ErrorKind;
 use clap::{ArgMatches, Error};
-use feed_text::BestFormat;
 use feed_types::{MAX_WINDOW, SymbolName};
+use line_captures::CapturedLine;
 use std::alloc::Global;
 use std::net::SocketAddr;
 
@@ -126,14 +126,6 @@ pub fn flag_of(options: &ArgMatches<'_>, name: &str) -> bool
     options.get_flag(name)
 }
 
-/// The format in which the best lines alone are printed, or `None` where all lines are.
-fn bests_of(replay: &ArgMatches<'_>) -> Result<Option<BestFormat>, FormatFault>
-    ensures ok { IfOk result (GivesBests (rows_of (found_of replay.now))) }
-    ensures err { IfErr result (λ _. GivesBadFormat (rows_of (found_of replay.now))) }
-{
-    read_format(flag_of(replay, "best-only"), replay.get_str("format"))
-}
-
 /// The lines that the option gives, two for each of `venues` venues.
 fn lines_of(
     alloc: Global,
@@ -190,17 +182,13 @@ pub fn feed_of(
     })
 }
 
-/// The settings that the options of `replay` give.
-pub fn settings_of(alloc: Global, replay: &ArgMatches<'_>) -> Result<ReplaySettings, Refusal>
-    ensures ok { IfOk result (Gives (rows_of (found_of replay.now))) }
-    ensures err { IfErr result (GivesNone (rows_of (found_of replay.now))) }
+/// The lines that the options of `convert` give.
+fn conversion_of(alloc: Global, convert: &ArgMatches<'_>) -> Result<Vec<CapturedLine>, Refusal>
+    ensures ok { IfOk result (λ lines.
+        GivesConversion (rows_of (found_of convert.now)) lines.items) }
+    ensures err { IfErr result (GivesNoConversion (rows_of (found_of convert.now))) }
 {
-    Ok(ReplaySettings {
-        feed: feed_of(alloc, replay, count_of(replay, "journal", DEFAULT_COUNT))?,
-        gaps: flag_of(replay, "gaps"),
-        bests: bests_of(replay)?,
-        skips: skips_of(replay),
-    })
+    Ok(read_all_lines(alloc, text_of(convert, "lines"))?)
 }
 
 /// The settings that the options of `listen` give.
@@ -251,10 +239,10 @@ pub fn settings(alloc: Global, words: &[String]) -> Result<Task, Refusal>
         return Ok(Task::Convert(conversion_of(alloc, convert)?));
     }
     if let Some(stats) = matches.subcommand_matches("stats") {
-        return Ok(Task::Stats(stats_of(alloc, stats)?));
+        return Ok(Task::Run(stats_of(alloc, stats)?));
     }
     match matches.subcommand_matches("replay") {
-        Some(replay) => Ok(replay_task(alloc, replay)?),
+        Some(replay) => Ok(Task::Run(replay_of(alloc, replay)?)),
         // Without a command there is no list of sessions either.
         None => Err(Refusal::BadSession),
     }

@@ -2,9 +2,12 @@
 //!
 //! Contract: of any words, [`settings`] returns the [`Task`] that they ask for, with its settings,
 //! or the [`Refusal`] that they get: a text and a status. `specs/CommandLine.antt` says which of
-//! them, over clap's reading of the words (`specs/Commands.antt`) and the definitions of each kind
-//! of value (`specs/Sessions.antt`, `specs/Symbols.antt`, `specs/Addresses.antt`,
-//! `specs/CapturedLines.antt`, `specs/SkipRules.antt`).
+//! them, over clap's reading of the words (`specs/Commands.antt`, `specs/OptionValues.antt`), what
+//! the options of each command give (`specs/FeedRequests.antt`, `specs/RunRequests.antt`,
+//! `specs/ListenRequests.antt`) and the definitions of each kind of value (`specs/Sessions.antt`,
+//! `specs/Symbols.antt`, `specs/Addresses.antt`, `specs/CapturedLines.antt`,
+//! `specs/BestFormats.antt`, `specs/StatsFormats.antt`, `specs/SkipRules.antt`,
+//! `specs/EndRules.antt`).
 //!
 //! Begin with `command_line.rt`, then `commands.rt` and a command, as `listen_command.rt`. An option
 //! stands with its texts in `options.rt` if commands share it, else in `listen_options.rt`,
@@ -20,8 +23,6 @@ mod convert_command;
 mod end_rule;
 mod feed_settings;
 mod limits;
-mod line_replay_settings;
-mod line_tasks;
 mod listen_command;
 mod listen_counts;
 mod listen_options;
@@ -30,22 +31,23 @@ mod options;
 mod refusal;
 mod replay_command;
 mod replay_options;
-mod replay_settings;
+mod run_input;
+mod run_output;
+mod run_settings;
+mod run_words;
 mod sessions;
 mod skip_words;
 mod stats_command;
 mod stats_format;
-mod stats_settings;
-mod stats_words;
 mod symbols;
 mod task;
 
 pub use command_line::settings;
 pub use end_rule::EndRule;
 pub use feed_settings::FeedSettings;
-pub use line_replay_settings::LineReplaySettings;
 pub use listen_settings::ListenSettings;
 pub use refusal::Refusal;
-pub use replay_settings::ReplaySettings;
-pub use stats_settings::{StatsInput, StatsSettings};
+pub use run_input::RunInput;
+pub use run_output::RunOutput;
+pub use run_settings::RunSettings;
 pub use task::Task;

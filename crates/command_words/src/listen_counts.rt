@@ -2,7 +2,7 @@
 ghost use Rattle.std.specs.Prelude.{◌≡◌, IfOk, OnErr, codes};
 ghost use Rattle.clap.specs.Matches.{found_of};
 ghost use Rattle.clap.specs.Walk.{rows_of};
-ghost use Rattle.command_words.specs.CommandLine.{GivesDatagrams, GivesIdleKept, GivesKept, usual_journal};
+ghost use Rattle.command_words.specs.ListenRequests.{GivesDatagrams, GivesIdleKept, GivesKept, usual_journal};
 
 use crate::command_line::{count_of, given_count_of};
 use crate::limits::{DEFAULT_COUNT, DEFAULT_KEPT};

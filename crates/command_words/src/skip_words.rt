@@ -2,7 +2,7 @@
 ghost use Rattle.std.specs.Prelude.{◌≡◌};
 ghost use Rattle.clap.specs.Matches.{found_of};
 ghost use Rattle.clap.specs.Walk.{rows_of};
-ghost use Rattle.command_words.specs.CommandLine.{GivesSkips};
+ghost use Rattle.command_words.specs.RunRequests.{GivesSkips};
 ghost use Rattle.command_words.specs.SkipRules.{skip_rule_by};
 
 use crate::command_line::flag_of;

@@ -2,7 +2,7 @@ use Rattle.std.proofs.Common.{Option, subst}
 use Rattle.clap.proofs.WalkLemmas.{one_text-rows}
 use Rattle.clap.specs.Matches.{found_of}
 use Rattle.clap.specs.Walk.{Text}
-use Rattle.command_words.specs.CommandLine.{IsFlag}
+use Rattle.command_words.specs.OptionValues.{IsFlag}
 use Rattle.command_words.proofs.command_line.flag_of.Goals as goal
 
 pub returns : goal.returns

@@ -2,7 +2,7 @@ use Rattle.std.proofs.Common.{Option, subst, Some, None}
 use Rattle.clap.proofs.WalkLemmas.{one_text-rows}
 use Rattle.clap.specs.Matches.{found_of}
 use Rattle.clap.specs.Walk.{Text}
-use Rattle.command_words.specs.CommandLine.{IsGivenCount}
+use Rattle.command_words.specs.OptionValues.{IsGivenCount}
 use Rattle.command_words.proofs.Asking.{IsGivenCount-read, IsGivenCount-none}
 use Rattle.command_words.proofs.command_line.given_count_of.Goals as goal
 

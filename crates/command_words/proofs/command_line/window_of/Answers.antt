@@ -2,7 +2,7 @@ use Rattle.std.proofs.Common.{Option, subst, inl, inr, codes}
 use Rattle.clap.proofs.WalkLemmas.{one_text-rows}
 use Rattle.clap.specs.Matches.{found_of}
 use Rattle.clap.specs.Walk.{Text}
-use Rattle.command_words.specs.CommandLine.{IsWindowOf}
+use Rattle.command_words.specs.OptionValues.{IsWindowOf}
 use Rattle.command_words.proofs.Asking.{IsWindowOf-read, IsWindowOf-out, IsWindowOf-none}
 use Rattle.command_words.proofs.command_line.window_of.Goals as goal
 

@@ -3,7 +3,7 @@ use Rattle.std.specs.Prelude.{IsSome}
 use Rattle.clap.proofs.WalkLemmas.{first_value-rows}
 use Rattle.clap.specs.Matches.{found_of}
 use Rattle.clap.specs.Walk.{Text, rows_of}
-use Rattle.command_words.specs.CommandLine.{GivesKept}
+use Rattle.command_words.specs.ListenRequests.{GivesKept}
 use Rattle.command_words.proofs.listen_counts.kept_of.Goals as goal
 
 pub returns-in-Some-clause-err : goal.returns-in-Some-clause-err

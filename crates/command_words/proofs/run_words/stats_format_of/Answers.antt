@@ -4,7 +4,7 @@ use Rattle.clap.proofs.WalkLemmas.{first_value-rows}
 use Rattle.clap.specs.Matches.{found_of}
 use Rattle.clap.specs.Walk.{Text}
 use Rattle.command_words.specs.StatsFormats.{NamesNoStatsFormat, NamesStatsFormat}
-use Rattle.command_words.proofs.stats_words.stats_format_of.Goals as goal
+use Rattle.command_words.proofs.run_words.stats_format_of.Goals as goal
 
 pub returns-clause-ok : goal.returns-clause-ok
 returns-clause-ok c =

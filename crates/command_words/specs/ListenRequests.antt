@@ -1,0 +1,114 @@
+-- The settings that the values of the options of listen give.
+use Rattle.std.specs.Prelude.{◌≡◌, ℕ, List, Bool, true, false, Option, Some, None, Err, IsSome, codes, if◌then◌else◌, length}
+use Rattle.clap.specs.Walk.{Row, Text, first_of, one_of}
+use Rattle.command_words.specs.Addresses.{HasLinesFault, NameLines, NamesRequest, NamesNoRequest}
+use Rattle.command_words.specs.EndRules.{NamesEndRule, NamesNoEndRule}
+use Rattle.command_words.specs.declared.end_rule.EndRule.{EndRule}
+use Rattle.command_words.specs.Sessions.{sessions_in}
+use Rattle.command_words.specs.declared.addresses.LinesFault.TheVariants as lines
+use Rattle.command_words.specs.declared.sessions.SessionsFault.TheVariants as sessions
+use Rattle.command_words.specs.Symbols.{HasSymbolsFault, NameSymbols}
+use Rattle.command_words.specs.declared.symbols.SymbolsFault.{SymbolsFault}
+use Rattle.command_words.specs.declared.symbols.SymbolsFault.TheVariants as symbols
+use Rattle.command_words.specs.declared.listen_settings.ListenSettings.{ListenSettings}
+use Rattle.command_words.specs.declared.refusal.Refusal.{Refusal}
+use Rattle.command_words.specs.declared.refusal.Refusal.TheVariants.{BadSession, TooManySessions, BadLines, BadRequest, BadEnd, KeptUnfollowed, BadSymbol, TooManySymbols, DuplicateSymbol, NoMemory}
+use Rattle.std.specs.declared.net.socket_addr.SocketAddr.{SocketAddr}
+use Rattle.command_words.specs.OptionValues.{IsCount, IsFlag, IsGivenCount, lines_in, list_in, symbol_words_in}
+use Rattle.command_words.specs.FeedRequests.{GivesFeed, GivesVenues}
+
+-- the journal where no text gives one, where best lines are printed as they come and where they
+-- aren't
+abbrev pub usual_journal : Bool → ℕ
+usual_journal follow = if follow then 4294967295 else 1000000
+
+-- The values of the options of listen let a line read so many datagrams: any number, where best
+-- lines are printed as they come and none is given.
+abbrev pub GivesDatagrams : List Row → (follow : Bool) → Option ℕ → Type 0
+GivesDatagrams rows true datagrams = IsGivenCount (one_of (codes "datagrams") rows) datagrams
+GivesDatagrams rows false (Some datagrams) =
+    IsCount 1000000 (one_of (codes "datagrams") rows) datagrams
+GivesDatagrams rows false None = ⊥
+
+-- They let the subscriber be behind by so many changes, where best lines are printed as they come;
+-- else all changes are kept, and no such number is given.
+abbrev pub GivesKept : List Row → (follow : Bool) → Option ℕ → Type 0
+GivesKept rows true (Some kept) = IsCount 65536 (one_of (codes "kept") rows) kept
+GivesKept rows true None = ⊥
+GivesKept rows false kept = (first_of (codes "kept") rows ≡ None) × (kept ≡ None)
+
+-- They give such a number where best lines aren't printed as they come.
+abbrev pub GivesIdleKept : List Row → (follow : Bool) → Type 0
+GivesIdleKept rows follow = (follow ≡ false) × IsSome (first_of (codes "kept") rows)
+
+-- The values of the options of listen give these settings.
+pub record GivesListening (rows : List Row) (settings : ListenSettings) : Type 0 where
+  pub feed : GivesFeed rows settings.feed
+  pub journal : IsCount (usual_journal settings.follow) (one_of (codes "journal") rows)
+      settings.feed.journal
+  pub lines : NameLines (lines_in rows) (length settings.feed.sessions.items) settings.lines.items
+  pub request : NamesRequest settings.lines.items (first_of (codes "request") rows)
+      settings.request
+  pub join : IsFlag (one_of (codes "join") rows) settings.join
+  pub skip_after : IsGivenCount (one_of (codes "skip-after") rows) settings.skip_after
+  pub datagrams : GivesDatagrams rows settings.follow settings.datagrams
+  pub end : NamesEndRule (first_of (codes "end") rows) settings.end
+  pub buffer : IsGivenCount (one_of (codes "buffer") rows) settings.buffer
+  pub seconds : IsGivenCount (one_of (codes "seconds") rows) settings.seconds
+  pub until_input_ends : IsFlag (one_of (codes "until-input-ends") rows) settings.until_input_ends
+  pub follow : IsFlag (one_of (codes "follow") rows) settings.follow
+  pub kept : GivesKept rows settings.follow settings.kept
+  pub stats : IsGivenCount (one_of (codes "stats") rows) settings.stats
+
+-- The lists of sessions and of lines are right, and this holds of the lines.
+abbrev pub GivesLines : List Row → (List SocketAddr → Type 0) → Type 0
+GivesLines rows P =
+    GivesVenues rows
+    (λ venues. (lines : List SocketAddr) × NameLines (lines_in rows) venues lines × P lines)
+
+-- The lists of sessions and of lines and the address for requests are right.
+abbrev pub GivesRequested : List Row → Type 0
+GivesRequested rows =
+    GivesLines rows
+    (λ lines. (request : Option SocketAddr)
+    × NamesRequest lines (first_of (codes "request") rows) request)
+
+-- The symbols are wrong, where the sessions, the lines and the address for requests are right.
+pub record ListensForNoSymbols (rows : List Row) (fault : SymbolsFault) : Type 0 where
+  pub lines : GivesRequested rows
+  pub symbols : HasSymbolsFault (symbol_words_in rows) fault
+
+-- The rule for ends is none, where all that is looked at before is right.
+pub record ListensToNoEnd (rows : List Row) : Type 0 where
+  pub lines : GivesRequested rows
+  pub symbols : List Text
+  pub named : NameSymbols (symbol_words_in rows) symbols
+  pub fault : NamesNoEndRule (first_of (codes "end") rows)
+
+-- How many changes are kept is said where all are, and all that is looked at before is right.
+pub record ListensWithKept (rows : List Row) : Type 0 where
+  pub lines : GivesRequested rows
+  pub symbols : List Text
+  pub named : NameSymbols (symbol_words_in rows) symbols
+  pub rule : EndRule
+  pub end : NamesEndRule (first_of (codes "end") rows) rule
+  pub follow : Bool
+  pub flag : IsFlag (one_of (codes "follow") rows) follow
+  pub fault : GivesIdleKept rows follow
+
+-- The values of the options of listen give no settings: the sessions are looked at first, then the
+-- lines, the address for requests, the symbols, the rule for ends, and how many changes are kept.
+abbrev pub GivesNoListening : List Row → Refusal → Type 0
+GivesNoListening rows BadSession = sessions_in (list_in rows) ≡ Err sessions.BadSession
+GivesNoListening rows TooManySessions = sessions_in (list_in rows) ≡ Err sessions.TooManySessions
+GivesNoListening rows BadLines =
+    GivesVenues rows (λ venues. HasLinesFault (lines_in rows) venues lines.BadLines)
+GivesNoListening rows BadRequest =
+    GivesLines rows (λ lines. NamesNoRequest lines (first_of (codes "request") rows))
+GivesNoListening rows BadSymbol = ListensForNoSymbols rows symbols.BadSymbol
+GivesNoListening rows TooManySymbols = ListensForNoSymbols rows symbols.TooManySymbols
+GivesNoListening rows DuplicateSymbol = ListensForNoSymbols rows symbols.DuplicateSymbol
+GivesNoListening rows BadEnd = ListensToNoEnd rows
+GivesNoListening rows KeptUnfollowed = ListensWithKept rows
+GivesNoListening rows NoMemory = Unit {0}
+GivesNoListening rows _ = ⊥

@@ -1,0 +1,82 @@
+-- The runs that the values of the options of replay and of stats give.
+use Rattle.std.specs.Prelude.{◌≡◌, List, Bool, false, codes, length}
+use Rattle.clap.specs.Walk.{Row, first_of, one_of}
+use Rattle.command_words.specs.CapturedLines.{HasInputFault, NamesInput}
+use Rattle.feed_text.specs.declared.skip_rule.SkipRule.{SkipRule}
+use Rattle.command_words.specs.BestFormats.{HasFormatFault, NamesFormat}
+use Rattle.command_words.specs.SkipRules.{skip_rule_by}
+use Rattle.command_words.specs.declared.addresses.LinesFault.TheVariants as lines
+use Rattle.command_words.specs.StatsFormats.{NamesNoStatsFormat, NamesStatsFormat}
+use Rattle.command_words.specs.declared.run_output.RunOutput.{RunOutput}
+use Rattle.command_words.specs.declared.run_output.RunOutput.TheVariants.{Stats}
+use Rattle.command_words.specs.declared.run_settings.RunSettings.{RunSettings}
+use Rattle.command_words.specs.declared.refusal.Refusal.{Refusal}
+use Rattle.command_words.specs.declared.refusal.Refusal.TheVariants.{BadLines, BadFormat}
+use Rattle.command_words.specs.OptionValues.{IsCount, IsFlag}
+use Rattle.command_words.specs.FeedRequests.{GivesFeed, GivesFeedOf, GivesNoFeed}
+
+-- The values of the options of replay ask for all lines, or for the best ones alone in a format.
+pub record GivesOutput (rows : List Row) (output : RunOutput) : Type 0 where
+  pub best_only : Bool
+  pub flag : IsFlag (one_of (codes "best-only") rows) best_only
+  pub format : NamesFormat best_only (first_of (codes "format") rows) output
+
+-- They name a format that there isn't, or one where all lines are asked for.
+pub record GivesBadFormat (rows : List Row) : Type 0 where
+  pub best_only : Bool
+  pub flag : IsFlag (one_of (codes "best-only") rows) best_only
+  pub fault : HasFormatFault best_only (first_of (codes "format") rows)
+
+-- The values of the options of stats ask for statistics, in a format.
+abbrev pub GivesStatsOutput : List Row → RunOutput → Type 0
+GivesStatsOutput rows (Stats format) = NamesStatsFormat (first_of (codes "format") rows) format
+GivesStatsOutput rows _ = ⊥
+
+-- The values of the options of replay, or of stats, give up gaps by this rule.
+pub record GivesSkips (rows : List Row) (skips : SkipRule) : Type 0 where
+  pub join : Bool
+  pub join_flag : IsFlag (one_of (codes "join") rows) join
+  pub skip_gaps : Bool
+  pub skip_gaps_flag : IsFlag (one_of (codes "skip-gaps") rows) skip_gaps
+  pub is : skips ≡ skip_rule_by join skip_gaps
+
+-- The values of the options of replay, or of stats, say that this is replayed.
+pub record GivesReplayed (rows : List Row) (settings : RunSettings) : Type 0 where
+  pub feed : GivesFeed rows settings.feed
+  pub skips : GivesSkips rows settings.skips
+  pub input : NamesInput (first_of (codes "lines") rows) (length settings.feed.sessions.items)
+      settings.input
+
+-- The values of the options of replay give these settings.
+pub record Gives (rows : List Row) (settings : RunSettings) : Type 0 where
+  pub replayed : GivesReplayed rows settings
+  pub journal : IsCount 1000000 (one_of (codes "journal") rows) settings.feed.journal
+  pub gaps : IsFlag (one_of (codes "gaps") rows) settings.gaps
+  pub output : GivesOutput rows settings.output
+
+-- The values of the options of stats give these settings: no gaps are printed, and the journal has
+-- the most room.
+pub record GivesStats (rows : List Row) (settings : RunSettings) : Type 0 where
+  pub replayed : GivesReplayed rows settings
+  pub journal : settings.feed.journal ≡ 4294967295
+  pub gaps : settings.gaps ≡ false
+  pub output : GivesStatsOutput rows settings.output
+
+-- The values of the options of replay, or of stats, give no settings: the sessions are looked at
+-- first, then the symbols, the format, for which IsOutput says what it may ask for and IsFault that
+-- it is wrong, and last the list of lines; or memory was refused.
+abbrev pub GivesNoRun : List Row → (IsOutput : RunOutput → Type 0) → (IsFault : Type 0) → Refusal
+    → Type 0
+GivesNoRun rows IsOutput IsFault BadFormat = GivesFeedOf rows (λ _. IsFault)
+GivesNoRun rows IsOutput IsFault BadLines =
+    GivesFeedOf rows (λ venues. (output : RunOutput) × IsOutput output
+    × HasInputFault (first_of (codes "lines") rows) venues lines.BadLines)
+GivesNoRun rows IsOutput IsFault refusal = GivesNoFeed rows refusal
+
+abbrev pub GivesNone : List Row → Refusal → Type 0
+GivesNone rows refusal = GivesNoRun rows (GivesOutput rows) (GivesBadFormat rows) refusal
+
+abbrev pub GivesNoStats : List Row → Refusal → Type 0
+GivesNoStats rows refusal =
+    GivesNoRun rows (GivesStatsOutput rows) (NamesNoStatsFormat (first_of (codes "format") rows))
+    refusal

@@ -1,0 +1,25 @@
+//! The settings of `nbbo replay` and of `nbbo stats`.
+ghost use Rattle.std.specs.Prelude.{vec_len};
+ghost use Rattle.line_captures.specs.Lists.{AreOfVenues};
+ghost use Rattle.command_words.specs.CapturedLines.{captured_lines_in};
+
+use crate::feed_settings::FeedSettings;
+use crate::run_input::RunInput;
+use crate::run_output::RunOutput;
+use feed_text::SkipRule;
+
+/// What is replayed, and what is printed of it.
+#[derive(Debug, Drop)]
+pub struct RunSettings {
+    /// The feed that is replayed.
+    pub feed: FeedSettings,
+    /// Whether gaps are printed.
+    pub gaps: bool,
+    /// Which gaps are given up.
+    pub skips: SkipRule,
+    /// The input. The lines of a packet capture are of the feed's venues.
+    pub input: RunInput,
+    /// The output.
+    pub output: RunOutput,
+    ghost of_venues: { AreOfVenues (vec_len feed.sessions) (captured_lines_in input) },
+}

@@ -1,0 +1,88 @@
+//! The runs that the options of `replay` and of `stats` give.
+ghost use Rattle.std.specs.Prelude.{◌≤◌, IfErr, IfOk, codes};
+ghost use Rattle.clap.specs.Matches.{found_of};
+ghost use Rattle.clap.specs.Walk.{first_of, rows_of};
+ghost use Rattle.line_captures.specs.Lists.{AreOfVenues};
+ghost use Rattle.command_words.specs.CapturedLines.{HasInputFault, NamesInput, captured_lines_in};
+ghost use Rattle.command_words.specs.RunRequests.{Gives, GivesBadFormat, GivesNone, GivesNoStats, GivesOutput, GivesStats};
+ghost use Rattle.command_words.specs.StatsFormats.{NamesNoStatsFormat, NamesStatsFormat};
+
+use crate::addresses::LinesFault;
+use crate::best_format::{FormatFault, read_output};
+use crate::captured_lines::read_input;
+use crate::command_line::{count_of, feed_of, flag_of};
+use crate::limits::DEFAULT_COUNT;
+use crate::refusal::Refusal;
+use crate::run_input::RunInput;
+use crate::run_output::RunOutput;
+use crate::run_settings::RunSettings;
+use crate::skip_words::skips_of;
+use crate::stats_format::read_stats_format;
+use clap::ArgMatches;
+use feed_text::StatsFormat;
+use std::alloc::Global;
+
+/// The input for `venues` venues that the options give: with `--lines` a packet capture.
+fn input_of(alloc: Global, run: &ArgMatches<'_>, venues: usize) -> Result<RunInput, LinesFault>
+    requires { venues ≤ 16 }
+    ensures ok { IfOk result
+        (NamesInput (first_of (codes "lines") (rows_of (found_of run.now))) venues) }
+    ensures venues { IfOk result (λ input. AreOfVenues venues (captured_lines_in input)) }
+    ensures err { IfErr result
+        (HasInputFault (first_of (codes "lines") (rows_of (found_of run.now))) venues) }
+{
+    read_input(alloc, run.get_str("lines"), venues)
+}
+
+/// The lines that are printed: all, or the best ones alone in a format.
+fn output_of(replay: &ArgMatches<'_>) -> Result<RunOutput, FormatFault>
+    ensures ok { IfOk result (GivesOutput (rows_of (found_of replay.now))) }
+    ensures err { IfErr result (λ _. GivesBadFormat (rows_of (found_of replay.now))) }
+{
+    read_output(flag_of(replay, "best-only"), replay.get_str("format"))
+}
+
+/// The form of the statistics.
+fn stats_format_of(stats: &ArgMatches<'_>) -> Result<StatsFormat, FormatFault>
+    ensures ok { IfOk result
+        (NamesStatsFormat (first_of (codes "format") (rows_of (found_of stats.now)))) }
+    ensures err { IfErr result (λ _.
+        NamesNoStatsFormat (first_of (codes "format") (rows_of (found_of stats.now)))) }
+{
+    read_stats_format(stats.get_str("format"))
+}
+
+/// The settings that the options of `replay` give.
+pub fn replay_of(alloc: Global, replay: &ArgMatches<'_>) -> Result<RunSettings, Refusal>
+    ensures ok { IfOk result (Gives (rows_of (found_of replay.now))) }
+    ensures err { IfErr result (GivesNone (rows_of (found_of replay.now))) }
+{
+    let feed = feed_of(alloc, replay, count_of(replay, "journal", DEFAULT_COUNT))?;
+    let output = output_of(replay)?;
+    let input = input_of(alloc, replay, feed.sessions.len())?;
+    Ok(RunSettings {
+        feed,
+        gaps: flag_of(replay, "gaps"),
+        skips: skips_of(replay),
+        input,
+        output,
+    })
+}
+
+/// The settings that the options of `stats` give. No gap is printed, and the journal's entries,
+/// which take no memory, have the most room.
+pub fn stats_of(alloc: Global, stats: &ArgMatches<'_>) -> Result<RunSettings, Refusal>
+    ensures ok { IfOk result (GivesStats (rows_of (found_of stats.now))) }
+    ensures err { IfErr result (GivesNoStats (rows_of (found_of stats.now))) }
+{
+    let feed = feed_of(alloc, stats, u32::MAX)?;
+    let format = stats_format_of(stats)?;
+    let input = input_of(alloc, stats, feed.sessions.len())?;
+    Ok(RunSettings {
+        feed,
+        gaps: false,
+        skips: skips_of(stats),
+        input,
+        output: RunOutput::Stats(format),
+    })
+}
