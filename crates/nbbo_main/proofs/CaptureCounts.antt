@@ -3,7 +3,7 @@ use Rattle.std.proofs.Common.{◌≡◌, ℕ, zero, suc, List, [], ◌∷◌, re
 use Rattle.std.specs.Prelude.{codes, decimal}
 use Rattle.feed_text.specs.Devices.{Writing}
 use Rattle.feed_text.specs.StandardError.{SaysEach}
-use Rattle.nbbo_main.specs.LineRuns.{count_texts, no_line_texts}
+use Rattle.nbbo_main.specs.CaptureTexts.{count_texts, no_line_texts}
 
 pub counts_some : {S : Type 0} (w : Writing S) (label : List ℕ) (count : ℕ) (s t : S) → (count ≡ 0 → ⊥) → SaysEach w (label ∷ decimal count ∷ codes "\n" ∷ []) s t → SaysEach w (count_texts label count) s t
 counts_some w label zero s t some said = absurd (some refl)

@@ -1,2 +1,5 @@
 pub mod CaptureCounts
-pub mod LacksTold
+pub mod Keeping
+pub mod NamedLines
+pub mod PrintedTexts
+pub mod SaidLacks

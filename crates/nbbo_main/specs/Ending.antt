@@ -1,24 +1,29 @@
 -- The end of the program after a replay: its status, and the text on standard error. This project's
 -- own texts.
-use Rattle.std.specs.Prelude.{ℕ, List, [], codes, Result, Ok, Err}
-use Rattle.feed_text.specs.declared.fault.ReplayFault.{ReplayFault}
-use Rattle.feed_text.specs.declared.fault.ReplayFault.TheVariants.{ReadFailed, WriteFailed, BadRecord, ShortRecord, TooManyTurns, JournalFull, NoMemory}
+use Rattle.std.specs.Prelude.{ℕ, List, [], ◌∷◌, codes, Result, Ok, Err}
+use Rattle.feed_text.specs.declared.replay_stop.ReplayStop.{ReplayStop}
+use Rattle.feed_text.specs.declared.replay_stop.ReplayStop.TheVariants.{ReadFailed, SinkFailed, Bad, Short, TooManyTurns, JournalFull, NoMemory}
 
--- 0 after a replay without a fault, else 1
-abbrev pub ending_status : Result (Unit {0}) ReplayFault → ℕ
+-- 0 after a replay that came to its end, else 1
+abbrev pub ending_status : {F : Type 0} → Result (Unit {0}) (ReplayStop F) → ℕ
 ending_status (Ok done) = 0
-ending_status (Err fault) = 1
+ending_status (Err stop) = 1
 
-abbrev pub fault_text : ReplayFault → List ℕ
-fault_text ReadFailed = codes "nbbo: read failed\n"
-fault_text WriteFailed = codes "nbbo: write failed\n"
-fault_text BadRecord = codes "nbbo: bad record\n"
-fault_text ShortRecord = codes "nbbo: short record\n"
-fault_text TooManyTurns = codes "nbbo: too many turns\n"
-fault_text JournalFull = codes "nbbo: journal full\n"
-fault_text NoMemory = codes "nbbo: no memory\n"
+abbrev pub write_failed_text : List ℕ
+write_failed_text = codes "nbbo: write failed\n"
 
--- one line; none after a replay without a fault
-abbrev pub ending_text : Result (Unit {0}) ReplayFault → List ℕ
-ending_text (Ok done) = []
-ending_text (Err fault) = fault_text fault
+-- one line
+abbrev pub stop_line_text : {F : Type 0} → ReplayStop F → List ℕ
+stop_line_text ReadFailed = codes "nbbo: read failed\n"
+stop_line_text SinkFailed = write_failed_text
+stop_line_text (Bad fault) = codes "nbbo: bad record\n"
+stop_line_text Short = codes "nbbo: short record\n"
+stop_line_text TooManyTurns = codes "nbbo: too many turns\n"
+stop_line_text JournalFull = codes "nbbo: journal full\n"
+stop_line_text NoMemory = codes "nbbo: no memory\n"
+
+-- After a capture of the project's own format, whatever was read of it: one line, or none where it
+-- came to its end.
+abbrev pub own_end_texts : {S F : Type 0} → S → Result (Unit {0}) (ReplayStop F) → List (List ℕ)
+own_end_texts read (Ok done) = []
+own_end_texts read (Err stop) = stop_line_text stop ∷ []

@@ -1,7 +1,14 @@
--- What a terminal is told beside what the program says: of an input that is no capture of this
--- project's own, by the number of its first four bytes, the first of them the highest; and of a full
--- journal.
+-- What a terminal is told beside what the program says: before it is read; of an input that is no
+-- capture of this project's own, by the number of its first four bytes, the first of them the
+-- highest; and of a full journal.
 use Rattle.std.specs.Prelude.{ℕ, ◌/◌, ◌==◌, Bool, ◌||◌, List, [], codes, if◌then◌else◌}
+
+-- one line, before a terminal is read
+abbrev pub hint_text : Bool → List ℕ
+hint_text at_terminal =
+    if at_terminal
+    then codes "nbbo: reading a capture from the terminal ('nbbo replay --help' tells more)\n"
+    else []
 
 -- the first bytes of pcap, in either order of bytes, with microseconds and then with nanoseconds,
 -- and of pcapng

@@ -1,8 +1,8 @@
+pub mod CaptureTexts
 pub mod Ending
 pub mod Hints
-pub mod Starts
 pub mod Lacks
-pub mod Leading
-pub mod LineRuns
+pub mod Printing
 pub mod Runs
-pub mod StatsRuns
+pub mod Starts
+pub mod Streams

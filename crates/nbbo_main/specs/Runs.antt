@@ -1,155 +1,89 @@
 -- A run of the program: from the words of the command line to what is read, what is written where,
--- and the status.
---
--- Standard input, output and error are seen by the members of the traits CaptureIn and TextOut
--- (Reading, Writing).
-use Rattle.std.specs.Prelude.{◌≡◌, ◌≢◌, ◌⊎◌, ℕ, ◌+◌, List, [], Bool, false, codes, if◌then◌else◌, Option, Some, None, OnOk, Result, Err}
+-- and the status, the last argument.
+use Rattle.std.specs.Prelude.{◌≡◌, ◌≢◌, ◌⊎◌, ℕ, ◌+◌, List, [], ◌∷◌, ◌++◌, length, OnOk, Result}
 use Rattle.clap.specs.Walk.{Text}
-use Rattle.feed_text.specs.declared.fault.ReplayFault.{ReplayFault}
-use Rattle.feed_text.specs.declared.fault.ReplayFault.TheVariants.{NoMemory, WriteFailed}
-use Rattle.feed_text.specs.declared.replay.ReplayConfig.{ReplayConfig}
-use Rattle.feed_text.specs.Devices.{Reading, Writing, Wrote}
-use Rattle.feed_text.specs.Replays.{AnswersReplay}
+use Rattle.packet_capture.specs.declared.fault.CaptureFault.{CaptureFault}
+use Rattle.feed_text.specs.declared.replay_stop.ReplayStop.{ReplayStop}
+use Rattle.feed_text.specs.Devices.{Writing, Wrote}
+use Rattle.feed_text.specs.Formats.{Parsing}
+use Rattle.feed_text.specs.OwnFormats.{own_parsing}
 use Rattle.feed_text.specs.StandardError.{Says, SaysEach}
 use Rattle.feed_text.specs.declared.lack.Lack.{Lack}
-use Rattle.feed_text.specs.Lacks.{AppendsLacks}
-use Rattle.best_lines.specs.Writers.{AddsBests, IsNewOver, PassedOn, below, pending_of}
-use Rattle.best_lines.specs.declared.bests_out.BestsOut.{BestsOut}
-use Rattle.feed_text.specs.declared.formats.BestFormat.{BestFormat}
-use Rattle.replay_run.specs.Printed.{texts_of_run}
-use Rattle.command_words.specs.CommandLine.{Asks, AsksReplay, IsRefused, refusal_status, refusal_text}
-use Rattle.nbbo_main.specs.Ending.{ending_status, ending_text}
-use Rattle.nbbo_main.specs.Lacks.{tells_lacks, told_lacks}
-use Rattle.nbbo_main.specs.declared.terminals.Terminals.{Terminals}
-use Rattle.command_words.specs.declared.refusal.Refusal.{Refusal}
+use Rattle.line_captures.specs.declared.captured_line.CapturedLine.{CapturedLine}
+use Rattle.line_captures.specs.Conversions.{AnswersConversion}
+use Rattle.line_captures.specs.PacketFormats.{PacketState, new_packets, packet_parsing}
+use Rattle.command_words.specs.CommandLine.{Asks, AsksConversion, AsksRun, IsRefused, refusal_status, refusal_text}
 use Rattle.command_words.specs.declared.listen_settings.ListenSettings.{ListenSettings}
-use Rattle.command_words.specs.declared.replay_settings.ReplaySettings.{ReplaySettings}
+use Rattle.command_words.specs.declared.refusal.Refusal.{Refusal}
+use Rattle.command_words.specs.declared.run_input.RunInput.{RunInput}
+use Rattle.command_words.specs.declared.run_input.RunInput.TheVariants.{Own, Packets}
+use Rattle.command_words.specs.declared.run_settings.RunSettings.{RunSettings}
 use Rattle.command_words.specs.declared.task.Task.TheVariants.{Listen}
+use Rattle.nbbo_main.specs.CaptureTexts.{capture_texts}
+use Rattle.nbbo_main.specs.Ending.{ending_status, own_end_texts, write_failed_text}
+use Rattle.nbbo_main.specs.Hints.{hint_text}
+use Rattle.nbbo_main.specs.Lacks.{tells_lacks, told_lacks}
+use Rattle.nbbo_main.specs.Printing.{PrintsAsked}
+use Rattle.nbbo_main.specs.Streams.{Devices, Streams}
+use Rattle.nbbo_main.specs.declared.run.Next.{Next}
+use Rattle.nbbo_main.specs.declared.run.Next.TheVariants.{Ended, Listens}
+use Rattle.nbbo_main.specs.declared.terminals.Terminals.{Terminals}
 
--- the hint on standard error before a terminal is read
-abbrev pub hint_text : Bool → List ℕ
-hint_text at_terminal =
-    if at_terminal
-    then codes "nbbo: reading a capture from the terminal ('nbbo replay --help' tells more)\n"
-    else []
-
--- the settings as a replay takes them; it makes at most 1,000,000,000 calls of the reader
-pub record IsConfigOf (settings : ReplaySettings) (config : ReplayConfig) : Type 0 where
-  pub sessions : config.sessions.now ≡ settings.feed.sessions.items
-  pub symbols : config.symbols.now ≡ settings.feed.symbols.items
-  pub window : config.window ≡ settings.feed.window
-  pub journal : config.journal ≡ settings.feed.journal
-  pub gaps : config.gaps ≡ settings.gaps
-  pub skips : config.skips ≡ settings.skips
-  pub turns : config.turns ≡ 1000000000
-
--- Input was replayed onto output, as the settings say, and what was written is that of a run of the
--- machine over the records that were read, of which the headline holds. Standard error has the
--- hint, then what venues lack, if that is told, and then the line of the replay's outcome; the
--- status is that of the outcome.
-pub record RunsReplay {R W E : Type 0}
-    (reading : Reading R) (writing : Writing W) (telling : Writing E)
-    (settings : ReplaySettings) (terminals : Terminals)
-    (from to : R) (before after : W) (silent told : E) (status : ℕ) : Type 0 where
-  pub config : ReplayConfig
-  pub is : IsConfigOf settings config
-  pub outcome : Result (Unit {0}) ReplayFault
-  pub run : AnswersReplay reading writing config (texts_of_run config) from to before after outcome
-  pub hinted : E
-  pub hint : Says telling (hint_text terminals.input) silent hinted
+-- A capture of a format was replayed and printed, as the settings say. Standard error has the hint,
+-- then what venues lack, if that is told, and then what is to be said of what was read and of the
+-- outcome, by `end_texts`.
+pub record RunsOver {R W E S F : Type 0} (devices : Devices R W E) (parsing : Parsing S F)
+    (end_texts : S → Result (Unit {0}) (ReplayStop F) → List (List ℕ))
+    (settings : RunSettings) (terminals : Terminals) (start : S)
+    (before after : Streams R W E) (status : ℕ) : Type 0 where
+  pub finish : S
+  pub outcome : Result (Unit {0}) (ReplayStop F)
   pub lacks : List Lack
-  pub are_lacks : OnOk outcome (AppendsLacks reading config from to [] lacks)
-  pub said : E
-  pub says_lacks : SaysEach telling
-      (told_lacks outcome (tells_lacks settings terminals) lacks) hinted said
-  pub line : Says telling (ending_text outcome) said told
+  pub prints : PrintsAsked devices.reading devices.writing parsing settings
+      before.input after.input start finish before.output after.output [] lacks outcome
+  pub says : SaysEach devices.telling
+      (hint_text terminals.input
+      ∷ told_lacks outcome (tells_lacks settings terminals) lacks ++ end_texts finish outcome)
+      before.errors after.errors
   pub ends : status ≡ ending_status outcome
 
--- ---- the best lines alone
+-- a run over a capture of the project's own format, or over a packet capture
+abbrev pub RunsBy : {R W E : Type 0} (devices : Devices R W E) (settings : RunSettings)
+    (terminals : Terminals) (before after : Streams R W E) (status : ℕ) → RunInput → Type 0
+RunsBy devices settings terminals before after status Own =
+    RunsOver devices own_parsing own_end_texts settings terminals
+    (length settings.feed.sessions.items) before after status
+RunsBy devices settings terminals before after status (Packets lines) =
+    RunsOver devices packet_parsing capture_texts settings terminals
+    (new_packets (length settings.feed.sessions.items) lines.items) before after status
 
--- a writer that passes on best lines, over a writer
-abbrev pub bests_writing : {W : Type 0} → Writing W → Writing (BestsOut W)
-bests_writing writing = record {
-  adds = AddsBests writing.adds;
-  failures = λ bests. writing.failures (below bests);
-}
+-- The words ask for a run, and it was made.
+pub record Ran {R W E : Type 0} (devices : Devices R W E) (words : List Text)
+    (terminals : Terminals) (before after : Streams R W E) (status : ℕ) : Type 0 where
+  pub settings : RunSettings
+  pub asked : AsksRun words settings
+  pub runs : RunsBy devices settings terminals before after status settings.input
 
--- All that was pending is written. So if the writer of best lines was new over some writer, that
--- one took the format's header and the rows of the best lines of the text since then, and nothing
--- else.
-pub record WritesPending {W : Type 0} (writing : Writing W) (from to : BestsOut W) : Type 0 where
-  pub taken : writing.adds (below from) (pending_of from) (below to)
-  pub passed : (format : BestFormat) (timed : Bool) (before : W) (start : BestsOut W) (text : List ℕ)
-      → IsNewOver before format timed start → AddsBests writing.adds start text from
-      → PassedOn writing.adds format timed text before (below to)
-
--- The end of a writer of best lines after a replay with the outcome `seen`: where the writer below
--- failed that is the outcome; else what was pending is written, or the writer below fails then.
-abbrev pub ClosesBests : {W F : Type 0} (writing : Writing W) (failed : F) (from to : BestsOut W)
-    (seen outcome : Result (Unit {0}) F) → Type 0
-ClosesBests writing failed from to seen outcome =
-    ((seen ≡ Err failed) × (outcome ≡ Err failed) × (to ≡ from))
-    ⊎ ((seen ≢ Err failed) × (outcome ≡ seen) × WritesPending writing from to)
-    ⊎ ((seen ≢ Err failed) × (outcome ≡ Err failed)
-    × Wrote writing.adds (below from) (pending_of from) (below to)
-    × (writing.failures (below to) ≡ writing.failures (below from) + 1))
-
--- Input was replayed onto a writer of best lines over output, of rows without times, and what that
--- had pending at the end was written. If a whole capture was read, these are what venues lack.
-pub record PassesBests {R W : Type 0} (reading : Reading R) (writing : Writing W)
-    (config : ReplayConfig) (format : BestFormat) (from to : R) (before after : W)
-    (outcome : Result (Unit {0}) ReplayFault) (lacks : List Lack) : Type 0 where
-  pub start : BestsOut W
-  pub new : IsNewOver before format false start
-  pub seen : Result (Unit {0}) ReplayFault
-  pub mid : BestsOut W
-  pub run : AnswersReplay reading (bests_writing writing) config (texts_of_run config)
-      from to start mid seen
-  pub are_lacks : OnOk seen (AppendsLacks reading config from to [] lacks)
-  pub end : BestsOut W
-  pub closes : ClosesBests writing WriteFailed mid end seen outcome
-  pub output : after ≡ below end
-
--- memory was refused before anything was read or written
-pub record PassesNothing {R W : Type 0} (from to : R) (before after : W)
-    (outcome : Result (Unit {0}) ReplayFault) : Type 0 where
-  pub refused : outcome ≡ Err NoMemory
-  pub unread : to ≡ from
-  pub unwritten : after ≡ before
-
--- Input was replayed, and its best lines alone are on output. Standard error and the status are
--- those of what venues lack and of the outcome, as where all lines are printed.
-pub record RunsBests {R W E : Type 0}
-    (reading : Reading R) (writing : Writing W) (telling : Writing E)
-    (settings : ReplaySettings) (format : BestFormat) (terminals : Terminals)
-    (from to : R) (before after : W) (silent told : E) (status : ℕ) : Type 0 where
-  pub config : ReplayConfig
-  pub is : IsConfigOf settings config
-  pub outcome : Result (Unit {0}) ReplayFault
-  pub lacks : List Lack
-  pub passes : PassesBests reading writing config format from to before after outcome lacks
-      ⊎ PassesNothing from to before after outcome
-  pub hinted : E
-  pub hint : Says telling (hint_text terminals.input) silent hinted
-  pub said : E
-  pub says_lacks : SaysEach telling
-      (told_lacks outcome (tells_lacks settings terminals) lacks) hinted said
-  pub line : Says telling (ending_text outcome) said told
+-- A packet capture was converted onto output. Standard error has the hint, and then what is to be
+-- said of what was read and of the outcome.
+pub record RunsConversion {R W E : Type 0} (devices : Devices R W E) (lines : List CapturedLine)
+    (terminals : Terminals) (before after : Streams R W E) (status : ℕ) : Type 0 where
+  pub finish : PacketState
+  pub outcome : Result (Unit {0}) (ReplayStop CaptureFault)
+  pub converts : AnswersConversion devices.reading packet_parsing devices.writing 16 1000000000
+      before.input after.input (new_packets 16 lines) finish before.output after.output outcome
+  pub says : SaysEach devices.telling
+      (hint_text terminals.input ∷ capture_texts finish outcome) before.errors after.errors
   pub ends : status ≡ ending_status outcome
 
--- a replay that prints the best lines alone, or all lines
-abbrev pub RunsBy : {R W E : Type 0}
-    (reading : Reading R) (writing : Writing W) (telling : Writing E)
-    (bests : Option BestFormat) (settings : ReplaySettings) (terminals : Terminals)
-    (from to : R) (before after : W) (silent told : E) (status : ℕ) → Type 0
-RunsBy reading writing telling None settings terminals from to before after silent told status =
-    RunsReplay reading writing telling settings terminals from to before after silent told status
-RunsBy reading writing telling (Some format) settings terminals from to before after
-    silent told status =
-    RunsBests reading writing telling settings format terminals
-    from to before after silent told status
+-- The words ask to convert a packet capture, and it was converted.
+pub record Converted {R W E : Type 0} (devices : Devices R W E) (words : List Text)
+    (terminals : Terminals) (before after : Streams R W E) (status : ℕ) : Type 0 where
+  pub lines : List CapturedLine
+  pub asked : AsksConversion words lines
+  pub runs : RunsConversion devices lines terminals before after status
 
--- ---- refusals, and the whole
+-- ---- refusals
 
 -- A text that was asked for is on output, and nothing on standard error, with status 0. Where it
 -- couldn't be written whole, that is the run's fault.
@@ -158,7 +92,7 @@ abbrev pub Shows : {W E : Type 0} (writing : Writing W) (telling : Writing E) (t
 Shows writing telling text before after silent told status =
     (writing.adds before text after × (told ≡ silent) × (status ≡ 0))
     ⊎ (Wrote writing.adds before text after × (writing.failures after ≡ writing.failures before + 1)
-    × Says telling (ending_text (Err WriteFailed)) silent told × (status ≡ 1))
+    × Says telling write_failed_text silent told × (status ≡ 1))
 
 -- Nothing is on output, and the reason on standard error.
 pub record Complains {W E : Type 0} (telling : Writing E) (text : List ℕ) (due : ℕ)
@@ -176,36 +110,29 @@ pub record TellsRefusal {W E : Type 0} (writing : Writing W) (telling : Writing 
       → Complains telling (refusal_text refusal) (refusal_status refusal)
       before after silent told status
 
--- The words ask for a replay, and it was run.
-pub record Replayed {R W E : Type 0}
-    (reading : Reading R) (writing : Writing W) (telling : Writing E)
-    (words : List Text) (terminals : Terminals)
-    (from to : R) (before after : W) (silent told : E) (status : ℕ) : Type 0 where
-  pub settings : ReplaySettings
-  pub asked : AsksReplay words settings
-  pub runs : RunsBy reading writing telling settings.bests settings terminals
-      from to before after silent told status
-
 -- The words are refused, and nothing was read.
-pub record Refused {R W E : Type 0} (writing : Writing W) (telling : Writing E) (words : List Text)
-    (from to : R) (before after : W) (silent told : E) (status : ℕ) : Type 0 where
+pub record Refused {R W E : Type 0} (devices : Devices R W E) (words : List Text)
+    (before after : Streams R W E) (status : ℕ) : Type 0 where
   pub refusal : Refusal
   pub why : IsRefused words refusal
-  pub unread : to ≡ from
-  pub tells : TellsRefusal writing telling refusal before after silent told status
+  pub unread : after.input ≡ before.input
+  pub tells : TellsRefusal devices.writing devices.telling refusal
+      before.output after.output before.errors after.errors status
 
--- The result of a run: the last argument is the status of the program.
-abbrev pub Runs : {R W E : Type 0} (reading : Reading R) (writing : Writing W) (telling : Writing E)
-    (words : List Text) (terminals : Terminals)
-    (from to : R) (before after : W) (silent told : E) (status : ℕ) → Type 0
-Runs reading writing telling words terminals from to before after silent told status =
-    Replayed reading writing telling words terminals from to before after silent told status
-    ⊎ Refused writing telling words from to before after silent told status
+-- ---- the whole
 
 -- The words ask to listen, and nothing was read or written.
 pub record LeavesToListen {R W E : Type 0} (words : List Text) (settings : ListenSettings)
-    (from to : R) (before after : W) (silent told : E) : Type 0 where
+    (before after : Streams R W E) : Type 0 where
   pub asked : Asks words (Listen settings)
-  pub unread : to ≡ from
-  pub unwritten : after ≡ before
-  pub untold : told ≡ silent
+  pub untouched : after ≡ before
+
+-- The result of any run: its end, or that it is left to listen.
+abbrev pub Leads : {R W E : Type 0} (devices : Devices R W E) (words : List Text)
+    (terminals : Terminals) (before after : Streams R W E) → Next → Type 0
+Leads devices words terminals before after (Ended status) =
+    Ran devices words terminals before after status
+    ⊎ Converted devices words terminals before after status
+    ⊎ Refused devices words before after status
+Leads devices words terminals before after (Listens settings) =
+    LeavesToListen words settings before after

@@ -1,32 +1,33 @@
 //! The end of the program after a replay.
 ghost use Rattle.std.specs.Prelude.{◌≡◌};
-ghost use Rattle.nbbo_main.specs.Ending.{ending_status, ending_text, fault_text};
+ghost use Rattle.nbbo_main.specs.Ending.{ending_status, stop_line_text, write_failed_text};
 
-use feed_text::ReplayFault;
+use feed_text::ReplayStop;
 
-/// The line for a fault.
-pub fn fault_line(fault: ReplayFault) -> &'static str
-    ensures { result.now ≡ fault_text fault }
+/// The line for a call of a writer that failed.
+pub const WRITE_FAILED: &str = "nbbo: write failed\n";
+
+/// The line for a stop.
+pub fn stop_line<F>(stop: &ReplayStop<F>) -> &'static str
+    ensures { result.now ≡ stop_line_text stop.now }
 {
-    match fault {
-        ReplayFault::ReadFailed => "nbbo: read failed\n",
-        ReplayFault::WriteFailed => "nbbo: write failed\n",
-        ReplayFault::BadRecord => "nbbo: bad record\n",
-        ReplayFault::ShortRecord => "nbbo: short record\n",
-        ReplayFault::TooManyTurns => "nbbo: too many turns\n",
-        ReplayFault::JournalFull => "nbbo: journal full\n",
-        ReplayFault::NoMemory => "nbbo: no memory\n",
+    match stop {
+        ReplayStop::ReadFailed => "nbbo: read failed\n",
+        ReplayStop::SinkFailed => WRITE_FAILED,
+        ReplayStop::Bad(_) => "nbbo: bad record\n",
+        ReplayStop::Short => "nbbo: short record\n",
+        ReplayStop::TooManyTurns => "nbbo: too many turns\n",
+        ReplayStop::JournalFull => "nbbo: journal full\n",
+        ReplayStop::NoMemory => "nbbo: no memory\n",
     }
 }
 
-/// The status of the program, and the line for standard error, with its end: none after a replay
-/// without a fault.
-pub fn ending(outcome: &Result<(), ReplayFault>) -> (u8, &'static str)
-    ensures status { result.0 ≡ ending_status outcome.now }
-    ensures text { result.1.now ≡ ending_text outcome.now }
+/// The status of the program: 0 after a replay that came to its end, else 1.
+pub fn status_of<F>(outcome: &Result<(), ReplayStop<F>>) -> u8
+    ensures { result ≡ ending_status outcome.now }
 {
     match outcome {
-        Ok(()) => (0, ""),
-        Err(fault) => (1, fault_line(*fault)),
+        Ok(()) => 0,
+        Err(_) => 1,
     }
 }

@@ -1,9 +1,13 @@
 //! Hints for who is at a terminal: what was probably meant where something else was given.
 ghost use Rattle.std.specs.Prelude.{◌≡◌};
-ghost use Rattle.nbbo_main.specs.Hints.{format_hint, is_packets, journal_hint};
+ghost use Rattle.nbbo_main.specs.Hints.{format_hint, hint_text, is_packets, journal_hint};
 
 use feed_text::{TextOut, write_stderr};
 use std::fs::{self, File, Files};
+
+/// The line before a terminal is read.
+const AT_TERMINAL: &str =
+    "nbbo: reading a capture from the terminal ('nbbo replay --help' tells more)\n";
 
 /// What packet captures begin with: pcap in either order of bytes, with microseconds and with nanoseconds, and pcapng.
 const PCAP: u32 = 0xd4c3_b2a1;
@@ -18,6 +22,13 @@ const PCAPNG: u32 = 0x0a0d_0d0a;
 
 /// The first two bytes of a file in gzip.
 const GZIP: u32 = 0x1f8b;
+
+/// The line for an input that is a terminal; empty for another one.
+pub fn input_hint(at_terminal: bool) -> &'static str
+    ensures { result.now ≡ hint_text at_terminal }
+{
+    if at_terminal { AT_TERMINAL } else { "" }
+}
 
 /// Whether an input that starts so is a packet capture.
 fn is_packets(start: u32) -> bool

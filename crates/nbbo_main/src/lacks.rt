@@ -1,10 +1,10 @@
 //! What is told of the messages that venues lack at the end of a replay.
 ghost use Rattle.std.specs.Prelude.{◌≡◌};
 ghost use Rattle.feed_text.specs.StandardError.{SaysEach};
-ghost use Rattle.nbbo_main.specs.Lacks.{has_rule, tells_lacks, told_lacks};
+ghost use Rattle.nbbo_main.specs.Lacks.{has_rule, is_packet_input, is_part, tells_lacks, told_lacks};
 
 use crate::terminals::Terminals;
-use command_words::ReplaySettings;
+use command_words::{RunInput, RunOutput, RunSettings};
 use feed_text::{Lack, SkipRule, TextOut, write_lacks};
 
 /// Whether any gaps are given up.
@@ -17,12 +17,35 @@ fn has_rule(skips: SkipRule) -> bool
     }
 }
 
-/// Whether a replay of a capture of the project's own format tells what venues lack: at a terminal, and where one of
-/// the options is given that say more than what came of the capture.
-pub fn tells_lacks(settings: &ReplaySettings, terminals: Terminals) -> bool
+/// Whether the input is a packet capture.
+pub fn is_packet_input(input: &RunInput) -> bool
+    ensures { result ≡ is_packet_input input.now }
+{
+    match input {
+        RunInput::Own => false,
+        RunInput::Packets(_) => true,
+    }
+}
+
+/// Whether not all lines are printed.
+fn is_part(output: RunOutput) -> bool
+    ensures { result ≡ is_part output }
+{
+    match output {
+        RunOutput::Lines => false,
+        RunOutput::Bests(_) | RunOutput::Stats(_) => true,
+    }
+}
+
+/// Whether a run tells what venues lack: of a packet capture always, of a capture of the project's own format at a
+/// terminal, and where an option is given that asks for more or less than its lines.
+pub fn tells_lacks(settings: &RunSettings, terminals: Terminals) -> bool
     ensures { result ≡ tells_lacks settings.now terminals }
 {
-    terminals.errors || settings.bests.is_some() || has_rule(settings.skips)
+    is_packet_input(&settings.input)
+        || is_part(settings.output)
+        || has_rule(settings.skips)
+        || terminals.errors
 }
 
 /// Writes what venues lack after a run with this outcome, if that is told.

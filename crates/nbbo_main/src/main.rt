@@ -4,8 +4,8 @@
 //! [--best-only [--format FORMAT]] [SYMBOL]...` reads a capture from standard input and writes its lines to standard output, or the
 //! best ones alone. `feed_text` says, and proves, what a capture is and what its lines are.
 //!
-//! `nbbo stats --sessions LIST [--lines LIST] [--window N] [--join] [--skip-gaps] [--format FORMAT] [SYMBOL]...` replays
-//! a capture and prints what its lines report, counted (`capture_stats`).
+//! `nbbo stats --sessions LIST [--lines LIST] [--window N] [--join] [--skip-gaps] [--format FORMAT]
+//! [SYMBOL]...` replays a capture and prints the statistics of its events (`replay_reports`).
 //!
 //! At the end of a replay standard error says what venues lack (`lacks.rt`).
 //!
@@ -19,23 +19,26 @@
 //! the sockets, the words as the system gives them, what a terminal is told beside it (`hints.rt`),
 //! and the exit; and listening itself (`udp_listening`), which tests show.
 //!
-//! Begin with `run.rt`, then `command_words` for what the words ask for, and `udp_listening` for live
-//! lines. `ending.rt` has the texts of faults.
+//! Begin with `run.rt`, then `runs.rt` and `printing.rt`: a run is one over any format of captures,
+//! and prints lines, rows of best lines or statistics. `command_words` has what the words ask for,
+//! `udp_listening` live lines, `ending.rt` the texts of faults.
 #![tactic(auto)]
 
 ghost use Rattle.std.specs.Prelude.{◌≡◌, ◌≢◌, ◌<◌};
 ghost use Rattle.command_words.specs.declared.refusal.Refusal.TheVariants.{NoMemory, NotText};
 
-mod best_runs;
+mod capture_report;
+mod config;
 mod ending;
 mod hints;
 mod kept_start;
 mod lacks;
-mod line_runs;
 mod noted_errors;
+mod printing;
 mod run;
-mod stats_runs;
+mod runs;
 mod terminals;
+mod told_format;
 
 use command_words::{ListenSettings, Refusal};
 use feed_text::{CaptureIn, Count, StreamIn, StreamOut, TextOut, write_stderr};

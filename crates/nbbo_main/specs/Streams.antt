@@ -1,0 +1,14 @@
+-- The streams of the program.
+use Rattle.feed_text.specs.Devices.{Reading, Writing}
+
+-- the states of standard input, output and error
+pub record Streams (R W E : Type 0) : Type 0 where
+  pub input : R
+  pub output : W
+  pub errors : E
+
+-- How they go on: by the members of the traits CaptureIn and TextOut.
+pub record Devices (R W E : Type 0) : Type 1 where
+  pub reading : Reading R
+  pub writing : Writing W
+  pub telling : Writing E
