@@ -7,8 +7,8 @@ use Rattle.line_arbiter.specs.declared.faults.SkipFault.{SkipFault}
 use Rattle.line_arbiter.specs.Packets.{Input, Skip}
 use Rattle.line_arbiter.specs.Streams.{stream_of, wins_of}
 
--- a session that a venue has begun: its name, and what came of it: packets, each with its line and
--- its answer, and skips
+-- a session that a venue has begun: its name, its packets that came, each with its line and its
+-- answer, and skips
 pub record Begun : Type 0 where
   pub name : List ℕ
   pub packets : List Input

@@ -69,7 +69,7 @@ stream_of packets = closed_of packets ++ part_of packets
 abbrev pub place_of : List Input → ℕ → ℕ
 place_of packets sent = length (closed_of packets) + (sent + 1 - opens_of packets)
 
--- the number of the last item sent, where so many of the stream were: `place_of` the other way
+-- the number of the last item sent, where `count` of the stream were: `place_of` the other way
 abbrev pub sent_of : List Input → ℕ → ℕ
 sent_of packets count = count + (opens_of packets - 1) - length (closed_of packets)
 

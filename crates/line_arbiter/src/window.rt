@@ -96,7 +96,7 @@ fn fill(places: &mut HeapCircularBuffer<Option<Item>>, place: usize, item: Item)
 }
 
 /// Puts the item into a place, with empty places before it where there are none.
-#[inline]
+#[inline(always)]
 fn put(places: &mut HeapCircularBuffer<Option<Item>>, place: usize, item: Item)
     requires { place < places.old.capacity }
     ensures items { places.new.items ≡ put_at places.old.items place item }
@@ -233,6 +233,7 @@ impl Window {
     }
 
     /// Holds the item at a number that is free.
+    #[inline(always)]
     pub(crate) fn hold(&mut self, number: u64, item: Item)
         requires past { self.old.base < number }
         requires free { held_at self.old number ≡ None }
