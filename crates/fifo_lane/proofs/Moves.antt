@@ -100,17 +100,11 @@ module _ {T : Type 0} where
           refl,
         )
 
-    -- what the sender knows of the items inside
-    pub sender_learns : (port : ℕ) (v : Known T) → v.may_push ≡ true → Learns (IsLane may) port v (λ inside. (received : List T) × Keeps may v.tag v.capacity v.sent received inside)
+    -- no more is inside than the sender has sent
+    pub sender_learns : (port : ℕ) (v : Known T) → v.may_push ≡ true → Learns (IsLane may) port v (λ inside. length inside ≤ length v.sent)
     sender_learns port v can items views h at =
-        let me = (h.fits port v at).sends can in
-        (h.received, subst (λ (y : ℕ × ℕ × List T). Keeps may y.0 y.1 y.2 h.received items) (λ i. (sym me.1 i, sym me.2 i, sym me.3 i)) h.keeps)
-
-    -- what the receiver knows of the items inside
-    pub receiver_learns : (port : ℕ) (v : Known T) → v.may_pop ≡ true → Learns (IsLane may) port v (λ inside. (sent : List T) × Keeps may v.tag v.capacity sent v.received inside)
-    receiver_learns port v can items views h at =
-        let me = (h.fits port v at).receives can in
-        (h.sent, subst (λ (y : ℕ × ℕ × List T). Keeps may y.0 y.1 h.sent y.2 items) (λ i. (sym me.1 i, sym me.2 i, sym me.3 i)) h.keeps)
+        let sent = ap length (((h.fits port v at).sends can).3 ∙ h.keeps.whole) in
+        omega (arith, sent, length-append h.received items)
 
     pub joins : (port : ℕ) (v : Known T) (other : ℕ) (u : Known T) → v.may_push ≡ true → u.may_pop ≡ true → Merges (IsLane may) port v other u (joined v u) spent
     joins port v other u a b items views h at two at' =
@@ -143,6 +137,13 @@ module _ {T : Type 0} where
         subst (λ (y : ℕ × ℕ × List T × List T). Keeps may y.0 y.1 y.2 y.3 items) (λ i. (sym me.1 i, sym me.2 i, sym me.3 i, sym got.3 i)) h.keeps
 
     module _ (prefix : (tag : ℕ) (xs ys : List T) → may tag (xs ++ ys) → may tag xs) where
+      -- what was received obeys the lane's rule
+      pub receiver_learns : (port : ℕ) (v : Known T) → v.may_pop ≡ true → Learns (IsLane may) port v (λ inside. may v.tag v.received)
+      receiver_learns port v can items views h at =
+          let me = (h.fits port v at).receives can in
+          let begun : may h.tag h.received = prefix h.tag h.received items (subst (λ l. may h.tag l) h.keeps.whole h.keeps.ruled) in
+          subst (λ (y : ℕ × List T). may y.0 y.1) (λ i. (sym me.1 i, sym me.3 i)) begun
+
       pub pops : (port : ℕ) (v : Known T) → v.may_pop ≡ true → Pops (IsLane may) port v (λ x w. (w ≡ with_received v x) × may v.tag (v.received ++ x ∷ []))
       pops port v can x items views h at =
           let w : Known T = with_received v x in

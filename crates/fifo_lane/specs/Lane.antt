@@ -36,18 +36,6 @@ module _ {T : Type 0} where
     pub room : length inside ≤ capacity
     pub ruled : may_send tag sent
 
-  -- at a moment, the lane of this sending end was full
-  abbrev pub WasFull : (ℕ → List T → Type 0) → LaneEnd T → Type 0
-  WasFull may_send e =
-      (inside : List T) × (length inside ≡ e.capacity)
-      × ((received : List T) × Keeps may_send e.tag e.capacity e.items received inside)
-
-  -- at a moment, this number of items was inside the lane of this receiving end
-  abbrev pub HadInside : (ℕ → List T → Type 0) → LaneEnd T → ℕ → Type 0
-  HadInside may_send e count =
-      (inside : List T) × (length inside ≡ count)
-      × ((sent : List T) × Keeps may_send e.tag e.capacity sent e.items inside)
-
-  -- at a moment, the lane of this receiving end was empty
-  abbrev pub WasEmpty : (ℕ → List T → Type 0) → LaneEnd T → Type 0
-  WasEmpty may_send e = HadInside may_send e 0
+  -- as many items went through this end as its lane has room for
+  abbrev pub HasFilled : LaneEnd T → Type 0
+  HasFilled e = e.capacity ≤ length e.items

@@ -9,8 +9,9 @@
 //! `specs/Lane.antt`). Begin at `sender.rt` and `receiver.rt`; `steps.rt` lists the eight kinds of
 //! step that a lane is made of. At run time an end is a pointer to the queue and the tag.
 //!
-//! Calls that take a handle may spin while the other end is in the middle of its own call. A lane
-//! that has carried 2^62 items carries no more: its calls wait for ever.
+//! Calls that take a handle may spin while the other end is in the middle of its own call;
+//! [`Receiver::try_pop`] takes none. A lane that has carried 2^62 items carries no more: its calls
+//! wait for ever, and `try_pop` finds the sender in the way.
 #![tactic(auto)]
 
 mod fault;
@@ -24,7 +25,7 @@ mod sender;
 mod settled;
 mod steps;
 
-pub use fault::LaneFault;
+pub use fault::{LaneFault, NoItem};
 pub use laws::{notice_numbers_rise, venue_items_are_in_sequence, venue_numbers_count_up};
 pub use making::lane;
 pub use receiver::Receiver;

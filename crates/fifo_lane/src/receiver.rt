@@ -1,11 +1,12 @@
 //! The receiving end of a lane.
 
-ghost use Rattle.std.specs.Prelude.{◌≡◌, ◌++◌, ◌∷◌, [], true, MatchOption};
+ghost use Rattle.std.specs.Prelude.{◌≡◌, ◌++◌, ◌∷◌, [], true, IfOk, MatchOption, MatchResult};
 ghost use Rattle.std.specs.Arc.{arc_value};
 ghost use Rattle.crossbeam_queue.specs.Passes.{view, IsPassOf, ruled_capacity};
-ghost use Rattle.fifo_lane.specs.Lane.{lane_end, with_items, HadInside, WasEmpty};
+ghost use Rattle.fifo_lane.specs.Lane.{lane_end, with_items};
 ghost use Rattle.fifo_lane.specs.Passes.{receiving};
 
+use crate::fault::NoItem;
 use crate::known::{LanePass, Queue};
 use crate::rule::LaneRule;
 use crate::steps::Popped;
@@ -74,22 +75,33 @@ impl<T, R: LaneRule<T>> Receiver<T, R> {
         self.tag
     }
 
-    /// Returns how many items were inside at a moment of the call. There are no fewer until `pop`.
-    pub fn len<W: Wait>(&mut self, rt: &W) -> usize
-        ensures value { HadInside R.may_send self.old result }
-        ensures kept { self.new ≡ self.old }
-    {
-        self.queue.len_as::<Popped<R>, W>(rt, &mut self.pass)
-    }
-
-    /// Receives the front item, or `None` where the lane is empty. What was received so far always
-    /// obeys the lane's rule.
+    /// Receives the front item, or `None` where the lane is empty. Where the sender stands in the
+    /// middle of its push it waits for it. What was received so far always obeys the lane's rule.
+    /// No clause says that the lane was empty at None.
     pub fn pop<W: Wait>(&mut self, rt: &W) -> Option<T>
-        ensures popped { MatchOption result
-            ((self.new ≡ self.old) × WasEmpty R.may_send self.old)
+        ensures popped { MatchOption result (self.new ≡ self.old)
             (λ item. self.new ≡ with_items self.old (self.old.items ++ item ∷ [])) }
         ensures rule { R.may_send self.old.tag self.new.items }
     {
         self.queue.pop_as::<Popped<R>, W>(rt, &mut self.pass)
+    }
+
+    /// Receives the front item if it is there, and waits for nobody: `LaneEmpty` where the lane is
+    /// empty, `SenderInTheWay` where the sender stands in the middle of its push, or has just ended
+    /// it. No clause says which of the two it is.
+    pub fn try_pop(&mut self) -> Result<T, NoItem>
+        ensures popped { MatchResult result
+            (λ item. self.new ≡ with_items self.old (self.old.items ++ item ∷ []))
+            (λ _. self.new ≡ self.old) }
+        ensures rule { IfOk result (λ _. R.may_send self.old.tag self.new.items) }
+    {
+        if let Some(item) = self.queue.try_pop_as::<Popped<R>>(&mut self.pass) {
+            return Ok(item);
+        }
+        if self.queue.is_empty_as::<Popped<R>>(&mut self.pass) {
+            Err(NoItem::LaneEmpty)
+        } else {
+            Err(NoItem::SenderInTheWay)
+        }
     }
 }

@@ -3,7 +3,7 @@
 ghost use Rattle.std.specs.Prelude.{◌≡◌, ◌≤◌, ◌++◌, ◌∷◌, [], true, MatchResult};
 ghost use Rattle.std.specs.Arc.{arc_value};
 ghost use Rattle.crossbeam_queue.specs.Passes.{view, IsPassOf, ruled_capacity};
-ghost use Rattle.fifo_lane.specs.Lane.{lane_end, with_items, WasFull};
+ghost use Rattle.fifo_lane.specs.Lane.{lane_end, with_items, HasFilled};
 ghost use Rattle.fifo_lane.specs.Passes.{sending};
 
 use crate::known::{LanePass, Queue};
@@ -83,13 +83,14 @@ impl<T, R: LaneRule<T>> Sender<T, R> {
     }
 
     /// Sends an item, which the lane's rule has to allow after everything that was sent. Where the
-    /// lane is full it is handed back, and nothing was sent.
+    /// lane is full it is handed back, and nothing was sent. No clause says that the lane was full
+    /// then, but that as many items were sent as it has room for.
     #[inline(always)]
     pub fn push<W: Wait>(&mut self, rt: &W, item: T) -> Result<(), T>
         requires { R.may_send self.old.tag (self.old.items ++ item ∷ []) }
         ensures { MatchResult result
             (λ _. self.new ≡ with_items self.old (self.old.items ++ item ∷ []))
-            (λ back. (back ≡ item) × (self.new ≡ self.old) × WasFull R.may_send self.old) }
+            (λ back. (back ≡ item) × (self.new ≡ self.old) × HasFilled self.old) }
     {
         self.queue.push_as::<Pushed<R>, W>(rt, &mut self.pass, item)
     }

