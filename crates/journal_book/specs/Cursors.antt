@@ -1,6 +1,6 @@
 -- How a subscriber's cursor moves: on to the next change that it wants, and past that once it was
 -- offered.
-use Rattle.std.specs.Prelude.{◌≡◌, ℕ, ◌+◌, ◌≤◌, List, Option, Some, MatchOption, IsTrue, length, drop, slice_get, slice_set}
+use Rattle.std.specs.Prelude.{◌≡◌, ℕ, ◌+◌, ◌<◌, ◌≤◌, List, Option, Some, MatchOption, IsTrue, filter, length, drop, take, slice_get, slice_set}
 use Rattle.feed_types.specs.declared.journal.Notice.{Notice}
 use Rattle.filter_terms.specs.Terms.{meets}
 use Rattle.journal_book.specs.declared.cursor.Cursor.{Cursor}
@@ -14,7 +14,7 @@ pub record IsUnseen (state : JournalState) (id : ℕ) (unseen : List Notice) : T
   pub within : cursor.seen ≤ length (changes state)
   pub is : unseen ≡ drop cursor.seen (changes state)
 
--- there is such a subscriber, and so many changes weren't looked at for it
+-- there is such a subscriber, and `step` changes at least weren't looked at for it
 abbrev pub HasUnseen : JournalState → ℕ → ℕ → Type 0
 HasUnseen state id step = MatchOption (slice_get state.cursors id) ⊥
     (λ cursor. cursor.seen + step ≤ length (changes state))
@@ -37,6 +37,18 @@ pub record GoesToNext (old : JournalState) (id : ℕ) (found : Option Notice) (n
   pub found_is : found ≡ slice_get (changes old) place
   pub moved : new
       ≡ record old { cursors = slice_set old.cursors id (record cursor { seen = place }) }
+
+-- The cursor is this many places further on and before the end, none of the changes that it passed
+-- meets the subscriber's terms, and nothing else is another than before.
+pub record PassesUnwanted (old : JournalState) (id most : ℕ) (new : JournalState) : Type 0 where
+  pub cursor : Cursor
+  pub at : slice_get old.cursors id ≡ Some cursor
+  pub more : cursor.seen + most < length (changes old)
+  pub unwanted : filter (meets cursor.terms) (take (cursor.seen + most) (changes old))
+      ≡ filter (meets cursor.terms) (take cursor.seen (changes old))
+  pub moved : new ≡ record old {
+    cursors = slice_set old.cursors id (record cursor { seen = cursor.seen + most });
+  }
 
 -- the cursor stands at a change that meets the subscriber's terms
 pub record StandsAtWanted (state : JournalState) (id : ℕ) : Type 0 where

@@ -11,7 +11,7 @@ past_end [] i h = refl
 past_end (x ∷ xs) zero h = absurd (omega (arith, h))
 past_end (x ∷ xs) (suc i) h = past_end xs i (omega (arith, h))
 
-none_there : {X : Type 0} (xs : List X) (i : ℕ) → slice_get xs i ≡ None → length xs ≤ i
+pub none_there : {X : Type 0} (xs : List X) (i : ℕ) → slice_get xs i ≡ None → length xs ≤ i
 none_there [] i e = omega arith
 none_there (x ∷ xs) zero e = absurd cc
 none_there (x ∷ xs) (suc i) e = let h = none_there xs i e in omega arith

@@ -1,4 +1,4 @@
-//! The cursor of a subscriber.
+//! The cursor of a subscriber, and a search for it that isn't at its end.
 
 use filter_terms::Terms;
 
@@ -8,3 +8,7 @@ pub struct Cursor {
     pub terms: Terms,
     pub seen: usize,
 }
+
+/// Further changes have to be looked at for the subscriber, to which nothing was offered.
+#[derive(Clone, Copy, Debug, PartialEq, Eq, Hash)]
+pub struct Unfinished;

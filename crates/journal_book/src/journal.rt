@@ -1,11 +1,11 @@
 //! The journal of entries with the changes that they make, and a cursor for each subscriber.
 
-ghost use Rattle.std.specs.Prelude.{◌≡◌, ℕ, ◌+◌, ◌<◌, ◌≤◌, ◌^◌, ◌↔◌, ◌∷◌, [], ◌++◌, drop, length, slice_get, IsTrue, IsSome, IfSome, IfNone, IfOk, Some};
+ghost use Rattle.std.specs.Prelude.{◌≡◌, ℕ, ◌+◌, ◌<◌, ◌≤◌, ◌^◌, ◌↔◌, ◌∷◌, [], ◌++◌, drop, length, slice_get, IsTrue, IsSome, IfSome, IfNone, IfOk, OnErr, Some};
 ghost use Rattle.std.specs.Vec.{vec_len, vec_capacity};
 ghost use Rattle.journal_book.specs.Keeping.{CursorMoves, IsRest};
 ghost use Rattle.journal_book.specs.Journals.{kept_of};
 
-use crate::cursor::Cursor;
+use crate::cursor::{Cursor, Unfinished};
 use crate::fault::JournalFault;
 use crate::item_counts::ItemCounts;
 use crate::notices::push_notices;
@@ -119,7 +119,7 @@ impl Journal {
     ghost use Rattle.nbbo_book.specs.Eligible.{is_self_helped};
     ghost use Rattle.journal_book.specs.Journals.{JournalState, new_journal, changes, subscriptions_of, Journals, Reserves, Declares, AddsSubscription, IsLate, terms_at};
     ghost use Rattle.journal_book.specs.ItemsIn.{items_in};
-    ghost use Rattle.journal_book.specs.Cursors.{IsUnseen, HasUnseen, MovesOn, GoesToNext, StandsAtWanted, AdvancesCursor};
+    ghost use Rattle.journal_book.specs.Cursors.{IsUnseen, HasUnseen, MovesOn, GoesToNext, PassesUnwanted, StandsAtWanted, AdvancesCursor};
 
     /// A journal of no entries and no subscribers, over `venue_count` venues, 1 to 16, and these
     /// symbols, at most 4,096 and each once. It takes at most `journal` entries, and keeps all.
@@ -330,6 +330,13 @@ impl Journal {
         self.notices.as_slice()
     }
 
+    /// How many changes all entries made, whether or not they are kept.
+    pub fn change_count(&self) -> usize
+        ensures { result ≡ length (changes self.now) }
+    {
+        self.numbered.change_count()
+    }
+
     /// The national best of the symbol after all entries, `None` exactly where it isn't configured.
     pub fn national(&self, symbol: &SymbolName) -> Option<National>
         ensures configured { IsSome result ↔ IsTrue (is_configured self.now.symbols symbol.now) }
@@ -442,6 +449,43 @@ impl Journal {
         let step = place - rest.from;
         self.move_on(id, step);
         found
+    }
+
+    /// Does the same, but looks at no more than `most` changes: where none of these is wanted and
+    /// there are more of them, the cursor goes past these alone, and the answer is `Unfinished`.
+    #[inline(always)]
+    pub fn seek_offer(
+        &mut self,
+        id: SubscriberId,
+        filter: Option<&Filter>,
+        most: usize,
+    ) -> Result<Option<Notice>, Unfinished>
+        requires { id < length self.old.cursors }
+        ensures goes { IfOk result (λ found. GoesToNext self.old id found self.new) }
+        ensures stands { IfOk result (λ found. IfSome found (λ _. StandsAtWanted self.new id)) }
+        ensures unfinished { OnErr result (PassesUnwanted self.old id most self.new) }
+    {
+        let rest = self.rest(id);
+        let unseen = rest.changes.len() - rest.from;
+        let end = rest.from + unseen.min(most);
+        let looked_at = &rest.changes[..end];
+        let place = next_wanted(filter, self.terms(id), looked_at, rest.from);
+        let found = notice_at(looked_at, place);
+        let step = place - rest.from;
+        self.move_on(id, step);
+        if found.is_none() && unseen > most {
+            return Err(Unfinished);
+        }
+        Ok(found)
+    }
+
+    /// How many changes were looked at for the subscriber.
+    #[inline(always)]
+    pub fn seen(&self, id: SubscriberId) -> usize
+        requires { id < length self.now.cursors }
+        ensures { IfSome (slice_get self.now.cursors id) (λ cursor. result ≡ cursor.seen) }
+    {
+        self.cursors[id.index()].seen
     }
 
     /// Moves the subscriber's cursor past the change where it stands, which is one that it wants:

@@ -29,7 +29,7 @@ mod slowest;
 pub use config_fault::{ConfigFault, CoreFault};
 pub use configured::{new_journal, new_keeping_journal};
 pub use consolidator::Consolidator;
-pub use cursor::Cursor;
+pub use cursor::{Cursor, Unfinished};
 pub use fault::JournalFault;
 pub use journal::Journal;
 pub use laws::{changes_grow_at_their_end, wanted_grow_at_their_end, wanted_numbers_rise};

@@ -12,7 +12,7 @@ use Rattle.journal_book.proofs.journal.Journal.let_go.Goals as goal
 abbrev all : After-slowest-first → List Notice
 all c = changes_of c.self.inside.numbered.symbols c.self.inside.numbered.entries
 
--- so many changes the slowest subscriber has looked at
+-- how many changes the slowest subscriber has looked at
 now_is : (c : After-slowest-first) → c.slowest-first.result ≡ slowest (length (all c)) c.self.inside.cursors.items
 now_is c = c.slowest-first.ensures ∙ (λ i. slowest (c.change_count-end.ensures.value i) (c.as_slice.ensures.value i))
 
