@@ -17,17 +17,18 @@ use Rattle.filter_terms.specs.Terms.{meets}
 use Rattle.journal_book.specs.Wanted.{wanted_of}
 use Rattle.journal_book.specs.Journals.{JournalState, Subscription, changes, subscription_of, subscriptions_of}
 use Rattle.journal_book.specs.Consolidators.{StaysButCursors}
-use Rattle.feed_core.specs.declared.event.Event.{Event}
-use Rattle.feed_core.specs.declared.event.Event.TheVariants as events
-use Rattle.feed_core.specs.declared.event.Done.{Done}
-use Rattle.feed_core.specs.declared.event.Done.TheVariants as done
+use Rattle.feed_steps.specs.declared.event.Event.{Event}
+use Rattle.feed_steps.specs.declared.event.Event.TheVariants as events
+use Rattle.feed_steps.specs.declared.event.Done.{Done}
+use Rattle.feed_steps.specs.declared.event.Done.TheVariants as done
 use Rattle.feed_core.specs.Worlds.{Lane, empty_lane, is_full, Venue, Subscriber, World, Setting, new_world}
-use Rattle.feed_core.specs.Steps.{Transition, Refused, Changes, journal_full, next_in, next_out, push_next, Intake, journal_item, consume_next, declare_help, offer_next, dequeue_next, put_venue, put_subscriber, Applies, AppliesTo, with_sent, with_intake, with_offered, with_dequeued, too_many_subscribers, AnswersSubscribe}
+use Rattle.feed_steps.specs.Steps.{Transition, Refused, Changes, journal_full, push_next, Intake, journal_item, consume_next, offer_next, dequeue_next, Applies, AppliesTo, too_many_subscribers}
+use Rattle.feed_core.specs.Steps.{next_in, next_out, declare_help, put_venue, put_subscriber, with_sent, with_intake, with_offered, with_dequeued, AnswersSubscribe}
 use Rattle.feed_core.specs.OneStep.{IsStep}
 use Rattle.feed_core.specs.Runs.{IsRun}
 use Rattle.feed_core.specs.Fitting.{VenueView, FitsVenue, LeftFaulty, LeftAnswered, LeftRenewed, LeftSkipped, LeftPushed, FitsSubscriber, LeftOffered, intake_of, KeepsJournal, MachineView, FitSubscribers, FitsWorld, HasStepped, HasReached}
 use Rattle.feed_types.specs.ListLaws.{get_within}
-use Rattle.feed_core.specs.laws.Lists.{get_after_set, get_at_set, get_off_set, get_push}
+use Rattle.feed_steps.specs.laws.Lists.{get_after_set, get_at_set, get_off_set, get_push}
 
 -- ---- places
 
@@ -303,7 +304,7 @@ put_subscriber_fits s m w id journal b lane x y f at same stays put now = record
     each = set_three FitsSubscriber (subscriptions_of m.journal) m.lanes w.subscribers id b lane y f.subscribers.each now;
     terms = λ i u e. elim (get_after_set w.subscribers id i y u e) [
       | inl here ↦ (rw (here.0, here.1) (f.subscribers.terms id x at ∙ ap Some (sym same)))
-      | inr other ↦ f.subscribers.terms i u other
+      | inr other ↦ f.subscribers.terms i u other.1
     ];
   });
   used = f.used;

@@ -8,10 +8,11 @@ use Rattle.journal_book.specs.Journals.{JournalState, Subscription, subscription
 use Rattle.journal_book.specs.Consolidators.{next_for, next_at}
 use Rattle.journal_book.specs.Cursors.{GoesToNext, AdvancesCursor}
 use Rattle.journal_book.specs.OfferLaws.{set_same, next_is, none_offered, one_offered}
-use Rattle.feed_core.specs.declared.event.Done.{Done}
-use Rattle.feed_core.specs.declared.event.Done.TheVariants as done
+use Rattle.feed_steps.specs.declared.event.Done.{Done}
+use Rattle.feed_steps.specs.declared.event.Done.TheVariants as done
 use Rattle.feed_core.specs.Worlds.{Lane, is_full, Subscriber}
-use Rattle.feed_core.specs.Steps.{next_in, offer_next, AppliesTo}
+use Rattle.feed_core.specs.Steps.{next_in}
+use Rattle.feed_steps.specs.Steps.{offer_next, AppliesTo}
 use Rattle.feed_core.specs.Fitting.{FitsSubscriber, LeftOffered}
 
 module _ (old between : JournalState) (id capacity : ℕ) (found : Option Notice) (goes : GoesToNext old id found between)

@@ -14,12 +14,13 @@ use Rattle.line_arbiter.specs.Outcomes.{IsOutcome}
 use Rattle.line_arbiter.specs.Histories.{History, names_of, after_input, skip_after, history_after}
 use Rattle.line_arbiter.specs.laws.OneOutcome.{one_answer, one_renewal}
 use Rattle.line_arbiter.specs.laws.SkipAnswers.{one_skip}
-use Rattle.feed_core.specs.declared.event.Event.{Event}
-use Rattle.feed_core.specs.declared.event.Event.TheVariants.{Packet, Push, Consume, Declare, Renew, Skip, Subscribe, Offer, Dequeue}
-use Rattle.feed_core.specs.declared.event.Done.{Done}
-use Rattle.feed_core.specs.declared.event.Done.TheVariants as done
+use Rattle.feed_steps.specs.declared.event.Event.{Event}
+use Rattle.feed_steps.specs.declared.event.Event.TheVariants.{Packet, Push, Consume, Declare, Renew, Skip, Subscribe, Offer, Dequeue}
+use Rattle.feed_steps.specs.declared.event.Done.{Done}
+use Rattle.feed_steps.specs.declared.event.Done.TheVariants as done
 use Rattle.feed_core.specs.Worlds.{Venue, session_sent, World, Setting}
-use Rattle.feed_core.specs.Steps.{Transition, Refused, Changes, Stays, Applies, put_venue, RefusesBytes, packet_done, AnswersPacket, renewal_done, AnswersRenewal, skip_done, AnswersSkip, AnswersSubscribe}
+use Rattle.feed_steps.specs.Steps.{Transition, Refused, Changes, Stays, Applies, packet_done, renewal_done, skip_done}
+use Rattle.feed_core.specs.Steps.{put_venue, RefusesBytes, AnswersPacket, AnswersRenewal, AnswersSkip, AnswersSubscribe}
 use Rattle.feed_core.specs.OneStep.{IsStep}
 use Rattle.feed_core.specs.Runs.{IsRun}
 

@@ -17,13 +17,14 @@ use Rattle.line_arbiter.specs.Outcomes.{IsOutcome}
 use Rattle.line_arbiter.specs.States.{State, IsAdvanced, IsNew, IsRenewed, IsSkipped, KeepsItsPlace, KeepsItsSession}
 use Rattle.line_arbiter.specs.Fits.{Fits}
 use Rattle.line_arbiter.specs.Histories.{all_begun, items_of, names_of, streams_of, after_input, after_renewal}
-use Rattle.feed_core.specs.declared.event.Done.{Done}
-use Rattle.feed_core.specs.declared.event.Done.TheVariants as done
+use Rattle.feed_steps.specs.declared.event.Done.{Done}
+use Rattle.feed_steps.specs.declared.event.Done.TheVariants as done
 use Rattle.feed_core.specs.Worlds.{Lane, empty_lane, inside, is_full, new_venue, Venue, session_sent}
-use Rattle.feed_core.specs.Steps.{next_in, packet_done, push_next, renewal_done, skip_done, AppliesTo}
+use Rattle.feed_core.specs.Steps.{next_in}
+use Rattle.feed_steps.specs.Steps.{packet_done, push_next, renewal_done, skip_done, AppliesTo}
 use Rattle.feed_core.specs.Fitting.{VenueView, FitsVenue, LeftAnswered, LeftPushed, LeftRenewed, LeftSkipped, ShowsLane}
 use Rattle.line_arbiter.specs.laws.Histories.{items_push}
-use Rattle.feed_core.specs.laws.Counts.{place_all}
+use Rattle.feed_steps.specs.laws.Counts.{place_all}
 use Rattle.line_arbiter.specs.laws.Placing.{place_next, place_same, place_skip, sent_back}
 use Rattle.line_arbiter.specs.laws.FitsHistory.{fits_new, fits_packet, fits_push, fits_renewal, outcome_in, renewal_in}
 

@@ -14,12 +14,12 @@ use Rattle.journal_book.specs.Changes.{changes_of}
 use Rattle.feed_types.specs.ListLaws.{get_within}
 use Rattle.journal_book.specs.Journals.{JournalState, Subscription, subscriptions_of}
 use Rattle.journal_book.specs.Configs.{journal_of_config}
-use Rattle.feed_core.specs.declared.event.Event.{Event}
-use Rattle.feed_core.specs.declared.event.Done.{Done}
+use Rattle.feed_steps.specs.declared.event.Event.{Event}
+use Rattle.feed_steps.specs.declared.event.Done.{Done}
 use Rattle.feed_core.specs.Worlds.{Lane, Venue, Subscriber, Setting, setting_of, new_venue, new_world}
 use Rattle.feed_core.specs.Headline.{ShownVenue, shown_venue, shown_subscriber, IsRunOf}
 use Rattle.feed_core.specs.Fitting.{VenueView, FitsVenue, ShowsLane, MachineView, FitVenues, FitSubscribers, FitsWorld, HasReached, venue_shown, subscriber_shown, shown_by, ShownTo, ShowVenues}
-use Rattle.feed_core.specs.laws.Lists.{get_at_set, get_off_set, get_push}
+use Rattle.feed_steps.specs.laws.Lists.{get_at_set, get_off_set, get_push}
 
 -- ---- as it is made
 

@@ -14,10 +14,10 @@ use Rattle.line_arbiter.specs.Streams.{place_of}
 use Rattle.line_arbiter.specs.States.{State}
 use Rattle.line_arbiter.specs.Fits.{FitsHistory}
 use Rattle.line_arbiter.specs.Histories.{History, items_of, streams_of}
-use Rattle.feed_core.specs.declared.event.Done.{Done}
-use Rattle.feed_core.specs.declared.event.Done.TheVariants as done
+use Rattle.feed_steps.specs.declared.event.Done.{Done}
+use Rattle.feed_steps.specs.declared.event.Done.TheVariants as done
 use Rattle.feed_core.specs.Worlds.{Lane, inside, is_full, Venue, session_count, session_sent, Subscriber, World, Setting, new_world}
-use Rattle.feed_core.specs.declared.event.Event.{Event}
+use Rattle.feed_steps.specs.declared.event.Event.{Event}
 use Rattle.feed_core.specs.VenueHalf.{waiting}
 use Rattle.feed_core.specs.Headline.{ShownVenue, ShownSubscriber, Shown}
 use Rattle.feed_types.specs.declared.journal.Notice.{Notice}
@@ -26,7 +26,8 @@ use Rattle.journal_book.specs.Changes.{changes_of}
 use Rattle.journal_book.specs.Wanted.{wanted_of}
 use Rattle.journal_book.specs.Journals.{JournalState, Subscription, subscriptions_of}
 use Rattle.line_arbiter.specs.Additions.{AddsArrival, AddsRenewal, AddsSkip}
-use Rattle.feed_core.specs.Steps.{next_in, packet_done, renewal_done, skip_done, push_next, offer_next, AppliesTo, Intake}
+use Rattle.feed_core.specs.Steps.{next_in}
+use Rattle.feed_steps.specs.Steps.{packet_done, renewal_done, skip_done, push_next, offer_next, AppliesTo, Intake}
 use Rattle.feed_core.specs.OneStep.{IsStep}
 use Rattle.feed_core.specs.Runs.{IsRun}
 

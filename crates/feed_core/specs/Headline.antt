@@ -6,8 +6,8 @@ use Rattle.feed_types.specs.declared.journal.Notice.{Notice}
 use Rattle.line_arbiter.specs.Histories.{names_of}
 use Rattle.journal_book.specs.Changes.{changes_of}
 use Rattle.journal_book.specs.ItemsIn.{items_in}
-use Rattle.feed_core.specs.declared.event.Event.{Event}
-use Rattle.feed_core.specs.declared.event.Done.{Done}
+use Rattle.feed_steps.specs.declared.event.Event.{Event}
+use Rattle.feed_steps.specs.declared.event.Done.{Done}
 use Rattle.feed_core.specs.Worlds.{inside, Venue, Subscriber, World, Setting, new_world}
 use Rattle.feed_core.specs.Runs.{IsRun}
 use Rattle.feed_core.specs.VenueHalf.{waiting, VenueHalf}

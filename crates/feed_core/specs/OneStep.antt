@@ -3,11 +3,12 @@
 use Rattle.std.specs.Prelude.{◌⊎◌, slice_get}
 use Rattle.line_arbiter.specs.Histories.{streams_of}
 use Rattle.journal_book.specs.Wanted.{wanted_of}
-use Rattle.feed_core.specs.declared.event.Event.{Event}
-use Rattle.feed_core.specs.declared.event.Event.TheVariants.{Packet, Push, Consume, Declare, Renew, Skip, Subscribe, Offer, Dequeue}
-use Rattle.feed_core.specs.declared.event.Done.{Done}
+use Rattle.feed_steps.specs.declared.event.Event.{Event}
+use Rattle.feed_steps.specs.declared.event.Event.TheVariants.{Packet, Push, Consume, Declare, Renew, Skip, Subscribe, Offer, Dequeue}
+use Rattle.feed_steps.specs.declared.event.Done.{Done}
 use Rattle.feed_core.specs.Worlds.{is_full, World, Setting}
-use Rattle.feed_core.specs.Steps.{next_in, next_out, push_next, consume_next, declare_help, offer_next, dequeue_next, Applies, with_sent, with_intake, with_offered, with_dequeued, RefusesBytes, AnswersPacket, AnswersRenewal, AnswersSkip, AnswersSubscribe, AtVenue, AtSubscriber}
+use Rattle.feed_core.specs.Steps.{next_in, next_out, declare_help, with_sent, with_intake, with_offered, with_dequeued, RefusesBytes, AnswersPacket, AnswersRenewal, AnswersSkip, AnswersSubscribe, AtVenue, AtSubscriber}
+use Rattle.feed_steps.specs.Steps.{push_next, consume_next, offer_next, dequeue_next, Applies}
 
 -- one event, from the old world to the new one, with its outcome
 abbrev pub IsStep : Setting → World → Event → Done → World → Type 0

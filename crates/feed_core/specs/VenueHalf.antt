@@ -9,10 +9,11 @@ use Rattle.mold_packet.specs.Content.{Content, Spells}
 use Rattle.line_arbiter.specs.Packets as inputs
 use Rattle.line_arbiter.specs.Packets.{Input, carried}
 use Rattle.line_arbiter.specs.Streams.{AreTaken, IsComplete, front_of}
-use Rattle.line_arbiter.specs.OfSession.{IsOfSession, GivesSession, SkipsWithin, session_parts}
+use Rattle.line_arbiter.specs.OfSession.{IsOfSession, GivesSession, SkipsWithin}
 use Rattle.line_arbiter.specs.Histories.{Begun, History, all_begun, streams_of}
-use Rattle.feed_core.specs.declared.event.Event.{Event}
-use Rattle.feed_core.specs.declared.event.Event.TheVariants.{Packet, Skip}
+use Rattle.feed_steps.specs.declared.event.Event.{Event}
+use Rattle.feed_steps.specs.declared.event.Event.TheVariants.{Packet, Skip}
+use Rattle.feed_steps.specs.SessionParts.{parts_of_sessions}
 use Rattle.feed_core.specs.Worlds.{inside, Venue}
 
 -- what waits of a venue: in the lane, and then what is in sequence and was not pushed yet
@@ -54,11 +55,6 @@ pub record AreSession (s : Session) (h : History) : Type 0 where
   pub earlier : AllByRecursion
       (λ b. IsBegunAs s b → GivesSession s b.packets × IsComplete b.packets) h.earlier
   pub present : IsBegunAs s h.present → GivesSession s h.present.packets
-
--- the parts of these sessions, as the venue's, session by session
-abbrev pub parts_of_sessions : List Session → List Begun → List Numbered
-parts_of_sessions (s ∷ ss) (b ∷ bs) = session_parts s b.packets ++ parts_of_sessions ss bs
-parts_of_sessions _ _ = []
 
 -- The items of the venue at a place, which has this history: they are its streams. Each session of
 -- which the events bring the packets alone is the one that came under its name. Where that holds of

@@ -7,8 +7,8 @@ use Rattle.line_arbiter.specs.Packets.{end_of}
 use Rattle.line_arbiter.specs.Streams.{front_of, stream_of}
 use Rattle.line_arbiter.specs.OfSession.{GivesSession, session_stream}
 use Rattle.line_arbiter.specs.Histories.{History}
-use Rattle.feed_core.specs.declared.event.Event.{Event}
-use Rattle.feed_core.specs.declared.event.Event.TheVariants.{Skip}
+use Rattle.feed_steps.specs.declared.event.Event.{Event}
+use Rattle.feed_steps.specs.declared.event.Event.TheVariants.{Skip}
 
 -- if the event is a skip of the venue, it goes to a number of this kind
 abbrev pub SkipsOnly : (ℕ → Type 0) → ℕ → Event → Type 0

@@ -1,11 +1,12 @@
 //! The events that change the machine's journal.
 
 ghost use Rattle.std.specs.Prelude.{◌≡◌, ◌<◌, IfOk, OnOk};
-ghost use Rattle.feed_core.specs.Steps.{consume_next, declare_help, next_out, AppliesTo};
+ghost use Rattle.feed_steps.specs.Steps.{consume_next, AppliesTo};
+ghost use Rattle.feed_core.specs.Steps.{declare_help, next_out};
 ghost use Rattle.feed_core.specs.Fitting.{intake_of, KeepsJournal};
 
-use crate::event::Done;
 use crate::venue::VenueState;
+use feed_steps::Done;
 use feed_types::VenueId;
 use journal_book::{Journal, JournalFault};
 use std::alloc::AllocError;

@@ -8,11 +8,10 @@
 //!
 //! Contract: what is shown is that of the one run over the events (`specs/Runs.antt`), and the
 //! headline holds of it (`specs/Headline.antt`, law [`headline`]). Begin at `specs/Worlds.antt`,
-//! `specs/OneStep.antt` and `specs/Steps.antt` for what an event does, and at `running.rt` for the
+//! `specs/OneStep.antt` for what an event does (its steps are those of `feed_steps`), and at `running.rt` for the
 //! code.
 #![tactic(auto)]
 
-mod event;
 mod journaling;
 mod lane;
 mod laws;
@@ -22,7 +21,7 @@ mod running;
 mod venue;
 mod world;
 
-pub use event::{Done, Event};
+pub use feed_steps::{Done, Event};
 pub use journal_book::{ConfigFault, CoreFault};
 pub use laws::{
     every_list_of_events_has_a_run, headline, items_without_skips, one_run, skips_are_events,

@@ -2,17 +2,17 @@
 
 ghost use Rattle.std.specs.Prelude.{◌≡◌, ℕ, ◌<◌, ◌≤◌, List, length, IfOk, OnOk, map};
 ghost use Rattle.filter_terms.specs.declared.terms.Terms.{Terms};
-ghost use Rattle.feed_core.specs.declared.event.Event.{Event};
+ghost use Rattle.feed_steps.specs.declared.event.Event.{Event};
 ghost use Rattle.feed_core.specs.Worlds.{Venue, World as WorldView, Setting, all_terms, new_venue, new_world, setting_of};
 ghost use Rattle.journal_book.specs.Configs.{journal_of_config};
 ghost use Rattle.feed_core.specs.Fitting.{FitVenues, ShowVenues, FitsWorld, HasStepped, HasReached};
 ghost use Rattle.feed_core.specs.Headline.{IsRunOf};
 
-use crate::event::{Done, Event};
 use crate::lane::Lane;
 use crate::venue::VenueState;
 use crate::world::World;
 use crate::{journaling, offering};
+use feed_steps::{Done, Event};
 use feed_types::{FeedConfig, LineId, Notice, SubscriberId, VenueId};
 use filter_terms::Filter;
 use journal_book::Journal;

@@ -4,11 +4,12 @@ ghost use Rattle.std.specs.Prelude.{◌≡◌, ◌<◌, Some, length, slice_get,
 ghost use Rattle.journal_book.specs.Journals.{Subscription, subscriptions_of};
 ghost use Rattle.journal_book.specs.Consolidators.{StaysButCursors};
 ghost use Rattle.feed_core.specs.Worlds.{Subscriber};
-ghost use Rattle.feed_core.specs.Steps.{dequeue_next, next_out, AppliesTo};
+ghost use Rattle.feed_steps.specs.Steps.{dequeue_next, AppliesTo};
+ghost use Rattle.feed_core.specs.Steps.{next_out};
 ghost use Rattle.feed_core.specs.Fitting.{FitsSubscriber, LeftOffered};
 
-use crate::event::Done;
 use crate::lane::Lane;
+use feed_steps::Done;
 use feed_types::{Best, National, Notice, SubscriberId, SymbolName, VenueId};
 use filter_terms::Filter;
 use journal_book::Journal;

@@ -5,9 +5,9 @@ ghost use Rattle.feed_core.specs.Worlds.{all_terms, setting_of};
 ghost use Rattle.feed_core.specs.Headline.{IsRunOf, ShowsHeadline};
 ghost use Rattle.journal_book.specs.Configs.{IsGood, Explains, journal_of_config};
 
-use crate::event::Event;
 use crate::machine::Machine;
 use crate::world::World;
+use feed_steps::Event;
 use feed_types::FeedConfig;
 use filter_terms::Filter;
 use journal_book::{CoreFault, Journal, new_journal};

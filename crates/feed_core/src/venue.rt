@@ -9,8 +9,8 @@ ghost use Rattle.feed_core.specs.Worlds.{inside, Venue, new_venue};
 ghost use Rattle.feed_core.specs.Steps.{next_out};
 ghost use Rattle.feed_core.specs.Fitting.{FitsVenue, LeftFaulty, LeftAnswered, LeftRenewed, LeftSkipped, LeftPushed, ShowsLane};
 
-use crate::event::Done;
 use crate::lane::Lane;
+use feed_steps::Done;
 use feed_types::{Anything, Item, LineId, Numbered, VenueId};
 use line_arbiter::Arbiter;
 use mold_packet::{Packet, read_packet};

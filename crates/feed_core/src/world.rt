@@ -3,9 +3,9 @@
 ghost use Rattle.std.specs.Prelude.{◌≡◌, ◌<◌, length, IfSome, None, slice_get};
 ghost use Rattle.feed_core.specs.Fitting.{shown_by};
 
-use crate::event::Done;
 use crate::lane::Lane;
 use crate::venue::VenueState;
+use feed_steps::Done;
 use feed_types::{Entry, Notice, Numbered, SubscriberId, VenueId};
 use journal_book::Journal;
 use std::marker::Model;

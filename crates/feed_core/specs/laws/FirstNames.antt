@@ -6,8 +6,8 @@ use Rattle.line_arbiter.specs.declared.faults.SkipFault.{SkipFault}
 use Rattle.line_arbiter.specs.Histories.{Begun, History, new_session, names_of, skip_after, history_after}
 use Rattle.line_arbiter.specs.laws.Histories.{names_same}
 use Rattle.line_arbiter.specs.Packets.{Skip}
-use Rattle.feed_core.specs.declared.event.Event.{Event}
-use Rattle.feed_core.specs.declared.event.Done.{Done}
+use Rattle.feed_steps.specs.declared.event.Event.{Event}
+use Rattle.feed_steps.specs.declared.event.Done.{Done}
 use Rattle.feed_core.specs.Worlds.{Venue, World, Setting, new_venue, new_world}
 use Rattle.feed_core.specs.Runs.{IsRun}
 use Rattle.feed_core.specs.laws.KeptVenues.{KeepsVenueStep, run_keeps}

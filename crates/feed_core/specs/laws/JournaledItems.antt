@@ -5,8 +5,8 @@ use Rattle.feed_types.specs.declared.item.Numbered.{Numbered}
 use Rattle.feed_types.specs.declared.journal.Entry.{Entry}
 use Rattle.journal_book.specs.ItemLaws.{items_here}
 use Rattle.journal_book.specs.ItemsIn.{items_in}
-use Rattle.feed_core.specs.declared.event.Event.{Event}
-use Rattle.feed_core.specs.declared.event.Done.{Done}
+use Rattle.feed_steps.specs.declared.event.Event.{Event}
+use Rattle.feed_steps.specs.declared.event.Done.{Done}
 use Rattle.feed_core.specs.Worlds.{Venue, World, Setting, new_world}
 use Rattle.feed_core.specs.Runs.{IsRun}
 use Rattle.feed_core.specs.laws.KeptVenues.{KeepsEntriesStep, run_keeps_entries}

@@ -10,15 +10,16 @@ use Rattle.filter_terms.specs.declared.terms.Terms.{Terms}
 use Rattle.line_arbiter.specs.Histories.{streams_of}
 use Rattle.journal_book.specs.Wanted.{wanted_of}
 use Rattle.nbbo_book.specs.Eligible.{is_so}
-use Rattle.feed_core.specs.declared.event.Event.{Event}
-use Rattle.feed_core.specs.declared.event.Event.TheVariants.{Packet, Push, Consume, Declare, Renew, Skip, Subscribe, Offer, Dequeue}
-use Rattle.feed_core.specs.declared.event.Done.{Done}
+use Rattle.feed_steps.specs.declared.event.Event.{Event}
+use Rattle.feed_steps.specs.declared.event.Event.TheVariants.{Packet, Push, Consume, Declare, Renew, Skip, Subscribe, Offer, Dequeue}
+use Rattle.feed_steps.specs.declared.event.Done.{Done}
 use Rattle.feed_core.specs.Worlds.{empty_lane, is_full, Venue, Subscriber, World, Setting}
-use Rattle.feed_core.specs.Steps.{Refused, Changes, next_in, next_out, push_next, journal_item, offer_next, dequeue_next, journal_full, already_so, too_many_subscribers, unknown_venue, unknown_subscriber, put_subscriber, Stays, Applies, with_sent, with_intake, with_offered, with_dequeued, AnswersSubscribe}
+use Rattle.feed_steps.specs.Steps.{Refused, Changes, push_next, journal_item, offer_next, dequeue_next, journal_full, already_so, too_many_subscribers, unknown_venue, unknown_subscriber, Stays, Applies}
+use Rattle.feed_core.specs.Steps.{next_in, next_out, put_subscriber, with_sent, with_intake, with_offered, with_dequeued, AnswersSubscribe}
 use Rattle.feed_core.specs.OneStep.{IsStep}
 use Rattle.feed_core.specs.Runs.{IsRun}
-use Rattle.feed_core.specs.declared.event.Done.TheVariants as done
-use Rattle.feed_core.specs.laws.Lists.{get_after_set, get_push}
+use Rattle.feed_steps.specs.declared.event.Done.TheVariants as done
+use Rattle.feed_steps.specs.laws.Lists.{get_after_set, get_push}
 
 -- what holds of each subscriber, with the entries
 abbrev pub EachSubscriber : (List Entry → Subscriber → Type 0) → World → Type 0
@@ -41,7 +42,7 @@ module _ (s : Setting) (Q : List Entry → Subscriber → Type 0) (kept : KeepsS
       → EachSubscriber Q (put_subscriber old id x)
   put old id x each here = λ j y e. elim (get_after_set old.subscribers id j x y e) [
     | inl now ↦ rw (now.1) here
-    | inr before ↦ each j y before
+    | inr before ↦ each j y before.1
   ]
 
   at_venue : (o : Option Venue) (old : World) (d : Done) (new : World) (Known : Venue → Type 0)

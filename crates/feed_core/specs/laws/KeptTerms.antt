@@ -7,15 +7,16 @@ use Rattle.std.proofs.lemmas.Bool.Decides.{nat_tests}
 use Rattle.line_arbiter.specs.Histories.{streams_of}
 use Rattle.filter_terms.specs.declared.terms.Terms.{Terms}
 use Rattle.journal_book.specs.Wanted.{wanted_of}
-use Rattle.feed_core.specs.declared.event.Event.{Event}
-use Rattle.feed_core.specs.declared.event.Event.TheVariants.{Packet, Push, Consume, Declare, Renew, Skip, Subscribe, Offer, Dequeue}
-use Rattle.feed_core.specs.declared.event.Done.{Done}
-use Rattle.feed_core.specs.declared.event.Done.TheVariants as done
+use Rattle.feed_steps.specs.declared.event.Event.{Event}
+use Rattle.feed_steps.specs.declared.event.Event.TheVariants.{Packet, Push, Consume, Declare, Renew, Skip, Subscribe, Offer, Dequeue}
+use Rattle.feed_steps.specs.declared.event.Done.{Done}
+use Rattle.feed_steps.specs.declared.event.Done.TheVariants as done
 use Rattle.feed_core.specs.Worlds.{empty_lane, is_full, Venue, Subscriber, World, Setting, new_world}
-use Rattle.feed_core.specs.Steps.{Transition, Refused, Changes, next_in, next_out, push_next, consume_next, declare_help, offer_next, dequeue_next, too_many_subscribers, unknown_venue, unknown_subscriber, put_subscriber, Stays, Applies, with_sent, with_intake, AnswersSubscribe}
+use Rattle.feed_steps.specs.Steps.{Transition, Refused, Changes, push_next, consume_next, offer_next, dequeue_next, too_many_subscribers, unknown_venue, unknown_subscriber, Stays, Applies}
+use Rattle.feed_core.specs.Steps.{next_in, next_out, declare_help, put_subscriber, with_sent, with_intake, AnswersSubscribe}
 use Rattle.feed_core.specs.OneStep.{IsStep}
 use Rattle.feed_core.specs.Runs.{IsRun}
-use Rattle.feed_core.specs.laws.Lists.{get_after_set, get_push}
+use Rattle.feed_steps.specs.laws.Lists.{get_after_set, get_push}
 
 -- each subscriber has the terms of the filter at its place, and as long as there is place no other
 -- filter was used
@@ -76,7 +77,7 @@ module _ (s : Setting) where
         terms = λ j z at. elim (get_after_set old.subscribers id j (put y) z at) [
           | inl now ↦ rw (now.0, now.1)
               (k.terms id x there ∙ ap (λ (t : Terms). Some t) (sym (same_terms y)))
-          | inr before ↦ k.terms j z before
+          | inr before ↦ k.terms j z before.1
         ];
         used = λ few. k.used (subst (λ (n : ℕ). n < 32) len few) ∙ sym len;
       })

@@ -19,16 +19,17 @@ use Rattle.journal_book.specs.ItemLaws.{items_put, items_there}
 use Rattle.journal_book.specs.ItemsIn.{items_in}
 use Rattle.journal_book.specs.Wanted.{wanted_of}
 use Rattle.nbbo_book.specs.Eligible.{is_so}
-use Rattle.feed_core.specs.declared.event.Event.{Event}
-use Rattle.feed_core.specs.declared.event.Event.TheVariants.{Packet, Push, Consume, Declare, Renew, Skip, Subscribe, Offer, Dequeue}
-use Rattle.feed_core.specs.declared.event.Done.{Done}
-use Rattle.feed_core.specs.declared.event.Done.TheVariants as done
+use Rattle.feed_steps.specs.declared.event.Event.{Event}
+use Rattle.feed_steps.specs.declared.event.Event.TheVariants.{Packet, Push, Consume, Declare, Renew, Skip, Subscribe, Offer, Dequeue}
+use Rattle.feed_steps.specs.declared.event.Done.{Done}
+use Rattle.feed_steps.specs.declared.event.Done.TheVariants as done
 use Rattle.feed_core.specs.Worlds.{is_full, Venue, session_sent, Subscriber, World, Setting}
 use Rattle.line_arbiter.specs.Additions.{AddsArrival, AddsRenewal, AddsSkip}
-use Rattle.feed_core.specs.Steps.{Transition, Refused, Changes, next_in, next_out, push_next, journal_item, add_subscriber, offer_next, dequeue_next, journal_full, already_so, unknown_venue, unknown_subscriber, put_venue, Stays, Applies, with_sent, with_intake, with_offered, with_dequeued, AnswersSubscribe}
+use Rattle.feed_steps.specs.Steps.{Transition, Refused, Changes, push_next, journal_item, offer_next, dequeue_next, journal_full, already_so, unknown_venue, unknown_subscriber, Stays, Applies}
+use Rattle.feed_core.specs.Steps.{next_in, next_out, add_subscriber, put_venue, with_sent, with_intake, with_offered, with_dequeued, AnswersSubscribe}
 use Rattle.feed_core.specs.OneStep.{IsStep}
 use Rattle.feed_core.specs.Runs.{IsRun}
-use Rattle.feed_core.specs.laws.Lists.{get_after_set, get_at_set, get_off_set}
+use Rattle.feed_steps.specs.laws.Lists.{get_after_set, get_at_set, get_off_set}
 
 pub record KeepsVenueStep (s : Setting) (May : Event → Type 0) (Q : ℕ → Venue → Type 0) : Type 0 where
   pub packet : (place : ℕ) (v : Venue) (line : LineId) (bytes : _) (p : Content) (rest : List ℕ)
@@ -91,7 +92,7 @@ module _ (s : Setting) (May : Event → Type 0) (R : List Entry → ℕ → Venu
       → EachAtEntries R (put_venue old place v)
   put old place v each here = λ j u e. elim (get_after_set old.venues place j v u e) [
     | inl now ↦ rw (now.0, now.1) here
-    | inr before ↦ each j u before
+    | inr before ↦ each j u before.1
   ]
 
   at_venue : (o : Option Venue) (old : World) (place : ℕ) (d : Done) (new : World)

@@ -3,7 +3,7 @@ use Rattle.std.proofs.Common.{◌≡◌, List, [], ◌∷◌, ◌++◌, length, 
 use Rattle.feed_types.specs.Prefix.{IsPrefix}
 use Rattle.feed_core.specs.Worlds.{Lane, inside}
 use Rattle.feed_core.specs.Steps.{next_in, next_out}
-use Rattle.feed_core.specs.laws.Lists.{begins_then, begins_next, begins_drop}
+use Rattle.feed_steps.specs.laws.Lists.{begins_then, begins_next, begins_drop}
 
 pub record Serves {X : Type 0} (lane : Lane X) (all : List X) : Type 0 where
   pub sent : IsPrefix lane.sent all

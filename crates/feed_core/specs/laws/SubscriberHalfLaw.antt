@@ -5,14 +5,14 @@ use Rattle.feed_types.specs.declared.journal.Notice.{Notice}
 use Rattle.feed_types.specs.Prefix.{IsPrefix}
 use Rattle.journal_book.specs.Wanted.{wanted_of}
 use Rattle.journal_book.specs.Changes.{RisesPast}
-use Rattle.feed_core.specs.declared.event.Event.{Event}
-use Rattle.feed_core.specs.declared.event.Done.{Done}
+use Rattle.feed_steps.specs.declared.event.Event.{Event}
+use Rattle.feed_steps.specs.declared.event.Done.{Done}
 use Rattle.feed_core.specs.Worlds.{Subscriber, World, Setting, new_world}
 use Rattle.feed_core.specs.Runs.{IsRun}
 use Rattle.feed_core.specs.SubscriberHalf.{SubscriberHalf}
 use Rattle.journal_book.specs.Prefixes.{wanted_begin}
 use Rattle.journal_book.specs.Rising.{wanted_rise}
-use Rattle.feed_core.specs.laws.Lists.{begins_self, begins_then, begins_drop}
+use Rattle.feed_steps.specs.laws.Lists.{begins_self, begins_then, begins_drop}
 use Rattle.feed_core.specs.laws.Lanes.{Serves, serve_in, serve_out, serve_more}
 use Rattle.feed_core.specs.laws.KeptSubscribers.{run_keeps}
 

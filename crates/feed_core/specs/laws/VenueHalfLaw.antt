@@ -25,15 +25,16 @@ use Rattle.line_arbiter.specs.laws.StreamGrowth.{closed_same, closed_skip}
 use Rattle.line_arbiter.specs.laws.AnsweredHistories.{IsSessionOver, IsAnsweredThroughout, new_answered, answered_arrival}
 use Rattle.line_arbiter.specs.laws.Giving.{gives_session}
 use Rattle.line_arbiter.specs.laws.Fronts.{front_is}
-use Rattle.feed_core.specs.declared.event.Event.{Event}
-use Rattle.feed_core.specs.declared.event.Event.TheVariants as event
-use Rattle.feed_core.specs.declared.event.Done.{Done}
+use Rattle.feed_steps.specs.declared.event.Event.{Event}
+use Rattle.feed_steps.specs.declared.event.Event.TheVariants as event
+use Rattle.feed_steps.specs.declared.event.Done.{Done}
 use Rattle.feed_core.specs.Worlds.{Venue, session_count, session_sent, World, Setting, new_venue, new_world}
 use Rattle.line_arbiter.specs.Additions.{AddsArrival, AddsRenewal, AddsSkip}
 use Rattle.feed_core.specs.Runs.{IsRun}
-use Rattle.feed_core.specs.VenueHalf.{BringsOnly, BringOnly, IsAmong, IsBegunAs, AreBegunAs, AreSession, parts_of_sessions, VenueHalf}
-use Rattle.feed_core.specs.laws.Counts.{place_back}
-use Rattle.feed_core.specs.laws.Lists.{begins_self, begins_len, begins_all}
+use Rattle.feed_core.specs.VenueHalf.{BringsOnly, BringOnly, IsAmong, IsBegunAs, AreBegunAs, AreSession, VenueHalf}
+use Rattle.feed_steps.specs.SessionParts.{parts_of_sessions}
+use Rattle.feed_steps.specs.laws.Counts.{place_back}
+use Rattle.feed_steps.specs.laws.Lists.{begins_self, begins_len, begins_all}
 use Rattle.feed_core.specs.laws.Lanes.{Serves, serve_in, serve_out, serve_more, serve_all}
 use Rattle.feed_core.specs.laws.KeptVenues.{KeepsVenueStep, EachVenue, run_keeps}
 

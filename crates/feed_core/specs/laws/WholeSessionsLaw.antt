@@ -12,8 +12,8 @@ use Rattle.line_arbiter.specs.Skips.{IsArrival}
 use Rattle.line_arbiter.specs.OfSession.{GivesSession, SkipsWithin, session_stream}
 use Rattle.line_arbiter.specs.Histories.{Begun, History, all_begun, items_of, names_of}
 use Rattle.line_arbiter.specs.laws.Parts.{first_one, one_part, whole_part}
-use Rattle.feed_core.specs.declared.event.Event.{Event}
-use Rattle.feed_core.specs.declared.event.Event.TheVariants as event
+use Rattle.feed_steps.specs.declared.event.Event.{Event}
+use Rattle.feed_steps.specs.declared.event.Event.TheVariants as event
 use Rattle.feed_core.specs.Worlds.{Venue, session_count, session_sent}
 use Rattle.feed_core.specs.VenueHalf.{BringOnly, IsAmong, IsBegunAs, AreSession, AreVenueItems}
 use Rattle.feed_core.specs.WholeSessions.{SkipsOnly, GiveNothingUp, SkipWithin, AreWhole}

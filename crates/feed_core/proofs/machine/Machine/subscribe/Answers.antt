@@ -2,8 +2,8 @@ use Rattle.std.proofs.Common.{◌<◌, ◌≤◌, ◌≡◌, ◌+◌, ◌++◌, 
 use Rattle.feed_types.specs.declared.journal.Notice.{Notice}
 use Rattle.filter_terms.specs.Filters.{terms_of}
 use Rattle.filter_terms.specs.Terms.{meets}
-use Rattle.feed_core.specs.declared.event.Event.TheVariants as events
-use Rattle.feed_core.specs.declared.event.Done.TheVariants as done
+use Rattle.feed_steps.specs.declared.event.Event.TheVariants as events
+use Rattle.feed_steps.specs.declared.event.Done.TheVariants as done
 use Rattle.feed_core.specs.Worlds.{Lane, empty_lane}
 use Rattle.feed_core.specs.Fitting.{MachineView, FitsWorld, HasStepped}
 use Rattle.feed_core.proofs.MachineMoves.{terms_read, subscribe_full, subscribe_one}

@@ -1,6 +1,6 @@
 use Rattle.std.proofs.Common.{ℕ, ◌≡◌, ◌∙◌, ap, sym, subst}
-use Rattle.feed_core.specs.declared.event.Done.TheVariants as done
-use Rattle.feed_core.specs.Steps.{packet_done}
+use Rattle.feed_steps.specs.declared.event.Done.TheVariants as done
+use Rattle.feed_steps.specs.Steps.{packet_done}
 use Rattle.feed_core.specs.Fitting.{VenueView, FitsVenue}
 use Rattle.feed_core.proofs.VenueMoves.{answered_so}
 use Rattle.feed_core.proofs.venue.VenueState.answer.Goals as goal

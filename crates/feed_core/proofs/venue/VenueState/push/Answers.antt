@@ -1,6 +1,6 @@
 use Rattle.std.proofs.Common.{◌∙◌, sym, subst}
 use Rattle.feed_core.specs.Fitting.{VenueView, FitsVenue, LeftPushed}
-use Rattle.feed_core.specs.declared.event.Done.TheVariants as done
+use Rattle.feed_steps.specs.declared.event.Done.TheVariants as done
 use Rattle.feed_core.proofs.VenueMoves.{push_none, push_full, push_one}
 use Rattle.feed_core.proofs.venue.VenueState.push.Goals as goal
 

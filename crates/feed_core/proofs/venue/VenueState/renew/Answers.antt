@@ -1,7 +1,7 @@
 use Rattle.std.proofs.Common.{ℕ, ◌≡◌, ◌∙◌, ap, sym, subst}
-use Rattle.feed_core.specs.declared.event.Done.{Done}
-use Rattle.feed_core.specs.declared.event.Done.TheVariants as done
-use Rattle.feed_core.specs.Steps.{renewal_done}
+use Rattle.feed_steps.specs.declared.event.Done.{Done}
+use Rattle.feed_steps.specs.declared.event.Done.TheVariants as done
+use Rattle.feed_steps.specs.Steps.{renewal_done}
 use Rattle.feed_core.specs.Fitting.{VenueView, FitsVenue, LeftRenewed}
 use Rattle.feed_core.proofs.VenueMoves.{renewal_left}
 use Rattle.feed_core.proofs.venue.VenueState.renew.Goals as goal

@@ -1,7 +1,7 @@
 use Rattle.std.proofs.Common.{ℕ, ◌≡◌, ◌∙◌, ap, sym, subst}
-use Rattle.feed_core.specs.declared.event.Done.{Done}
-use Rattle.feed_core.specs.declared.event.Done.TheVariants as done
-use Rattle.feed_core.specs.Steps.{skip_done}
+use Rattle.feed_steps.specs.declared.event.Done.{Done}
+use Rattle.feed_steps.specs.declared.event.Done.TheVariants as done
+use Rattle.feed_steps.specs.Steps.{skip_done}
 use Rattle.feed_core.specs.Fitting.{VenueView, FitsVenue, LeftSkipped}
 use Rattle.feed_core.proofs.VenueMoves.{skip_left}
 use Rattle.feed_core.proofs.venue.VenueState.skip_to.Goals as goal

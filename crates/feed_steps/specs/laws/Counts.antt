@@ -1,5 +1,6 @@
--- How many items of a session were sent, and the number of the last one.
+-- How many items of a session were sent, the number of the last one, and sums of counts.
 use Rattle.std.proofs.Common.{◌≡◌, ℕ, ◌+◌, ◌≤◌, List, length, arith, length-append}
+use Rattle.line_arbiter.specs.Counts.{shown}
 use Rattle.line_arbiter.specs.Packets.{Input}
 use Rattle.line_arbiter.specs.Streams.{closed_of, opens_of, part_of, place_of, sent_of, stream_of}
 use Rattle.line_arbiter.specs.Skips.{AllSent}
@@ -14,3 +15,7 @@ pub place_all : (packets : List Input) (sent : ℕ) → opens_of packets ≤ sen
     → AllSent packets sent → place_of packets sent ≡ length (stream_of packets)
 place_all packets sent opened all =
     let whole = length-append (closed_of packets) (part_of packets) in omega arith
+
+-- sums of counts, as they are shown
+pub shown_sum : (m n : ℕ) → shown (shown m + n) ≡ shown (m + n)
+shown_sum m n = grind (arith)

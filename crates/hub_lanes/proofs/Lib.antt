@@ -1,0 +1,8 @@
+pub mod HubMoves
+pub mod Nationals
+pub mod Sparing
+pub mod OfSessions
+pub mod Batches
+pub mod LaneEnds
+pub mod Offers
+pub mod Turns

@@ -1,0 +1,132 @@
+//! A turn of the consolidator: its work under its lock taken once.
+
+ghost use Rattle.std.specs.Prelude.{◌≡◌, ◌⊎◌, ◌≤◌, ◌<◌, ◌+◌, None, length};
+ghost use Rattle.hub_lanes.specs.Turns.{ConsumesRound, TakesTurn};
+
+use crate::calls::{consume_at_once, offer_each};
+use crate::journal_and_lanes::JournalAndLanes;
+use feed_steps::{Bells, FeedName};
+use feed_types::{Genuine, VenueId};
+use filter_terms::Filter;
+use journal_book::JournalFault;
+use std::sync::Wait;
+
+/// The most items that are journaled in one section, so that nobody waits long for the lock, nor
+/// the notices of one item for many other items.
+const ITEMS_A_SECTION: u32 = 64;
+
+/// The work of one turn.
+#[derive(Clone, Copy, Debug, PartialEq, Eq)]
+pub struct Consolidated {
+    /// The number of items that were journaled, of all venues.
+    pub consumed: u32,
+    /// By the venue's number, whether an item of it was journaled.
+    pub venues: [bool; 16],
+    /// Whether a sender stood in the middle of its push, so that its venue was passed over. It rings
+    /// once it is done.
+    pub passed_over: bool,
+    /// The number of notices that were offered, to all subscribers.
+    pub offered: u64,
+    /// Whether changes are left that weren't looked at for a subscriber. The next turn goes on there.
+    pub unfinished: bool,
+    /// The refusal of journaling, if there was one: JournalFull, NoMemory or SubscriberBehind.
+    pub refused: Option<JournalFault>,
+}
+
+impl Consolidated {
+    /// Returns the work of a turn that has done nothing yet.
+    pub fn nothing() -> Consolidated
+        ensures none { result.consumed ≡ 0 }
+        ensures sound { result.refused ≡ None }
+    {
+        Consolidated {
+            consumed: 0,
+            venues: [false; 16],
+            passed_over: false,
+            offered: 0,
+            unfinished: false,
+            refused: None,
+        }
+    }
+}
+
+/// Returns the venue that comes `step` places after the venue at `first`, after the last one the
+/// first.
+fn venue_after(first: usize, step: usize, venues: usize) -> VenueId
+    requires known { (first < venues) × (step < venues) }
+    requires few { venues ≤ 16 }
+    ensures place { (result ≡ first + step) ⊎ (result + venues ≡ first + step) }
+    ensures below { result < venues }
+{
+    let place = first + step;
+    if place < venues {
+        VenueId::at(place)
+    } else {
+        VenueId::at(place - venues)
+    }
+}
+
+/// Returns the number of the venue with which a turn begins: `next`, or 0 where that is past the
+/// last venue.
+fn first_place<G: Genuine, N: FeedName>(core: &JournalAndLanes<G, N>, next: usize) -> usize
+    ensures { (result ≡ 0) ⊎ (result < length N.lanes.venues) }
+{
+    if next < core.venue_count() { next } else { 0 }
+}
+
+/// Journals what is in the venues' lanes, at most 64 items, up to the first refusal. It begins with
+/// the venue at `next`, and stores there the one after the last that it asked, so that no venue
+/// waits for ever. It waits for no sender.
+fn consume_round<G: Genuine, N: FeedName>(
+    core: &mut JournalAndLanes<G, N>,
+    next: &mut usize,
+) -> Consolidated
+    ensures most { result.consumed ≤ 64 }
+    ensures round { ConsumesRound G.Genuine N.lanes result.consumed result.refused
+        core.old core.new }
+{
+    let mut done = Consolidated::nothing();
+    let venues = core.venue_count();
+    let first = first_place(core, *next);
+    for step in 0..venues {
+        let left = ITEMS_A_SECTION - done.consumed;
+        if left == 0 {
+            break;
+        }
+        let venue = venue_after(first, step, venues);
+        *next = venue.index() + 1;
+        match consume_at_once(core, venue, left, &mut done.passed_over) {
+            Ok(count) => {
+                done.consumed += count;
+                done.venues[venue.index()] = count > 0;
+            }
+            Err(fault) => {
+                done.refused = Some(fault);
+                break;
+            }
+        }
+    }
+    done
+}
+
+/// Journals what is in the venues' lanes, at most 64 items, and then offers each subscriber what it
+/// wants. The subscribers' filters are lent. The turn begins with the venue at `next`, or the first
+/// where that is past the last one, and stores there the one with which the next turn begins.
+#[tactic(auto, using(crate::proofs::Turns::turn_taken))]
+pub fn take_turn<G: Genuine, N: FeedName, W: Wait>(
+    rt: &W,
+    core: &mut JournalAndLanes<G, N>,
+    filters: &[Filter],
+    next: &mut usize,
+    bells: &Bells,
+) -> Consolidated
+    ensures most { result.consumed ≤ 64 }
+    ensures turn { TakesTurn G.Genuine N.lanes result.consumed result.offered result.unfinished
+        result.refused core.old core.new }
+{
+    let mut done = consume_round(core, next);
+    let offers = offer_each(rt, core, filters, bells);
+    done.offered = offers.pushed;
+    done.unfinished = offers.unfinished;
+    done
+}

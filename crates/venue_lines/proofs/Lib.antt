@@ -1,0 +1,10 @@
+pub mod Counting
+pub mod Histories
+pub mod CellMoves
+pub mod Statuses
+pub mod CellAnswers
+pub mod TheirPackets
+pub mod NewVenues
+pub mod OfSessions
+pub mod SessionParts
+pub mod WithoutSkips

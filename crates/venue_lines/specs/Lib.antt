@@ -1,0 +1,13 @@
+-- the numbers of faults in logs
+pub mod Codes
+-- what a venue's lock keeps, its sections, and what is counted of its lines
+pub mod Brought
+pub mod Seats
+pub mod Cells
+pub mod Sections
+pub mod Datagrams
+pub mod Statuses
+-- a venue to which nothing came
+pub mod Starts
+-- laws, which proofs of the crates above cite
+pub mod laws

@@ -1,0 +1,402 @@
+//! The calls of a feed that take only a venue's lock.
+
+ghost use Rattle.std.specs.Prelude.{◌≡◌, ◌≤◌, ◌↔◌, ◌-◌, ◌^◌, None, IfOk, IsErrOf, length};
+ghost use Rattle.line_arbiter.specs.Histories.{History};
+ghost use Rattle.feed_steps.specs.Premises.{IsGenuinePacket};
+ghost use Rattle.venue_lines.specs.Seats.{new_seat, seat_after, seat_refusing};
+ghost use Rattle.venue_lines.specs.Cells.{CellFitsHistory};
+ghost use Rattle.venue_lines.specs.Brought.{requests_after};
+ghost use Rattle.venue_lines.specs.Sections.{AcceptsTheirPacket, AnswersAtVenue, IsDueAt, IsFlushedBy, IsRenewedBy, IsSkippedBy, KeepsButPushed, Pushes, RequestsGap, TakesPacket};
+ghost use Rattle.venue_lines.specs.Datagrams.{AreGenuineBytes, AcceptsTheirs, IsAnsweredAt, IsTakenBy, bytes_of};
+
+use crate::cell::VenueCell;
+use crate::datagram::Datagram;
+use crate::faults::{FeedFault, GapFault, RenewalFault, TakeFault};
+use crate::guarded::Guarded;
+use crate::locks::{VenueLocks, enter};
+use crate::seat::LineSeat;
+use feed_steps::{FeedName, Unsent};
+use feed_types::{Genuine, LineId, VenueId};
+use line_arbiter::{LineFault, Outcome, SkipFault};
+use mold_packet::{Packet, Request, read_packet};
+use std::sync::Wait;
+
+/// Pushes what is ready of the venue, at most `most` items, until nothing is or the lane is full.
+/// Returns how many were pushed, and whether something may be ready still.
+fn push_ready<G: Genuine, N: FeedName, W: Wait>(
+    rt: &W,
+    cell: &mut VenueCell<G, N>,
+    most: u64,
+) -> (u64, bool)
+    ensures { Pushes most result.0 cell.old cell.new }
+{
+    if !cell.may_have_ready() {
+        return (0, false);
+    }
+    for pushed in 0..most {
+        match cell.push_one(rt) {
+            Ok(_) => {}
+            Err(unsent) => {
+                cell.show_lock_invariant();
+                return (pushed, unsent == Unsent::LaneFull);
+            }
+        }
+    }
+    (most, true)
+}
+
+/// Pushes what is ready as `push_ready` does, where the cell is of this venue; else nothing.
+#[tactic(auto, using(crate::proofs::CellMoves::at_venue, crate::proofs::CellMoves::at_another))]
+fn flush_cell<G: Genuine, N: FeedName, W: Wait>(
+    rt: &W,
+    cell: &mut VenueCell<G, N>,
+    venue: VenueId,
+    most: u64,
+) -> (u64, bool)
+    ensures { IsFlushedBy G.Genuine N.lanes venue most result.0 }
+{
+    cell.show_lock_invariant();
+    if cell.venue() != venue {
+        return (0, false);
+    }
+    let pushed = push_ready(rt, cell, most);
+    cell.show_lock_invariant();
+    pushed
+}
+
+/// Whether a packet brought a message that hadn't come, which may have been pushed with it.
+fn has_news(answer: &Result<Outcome, LineFault>) -> bool {
+    matches!(answer, Ok(Outcome::Taken { new: 1.., .. }))
+}
+
+/// Takes a packet of the cell's venue. Most bring the next message alone.
+fn take_one<G: Genuine, N: FeedName, W: Wait>(
+    rt: &W,
+    cell: &mut VenueCell<G, N>,
+    seat: &mut LineSeat<G, N>,
+    packet: &Packet<'_>,
+) -> Result<Outcome, LineFault>
+    requires venue { seat.old.venue ≡ cell.old.arbiter.venue }
+    requires genuine { IsGenuinePacket G.Genuine seat.old.venue packet.now }
+    ensures takes { (h : History) → CellFitsHistory cell.old h
+        → TakesPacket seat.old.line packet.now result h cell.old cell.new }
+    ensures kept { KeepsButPushed cell.old cell.new }
+    ensures seat { seat.new ≡ seat_after seat.old packet.now result }
+    ensures accepts { AcceptsTheirPacket G.Genuine N.lanes seat.old.venue packet.now result }
+{
+    if let Some(outcome) = cell.take_and_push(rt, seat, packet) {
+        return Ok(outcome);
+    }
+    cell.take(seat, packet)
+}
+
+/// Takes the packet where the cell is of the seat's venue, and pushes what is ready then. Returns
+/// the answer, and what `push_ready` returned.
+fn take_in<G: Genuine, N: FeedName, W: Wait>(
+    rt: &W,
+    cell: &mut VenueCell<G, N>,
+    seat: &mut LineSeat<G, N>,
+    packet: &Packet<'_>,
+) -> (Result<Outcome, LineFault>, (u64, bool))
+    requires { IsGenuinePacket G.Genuine seat.old.venue packet.now }
+    ensures seat { seat.new ≡ seat_after seat.old packet.now result.0 }
+    ensures answer { IsAnsweredAt G.Genuine N.lanes seat.old packet.now result.0 }
+    ensures accepts { AcceptsTheirPacket G.Genuine N.lanes seat.old.venue packet.now result.0 }
+{
+    cell.show_lock_invariant();
+    if cell.venue() != seat.venue() {
+        return (Err(LineFault::OtherSession), (0, false));
+    }
+    let answer = take_one(rt, cell, seat, packet);
+    let pushed = push_ready(rt, cell, u64::MAX);
+    cell.show_lock_invariant();
+    (answer, pushed)
+}
+
+/// Returns the request for the gap to send now, where the cell is of this venue.
+#[tactic(auto, using(crate::proofs::CellMoves::at_venue, crate::proofs::CellMoves::at_another))]
+fn due_in<G: Genuine, N: FeedName>(
+    cell: &mut VenueCell<G, N>,
+    venue: VenueId,
+    now_ms: u64,
+) -> Option<Request>
+    ensures { IsDueAt G.Genuine N.lanes venue now_ms result }
+{
+    cell.show_lock_invariant();
+    if cell.venue() != venue {
+        return None;
+    }
+    let request = cell.due(now_ms);
+    cell.show_lock_invariant();
+    request
+}
+
+/// Returns the request for the gap to send now as `due_in` does, and counts it.
+fn due_and_counted<G: Genuine, N: FeedName>(
+    guarded: &mut Guarded<G, N>,
+    venue: VenueId,
+    now_ms: u64,
+) -> Option<Request>
+    ensures due { IsDueAt G.Genuine N.lanes venue now_ms result }
+    ensures counted { guarded.new ≡ record guarded.old {
+      cell = guarded.new.cell;
+      requests = requests_after result guarded.old.requests;
+    } }
+{
+    let request = due_in(&mut guarded.cell, venue, now_ms);
+    if request.is_some() {
+        guarded.requests = guarded.requests.saturating_add(1);
+    }
+    request
+}
+
+/// Begins the session of this ordinal and name, where the cell is of this venue.
+fn renew_in<G: Genuine, N: FeedName>(
+    cell: &mut VenueCell<G, N>,
+    venue: VenueId,
+    ordinal: u64,
+    session: [u8; 10],
+) -> Result<u64, RenewalFault>
+    requires { G.sessions venue ordinal session }
+    ensures ordinal { IfOk result (λ begun. begun ≡ ordinal) }
+    ensures known { IsErrOf result RenewalFault.UnknownVenue → ⊥ }
+    ensures renewed { IsRenewedBy G.Genuine N.lanes venue ordinal session result }
+{
+    cell.show_lock_invariant();
+    if cell.venue() != venue || cell.ordinal() + 1 != ordinal {
+        return Err(RenewalFault::WrongOrdinal);
+    }
+    let begun = cell.renew(session);
+    cell.show_lock_invariant();
+    match begun {
+        Ok(begun) => Ok(begun),
+        Err(fault) => Err(RenewalFault::Venue(fault)),
+    }
+}
+
+/// Gives up the messages that are missing below the number, where the cell is of this venue; what
+/// is ready is pushed before and after. Returns the answer, how many items were pushed, and whether
+/// something may be ready still.
+fn skip_in<G: Genuine, N: FeedName, W: Wait>(
+    rt: &W,
+    cell: &mut VenueCell<G, N>,
+    venue: VenueId,
+    number: u64,
+) -> (Result<(), GapFault>, (u64, bool))
+    ensures known { IsErrOf result.0 GapFault.UnknownVenue → ⊥ }
+    ensures skipped { IsSkippedBy G.Genuine N.lanes venue number result.0 }
+{
+    cell.show_lock_invariant();
+    if cell.venue() != venue {
+        return (Err(GapFault::Venue(SkipFault::NothingMissing)), (0, false));
+    }
+    let (before, _is_held_back) = push_ready(rt, cell, u64::MAX);
+    cell.show_lock_invariant();
+    let answer = cell.skip_to(number);
+    let (after, is_held_back) = push_ready(rt, cell, u64::MAX);
+    cell.show_lock_invariant();
+    let pushed = (before.saturating_add(after), is_held_back);
+    match answer {
+        Ok(()) => (Ok(()), pushed),
+        Err(fault) => (Err(GapFault::Venue(fault)), pushed),
+    }
+}
+
+impl<G: Genuine, N: FeedName> VenueLocks<G, N> {
+    /// Takes a datagram that came on the seat's line, which is genuine at its venue, and answers
+    /// what became of it: the packet's fault, else the line's, else the outcome. What is ready
+    /// then, after a fault too, is pushed, until nothing is or the lane is full. Stores in `gap`
+    /// whether there is a gap then, all under the venue's lock taken once; after a datagram that is
+    /// no packet it stores true. The datagram is read before the lock is taken.
+    pub fn take_and_look<W: Wait>(
+        &self,
+        rt: &W,
+        seat: &mut LineSeat<G, N>,
+        datagram: &Datagram,
+        gap: &mut bool,
+    ) -> Result<Outcome, TakeFault>
+        requires { AreGenuineBytes G.Genuine seat.old.venue (bytes_of datagram.now) }
+        ensures taken { IsTakenBy G.Genuine N.lanes (bytes_of datagram.now)
+            seat.old result seat.new }
+        ensures accepts { AcceptsTheirs G.Genuine N.lanes seat.old.venue (bytes_of datagram.now)
+            result }
+    {
+        match read_packet(datagram.bytes()) {
+            Ok(packet) => match self.take_packet(rt, seat, &packet, gap) {
+                Ok(outcome) => Ok(outcome),
+                Err(fault) => {
+                    self.refuse(rt, seat, TakeFault::Line(fault));
+                    Err(TakeFault::Line(fault))
+                }
+            },
+            Err(fault) => {
+                let _pushed = self.flush_some(rt, seat.venue(), u64::MAX);
+                *gap = true;
+                self.refuse(rt, seat, TakeFault::Packet(fault));
+                Err(TakeFault::Packet(fault))
+            }
+        }
+    }
+
+    /// Counts one more datagram of the seat that was refused with this fault, and has the venue's
+    /// status show it.
+    fn refuse<W: Wait>(&self, rt: &W, seat: &mut LineSeat<G, N>, fault: TakeFault)
+        ensures { seat.new ≡ seat_refusing fault seat.old }
+    {
+        seat.refuse(fault);
+        if let Some(lock) = self.get(seat.venue()) {
+            enter(rt, lock).cell.refuse(seat.line(), fault);
+        }
+    }
+
+    /// Takes a packet that was read, under the lock of the seat's venue, pushes what is ready,
+    /// counts the packet, and stores in `gap` whether there is a gap then.
+    fn take_packet<W: Wait>(
+        &self,
+        rt: &W,
+        seat: &mut LineSeat<G, N>,
+        packet: &Packet<'_>,
+        gap: &mut bool,
+    ) -> Result<Outcome, LineFault>
+        requires { IsGenuinePacket G.Genuine seat.old.venue packet.now }
+        ensures seat { seat.new ≡ seat_after seat.old packet.now result }
+        ensures answer { IsAnsweredAt G.Genuine N.lanes seat.old packet.now result }
+        ensures accepts { AcceptsTheirPacket G.Genuine N.lanes seat.old.venue packet.now result }
+    {
+        let Some(lock) = self.get(seat.venue()) else {
+            return Err(LineFault::OtherSession);
+        };
+        let mut guarded = enter(rt, lock);
+        let (answer, (pushed, is_held_back)) = take_in(rt, &mut guarded.cell, seat, packet);
+        self.set_held_back(seat.venue(), is_held_back);
+        *gap = guarded.cell.has_gap();
+        drop(guarded);
+        if pushed > 0 || is_held_back || has_news(&answer) {
+            self.bells().ring_work();
+        }
+        answer
+    }
+
+    /// Pushes what is ready of the venue, at most `most` items, until nothing is or the lane is
+    /// full, and returns how many items were pushed: none where there is no such venue. Where
+    /// something may be ready still, the venue is held back.
+    pub fn flush_some<W: Wait>(&self, rt: &W, venue: VenueId, most: u64) -> u64
+        ensures { IsFlushedBy G.Genuine N.lanes venue most result }
+    {
+        let Some(lock) = self.get(venue) else {
+            return 0;
+        };
+        let mut guarded = enter(rt, lock);
+        let (pushed, is_held_back) = flush_cell(rt, &mut guarded.cell, venue, most);
+        self.set_held_back(venue, is_held_back);
+        drop(guarded);
+        if pushed > 0 {
+            self.bells().ring_work();
+        }
+        pushed
+    }
+
+    /// Gives up the messages of the venue that are missing below `number`, and goes on from it: its
+    /// next item is `Skipped`, with the number before. What is ready is pushed before and after.
+    /// The refusals, in this order: UnknownVenue, ItemsReady (the lane is full), PastEnd,
+    /// NothingMissing, HeldBelow.
+    pub fn skip_to<W: Wait>(&self, rt: &W, venue: VenueId, number: u64) -> Result<(), GapFault>
+        ensures skipped { IsSkippedBy G.Genuine N.lanes venue number result }
+        ensures unknown { IsErrOf result GapFault.UnknownVenue
+            ↔ (length N.lanes.venues ≤ venue) }
+    {
+        let Some(lock) = self.get(venue) else {
+            return Err(GapFault::UnknownVenue);
+        };
+        let mut guarded = enter(rt, lock);
+        let (answer, (pushed, is_held_back)) = skip_in(rt, &mut guarded.cell, venue, number);
+        self.set_held_back(venue, is_held_back);
+        drop(guarded);
+        if pushed > 0 {
+            self.bells().ring_work();
+        }
+        answer
+    }
+
+    /// The request for the venue's gap to send now, if any, which is counted; None where there is
+    /// no such venue.
+    pub fn due<W: Wait>(&self, rt: &W, venue: VenueId, now_ms: u64) -> Option<Request>
+        ensures { IsDueAt G.Genuine N.lanes venue now_ms result }
+    {
+        let Some(lock) = self.get(venue) else {
+            return None;
+        };
+        due_and_counted(&mut enter(rt, lock), venue, now_ms)
+    }
+    /// Hands out the seat of the venue's line, which has brought nothing. UnknownVenue, else
+    /// SeatTaken where it was handed out already.
+    pub fn line_seat<W: Wait>(
+        &self,
+        rt: &W,
+        venue: VenueId,
+        line: LineId,
+    ) -> Result<LineSeat<G, N>, FeedFault>
+        ensures seat { IfOk result (λ seat. seat ≡ new_seat venue line) }
+        ensures unknown { IsErrOf result FeedFault.UnknownVenue ↔ (length N.lanes.venues ≤ venue) }
+    {
+        let Some(lock) = self.get(venue) else {
+            return Err(FeedFault::UnknownVenue);
+        };
+        let mut guarded = lock.lock(rt);
+        if guarded.cell.venue() != venue {
+            return Err(FeedFault::SeatTaken);
+        }
+        guarded.give_seat(line)
+    }
+
+    /// Pushes what is ready of the venue, until nothing is or the lane is full, and returns how
+    /// many items were pushed. UnknownVenue where there is no such venue.
+    #[tactic(auto, using(crate::proofs::CellMoves::at_one))]
+    pub fn flush<W: Wait>(&self, rt: &W, venue: VenueId) -> Result<u64, FeedFault>
+        ensures { AnswersAtVenue G.Genuine N.lanes venue
+            (Pushes (2 ^ 64 - 1)) 0 result }
+    {
+        if venue.index() >= self.len() {
+            return Err(FeedFault::UnknownVenue);
+        }
+        Ok(self.flush_some(rt, venue, u64::MAX))
+    }
+
+    /// Returns the request for the venue's gap to send now, if any. UnknownVenue where there is no
+    /// such venue.
+    #[tactic(auto, using(crate::proofs::CellMoves::at_one))]
+    pub fn request_due<W: Wait>(
+        &self,
+        rt: &W,
+        venue: VenueId,
+        now_ms: u64,
+    ) -> Result<Option<Request>, FeedFault>
+        ensures { AnswersAtVenue G.Genuine N.lanes venue (RequestsGap now_ms) None result }
+    {
+        if venue.index() >= self.len() {
+            return Err(FeedFault::UnknownVenue);
+        }
+        Ok(self.due(rt, venue, now_ms))
+    }
+
+    /// Begins the venue's session of this ordinal and name, once End of the one before it was sent,
+    /// and returns the ordinal.
+    pub fn renew<W: Wait>(
+        &self,
+        rt: &W,
+        venue: VenueId,
+        ordinal: u64,
+        session: [u8; 10],
+    ) -> Result<u64, RenewalFault>
+        requires { G.sessions venue ordinal session }
+        ensures ordinal { IfOk result (λ begun. begun ≡ ordinal) }
+        ensures renewed { IsRenewedBy G.Genuine N.lanes venue ordinal session result }
+        ensures unknown { IsErrOf result RenewalFault.UnknownVenue
+            ↔ (length N.lanes.venues ≤ venue) }
+    {
+        let Some(lock) = self.get(venue) else {
+            return Err(RenewalFault::UnknownVenue);
+        };
+        renew_in(&mut lock.lock(rt).cell, venue, ordinal, session)
+    }
+}

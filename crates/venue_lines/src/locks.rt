@@ -1,0 +1,130 @@
+//! The venues of a feed, each under a lock.
+
+ghost use Rattle.std.specs.Prelude.{◌≡◌, ◌<◌, ◌↔◌, length, IsSome};
+
+use crate::guarded::Guarded;
+use crossbeam_utils::CachePadded;
+use feed_steps::{Bells, FeedName};
+use feed_types::{Genuine, VenueId};
+use std::alloc::{AllocError, Global};
+use std::marker::Model;
+use std::sync::atomic::{AtomicBool, Ordering};
+use std::sync::{Arc, Mutex, MutexGuard, Wait};
+use std::{array, hint};
+
+/// The number of tries at a lock that another thread holds, before the thread sleeps for it.
+const TRIES: u32 = 40;
+
+/// The most pauses between two tries: longer than a section takes.
+const MOST_PAUSES: u32 = 64;
+
+/// Takes the lock. A thread that finds it held tries again for a while, each time after twice as
+/// long a pause: a section is short, and one that sleeps has to be woken by a system call.
+/// Meanwhile the other thread, whose caches have what the lock guards, takes what else came on its
+/// line.
+pub(crate) fn enter<'l, T, W: Wait>(rt: &W, lock: &'l Mutex<T>) -> MutexGuard<'l, T> {
+    let mut pauses: u32 = 16;
+    for _ in 0..TRIES {
+        if let Some(guard) = lock.try_lock() {
+            return guard;
+        }
+        for _ in 0..pauses {
+            hint::spin_loop();
+        }
+        pauses = pauses.saturating_mul(2).min(MOST_PAUSES);
+    }
+    lock.lock(rt)
+}
+
+/// A venue under its lock, on cache lines of its own.
+pub type VenueLock<G, N> = CachePadded<Mutex<Guarded<G, N>>>;
+
+/// The venues under their locks, in order. There are as many as the feed has lanes for. Contracts
+/// see how many.
+#[derive(Drop)]
+pub struct VenueLocks<G: Genuine, N: FeedName> {
+    locks: Vec<VenueLock<G, N>>,
+    /// By venue, whether something may be ready that wasn't pushed. It changes under the
+    /// venue's lock alone, and is stored only where it differs.
+    held_back: [AtomicBool; 16],
+    bells: Arc<Bells, Global>,
+}
+
+impl<G: Genuine, N: FeedName> Model for VenueLocks<G, N> {
+    ghost use Rattle.std.specs.Prelude.{◌≡◌, ℕ, length};
+
+    ghost Value = { ℕ };
+
+    ghost view = { λ v. length v.locks.items };
+
+    ghost invariant = { λ v. length v.locks.items ≡ length N.lanes.venues };
+}
+
+impl<G: Genuine, N: FeedName> VenueLocks<G, N> {
+    /// The venues under these locks, in order, where none is held back.
+    pub fn new(locks: Vec<VenueLock<G, N>>, bells: Arc<Bells, Global>) -> VenueLocks<G, N>
+        requires { length locks.items ≡ length N.lanes.venues }
+    {
+        VenueLocks {
+            locks,
+            held_back: array::from_fn(|_| AtomicBool::new(false)),
+            bells,
+        }
+    }
+
+    /// The places where the threads of the feed sleep.
+    pub fn bells(&self) -> &Bells {
+        &self.bells
+    }
+
+    /// The same bells, for a subscriber.
+    pub fn share_bells(&self) -> Result<Arc<Bells, Global>, AllocError> {
+        Arc::try_clone(&self.bells)
+    }
+
+    /// Whether something may be ready at the venue that wasn't pushed.
+    pub fn is_held_back(&self, venue: VenueId) -> bool {
+        self.held_back[venue.index()].load(Ordering::SeqCst)
+    }
+
+    /// Notes whether something may be ready at the venue that wasn't pushed.
+    pub(crate) fn set_held_back(&self, venue: VenueId, is_held_back: bool) {
+        if self.is_held_back(venue) != is_held_back {
+            self.held_back[venue.index()].store(is_held_back, Ordering::SeqCst);
+        }
+    }
+
+    /// The number of venues.
+    pub fn len(&self) -> usize
+        ensures { result ≡ length N.lanes.venues }
+    {
+        self.locks.len()
+    }
+
+    /// The venue's lock, if there is such a venue.
+    pub(crate) fn get(&self, venue: VenueId) -> Option<&Mutex<Guarded<G, N>>>
+        ensures { IsSome result ↔ (venue < length N.lanes.venues) }
+    {
+        match self.locks.get(venue.index()) {
+            Some(lock) => Some(&**lock),
+            None => None,
+        }
+    }
+
+    /// All locks.
+    pub fn as_slice(&self) -> &[VenueLock<G, N>] {
+        self.locks.as_slice()
+    }
+
+    /// Returns the locks, and the places where the threads of the feed sleep.
+    pub fn into_parts(self) -> (Vec<VenueLock<G, N>>, Arc<Bells, Global>)
+        ensures { length result.0.items ≡ length N.lanes.venues }
+    {
+        let VenueLocks {
+            locks,
+            held_back: _,
+            bells,
+        } = self;
+        (locks, bells)
+    }
+}
