@@ -17,8 +17,8 @@ use Rattle.line_arbiter.specs.Histories.{items_of}
 use Rattle.fifo_lane.specs.Lane.{Keeps}
 use Rattle.line_arbiter.specs.laws.Histories.{items_push}
 use Rattle.feed_types.specs.declared.genuine.Genuine.{Ghosts as Genuine}
-use Rattle.live_feed.specs.Lanes.{FeedLanes}
-use Rattle.live_feed.specs.venue.Cells.{AreGivenFrom, CellState, VenueLockInvariant}
+use Rattle.feed_steps.specs.Lanes.{FeedLanes}
+use Rattle.venue_lines.specs.Cells.{AreGivenFrom, CellState, VenueLockInvariant}
 use Rattle.journal_book.specs.ItemsIn.{item_by, items_in}
 use Rattle.live_feed.specs.settle.Settlements.{IsSettled}
 use Rattle.line_arbiter.specs.laws.FitsHistory.{wins_are}
@@ -154,7 +154,7 @@ pub settled : {S : Type 0} (premise : Genuine S) (lanes : FeedLanes) (may_send :
     (c : CellState) (k : VenueLockInvariant premise lanes c) (received inside ready : List Numbered) (won : PerLine ℕ)
     → Keeps may_send c.lane.tag c.lane.capacity c.lane.items received inside
     → ready ≡ drop (place_of k.history.present.packets c.arbiter.sent) (stream_of k.history.present.packets) → won ≡ c.arbiter.wins
-    → IsSettled premise c.arbiter.venue lanes.setting.window c.lane.items received inside ready won c.accepted
+    → IsSettled premise c.arbiter.venue lanes.setting.window c.lane.items received inside ready won c.brought
 settled premise lanes may_send c k received inside ready won keeps rest same =
     let h = k.history in
     let f = k.fits in

@@ -12,11 +12,11 @@ use Rattle.journal_book.specs.Journals.{JournalState, changes, terms_at}
 use Rattle.journal_book.specs.Cursors.{IsUnseen}
 use Rattle.fifo_lane.specs.Lane.{Keeps, LaneEnd}
 use Rattle.live_feed.specs.declared.subscriber.logged.Logged.{Logged}
-use Rattle.live_feed.specs.Lanes.{FeedLanes}
-use Rattle.live_feed.specs.hub.Hubs.{IsOffered}
+use Rattle.feed_steps.specs.Lanes.{FeedLanes}
+use Rattle.hub_lanes.specs.Hubs.{IsOffered}
 use Rattle.live_feed.specs.settle.Settlements.{IsServed}
 use Rattle.live_feed.proofs.ClosedLanes.{next_drop}
-use Rattle.live_feed.proofs.HubMoves.{one_there}
+use Rattle.feed_steps.specs.laws.Lists.{one_there}
 
 drop_past : (xs : List Notice) (place : ℕ) → length xs ≤ place → drop place xs ≡ []
 drop_past [] zero h = refl

@@ -1,5 +1,5 @@
--- The making and opening of a feed, in terms of plain states.
-use Rattle.std.proofs.Common.{◌≡◌, ℕ, zero, suc, ◌+◌, List, [], ◌∷◌, ◌++◌, length, map, Some, refl, sym, ap, subst, ◌∙◌, arith, length-append, get_or, All, inl, inr}
+-- The opening of a feed, in terms of plain states.
+use Rattle.std.proofs.Common.{◌≡◌, ℕ, zero, suc, ◌+◌, List, [], ◌∷◌, length, map, Some, sym, ap, subst, ◌∙◌, arith, get_or, All}
 use Rattle.std.specs.Prelude.{slice_get}
 use Rattle.std.proofs.lemmas.Option.{slice_get-get_or}
 use Rattle.std.proofs.lemmas.List.{length-map}
@@ -7,69 +7,20 @@ use Rattle.feed_types.specs.declared.item.Numbered.{Numbered}
 use Rattle.feed_types.specs.declared.journal.Entry.{Entry}
 use Rattle.journal_book.specs.Journals.{JournalState}
 use Rattle.fifo_lane.specs.Lane.{LaneEnd}
-use Rattle.feed_core.specs.laws.Lists.{get_push}
 use Rattle.feed_types.specs.declared.genuine.Genuine.{Ghosts as Genuine}
-use Rattle.live_feed.specs.Premises.{AreInSequence}
-use Rattle.live_feed.specs.declared.hub.spare.SpareLane.{SpareLane}
-use Rattle.live_feed.specs.Lanes.{FeedLanes, FeedSetting}
-use Rattle.live_feed.specs.feed.Feeds.{StartState, AreStarts, IsUnused, AreUnused, lanes_of, IsClosed, HasItsLane}
+use Rattle.feed_steps.specs.Premises.{AreInSequence}
+use Rattle.hub_lanes.specs.declared.spare.SpareLane.{SpareLane}
+use Rattle.feed_steps.specs.Lanes.{FeedLanes, FeedSetting}
+use Rattle.venue_lines.specs.Starts.{StartState, HasItsLane}
+use Rattle.live_feed.specs.feed.Feeds.{lanes_of, IsClosed}
 use Rattle.journal_book.specs.ItemsIn.{items_in}
-use Rattle.live_feed.specs.hub.Hubs.{HubLockInvariant}
-
-get_last : {X : Type 0} (xs : List X) (x : X) → slice_get (xs ++ x ∷ []) (length xs) ≡ Some x
-get_last [] x = refl
-get_last (y ∷ ys) x = get_last ys x
-
-get_more : {X : Type 0} (xs ys : List X) (k : ℕ) (x : X) → slice_get xs k ≡ Some x → slice_get (xs ++ ys) k ≡ Some x
-get_more [] ys k x e = absurd cc
-get_more (z ∷ xs) ys zero x e = e
-get_more (z ∷ xs) ys (suc k) x e = get_more xs ys k x e
+use Rattle.hub_lanes.specs.Hubs.{HubLockInvariant}
 
 get_map : {X Y : Type 0} (f : X → Y) (xs : List X) (k : ℕ) (x : X) → slice_get xs k ≡ Some x
     → slice_get (map f xs) k ≡ Some (f x)
 get_map f [] k x e = absurd cc
 get_map f (z ∷ xs) zero x e = let same : z ≡ x = cc in ap (λ (y : _). Some (f y)) same
 get_map f (z ∷ xs) (suc k) x e = get_map f xs k x e
-
--- one more lane
-pub unused_more : (capacity : ℕ) (xs : List SpareLane) (x : SpareLane) → AreUnused capacity xs
-    → IsUnused capacity (length xs) x → AreUnused capacity (xs ++ x ∷ [])
-unused_more capacity xs x all new = λ id y at. elim (get_push xs id x y at) [
-  | inl here ↦ subst (λ (p : ℕ × SpareLane). IsUnused capacity p.0 p.1) (λ i. (sym here.0 i, sym here.1 i)) new
-  | inr there ↦ all id y there.1
-]
-
--- one more lane for a subscriber
-pub spares_more : (capacity : ℕ) (spare : List SpareLane) (s : SpareLane) → AreUnused capacity spare
-    → IsUnused capacity (length spare) s → AreUnused capacity (spare ++ s ∷ [])
-spares_more capacity spare s before unused id x at = elim (get_push spare id s x at) [
-  | inl here ↦ subst (λ (p : ℕ × SpareLane). IsUnused capacity p.0 p.1) (λ i. (sym here.0 i, sym here.1 i)) unused
-  | inr there ↦ before id x there.1
-]
-
--- one more venue
-pub starts_more : (window lane : ℕ) (starts : List StartState) (receivers : List (LaneEnd Numbered)) (s : StartState)
-    (e : LaneEnd Numbered) → AreStarts window lane starts receivers → e ≡ s.lane → e.tag ≡ length receivers
-    → e.items ≡ []
-    → (s.arbiter.window ≡ window) × (s.lane.capacity ≡ lane)
-    → AreStarts window lane (starts ++ s ∷ []) (receivers ++ e ∷ [])
-starts_more window lane starts receivers s e h same tag empty sized = record {
-  count = length-append starts (s ∷ []) ∙ ap (λ (n : ℕ). n + 1) h.count ∙ sym (length-append receivers (e ∷ []));
-  same = λ k y at. elim (get_push starts k s y at) [
-    | inl here ↦ ap (slice_get (receivers ++ e ∷ [])) (here.0 ∙ h.count) ∙ get_last receivers e
-        ∙ ap Some (same ∙ sym (ap (λ (x : StartState). x.lane) here.1))
-    | inr there ↦ get_more receivers (e ∷ []) k y.lane (h.same k y there.1)
-  ];
-  new = λ k y at. elim (get_push receivers k e y at) [
-    | inl here ↦ subst (λ (p : ℕ × LaneEnd Numbered). (p.1.tag ≡ p.0) × (p.1.items ≡ []))
-        (λ i. (sym here.0 i, sym here.1 i)) (tag, empty)
-    | inr there ↦ h.new k y there.1
-  ];
-  sized = λ k y at. elim (get_push starts k s y at) [
-    | inl here ↦ subst (λ (x : StartState). (x.arbiter.window ≡ window) × (x.lane.capacity ≡ lane)) (sym here.1) sized
-    | inr there ↦ h.sized k y there.1
-  ];
-}
 
 module _ (starts : List StartState) (receivers : List (LaneEnd Numbered)) (journal : JournalState)
     (spare : List SpareLane) (setting : FeedSetting) (lanes : FeedLanes)

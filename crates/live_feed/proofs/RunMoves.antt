@@ -5,19 +5,19 @@ use Rattle.feed_types.specs.declared.journal.Notice.{Notice}
 use Rattle.filter_terms.specs.declared.advice.Advice.{Advice}
 use Rattle.line_arbiter.specs.declared.outcome.Outcome.{Outcome}
 use Rattle.feed_types.specs.declared.genuine.Genuine.{Ghosts as Genuine}
-use Rattle.live_feed.specs.declared.faults.TakeFault.{TakeFault}
-use Rattle.live_feed.specs.declared.faults.TakeFault.TheVariants as faults
+use Rattle.venue_lines.specs.declared.faults.TakeFault.{TakeFault}
+use Rattle.venue_lines.specs.declared.faults.TakeFault.TheVariants as faults
 use Rattle.live_feed.specs.declared.run.line.LineEnd.{LineEnd}
 use Rattle.live_feed.specs.declared.run.source.SourceFault.{SourceFault}
 use Rattle.live_feed.specs.declared.subscriber.logged.PollFault.{PollFault}
 use Rattle.live_feed.specs.declared.subscriber.logged.PollFault.TheVariants.{NoMemory, LogFull}
 use Rattle.line_arbiter.specs.Counts.{shown}
-use Rattle.live_feed.specs.Lanes.{FeedLanes}
-use Rattle.live_feed.specs.venue.Seats.{SeatState}
-use Rattle.live_feed.specs.venue.Datagrams.{AreGenuineBytes, IsTakenBy}
+use Rattle.feed_steps.specs.Lanes.{FeedLanes}
+use Rattle.venue_lines.specs.Seats.{SeatState}
+use Rattle.venue_lines.specs.Datagrams.{AreGenuineBytes, IsTakenBy}
 use Rattle.live_feed.specs.subscriber.Logs.{SubscriberLogState, Polls, logged}
 use Rattle.live_feed.specs.run.Runs.{failures_after, Taking, AreTakenBy, HasTaken, LineHasEnded, HasPolled, Pairwise}
-use Rattle.live_feed.proofs.CellMoves.{shown_sum}
+use Rattle.feed_steps.specs.laws.Counts.{shown_sum}
 
 -- a datagram leaves a seat where it is
 pub seat_stays : {S : Type 0} (premise : Genuine S) (lanes : FeedLanes)
@@ -113,13 +113,12 @@ polled_same t u v so_far same = let P : SubscriberLogState → Type 0 = λ x. Ha
     rw same so_far
 
 -- one more poll
-pub polled_more : (may_send : ℕ → List Notice → Type 0)
-    (answer : Result (Option Advice) PollFault) (t u v : SubscriberLogState)
-    → HasPolled t u → Polls may_send answer u v → HasPolled t v
-polled_more may_send (Err LogFull) t u v so_far polled = polled_same t u v so_far polled.1
-polled_more may_send (Err NoMemory) t u v so_far polled = polled_same t u v so_far polled.1
-polled_more may_send (Ok None) t u v so_far polled = polled_same t u v so_far polled.1
-polled_more may_send (Ok (Some advice)) t u v so_far polled =
+pub polled_more : (answer : Result (Option Advice) PollFault) (t u v : SubscriberLogState)
+    → HasPolled t u → Polls answer u v → HasPolled t v
+polled_more (Err LogFull) t u v so_far polled = polled_same t u v so_far polled.1
+polled_more (Err NoMemory) t u v so_far polled = polled_same t u v so_far polled.1
+polled_more (Ok None) t u v so_far polled = polled_same t u v so_far polled.1
+polled_more (Ok (Some advice)) t u v so_far polled =
     let line = logged polled.1 advice in record {
       id = ap (λ x. x.id) polled.3 ∙ so_far.id;
       limits = ap (λ x. x.limits) polled.3 ∙ so_far.limits;

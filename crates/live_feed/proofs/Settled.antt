@@ -6,15 +6,17 @@ use Rattle.feed_types.specs.PerLines.{on_line}
 use Rattle.journal_book.specs.Journals.{JournalState, kept_of}
 use Rattle.feed_types.specs.ListLaws.{get_within}
 use Rattle.feed_types.specs.declared.genuine.Genuine.{Ghosts as Genuine}
-use Rattle.live_feed.specs.Lanes.{FeedLanes}
-use Rattle.live_feed.specs.venue.Cells.{CellState}
+use Rattle.feed_steps.specs.Lanes.{FeedLanes}
+use Rattle.venue_lines.specs.Cells.{CellState}
 use Rattle.journal_book.specs.ItemsIn.{items_in}
-use Rattle.live_feed.specs.hub.Hubs.{HubState}
-use Rattle.live_feed.specs.venue.Seats.{SeatState}
+use Rattle.hub_lanes.specs.Hubs.{HubState}
+use Rattle.venue_lines.specs.Seats.{SeatState}
+use Rattle.venue_lines.specs.Brought.{Brought, counts_of}
+use Rattle.feed_types.specs.declared.per_line.PerLine.{PerLine}
 use Rattle.live_feed.specs.subscriber.Logs.{SubscriberLogState}
-use Rattle.live_feed.specs.settle.Settlements.{AllAgree, AreInOrder, IsClosedVenue, IsSettled, IsSettlement, SettlementState, ShowsSubscriber, SubscriberEndState, ShowsVenue, VenueEndState, tally_of}
+use Rattle.live_feed.specs.settle.Settlements.{AllAgree, AreInOrder, IsClosedVenue, IsSettled, IsSettlement, SettlementState, ShowsSubscriber, SubscriberEndState, ShowsVenue, VenueEndState, brought_by_seats}
 use Rattle.live_feed.specs.settle.Closings.{IsClosedFeed}
-use Rattle.live_feed.proofs.HubMoves.{below_of}
+use Rattle.feed_steps.specs.laws.Lists.{found_within}
 use Rattle.live_feed.proofs.Sides.{zipped_at}
 
 module _ {S : Type 0} (premise : Genuine S) (lanes : FeedLanes) (seats : List SeatState) (cells : List CellState)
@@ -26,7 +28,7 @@ module _ {S : Type 0} (premise : Genuine S) (lanes : FeedLanes) (seats : List Se
   shows venue v at =
       let S = IsClosedVenue premise lanes s.journal in
       let long = AllZip-long S cells s.venues f.venues in
-      let below = below_of s.venues venue v (sym at) in
+      let below = found_within s.venues venue v (sym at) in
       let there = get_within cells venue (omega arith) in
       let cell = there.0 in
       let closed = zipped_at S cells s.venues venue cell v f.venues there.1 at in
@@ -36,12 +38,12 @@ module _ {S : Type 0} (premise : Genuine S) (lanes : FeedLanes) (seats : List Se
         kept = closed.kept;
         venue_is = same.venue_is;
         settled = subst (λ (n : ℕ). IsSettled premise n lanes.setting.window cell.lane.items
-            (items_in s.journal.entries n) v.in_lane v.ready v.wins v.accepted) same.venue_is closed.settled;
+            (items_in s.journal.entries n) v.in_lane v.ready v.wins v.brought) same.venue_is closed.settled;
         consumed = closed.consumed ∙ ap (items_in (kept_of s.journal.kept s.journal.entries)) same.venue_is;
         wins = λ line. ap (on_line line) closed.wins ∙ (same.on line).wins
-            ∙ (λ i. (tally_of (same.venue_is i) line seats).wins);
-        accepted = λ line. ap (on_line line) closed.accepted ∙ (same.on line).accepted
-            ∙ (λ i. (tally_of (same.venue_is i) line seats).accepted);
+            ∙ (λ i. (counts_of (brought_by_seats (same.venue_is i) line seats)).wins);
+        accepted = λ line. ap (λ (x : PerLine Brought). (counts_of (on_line line x)).accepted) closed.brought ∙ (same.on line).accepted
+            ∙ (λ i. (counts_of (brought_by_seats (same.venue_is i) line seats)).accepted);
       }
 
   pub settlement : length cells ≡ hub.journal.venues → length logs ≡ length hub.journal.cursors

@@ -4,8 +4,7 @@ use Rattle.std.specs.Prelude.{slice_get, ◌⊎◌, ◌||◌}
 use Rattle.std.specs.List.{AllZip, list_any}
 use Rattle.std.specs.Option.{option_map}
 use Rattle.std.proofs.lemmas.Option.{slice_get-map}
-use Rattle.feed_core.specs.laws.Lists.{get_push}
-use Rattle.live_feed.proofs.HubMoves.{below_of, one_there}
+use Rattle.feed_steps.specs.laws.Lists.{found_within, get_push, one_there}
 use Rattle.live_feed.proofs.ClosedLanes.{next_drop, drop_past}
 
 -- the element at a place of a list, of which something else is looked at
@@ -86,7 +85,7 @@ module _ {X : Type 0} (Q : ℕ → X → Type 0) where
 
   pub all_places : (n : ℕ) (xs : List X) → length xs ≤ n → UpTo n xs → (place : ℕ) (x : X) → slice_get xs place ≡ Some x
       → Q place x
-  all_places n xs past each place x at = let below = below_of xs place x (sym at) in each place x (omega arith) at
+  all_places n xs past each place x at = let below = found_within xs place x (sym at) in each place x (omega arith) at
 
 -- two lists, of which the second grows along the first
 module _ {X Y : Type 0} (Q : ℕ → X → Y → Type 0) where

@@ -1,36 +1,29 @@
 //! A feed that isn't open yet.
 
-ghost use Rattle.std.specs.Prelude.{◌≡◌, ◌≤◌, [], All, length, vec_len, vec_capacity, IfOk, IfErr, None, OnOk, Some};
+ghost use Rattle.std.specs.Prelude.{◌≡◌, ◌≤◌, [], length, IfOk, IfErr, None, OnOk, Some};
 ghost use Rattle.journal_book.specs.Configs.{IsGood, Explains};
-ghost use Rattle.live_feed.specs.feed.Feeds.{AreNamed, HasItsLane, configured_setting, feed_setting_of};
+ghost use Rattle.venue_lines.specs.Starts.{AreNamed};
+ghost use Rattle.live_feed.specs.feed.Feeds.{configured_setting, feed_setting_of};
 
 pub(crate) mod log_size;
-mod making;
 pub(crate) mod open_feed;
 mod reading;
 pub(crate) mod sharing;
 
-use crate::bells::Bells;
 use crate::feed::log_size::LogSize;
-use crate::feed::making::{new_spares, new_starts};
-use crate::feed::open_feed::{Guarded, OpenFeed};
-use crate::feed_name::FeedName;
-use crate::hub::cell::HubCell;
-use crate::hub::journal_and_lanes::JournalAndLanes;
-use crate::hub::spare::SpareLane;
-use crate::venue::cell::VenueCell;
-use crate::venue::locks::{VenueLock, VenueLocks};
-use crate::venue::packet_counts::PacketCounts;
-use crate::venue::refusals::Refusals;
-use crate::venue::start::VenueStart;
+use crate::feed::open_feed::OpenFeed;
+use crate::hub_cell::HubCell;
 use crossbeam_utils::CachePadded;
-use feed_types::{FeedConfig, Genuine, MAX_SUBSCRIBERS, Numbered, PerLine};
+use feed_steps::{Bells, FeedName};
+use feed_types::{FeedConfig, Genuine, MAX_SUBSCRIBERS, Numbered};
 use fifo_lane::{Receiver, VenueItems};
+use hub_lanes::{JournalAndLanes, SpareLane, new_spares};
 use journal_book::{CoreFault, Journal, new_journal, new_keeping_journal};
 use std::alloc::{AllocError, Global};
 use std::collections::VecDeque;
 use std::marker::Model;
 use std::sync::{Arc, Mutex};
+use venue_lines::{VenueLocks, VenueStart, new_starts};
 
 /// A feed that isn't open yet, to which nothing came. Contracts see it as its lanes and its
 /// setting.
@@ -46,7 +39,7 @@ pub struct LiveFeed<G: Genuine> {
 }
 
 impl<G: Genuine> Model for LiveFeed<G> {
-    ghost use Rattle.live_feed.specs.Lanes.{FeedLanes};
+    ghost use Rattle.feed_steps.specs.Lanes.{FeedLanes};
     ghost use Rattle.live_feed.specs.feed.Feeds.{IsClosed, lanes_of, feed_setting_of, feed_lanes_code};
 
     ghost Value = { FeedLanes };
@@ -58,29 +51,6 @@ impl<G: Genuine> Model for LiveFeed<G> {
 
     ghost invariant = { λ f. IsClosed (feed_setting_of f.kept f.window f.lane f.log_lines)
         f.starts.items f.from_venues.items f.kept f.spare_lanes.items };
-}
-
-/// Puts each venue under a lock of its own. There is room for all.
-fn locked<G: Genuine, N: FeedName>(
-    starts: Vec<VenueStart<G>>,
-    mut venues: Vec<VenueLock<G, N>>,
-) -> Vec<VenueLock<G, N>>
-    requires lanes { All (HasItsLane N.lanes) starts.items }
-    requires room { (length venues.items ≡ 0) × (vec_len starts ≤ vec_capacity venues) }
-    ensures { length result.items ≡ length starts.items }
-{
-    for start in starts {
-        let (arbiter, lane) = start.into_parts();
-        let cell = VenueCell::new(arbiter, lane);
-        venues.push_reserved(CachePadded::new(Mutex::new(Guarded {
-            cell,
-            seated: PerLine::all(false),
-            refused: PerLine::all(Refusals::none()),
-            packets: PerLine::all(PacketCounts::none()),
-            requests: 0,
-        })));
-    }
-    venues
 }
 
 impl<G: Genuine> LiveFeed<G> {
@@ -189,7 +159,7 @@ impl<G: Genuine> LiveFeed<G> {
             filters,
             next: 0,
         }));
-        let venues = VenueLocks::new(locked(starts, venues), bells);
+        let venues = VenueLocks::open(starts, venues, bells);
         let log_size = LogSize::new(log_lines);
         Ok(OpenFeed {
             venues,

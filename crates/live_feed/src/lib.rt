@@ -1,15 +1,15 @@
 //! A feed that many threads run: what its locks guard, and what is done under them.
 //!
-//! A venue's lock guards the venue's arbiter and the sending end of its lane, a [`VenueCell`]. The
-//! consolidator's lock guards the journal, the receiving ends of the venues' lanes and the sending
-//! ends of the subscribers', a [`HubCell`]. A line has a [`LineSeat`], which shows what it brought;
-//! a [`Subscriber`] has the receiving end of its lane, its strategy and its log.
+//! A venue's lock guards the venue's arbiter and the sending end of its lane, a [`VenueCell`]
+//! (`venue_lines`). The consolidator's lock guards the journal, the receiving ends of the venues'
+//! lanes and the sending ends of the subscribers' (`hub_lanes`), and beside these the subscribers'
+//! filters: a [`HubCell`]. A line has a [`LineSeat`], which shows what it brought; a [`Subscriber`]
+//! has the receiving end of its lane, its strategy and its log.
 //!
 //! Contract: whenever a lock is free, what it guards is a part of a world of the event machine
-//! (`feed_core`), and each section under the lock is one of its events
-//! (`specs/venue/Sections.antt`, `specs/hub/Sections.antt`). Begin at `specs/venue/Cells.antt`,
-//! `specs/hub/Hubs.antt` and `specs/subscriber/Logs.antt`, and at `venue/cell.rt` and `hub/cell.rt`
-//! for the code.
+//! (`feed_core`), and each section under the lock is one of its events (`specs/Sections.antt` of
+//! both halves). Begin at their `specs/Cells.antt` and `specs/Hubs.antt` and at
+//! `specs/subscriber/Logs.antt`, and at `feed/open_feed.rt` for the code.
 //!
 //! A [`LiveFeed`] has all lanes of a feed, to which nothing came yet (`specs/feed/Feeds.antt`). An
 //! [`OpenFeed`] has them under its locks; each call takes one of these. Of what a call did under
@@ -23,49 +23,42 @@
 //! [`LineSource`] returns (`specs/run/Runs.antt`), and a [`StopHandle`] ends the run.
 #![tactic(auto)]
 
-mod bells;
-mod faults;
 mod feed;
-mod feed_name;
-mod hub;
+mod hub_cell;
 mod laws;
 mod lists;
 mod run;
 mod settle;
 mod subscriber;
-mod unsent;
-mod venue;
 
-pub use faults::{FeedFault, GapFault, RenewalFault, SettleFault, TakeFault};
 pub use feed::LiveFeed;
 pub use feed::open_feed::OpenFeed;
 pub use feed::sharing::Shareable;
-pub use feed_name::FeedName;
-pub use hub::cell::HubCell;
-pub use hub::journal_and_lanes::JournalAndLanes;
-pub use hub::spare::SpareLane;
-pub use hub::turn::Consolidated;
-pub use laws::{
-    journaled_items_are_the_sessions, packets_of_the_sessions_are_accepted,
-    sent_items_are_the_sessions, sent_items_are_the_sessions_parts, sent_items_skip_nothing,
-    settled_items_are_the_sessions,
-};
+pub use hub_cell::HubCell;
+pub use laws::settled_items_are_the_sessions;
+pub use run::attendant::{Attendant, Attended, OwnLog, RunView, Unattended};
 pub use run::line::{Line, LineEnd};
 pub use run::report::{RunReport, Stop};
 pub use run::source::{LineSource, SourceFault};
 pub use run::stop_handle::StopHandle;
+pub use run::whole::{
+    FeedEnd, FeedReport, FeedTask, LineReport, LineTask, Subscription, WholeFault,
+};
+pub use settle::fault::SettleFault;
 pub use settle::settlement::Settlement;
 pub use settle::unsettled::Unsettled;
 pub use subscriber::Subscriber;
 pub use subscriber::log::SubscriberLog;
 pub use subscriber::logged::{Logged, PollFault};
-pub use unsent::Unsent;
-pub use venue::cell::VenueCell;
-pub use venue::datagram::Datagram;
-pub use venue::packet_counts::PacketCounts;
-pub use venue::refusals::Refusals;
-pub use venue::seat::LineSeat;
-pub use venue::status::{LineStatus, VenueStatus};
+
+// The halves: a feed's venues, and its consolidator.
+pub use feed_steps::{FeedName, Unsent};
+pub use hub_lanes::{Consolidated, JournalAndLanes, SpareLane, journaled_items_are_the_sessions};
+pub use venue_lines::{
+    Datagram, FeedFault, GapFault, LineCounts, LineSeat, RenewalFault, TakeFault, VenueCell,
+    VenueStatus, packets_of_the_sessions_are_accepted, sent_items_are_the_sessions,
+    sent_items_are_the_sessions_parts, sent_items_skip_nothing,
+};
 
 // The types in the signatures of a feed's calls, so that a program names this crate alone.
 pub use feed_types::{

@@ -1,9 +1,10 @@
-//! A run: each line and each subscriber in a thread of its own, and the consolidator in the calling
-//! one.
+//! A run: each line, each subscriber and the consolidator in a thread of its own, and the attendant
+//! in the calling one.
 
-ghost use Rattle.std.specs.Prelude.{◌≡◌, ◌≤◌, [], map, IfOk, IfErr, vec_len, vec_capacity};
+ghost use Rattle.std.specs.Prelude.{◌≡◌, ◌≤◌, [], map, IfOk, IfErr, OnErr, OnOk, vec_len, vec_capacity};
 ghost use Rattle.live_feed.specs.run.Runs.{Pairwise, HasTaken, LineHasEnded, HasPolled};
 
+pub(crate) mod attendant;
 mod consolidating;
 mod idle;
 pub(crate) mod line;
@@ -16,10 +17,11 @@ pub(crate) mod stop_handle;
 mod subscriber_threads;
 mod subscriber_work;
 mod threads;
+pub(crate) mod whole;
 
 use crate::feed::open_feed::OpenFeed;
-use crate::feed_name::FeedName;
-use crate::run::consolidating::consolidate;
+use crate::run::attendant::{Attendant, Attended, OwnLog, RunView, Unattended};
+use crate::run::consolidating::{join_consolidator, start_consolidator};
 use crate::run::line::{Line, LineEnd};
 use crate::run::line_threads::{LineThread, start_lines};
 use crate::run::report::{RunReport, Stop};
@@ -30,6 +32,7 @@ use crate::run::subscriber_threads::{LogThread, start_subscribers};
 use crate::run::threads::join_each;
 use crate::subscriber::Subscriber;
 use crate::subscriber::log::SubscriberLog;
+use feed_steps::FeedName;
 use feed_types::Genuine;
 use filter_terms::Strategy;
 use std::alloc::{AllocError, Global};
@@ -58,11 +61,20 @@ struct LogsToRun<N: FeedName> {
     ghost room: { (vec_len logs ≤ vec_capacity threads) × (vec_len logs ≤ vec_capacity back) },
 }
 
-/// What the threads of a run return.
+/// What is run: lines, subscribers' logs, and the attendant beside them.
 #[derive(Drop)]
-struct Joined<G: Genuine, N: FeedName, S: LineSource<G>> {
+struct Parts<G: Genuine, N: FeedName, S: LineSource<G>, A> {
+    lines: LinesToRun<G, N, S>,
+    logs: LogsToRun<N>,
+    attended: Attended<N, A>,
+}
+
+/// What the threads of a run return, and its attendant.
+#[derive(Drop)]
+struct Joined<G: Genuine, N: FeedName, S: LineSource<G>, A> {
     ends: Vec<LineEnd<G, N, S>>,
     logs: Vec<SubscriberLog<N>>,
+    attended: Attended<N, A>,
     stopped: Option<Stop>,
 }
 
@@ -87,51 +99,56 @@ fn apart<N: FeedName>(
     (logs, strategies)
 }
 
-/// Starts the threads of a run, consolidates, and waits for all threads.
-fn run_in<'s, E, G, N, S, R>(
+/// Starts the threads of a run, has the attendant attend it, and waits for all threads.
+fn run_in<'s, E, G, N, S, A, R>(
     rt: &'s R,
     scope: &Scope<'s, E>,
     feed: &'s OpenFeed<G, N>,
     signals: &'s Signals,
-    lines: LinesToRun<G, N, S>,
-    logs: LogsToRun<N>,
+    parts: Parts<G, N, S, A>,
     strategies: &'s Vec<Mutex<Strategy>>,
-) -> Joined<G, N, S>
+) -> Joined<G, N, S, A>
 where
     G: Genuine + Send + Sync + 's,
     N: FeedName + Send + Sync + 's,
     S: LineSource<G> + Send + 's,
+    A: Attendant<G, N, OwnLog<N>>,
     R: Threads + Wait + Sync,
-    requires { vec_len logs.logs ≤ vec_len strategies.now }
+    requires { vec_len parts.logs.logs ≤ vec_len strategies.now }
     ensures lines { Pairwise (λ line. LineHasEnded (HasTaken G.Genuine N.lanes) S.brings S.failures
-        line.seat line.source) lines.lines.items result.ends.items }
-    ensures logs { Pairwise HasPolled logs.logs.items result.logs.items }
-    ensures count { vec_len result.logs ≡ vec_len logs.logs }
+        line.seat line.source) parts.lines.lines.items result.ends.items }
+    ensures logs { Pairwise HasPolled parts.logs.logs.items result.logs.items }
+    ensures count { vec_len result.logs ≡ vec_len parts.logs.logs }
+    ensures attended { A.attends parts.attended.attendant parts.attended.log
+        result.attended.attendant result.attended.log }
 {
-    let LinesToRun {
-        lines,
-        threads: line_threads,
-        ends,
-    } = lines;
-    let LogsToRun {
-        logs,
-        threads: log_threads,
-        back,
-    } = logs;
+    let Parts {
+        lines: LinesToRun {
+            lines,
+            threads: line_threads,
+            ends,
+        },
+        logs: LogsToRun {
+            logs,
+            threads: log_threads,
+            back,
+        },
+        attended,
+    } = parts;
+    attended.set_polling(true);
     let bells = feed.venues.bells();
     let log_threads = start_subscribers(rt, scope, signals, bells, logs, strategies, log_threads);
     let line_threads = start_lines(rt, scope, &feed.venues, signals, lines, line_threads);
-    let stopped = consolidate(rt, feed, signals);
+    let consolidator = start_consolidator(rt, scope, feed, signals);
+    let attended = attended.attend(rt, &RunView { feed, signals });
+    attended.set_polling(false);
+    let stopped = join_consolidator(rt, consolidator, signals);
     let ends = join_each(rt, line_threads, ends);
     let logs = join_each(rt, log_threads, back);
-    let stopped = if signals.lacks_thread() {
-        Some(Stop::NoThread)
-    } else {
-        stopped
-    };
     Joined {
         ends,
         logs,
+        attended,
         stopped,
     }
 }
@@ -167,12 +184,12 @@ impl<G: Genuine, N: FeedName> OpenFeed<G, N> {
 }
 
 impl<G: Genuine + Send + Sync, N: FeedName + Send + Sync> OpenFeed<G, N> {
-    /// Runs each line and each subscriber in a thread of its own, and the consolidator in this one,
-    /// until all lines have ended; what is ready is then pushed, journaled and offered. Each line's
-    /// seat and source and each subscriber come back in the order given. Where the journal is full,
-    /// memory or a thread is refused, or a subscriber is too far behind whose notices no thread
-    /// takes, the run stops early: then, and where a handle of `stop_handle` stops it, no line reads
-    /// a further datagram.
+    /// Runs each line, each subscriber and the consolidator in a thread of its own, until all lines
+    /// have ended; what is ready is then pushed, journaled and offered. Each line's seat and source
+    /// and each subscriber come back in the order given. Where the journal is full, memory or a
+    /// thread is refused, or a subscriber is too far behind whose notices no thread takes, the run
+    /// stops early: then, and where a handle of `stop_handle` stops it, no line reads a further
+    /// datagram.
     ///
     /// Where memory for the lists of threads and logs is refused, nothing is started, and all are
     /// handed back.
@@ -190,6 +207,38 @@ impl<G: Genuine + Send + Sync, N: FeedName + Send + Sync> OpenFeed<G, N> {
         ensures subscribers { IfOk result (λ report. Pairwise (λ given back.
             HasPolled given.log back.log) subscribers.items report.subscribers.items) }
     {
+        let unattended = Attended {
+            attendant: Unattended,
+            log: None,
+        };
+        let (ran, _attended) = self.run_attended(rt, alloc, lines, subscribers, unattended);
+        ran
+    }
+
+    /// Runs as `run` does, with an attendant beside the run, in the calling thread. The run ends
+    /// once the attendant has returned, too.
+    pub fn run_attended<
+        S: LineSource<G> + Send,
+        A: Attendant<G, N, OwnLog<N>>,
+        R: Threads + Wait + Sync,
+    >(
+        &self,
+        rt: &R,
+        alloc: Global,
+        lines: Vec<Line<G, N, S>>,
+        subscribers: Vec<Subscriber<N>>,
+        attended: Attended<N, A>,
+    ) -> RanOrBack<G, N, S, A>
+        ensures back { IfErr result.0 (λ back. (back.0 ≡ lines) × (back.1 ≡ subscribers)) }
+        ensures unattended { OnErr result.0 (result.1 ≡ attended) }
+        ensures lines { IfOk result.0 (λ report. Pairwise (λ line. LineHasEnded
+            (HasTaken G.Genuine N.lanes) S.brings S.failures line.seat line.source) lines.items
+            report.lines.items) }
+        ensures subscribers { IfOk result.0 (λ report. Pairwise (λ given back.
+            HasPolled given.log back.log) subscribers.items report.subscribers.items) }
+        ensures attended { OnOk result.0 (A.attends attended.attendant attended.log
+            result.1.attendant result.1.log) }
+    {
         let (lines_count, count) = (lines.len(), subscribers.len());
         let (Ok(line_threads), Ok(ends), Ok(log_threads), Ok(logs), Ok(logs_back)) = (
             Vec::with_capacity(alloc, lines_count),
@@ -198,69 +247,84 @@ impl<G: Genuine + Send + Sync, N: FeedName + Send + Sync> OpenFeed<G, N> {
             Vec::with_capacity(alloc, count),
             Vec::with_capacity(alloc, count),
         ) else {
-            return Err((lines, subscribers));
+            return (Err((lines, subscribers)), attended);
         };
         let (Ok(strategies), Ok(back)) = (
             Vec::with_capacity(alloc, count),
             Vec::with_capacity(alloc, count),
         ) else {
-            return Err((lines, subscribers));
+            return (Err((lines, subscribers)), attended);
         };
         let signals = Signals::new(lines_count as u64);
         let (logs, strategies) = apart(subscribers, logs, strategies);
-        let lines = LinesToRun {
-            lines,
-            threads: line_threads,
-            ends,
-        };
-        let logs = LogsToRun {
-            logs,
-            threads: log_threads,
-            back: logs_back,
+        let parts = Parts {
+            lines: LinesToRun {
+                lines,
+                threads: line_threads,
+                ends,
+            },
+            logs: LogsToRun {
+                logs,
+                threads: log_threads,
+                back: logs_back,
+            },
+            attended,
         };
         let Joined {
             ends,
             logs,
+            attended,
             stopped,
-        } = run_scoped(rt, self, &signals, lines, logs, &strategies);
+        } = run_scoped(rt, self, &signals, parts, &strategies);
         let subscribers = reassembled(logs, strategies, back);
-        Ok(RunReport {
+        let report = RunReport {
             lines: ends,
             subscribers,
             stopped,
-        })
+        };
+        (Ok(report), attended)
     }
 }
 
+/// A run's report, or what was to be run, and the attendant.
+type RanOrBack<G, N, S, A> = (
+    Result<RunReport<G, N, S>, (Vec<Line<G, N, S>>, Vec<Subscriber<N>>)>,
+    Attended<N, A>,
+);
+
 /// Runs all threads in a scope.
-fn run_scoped<G, N, S, R>(
+fn run_scoped<G, N, S, A, R>(
     rt: &R,
     feed: &OpenFeed<G, N>,
     signals: &Signals,
-    lines: LinesToRun<G, N, S>,
-    logs: LogsToRun<N>,
+    parts: Parts<G, N, S, A>,
     strategies: &Vec<Mutex<Strategy>>,
-) -> Joined<G, N, S>
+) -> Joined<G, N, S, A>
 where
     G: Genuine + Send + Sync,
     N: FeedName + Send + Sync,
     S: LineSource<G> + Send,
+    A: Attendant<G, N, OwnLog<N>>,
     R: Threads + Wait + Sync,
-    requires { vec_len logs.logs ≤ vec_len strategies.now }
+    requires { vec_len parts.logs.logs ≤ vec_len strategies.now }
     ensures lines { Pairwise (λ line. LineHasEnded (HasTaken G.Genuine N.lanes) S.brings S.failures
-        line.seat line.source) lines.lines.items result.ends.items }
-    ensures logs { Pairwise HasPolled logs.logs.items result.logs.items }
-    ensures count { vec_len result.logs ≡ vec_len logs.logs }
+        line.seat line.source) parts.lines.lines.items result.ends.items }
+    ensures logs { Pairwise HasPolled parts.logs.logs.items result.logs.items }
+    ensures count { vec_len result.logs ≡ vec_len parts.logs.logs }
+    ensures attended { A.attends parts.attended.attendant parts.attended.log
+        result.attended.attendant result.attended.log }
 {
     thread::scope(
         thread::scope_env(),
         rt,
-        move |scope| -> Joined<G, N, S>
-            requires { vec_len logs.logs ≤ vec_len strategies.now }
+        move |scope| -> Joined<G, N, S, A>
+            requires { vec_len parts.logs.logs ≤ vec_len strategies.now }
             ensures lines { Pairwise (λ line. LineHasEnded (HasTaken G.Genuine N.lanes) S.brings
-                S.failures line.seat line.source) lines.lines.items result.ends.items }
-            ensures logs { Pairwise HasPolled logs.logs.items result.logs.items }
-            ensures count { vec_len result.logs ≡ vec_len logs.logs }
-        { run_in(rt, scope, feed, signals, lines, logs, strategies) },
+                S.failures line.seat line.source) parts.lines.lines.items result.ends.items }
+            ensures logs { Pairwise HasPolled parts.logs.logs.items result.logs.items }
+            ensures count { vec_len result.logs ≡ vec_len parts.logs.logs }
+            ensures attended { A.attends parts.attended.attendant parts.attended.log
+                result.attended.attendant result.attended.log }
+        { run_in(rt, scope, feed, signals, parts, strategies) },
     )
 }

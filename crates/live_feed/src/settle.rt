@@ -5,6 +5,7 @@ ghost use Rattle.live_feed.specs.settle.Settlements.{AllAgree, AreInOrder, AreVe
 ghost use Rattle.live_feed.specs.settle.Closings.{HasRoom, IsClosedFeed, IsToClose, IsToServe};
 
 mod agreeing;
+pub(crate) mod fault;
 mod rooms;
 pub(crate) mod settlement;
 mod subscriber_end;
@@ -14,14 +15,12 @@ pub(crate) mod unsettled;
 mod venue_end;
 mod venue_lane;
 
-use crate::bells::Bells;
-use crate::faults::SettleFault;
 use crate::feed::log_size::LogSize;
-use crate::feed::open_feed::{Guarded, OpenFeed};
-use crate::feed_name::FeedName;
-use crate::hub::cell::HubCell;
+use crate::feed::open_feed::OpenFeed;
+use crate::hub_cell::HubCell;
 use crate::lists::{made_of_each, made_of_three};
 use crate::settle::agreeing::{all_agree, are_in_order, has_its_seats};
+use crate::settle::fault::SettleFault;
 use crate::settle::rooms::{FeedRoom, feed_room};
 use crate::settle::settlement::Settlement;
 use crate::settle::subscriber_end::SubscriberEnd;
@@ -30,12 +29,12 @@ use crate::settle::unsettled::Unsettled;
 use crate::settle::venue_end::VenueEnd;
 use crate::settle::venue_lane::settle_venue;
 use crate::subscriber::Subscriber;
-use crate::venue::locks::{VenueLock, VenueLocks};
-use crate::venue::seat::LineSeat;
 use crossbeam_utils::CachePadded;
+use feed_steps::{Bells, FeedName};
 use feed_types::Genuine;
 use std::alloc::Global;
 use std::sync::{Arc, Mutex, Wait};
+use venue_lines::{Guarded, LineSeat, VenueLock, VenueLocks};
 
 /// A feed out of its locks, and an empty list with room for the venues' locks.
 #[derive(Drop)]

@@ -3,16 +3,15 @@
 ghost use Rattle.std.specs.Prelude.{◌≡◌, drop};
 ghost use Rattle.live_feed.specs.subscriber.Logs.{Polls};
 ghost use Rattle.live_feed.specs.subscriber.Asking.{AsksForAdvice};
-ghost use Rattle.live_feed.specs.hub.Offers.{AreRising};
 
 mod advising;
 pub(crate) mod kept_log;
 pub(crate) mod log;
 pub(crate) mod logged;
 
-use crate::feed_name::FeedName;
 use crate::subscriber::log::SubscriberLog;
 use crate::subscriber::logged::{Logged, PollFault};
+use feed_steps::FeedName;
 use feed_types::SubscriberId;
 use filter_terms::{Advice, Strategy};
 use std::sync::Wait;
@@ -56,7 +55,7 @@ impl<N: FeedName> Subscriber<N> {
     /// taken. A refused call changes nothing. The strategy is asked once for each notice that is
     /// taken, and else not.
     pub fn poll<W: Wait>(&mut self, rt: &W) -> Result<Option<Advice>, PollFault>
-        ensures polls { Polls AreRising result self.old.log self.new.log }
+        ensures polls { Polls result self.old.log self.new.log }
         ensures asks { AsksForAdvice result self.old.log self.new.log self.old.strategy
             self.new.strategy }
     {

@@ -1,57 +1,15 @@
 -- A feed that isn't open yet.
-use Rattle.std.specs.Prelude.{◌≡◌, ℕ, ◌≤◌, List, [], length, map, Option, Some, slice_get, refl}
+use Rattle.std.specs.Prelude.{◌≡◌, ℕ, ◌≤◌, List, [], length, map, Option, refl}
 use Rattle.std.specs.Coded.{Coded, code_by, coded×, coded_ℕ, coded_list, coded_option}
 use Rattle.atomic_table.specs.Seated.{TableId, table_id_coded}
 use Rattle.feed_types.specs.declared.config.FeedConfig.{FeedConfig}
 use Rattle.feed_types.specs.declared.item.Numbered.{Numbered}
-use Rattle.feed_types.specs.Sessions.{SessionNames}
-use Rattle.line_arbiter.specs.States.{State, IsNew}
-use Rattle.line_arbiter.specs.Fits.{Fits}
 use Rattle.journal_book.specs.Journals.{JournalState}
 use Rattle.fifo_lane.specs.Lane.{LaneEnd}
-use Rattle.live_feed.specs.Lanes.{FeedLanes, FeedSetting}
-use Rattle.live_feed.specs.declared.hub.spare.SpareLane.{SpareLane}
-
--- the lines may use these names for the venues' first sessions, in the order of the venues
-abbrev pub AreNamed : SessionNames → List (List ℕ) → Type 0
-AreNamed sessions names =
-    (venue : ℕ) (name : List ℕ) → slice_get names venue ≡ Some name → sessions venue 1 name
-
--- a venue's arbiter and the sending end of its lane
-pub record StartState : Type 0 where
-  pub arbiter : State
-  pub lane : LaneEnd Numbered
-
--- nothing came to the venue yet, and its first session has a name that the lines may use
-pub record IsStart (sessions : SessionNames) (s : StartState) : Type 0 where
-  pub new : IsNew s.arbiter s.lane.tag s.arbiter.session s.arbiter.window
-  pub fits : Fits s.arbiter []
-  pub named : sessions s.lane.tag 1 s.arbiter.session
-  pub empty : s.lane.items ≡ []
-
--- The receiving ends of the venues' lanes, in the order of the venues, each with nothing received.
--- Each window is `window` messages wide, and each lane has room for `lane` items.
-pub record AreStarts (window lane : ℕ) (starts : List StartState)
-    (receivers : List (LaneEnd Numbered)) : Type 0 where
-  pub count : length starts ≡ length receivers
-  pub same : (venue : ℕ) (s : StartState) → slice_get starts venue ≡ Some s
-      → slice_get receivers venue ≡ Some s.lane
-  pub new : (venue : ℕ) (e : LaneEnd Numbered) → slice_get receivers venue ≡ Some e
-      → (e.tag ≡ venue) × (e.items ≡ [])
-  pub sized : (venue : ℕ) (s : StartState) → slice_get starts venue ≡ Some s
-      → (s.arbiter.window ≡ window) × (s.lane.capacity ≡ lane)
-
--- a lane for the subscriber of this id, to which nothing was sent, with room for `capacity` notices
-pub record IsUnused (capacity id : ℕ) (s : SpareLane) : Type 0 where
-  pub tag : s.sender.tag ≡ id
-  pub capacity_is : s.sender.capacity ≡ capacity
-  pub items : s.sender.items ≡ []
-  pub same : s.receiver ≡ s.sender
-
--- lanes for subscribers, in the order of their ids
-abbrev pub AreUnused : ℕ → List SpareLane → Type 0
-AreUnused capacity spare =
-    (id : ℕ) (s : SpareLane) → slice_get spare id ≡ Some s → IsUnused capacity id s
+use Rattle.feed_steps.specs.Lanes.{FeedLanes, FeedSetting}
+use Rattle.venue_lines.specs.Starts.{AreStarts, StartState}
+use Rattle.hub_lanes.specs.declared.spare.SpareLane.{SpareLane}
+use Rattle.hub_lanes.specs.Spares.{AreUnused}
 
 -- the setting of a feed with this journal and these capacities of a window, a lane and a log
 abbrev pub feed_setting_of : JournalState → ℕ → ℕ → ℕ → FeedSetting
@@ -64,7 +22,7 @@ feed_setting_of journal window lane log = record {
   kept = journal.kept;
 }
 
--- the setting of a feed of this configuration, in which a subscriber may be behind by so many
+-- the setting of a feed of this configuration, in which a subscriber may be behind by `kept`
 -- changes where not all of them are kept
 abbrev pub configured_setting : FeedConfig → Option ℕ → FeedSetting
 configured_setting config kept = record {
@@ -124,10 +82,3 @@ pub record IsClosed (setting : FeedSetting) (starts : List StartState)
   pub symbols : journal.symbols ≡ setting.symbols
   pub size : journal.journal ≡ setting.journal
   pub kept : journal.kept ≡ setting.kept
-
--- the sending end's lane is the one that the feed has for its venue, and window and lane have the
--- sizes of the feed's setting
-pub record HasItsLane (lanes : FeedLanes) (s : StartState) : Type 0 where
-  pub lane : slice_get lanes.venues s.lane.tag ≡ Some s.lane.lane
-  pub window : s.arbiter.window ≡ lanes.setting.window
-  pub capacity : s.lane.capacity ≡ lanes.setting.lane

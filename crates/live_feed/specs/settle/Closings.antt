@@ -6,9 +6,9 @@ use Rattle.feed_types.specs.declared.journal.Notice.{Notice}
 use Rattle.journal_book.specs.Journals.{JournalState, kept_of}
 use Rattle.fifo_lane.specs.Lane.{LaneEnd}
 use Rattle.feed_types.specs.declared.genuine.Genuine.{Ghosts as Genuine}
-use Rattle.live_feed.specs.Lanes.{FeedLanes}
-use Rattle.live_feed.specs.venue.Cells.{CellState}
-use Rattle.live_feed.specs.hub.Hubs.{HubState, IsConsumed, HubLockInvariant, IsOffered}
+use Rattle.feed_steps.specs.Lanes.{FeedLanes}
+use Rattle.venue_lines.specs.Cells.{CellState}
+use Rattle.hub_lanes.specs.Hubs.{HubState, IsConsumed, HubLockInvariant, IsOffered}
 use Rattle.live_feed.specs.subscriber.Logs.{SubscriberLogState}
 use Rattle.live_feed.specs.settle.Rooms.{HasVenueRoom, HasSubscriberRoom, HaveVenueRooms, HaveSubscriberRooms}
 use Rattle.live_feed.specs.settle.Settlements.{IsClosedVenue, SettlementState, ShowsSubscriber}

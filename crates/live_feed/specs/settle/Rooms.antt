@@ -5,7 +5,7 @@ use Rattle.feed_types.specs.declared.journal.Notice.{Notice}
 use Rattle.journal_book.specs.Journals.{JournalState}
 use Rattle.journal_book.specs.Cursors.{IsUnseen}
 use Rattle.fifo_lane.specs.Lane.{LaneEnd}
-use Rattle.live_feed.specs.venue.Cells.{CellState}
+use Rattle.venue_lines.specs.Cells.{CellState}
 use Rattle.journal_book.specs.ItemsIn.{items_in}
 use Rattle.live_feed.specs.declared.settle.rooms.VenueRoom.{VenueRoom}
 use Rattle.live_feed.specs.declared.settle.rooms.SubscriberRoom.{SubscriberRoom}

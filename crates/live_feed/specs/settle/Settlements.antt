@@ -12,26 +12,28 @@ use Rattle.journal_book.specs.Journals.{JournalState, kept_of, terms_at}
 use Rattle.journal_book.specs.Wanted.{wanted_of}
 use Rattle.feed_types.specs.declared.genuine.Genuine.{Ghosts as Genuine}
 use Rattle.live_feed.specs.declared.subscriber.logged.Logged.{Logged}
-use Rattle.live_feed.specs.Lanes.{FeedLanes}
-use Rattle.live_feed.specs.venue.Cells.{AreGivenFrom, CellState, VenueLockInvariant, arrivals_of}
+use Rattle.feed_steps.specs.Lanes.{FeedLanes}
+use Rattle.venue_lines.specs.Cells.{AreGivenFrom, CellState, VenueLockInvariant, arrivals_of}
 use Rattle.journal_book.specs.ItemsIn.{items_in}
-use Rattle.live_feed.specs.venue.Seats.{SeatState, is_seat_of}
-use Rattle.live_feed.specs.venue.Sums.{Sums, accepted_on, no_sums, sums_together}
+use Rattle.venue_lines.specs.Seats.{SeatState, is_seat_of}
+use Rattle.venue_lines.specs.Brought.{Brought, accepted_on, brought_by_both, counts_of, nothing_brought}
 use Rattle.live_feed.specs.subscriber.Logs.{SubscriberLogState}
 
 -- A venue whose lane is closed, through which these items were sent: what was consumed, then what
 -- is in the lane, is what was sent. There are packets that the venue was given, session by session,
 -- each answered as it should be and genuine; what was sent, then what is ready, are the sessions'
--- streams; and what is counted per line is that of these packets.
+-- streams; and the wins of each line and the packets that were accepted on it are those of these
+-- packets.
 pub record IsSettled {S : Type 0} (premise : Genuine S) (venue window : ℕ)
-    (sent consumed in_lane ready : List Numbered) (won : PerLine ℕ) (sums : PerLine Sums) : Type 0 where
+    (sent consumed in_lane ready : List Numbered) (won : PerLine ℕ) (brought : PerLine Brought)
+    : Type 0 where
   pub sent_is : consumed ++ in_lane ≡ sent
   pub history : History
   pub given : AreGivenFrom premise venue window 1 history.earlier history.present
   pub whole : sent ++ ready ≡ streams_of history
   pub wins : (line : LineId) → on_line line won ≡ shown (wins_in (all_begun history) line)
   pub accepted : (line : LineId)
-      → on_line line sums ≡ accepted_on line (arrivals_of (all_begun history))
+      → (on_line line brought).accepted ≡ accepted_on line (arrivals_of (all_begun history))
 
 -- A subscriber whose lane is closed: the notices of its log, then those in the lane, then those
 -- that weren't offered are what it wants of the entries.
@@ -43,13 +45,13 @@ pub record IsServed (journal : JournalState) (id : ℕ) (log : List Logged)
       ≡ wanted_of journal.symbols terms journal.entries
 
 -- what is left of a venue: its items that were consumed, that are in the lane and that are ready,
--- and, line by line, how many numbers came first and the sums of accepted packets
+-- and, line by line, how many numbers came first and what was brought
 pub record VenueEndState : Type 0 where
   pub consumed : List Numbered
   pub in_lane : List Numbered
   pub ready : List Numbered
   pub wins : PerLine ℕ
-  pub accepted : PerLine Sums
+  pub brought : PerLine Brought
 
 -- what is left of a subscriber: its log, of which the first lines are forgotten, and the notices in
 -- its lane and those that weren't offered
@@ -65,32 +67,20 @@ pub record SettlementState : Type 0 where
   pub venues : List VenueEndState
   pub subscribers : List SubscriberEndState
 
--- The sums of what a line's seats show: how many numbers they brought first, as far as a u64 shows
--- it, and the sums of accepted packets.
-pub record Tally : Type 0 where
-  pub wins : ℕ
-  pub accepted : Sums
+-- with what one more seat brought, if it is of the venue's line
+abbrev pub with_seat : ℕ → LineId → Brought → SeatState → Brought
+with_seat venue line b s = if is_seat_of venue line s then brought_by_both b s.brought else b
 
-abbrev pub no_tally : Tally
-no_tally = record { wins = 0; accepted = no_sums }
-
--- the same with one more seat
-abbrev pub tally_after : ℕ → LineId → Tally → SeatState → Tally
-tally_after venue line t s =
-    if is_seat_of venue line s
-    then record {
-      wins = shown (t.wins + s.wins);
-      accepted = sums_together t.accepted s.accepted;
-    }
-    else t
-
-abbrev pub tally_of : ℕ → LineId → List SeatState → Tally
-tally_of venue line seats = fold (tally_after venue line) no_tally seats
+-- what the seats of the venue's line brought, one seat after the other
+abbrev pub brought_by_seats : ℕ → LineId → List SeatState → Brought
+brought_by_seats venue line seats = fold (with_seat venue line) nothing_brought seats
 
 -- the cell counts on the line what the line's seats show
 pub record AgreesOn (seats : List SeatState) (c : CellState) (line : LineId) : Type 0 where
-  pub wins : on_line line c.arbiter.wins ≡ (tally_of c.arbiter.venue line seats).wins
-  pub accepted : on_line line c.accepted ≡ (tally_of c.arbiter.venue line seats).accepted
+  pub wins : on_line line c.arbiter.wins
+      ≡ (counts_of (brought_by_seats c.arbiter.venue line seats)).wins
+  pub accepted : (counts_of (on_line line c.brought)).accepted
+      ≡ (counts_of (brought_by_seats c.arbiter.venue line seats)).accepted
 
 -- the cell is that of the venue, and agrees with the seats
 pub record AgreesWithSeats (seats : List SeatState) (venue : ℕ) (c : CellState) : Type 0 where
@@ -116,14 +106,15 @@ pub record IsClosedVenue {S : Type 0} (premise : Genuine S) (lanes : FeedLanes)
     (journal : JournalState) (c : CellState) (v : VenueEndState) : Type 0 where
   pub kept : VenueLockInvariant premise lanes c
   pub settled : IsSettled premise c.arbiter.venue lanes.setting.window c.lane.items
-      (items_in journal.entries c.arbiter.venue) v.in_lane v.ready v.wins v.accepted
+      (items_in journal.entries c.arbiter.venue) v.in_lane v.ready v.wins v.brought
   pub consumed : v.consumed ≡ items_in (kept_of journal.kept journal.entries) c.arbiter.venue
   pub wins : v.wins ≡ c.arbiter.wins
-  pub accepted : v.accepted ≡ c.accepted
+  pub brought : v.brought ≡ c.brought
 
 -- A venue of a closed feed, whose lock kept this cell last: its lane, through which the cell's
 -- items were sent, is closed; what was consumed is its items in the entries, and it is shown where
--- all is kept; and what is counted per line is what the line's seats show, added up.
+-- all is kept; and each line's wins and its sums of accepted packets are those of what the line's
+-- seats brought.
 pub record ShowsVenue {S : Type 0} (premise : Genuine S) (lanes : FeedLanes)
     (journal : JournalState) (seats : List SeatState) (venue : ℕ) (v : VenueEndState)
     : Type 0 where
@@ -131,10 +122,12 @@ pub record ShowsVenue {S : Type 0} (premise : Genuine S) (lanes : FeedLanes)
   pub kept : VenueLockInvariant premise lanes cell
   pub venue_is : cell.arbiter.venue ≡ venue
   pub settled : IsSettled premise venue lanes.setting.window cell.lane.items
-      (items_in journal.entries venue) v.in_lane v.ready v.wins v.accepted
+      (items_in journal.entries venue) v.in_lane v.ready v.wins v.brought
   pub consumed : v.consumed ≡ items_in (kept_of journal.kept journal.entries) venue
-  pub wins : (line : LineId) → on_line line v.wins ≡ (tally_of venue line seats).wins
-  pub accepted : (line : LineId) → on_line line v.accepted ≡ (tally_of venue line seats).accepted
+  pub wins : (line : LineId)
+      → on_line line v.wins ≡ (counts_of (brought_by_seats venue line seats)).wins
+  pub accepted : (line : LineId) → (counts_of (on_line line v.brought)).accepted
+      ≡ (counts_of (brought_by_seats venue line seats)).accepted
 
 -- a subscriber of a closed feed: its lane is closed, and the log is its own
 pub record ShowsSubscriber (journal : JournalState) (id : ℕ) (t : SubscriberLogState)

@@ -5,11 +5,11 @@ use Rattle.feed_types.specs.declared.journal.Notice.{Notice}
 use Rattle.filter_terms.specs.declared.advice.Advice.{Advice}
 use Rattle.filter_terms.specs.declared.advice.Limits.{Limits}
 use Rattle.filter_terms.specs.Allowed.{IsAllowed}
-use Rattle.fifo_lane.specs.Lane.{LaneEnd, WasEmpty, with_items}
+use Rattle.fifo_lane.specs.Lane.{LaneEnd, with_items}
 use Rattle.live_feed.specs.declared.subscriber.logged.Logged.{Logged}
 use Rattle.live_feed.specs.declared.subscriber.logged.PollFault.{PollFault}
 use Rattle.live_feed.specs.declared.subscriber.logged.PollFault.TheVariants.{NoMemory, LogFull}
-use Rattle.live_feed.specs.Lanes.{FeedLanes}
+use Rattle.feed_steps.specs.Lanes.{FeedLanes}
 
 -- the subscriber's id, the receiving end of its lane, its log's lines, how many of these are
 -- forgotten, how many it takes, and the limits of its strategy
@@ -36,15 +36,14 @@ pub record SubscriberLogInvariant (lanes : FeedLanes) (t : SubscriberLogState) :
   pub capacity : t.lane.capacity ≡ lanes.setting.lane
 
 -- The answer to `poll`, by cases: LogFull exactly where the log is full; nothing is taken by a
--- refused poll, nor where the lane was empty at a moment of the call; else the next notice was
--- taken (Dequeue of the machine) and logged with its advice.
-abbrev pub Polls : (ℕ → List Notice → Type 0) → Result (Option Advice) PollFault
-    → SubscriberLogState → SubscriberLogState → Type 0
-Polls may_send (Err LogFull) old new = (old.most ≤ length old.lines) × (new ≡ old)
-Polls may_send (Err NoMemory) old new = (length old.lines < old.most) × (new ≡ old)
-Polls may_send (Ok None) old new =
-    (length old.lines < old.most) × (new ≡ old) × WasEmpty may_send old.lane
-Polls may_send (Ok (Some advice)) old new =
+-- refused poll, nor at None; else the next notice was taken (Dequeue of the machine) and logged with
+-- its advice.
+abbrev pub Polls : Result (Option Advice) PollFault → SubscriberLogState → SubscriberLogState
+    → Type 0
+Polls (Err LogFull) old new = (old.most ≤ length old.lines) × (new ≡ old)
+Polls (Err NoMemory) old new = (length old.lines < old.most) × (new ≡ old)
+Polls (Ok None) old new = (length old.lines < old.most) × (new ≡ old)
+Polls (Ok (Some advice)) old new =
     (length old.lines < old.most) × (notice : Notice) × IsAllowed old.limits notice advice
     × (new ≡ record old {
       lane = with_items old.lane (old.lane.items ++ notice ∷ []);

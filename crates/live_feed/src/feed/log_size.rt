@@ -2,7 +2,7 @@
 
 ghost use Rattle.std.specs.Prelude.{◌≡◌};
 
-use crate::feed_name::FeedName;
+use feed_steps::FeedName;
 use std::marker::{Model, PhantomData};
 
 /// How many lines the log of a subscriber of the feed `N` holds: as many as the feed is set up

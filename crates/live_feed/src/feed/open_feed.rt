@@ -2,66 +2,30 @@
 
 ghost use Rattle.std.specs.Prelude.{◌≡◌, ◌<◌, ◌≤◌, ◌↔◌, ◌-◌, ◌^◌, [], None, length, IfOk, IfErr, IsErrOf};
 ghost use Rattle.journal_book.specs.Journals.{Declares};
-ghost use Rattle.live_feed.specs.Premises.{AreInSequence};
-ghost use Rattle.live_feed.specs.hub.Hubs.{UnderHubLock};
-ghost use Rattle.live_feed.specs.hub.Sections.{Consumes, DeclaresAt};
-ghost use Rattle.live_feed.specs.hub.Batches.{ConsumesBatch};
-ghost use Rattle.live_feed.specs.hub.Offers.{LacksSubscriber, Offers};
-ghost use Rattle.live_feed.specs.hub.Turns.{TakesTurn};
-ghost use Rattle.live_feed.specs.venue.Sections.{AnswersAtVenue, IsRenewedBy, IsSkippedBy, Pushes, RequestsGap};
-ghost use Rattle.live_feed.specs.venue.Seats.{GivesSeat, new_seat};
-ghost use Rattle.live_feed.specs.venue.Datagrams.{AreGenuineBytes, AcceptsTheirs, IsTakenBy, bytes_of};
+ghost use Rattle.hub_lanes.specs.Hubs.{UnderHubLock};
+ghost use Rattle.hub_lanes.specs.Sections.{Consumes, DeclaresAt};
+ghost use Rattle.hub_lanes.specs.Batches.{ConsumesBatch};
+ghost use Rattle.hub_lanes.specs.Offers.{LacksSubscriber, Offers};
+ghost use Rattle.hub_lanes.specs.Turns.{TakesTurn};
+ghost use Rattle.venue_lines.specs.Sections.{AnswersAtVenue, IsRenewedBy, IsSkippedBy, Pushes, RequestsGap};
+ghost use Rattle.venue_lines.specs.Seats.{new_seat};
+ghost use Rattle.venue_lines.specs.Datagrams.{AreGenuineBytes, AcceptsTheirs, IsTakenBy, bytes_of};
 
-use crate::faults::{FeedFault, GapFault, RenewalFault, TakeFault};
 use crate::feed::log_size::LogSize;
-use crate::feed_name::FeedName;
-use crate::hub::calls::{consume_next, consume_some, offer_some};
-use crate::hub::cell::HubCell;
-use crate::hub::turn::{Consolidated, take_turn};
+use crate::hub_cell::HubCell;
 use crate::subscriber::Subscriber;
 use crate::subscriber::log::SubscriberLog;
-use crate::venue::calls::renew_in;
-use crate::venue::cell::VenueCell;
-use crate::venue::datagram::Datagram;
-use crate::venue::locks::VenueLocks;
-use crate::venue::packet_counts::PacketCounts;
-use crate::venue::refusals::Refusals;
-use crate::venue::seat::LineSeat;
 use crossbeam_utils::CachePadded;
-use feed_types::{Genuine, LineId, PerLine, SubscriberId, VenueId};
+use feed_steps::FeedName;
+use feed_types::{Genuine, LineId, SubscriberId, VenueId};
 use filter_terms::{Filter, Strategy};
+use hub_lanes::Consolidated;
 use journal_book::JournalFault;
 use line_arbiter::Outcome;
 use mold_packet::Request;
 use std::alloc::Global;
 use std::sync::{Mutex, Wait};
-
-/// The part that a venue's lock guards: the cell, which lines have their seats, what the lines were
-/// refused and how many packets they brought, and how many requests were handed out.
-#[derive(Drop)]
-pub(crate) struct Guarded<G: Genuine, N: FeedName> {
-    pub(crate) cell: VenueCell<G, N>,
-    pub(crate) seated: PerLine<bool>,
-    pub(crate) refused: PerLine<Refusals>,
-    pub(crate) packets: PerLine<PacketCounts>,
-    pub(crate) requests: u64,
-}
-
-impl<G: Genuine, N: FeedName> Guarded<G, N> {
-    /// Hands out the seat of the line, which has brought nothing: SeatTaken where it was handed out
-    /// already.
-    fn give_seat(&mut self, line: LineId) -> Result<LineSeat<G, N>, FeedFault>
-        ensures seat { IfOk result (λ seat. seat ≡ new_seat self.old.cell.arbiter.venue line) }
-        ensures given { GivesSeat line result self.old.seated self.new.seated }
-        ensures cell { self.new.cell ≡ self.old.cell }
-    {
-        if self.seated.on(line) {
-            return Err(FeedFault::SeatTaken);
-        }
-        self.seated.set(line, true);
-        Ok(LineSeat::new(self.cell.venue(), line))
-    }
-}
+use venue_lines::{Datagram, FeedFault, GapFault, LineSeat, RenewalFault, TakeFault, VenueLocks};
 
 /// An open feed: each venue is under a lock of its own, and the journal with all lanes' other ends
 /// under the consolidator's. No call holds two of them.
@@ -84,14 +48,7 @@ impl<G: Genuine, N: FeedName> OpenFeed<G, N> {
         ensures seat { IfOk result (λ seat. seat ≡ new_seat venue line) }
         ensures unknown { IsErrOf result FeedFault.UnknownVenue ↔ (length N.lanes.venues ≤ venue) }
     {
-        let Some(lock) = self.venues.get(venue) else {
-            return Err(FeedFault::UnknownVenue);
-        };
-        let mut guarded = lock.lock(rt);
-        if guarded.cell.venue() != venue {
-            return Err(FeedFault::SeatTaken);
-        }
-        guarded.give_seat(line)
+        self.venues.line_seat(rt, venue, line)
     }
 
     /// Takes a datagram that came on the seat's line, which is genuine at its venue, and answers
@@ -119,20 +76,15 @@ impl<G: Genuine, N: FeedName> OpenFeed<G, N> {
 
     /// Pushes what is ready of the venue, until nothing is or the lane is full, and returns how
     /// many items were pushed. UnknownVenue where there is no such venue.
-    #[tactic(auto, using(crate::proofs::CellMoves::at_one))]
     pub fn flush<W: Wait>(&self, rt: &W, venue: VenueId) -> Result<u64, FeedFault>
         ensures { AnswersAtVenue G.Genuine N.lanes venue
-            (Pushes (AreInSequence G.Genuine) (2 ^ 64 - 1)) 0 result }
+            (Pushes (2 ^ 64 - 1)) 0 result }
     {
-        if venue.index() >= self.venues.len() {
-            return Err(FeedFault::UnknownVenue);
-        }
-        Ok(self.venues.flush_some(rt, venue, u64::MAX))
+        self.venues.flush(rt, venue)
     }
 
     /// Returns the request for the venue's gap to send now, if any. UnknownVenue where there is no
     /// such venue.
-    #[tactic(auto, using(crate::proofs::CellMoves::at_one))]
     pub fn due<W: Wait>(
         &self,
         rt: &W,
@@ -141,10 +93,7 @@ impl<G: Genuine, N: FeedName> OpenFeed<G, N> {
     ) -> Result<Option<Request>, FeedFault>
         ensures { AnswersAtVenue G.Genuine N.lanes venue (RequestsGap now_ms) None result }
     {
-        if venue.index() >= self.venues.len() {
-            return Err(FeedFault::UnknownVenue);
-        }
-        Ok(self.venues.due(rt, venue, now_ms))
+        self.venues.request_due(rt, venue, now_ms)
     }
 
     /// Begins the venue's session of this ordinal and name, once End of the one before it was sent,
@@ -162,10 +111,7 @@ impl<G: Genuine, N: FeedName> OpenFeed<G, N> {
         ensures unknown { IsErrOf result RenewalFault.UnknownVenue
             ↔ (length N.lanes.venues ≤ venue) }
     {
-        let Some(lock) = self.venues.get(venue) else {
-            return Err(RenewalFault::UnknownVenue);
-        };
-        renew_in(&mut lock.lock(rt).cell, venue, ordinal, session)
+        self.venues.renew(rt, venue, ordinal, session)
     }
 
     /// Gives up the messages of the venue that are missing below `number`, and goes on from it: its
@@ -183,16 +129,16 @@ impl<G: Genuine, N: FeedName> OpenFeed<G, N> {
     /// Journals the next item of the venue's lane, and returns its position; None where the lane
     /// was empty. UnknownVenue, JournalFull, NoMemory or SubscriberBehind come before an item is
     /// taken out of the lane.
-    #[tactic(auto, using(crate::proofs::HubMoves::under_hub_lock))]
+    #[tactic(auto, using(crate::proofs::HubSections::under_hub_lock))]
     pub fn consume<W: Wait>(&self, rt: &W, venue: VenueId) -> Result<Option<u64>, JournalFault>
         ensures unknown { IsErrOf result JournalFault.UnknownVenue
             ↔ (length N.lanes.venues ≤ venue) }
         ensures consumes { venue < length N.lanes.venues → UnderHubLock G.Genuine N.lanes
-            (Consumes (AreInSequence G.Genuine) venue result) }
+            (Consumes venue result) }
     {
         let mut hub = self.hub.lock(rt);
         hub.core.show_lock_invariant();
-        let consumed = consume_next(rt, &mut hub, venue);
+        let consumed = hub.consume_next(rt, venue);
         hub.core.show_lock_invariant();
         drop(hub);
         if let Ok(Some(_)) = consumed {
@@ -204,7 +150,7 @@ impl<G: Genuine, N: FeedName> OpenFeed<G, N> {
     /// Journals the next items of the venue's lane as `consume` does, at most `most`, under the
     /// consolidator's lock taken once, and returns how many there were. A refusal is returned where
     /// it comes before any of them; else the next call returns it.
-    #[tactic(auto, using(crate::proofs::HubMoves::under_hub_lock))]
+    #[tactic(auto, using(crate::proofs::HubSections::under_hub_lock))]
     pub fn consume_batch<W: Wait>(
         &self,
         rt: &W,
@@ -215,11 +161,11 @@ impl<G: Genuine, N: FeedName> OpenFeed<G, N> {
             ↔ (length N.lanes.venues ≤ venue) }
         ensures most { IfOk result (λ count. count ≤ most) }
         ensures batch { UnderHubLock G.Genuine N.lanes
-            (ConsumesBatch (AreInSequence G.Genuine) N.lanes venue most result) }
+            (ConsumesBatch N.lanes venue most result) }
     {
         let mut hub = self.hub.lock(rt);
         hub.core.show_lock_invariant();
-        let consumed = consume_some(rt, &mut hub, venue, most);
+        let consumed = hub.consume_some(rt, venue, most);
         hub.core.show_lock_invariant();
         drop(hub);
         if let Ok(1..) = consumed {
@@ -232,18 +178,19 @@ impl<G: Genuine, N: FeedName> OpenFeed<G, N> {
     /// `offer` does, under the consolidator's lock taken once, and returns how many items and
     /// notices these were; the journal has as many entries more as there were items. Each venue is
     /// asked for its items, until 64 were journaled or there is a refusal. A call begins with the
-    /// venue after the last one that the call before asked, so that none of them waits for ever.
-    /// This is what the consolidator of `run` calls.
-    #[tactic(auto, using(crate::proofs::HubMoves::under_hub_lock))]
+    /// venue after the last one that the call before asked, so that none of them waits for ever. It
+    /// waits for no sender that stands in the middle of its push, and looks at no more than 1,024
+    /// changes for a subscriber. This is what the consolidator of `run` calls.
+    #[tactic(auto, using(crate::proofs::HubSections::under_hub_lock))]
     pub fn consolidate<W: Wait>(&self, rt: &W) -> Consolidated
         ensures most { result.consumed ≤ 64 }
         ensures turn { UnderHubLock G.Genuine N.lanes (TakesTurn G.Genuine N.lanes
-            result.consumed result.offered result.refused) }
+            result.consumed result.offered result.unfinished result.refused) }
     {
         let bells = self.venues.bells();
         let mut hub = self.hub.lock(rt);
         hub.core.show_lock_invariant();
-        let done = take_turn(rt, &mut hub, bells);
+        let done = hub.take_turn(rt, bells);
         hub.core.show_lock_invariant();
         drop(hub);
         if done.consumed > 0 {
@@ -255,7 +202,7 @@ impl<G: Genuine, N: FeedName> OpenFeed<G, N> {
     /// Declares self-help on the venue, or withdraws it, and returns the entry's position. It is
     /// refused as UnknownVenue, AlreadySo (the venue's self-help is in that state), JournalFull,
     /// NoMemory or SubscriberBehind: the first that fits. A refused call changes nothing.
-    #[tactic(auto, using(crate::proofs::HubMoves::under_hub_lock))]
+    #[tactic(auto, using(crate::proofs::HubSections::under_hub_lock))]
     pub fn declare<W: Wait>(&self, rt: &W, venue: VenueId, on: bool) -> Result<u64, JournalFault>
         ensures unknown { IsErrOf result JournalFault.UnknownVenue
             ↔ (length N.lanes.venues ≤ venue) }
@@ -317,7 +264,7 @@ impl<G: Genuine, N: FeedName> OpenFeed<G, N> {
     /// Pushes the notices that the subscriber wants, until there is none or its lane is full, and
     /// returns how many were pushed. UnknownSubscriber where there is none of this id, and no other
     /// fault.
-    #[tactic(auto, using(crate::proofs::HubMoves::under_hub_lock))]
+    #[tactic(auto, using(crate::proofs::HubSections::under_hub_lock))]
     pub fn offer<W: Wait>(&self, rt: &W, id: SubscriberId) -> Result<u64, FeedFault>
         ensures offers { IfOk result (λ pushed. UnderHubLock G.Genuine N.lanes (Offers id pushed)) }
         ensures unknown { IfErr result (λ fault. (fault ≡ FeedFault.UnknownSubscriber)
@@ -325,7 +272,7 @@ impl<G: Genuine, N: FeedName> OpenFeed<G, N> {
     {
         let mut hub = self.hub.lock(rt);
         hub.core.show_lock_invariant();
-        let offered = offer_some(rt, &mut hub, self.venues.bells(), id);
+        let offered = hub.offer_some(rt, self.venues.bells(), id);
         hub.core.show_lock_invariant();
         drop(hub);
         match offered {

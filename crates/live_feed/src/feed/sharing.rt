@@ -6,14 +6,14 @@ ghost use Rattle.std.specs.Thread.{IsSend, IsSync};
 
 use crate::feed::log_size::LogSize;
 use crate::feed::open_feed::OpenFeed;
-use crate::feed_name::FeedName;
-use crate::hub::cell::HubCell;
-use crate::hub::journal_and_lanes::JournalAndLanes;
-use crate::venue::locks::VenueLocks;
+use crate::hub_cell::HubCell;
 use crossbeam_utils::CachePadded;
+use feed_steps::FeedName;
 use feed_types::Genuine;
 use filter_terms::Filter;
+use hub_lanes::JournalAndLanes;
 use std::sync::Mutex;
+use venue_lines::VenueLocks;
 
 /// A value to which each thread may have a reference.
 pub trait Shareable {

@@ -1,16 +1,16 @@
 //! The work of the consolidator's thread.
 
-use crate::bells::Bells;
 use crate::feed::open_feed::OpenFeed;
-use crate::feed_name::FeedName;
-use crate::hub::calls::offer_each;
-use crate::hub::turn::Consolidated;
+use crate::feed::sharing::Shareable;
 use crate::run::idle::{is_tired, rest};
 use crate::run::report::Stop;
 use crate::run::signals::Signals;
+use feed_steps::{Bells, FeedName};
 use feed_types::{Genuine, MAX_SUBSCRIBERS, MAX_VENUES, SubscriberId, VenueId};
+use hub_lanes::Consolidated;
 use journal_book::JournalFault;
 use std::sync::Wait;
+use std::thread::{JoinHandle, Scope, Threads};
 
 /// The most items of a venue that the consolidator pushes in one section: a line that brings
 /// something waits no longer.
@@ -42,6 +42,8 @@ enum Look {
     Worked,
     /// There was nothing to do.
     Idle,
+    /// There was nothing to do, but a sender stood in the middle of its push.
+    InTheWay,
     /// Nothing can be journaled until a subscriber goes on, whose notices a thread takes.
     Behind,
     /// The same, but no thread takes the notices of one that is behind.
@@ -85,7 +87,9 @@ fn take_turn<G: Genuine, N: FeedName, W: Wait>(
         return feed.consolidate(rt);
     }
     let mut done = Consolidated::nothing();
-    done.offered = offer_each(rt, &mut feed.hub.lock(rt), feed.venues.bells());
+    let offers = feed.hub.lock(rt).offer_each(rt, feed.venues.bells());
+    done.offered = offers.pushed;
+    done.unfinished = offers.unfinished;
     done
 }
 
@@ -126,8 +130,11 @@ fn work_once<G: Genuine, N: FeedName, W: Wait>(
         *stopped = reason;
     }
     let flushed = flush_each(rt, feed, &done, all);
-    if done.consumed > 0 || done.offered > 0 || reason.is_some() || flushed {
+    let is_more = done.unfinished || reason.is_some() || flushed;
+    if done.consumed > 0 || done.offered > 0 || is_more {
         Look::Worked
+    } else if done.passed_over {
+        Look::InTheWay
     } else if done.refused.is_some() {
         look_behind(feed.venues.bells())
     } else {
@@ -153,7 +160,7 @@ fn is_room_wanted(signals: &Signals, bells: &Bells) -> bool {
 ///
 /// It sleeps after it has looked in vain for a while. The wait is announced before the last of
 /// these looks, so whatever comes after that look ends the sleep.
-pub(crate) fn consolidate<G: Genuine, N: FeedName, W: Wait>(
+fn consolidate<G: Genuine, N: FeedName, W: Wait>(
     rt: &W,
     feed: &OpenFeed<G, N>,
     signals: &Signals,
@@ -177,10 +184,54 @@ pub(crate) fn consolidate<G: Genuine, N: FeedName, W: Wait>(
         match look {
             Look::Worked | Look::Unpolled => looks = 0,
             Look::Idle if last && !is_room_wanted(signals, bells) => break,
-            Look::Idle | Look::Behind => looks = rest(rt, looks, key),
+            Look::Idle | Look::Behind | Look::InTheWay => looks = rest(rt, looks, key),
         }
     }
     signals.end_offers();
     bells.ring_subscribers();
     stopped
+}
+
+/// The consolidator's thread; or why the run stopped early, where none could be had for it.
+pub(crate) type Consolidator = Result<JoinHandle<Option<Stop>>, Option<Stop>>;
+
+/// Starts the consolidator's thread. Where none can be had the run stops early, and what is left to
+/// do is done here, at once, since no line reads anything then.
+pub(crate) fn start_consolidator<'s, E, G, N, R>(
+    rt: &'s R,
+    scope: &Scope<'s, E>,
+    feed: &'s OpenFeed<G, N>,
+    signals: &'s Signals,
+) -> Consolidator
+where
+    G: Genuine + Send + Sync + 's,
+    N: FeedName + Send + Sync + 's,
+    R: Threads + Wait + Sync,
+{
+    feed.show_shareable();
+    match scope.spawn(move || consolidate(rt, feed, signals)) {
+        Ok(handle) => Ok(handle),
+        Err(refused) => {
+            signals.lack_thread();
+            Err((refused.value)())
+        }
+    }
+}
+
+/// Waits for the consolidator's thread, and returns why the run stopped early, if it did: the want
+/// of a thread comes before any other reason.
+pub(crate) fn join_consolidator<R: Threads>(
+    rt: &R,
+    consolidator: Consolidator,
+    signals: &Signals,
+) -> Option<Stop> {
+    let stopped = match consolidator {
+        Ok(handle) => handle.join(rt),
+        Err(stopped) => stopped,
+    };
+    if signals.lacks_thread() {
+        Some(Stop::NoThread)
+    } else {
+        stopped
+    }
 }

@@ -3,16 +3,15 @@
 ghost use Rattle.std.specs.Prelude.{◌≡◌, [], IfOk, IfErr};
 ghost use Rattle.live_feed.specs.run.Runs.{HasTaken, LineHasEnded, failures_after};
 
-use crate::feed_name::FeedName;
 use crate::run::line::{Line, LineEnd};
 use crate::run::signals::Signals;
 use crate::run::source::{LineSource, SourceFault};
-use crate::venue::locks::VenueLocks;
-use crate::venue::seat::LineSeat;
+use feed_steps::FeedName;
 use feed_types::{Genuine, VenueId};
 use std::snapshot::Snapshot;
 use std::sync::Wait;
 use std::thread::Promise;
+use venue_lines::{LineSeat, VenueLocks};
 
 /// The line that a thread has. What the thread returns is that line, ended.
 #[derive(Drop)]
@@ -54,7 +53,8 @@ fn request_due<G: Genuine, N: FeedName, S: LineSource<G>, W: Wait>(
 }
 
 /// Waits until the source has its next answer, and returns true; or false where the run is to stop
-/// before that. What has come to the source while it waited and the run was stopped isn't read.
+/// before that. An answer that is there is for the line, also where the run was stopped meanwhile:
+/// the source has received it, and nobody else will take it.
 fn is_next_there<G: Genuine, N: FeedName, S: LineSource<G>, W: Wait>(
     rt: &W,
     venues: &VenueLocks<G, N>,
@@ -70,7 +70,7 @@ fn is_next_there<G: Genuine, N: FeedName, S: LineSource<G>, W: Wait>(
             break;
         }
         if source.await_next() {
-            return !signals.is_stopped() && !venues.bells().are_runs_ended();
+            return true;
         }
     }
     false

@@ -3,9 +3,9 @@
 ghost use Rattle.std.specs.Prelude.{◌≡◌};
 ghost use Rattle.live_feed.specs.run.Runs.{stop_code};
 
-use crate::feed_name::FeedName;
 use crate::run::line::LineEnd;
 use crate::subscriber::Subscriber;
+use feed_steps::FeedName;
 use thiserror::Error;
 
 /// Why a run stopped early. The lines read no further datagram then, and no further item is

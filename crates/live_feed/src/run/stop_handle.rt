@@ -1,6 +1,6 @@
 //! How a run is stopped from outside.
 
-use crate::bells::Bells;
+use feed_steps::Bells;
 use std::alloc::Global;
 use std::sync::Arc;
 

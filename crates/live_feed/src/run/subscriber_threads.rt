@@ -3,13 +3,12 @@
 ghost use Rattle.std.specs.Prelude.{◌≡◌, ◌<◌, ◌≤◌, [], MatchResult, vec_len, vec_capacity};
 ghost use Rattle.live_feed.specs.run.Runs.{Pairwise, HasPolled};
 
-use crate::bells::Bells;
-use crate::feed_name::FeedName;
 use crate::lists::made_of_each;
 use crate::run::signals::Signals;
 use crate::run::subscriber_work::{LogOf, work_subscriber};
 use crate::run::threads::ThreadOf;
 use crate::subscriber::log::SubscriberLog;
+use feed_steps::{Bells, FeedName};
 use filter_terms::Strategy;
 use std::snapshot::Snapshot;
 use std::sync::{Mutex, Wait};

@@ -2,11 +2,10 @@
 
 ghost use Rattle.live_feed.specs.run.Runs.{HasPolled};
 
-use crate::bells::Bells;
-use crate::feed_name::FeedName;
 use crate::run::idle::{is_tired, rest};
 use crate::run::signals::Signals;
 use crate::subscriber::log::SubscriberLog;
+use feed_steps::{Bells, FeedName};
 use filter_terms::Strategy;
 use std::snapshot::Snapshot;
 use std::sync::{Mutex, Wait};

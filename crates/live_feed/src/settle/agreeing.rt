@@ -3,16 +3,14 @@
 ghost use Rattle.std.specs.Prelude.{◌≡◌, ◌↔◌, true, IsTrue, map};
 ghost use Rattle.std.specs.List.{list_any};
 ghost use Rattle.feed_types.specs.PerLines.{on_line};
-ghost use Rattle.live_feed.specs.venue.Seats.{HasItsSeats, is_seat_of};
+ghost use Rattle.venue_lines.specs.Seats.{HasItsSeats, is_seat_of};
 ghost use Rattle.live_feed.specs.settle.Settlements.{AgreesOn, AgreesWithSeats, AllAgree, AreInOrder};
 
-use crate::feed::open_feed::Guarded;
-use crate::feed_name::FeedName;
 use crate::settle::tally::{is_of, seats_together};
 use crate::subscriber::Subscriber;
-use crate::venue::cell::VenueCell;
-use crate::venue::seat::LineSeat;
+use feed_steps::FeedName;
 use feed_types::{Genuine, LineId, VenueId};
+use venue_lines::{Guarded, LineSeat, VenueCell};
 
 /// Whether one of the seats is of the venue's line.
 fn is_among<G, N>(seats: &[LineSeat<G, N>], venue: VenueId, line: LineId) -> bool
@@ -62,7 +60,7 @@ fn agrees_on<G: Genuine, N: FeedName>(
     ensures { IsTrue result → AgreesOn seats.now cell.now line }
 {
     let tally = seats_together(seats, cell.venue(), line);
-    cell.wins(line) == tally.wins() && cell.accepted(line).are(tally.accepted())
+    cell.wins(line) == tally.wins && cell.counts(line).accepted == tally.accepted
 }
 
 /// Whether the cell is that of the venue of this number, and counts what the venue's seats show.

@@ -4,17 +4,16 @@ ghost use Rattle.std.specs.Prelude.{◌≡◌, ◌<◌, length, map, IfOk};
 ghost use Rattle.live_feed.specs.settle.Rooms.{HasVenueRoom, HaveVenueRooms, HasSubscriberRoom, HaveSubscriberRooms};
 ghost use Rattle.live_feed.specs.settle.Closings.{HasRoom};
 
-use crate::feed::open_feed::Guarded;
-use crate::feed_name::FeedName;
-use crate::hub::journal_and_lanes::JournalAndLanes;
 use crate::settle::subscriber_end::SubscriberEnd;
 use crate::settle::venue_end::VenueEnd;
 use crate::settle::venue_lane::count_items;
-use crate::venue::cell::VenueCell;
+use feed_steps::FeedName;
 use feed_types::{Entry, Genuine, Notice, Numbered, SubscriberId};
 use fifo_lane::{RisingNotices, Sender};
+use hub_lanes::JournalAndLanes;
 use journal_book::Journal;
 use std::alloc::{AllocError, Global};
+use venue_lines::{Guarded, VenueCell};
 
 /// Empty lists for a venue's items: those that were consumed, that are in its lane, and that are
 /// ready.

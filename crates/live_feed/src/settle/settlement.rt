@@ -4,7 +4,7 @@ ghost use Rattle.std.specs.Prelude.{◌≡◌, ◌<◌, drop, length, IfSome, If
 ghost use Rattle.feed_types.specs.PerLines.{on_line};
 ghost use Rattle.journal_book.specs.Journals.{changes, kept_of, terms_at};
 ghost use Rattle.journal_book.specs.ItemsIn.{items_in};
-ghost use Rattle.live_feed.specs.venue.Sums.{sums_list};
+ghost use Rattle.venue_lines.specs.Brought.{counts_of};
 
 use crate::settle::subscriber_end::SubscriberEnd;
 use crate::settle::venue_end::VenueEnd;
@@ -140,7 +140,7 @@ impl Settlement {
     pub fn accepted(&self, venue: VenueId, line: LineId) -> [u64; 4]
         requires { venue < length self.now.venues }
         ensures { IfSome (slice_get self.now.venues venue)
-            (λ v. result ≡ sums_list (on_line line v.accepted)) }
+            (λ v. result ≡ (counts_of (on_line line v.brought)).accepted) }
     {
         self.venue_ends[venue.index()].accepted(line)
     }

@@ -5,11 +5,11 @@ ghost use Rattle.filter_terms.specs.Terms.{meets};
 ghost use Rattle.live_feed.specs.settle.Settlements.{ShowsSubscriber};
 ghost use Rattle.live_feed.specs.settle.Closings.{IsToServe};
 
-use crate::feed_name::FeedName;
 use crate::settle::rooms::SubscriberRoom;
 use crate::settle::subscriber_end::SubscriberEnd;
 use crate::settle::venue_lane::drained;
 use crate::subscriber::log::SubscriberLog;
+use feed_steps::FeedName;
 use feed_types::{Best, National, Notice, SymbolName, VenueId};
 use fifo_lane::{RisingNotices, Sender, settle};
 use filter_terms::Terms;

@@ -1,11 +1,11 @@
 //! Everything that is handed back where a feed isn't settled.
 
-use crate::faults::SettleFault;
 use crate::feed::open_feed::OpenFeed;
-use crate::feed_name::FeedName;
+use crate::settle::fault::SettleFault;
 use crate::subscriber::Subscriber;
-use crate::venue::seat::LineSeat;
+use feed_steps::FeedName;
 use feed_types::Genuine;
+use venue_lines::LineSeat;
 
 /// Everything that was handed in to be settled, and why it wasn't.
 #[derive(Drop)]

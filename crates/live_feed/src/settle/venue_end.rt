@@ -2,11 +2,11 @@
 
 ghost use Rattle.std.specs.Prelude.{◌≡◌};
 ghost use Rattle.feed_types.specs.PerLines.{on_line};
-ghost use Rattle.live_feed.specs.venue.Sums.{sums_list};
+ghost use Rattle.venue_lines.specs.Brought.{counts_of};
 
-use crate::venue::sums::PacketSums;
 use feed_types::{LineId, Numbered, PerLine};
 use std::marker::Model;
+use venue_lines::CountedLines;
 
 /// A venue's items, parted in those that were consumed, those that still lay in the lane and those
 /// that are ready after those, and what is counted per line.
@@ -16,7 +16,7 @@ pub(crate) struct VenueEnd {
     inside: Vec<Numbered>,
     unsent: Vec<Numbered>,
     won: PerLine<u64>,
-    sums: PerLine<PacketSums>,
+    counted: CountedLines,
 }
 
 impl Model for VenueEnd {
@@ -29,7 +29,7 @@ impl Model for VenueEnd {
       in_lane = e.inside.items;
       ready = e.unsent.items;
       wins = e.won;
-      accepted = e.sums;
+      brought = e.counted;
     } };
 }
 
@@ -39,14 +39,14 @@ impl VenueEnd {
         in_lane: Vec<Numbered>,
         ready: Vec<Numbered>,
         won: PerLine<u64>,
-        sums: PerLine<PacketSums>,
+        counted: CountedLines,
     ) -> VenueEnd
         ensures { result ≡ record {
           consumed = consumed.items;
           in_lane = in_lane.items;
           ready = ready.items;
           wins = won;
-          accepted = sums;
+          brought = counted;
         } }
     {
         VenueEnd {
@@ -54,7 +54,7 @@ impl VenueEnd {
             inside: in_lane,
             unsent: ready,
             won,
-            sums,
+            counted,
         }
     }
 
@@ -83,8 +83,8 @@ impl VenueEnd {
     }
 
     pub(crate) fn accepted(&self, line: LineId) -> [u64; 4]
-        ensures { result ≡ sums_list (on_line line self.now.accepted) }
+        ensures { result ≡ (counts_of (on_line line self.now.brought)).accepted }
     {
-        self.sums.on(line).all()
+        self.counted.counts(line).accepted
     }
 }

@@ -8,15 +8,15 @@ ghost use Rattle.journal_book.specs.ItemsIn.{item_by, items_in};
 ghost use Rattle.live_feed.specs.settle.Settlements.{IsClosedVenue};
 ghost use Rattle.live_feed.specs.settle.Closings.{IsToClose};
 
-use crate::feed_name::FeedName;
 use crate::settle::rooms::VenueRoom;
 use crate::settle::venue_end::VenueEnd;
-use crate::venue::cell::VenueCell;
+use feed_steps::FeedName;
 use feed_types::{Entry, Genuine, Item, Numbered, Quote, SymbolName, VenueId};
 use fifo_lane::{LaneRule, Receiver, Settled, VenueItems, settle};
 use journal_book::Journal;
 use line_arbiter::Arbiter;
 use std::sync::Wait;
+use venue_lines::VenueCell;
 
 /// The items inside the lane, in order. There is room for as many as it holds.
 pub(crate) fn drained<T: Drop, R: LaneRule<T>, W: Wait>(
@@ -129,10 +129,10 @@ pub(crate) fn settle_venue<G: Genuine, N: FeedName, W: Wait>(
     } = room;
     let capacity = cell.capacity();
     let consumed = consumed_of(journal.entries(), cell.venue(), consumed);
-    let (mut lines, sender, sums) = cell.into_parts();
+    let (mut lines, sender, counted) = cell.into_parts();
     let inside = settle(sender, receiver);
     let in_lane = drained(rt, inside, capacity, in_lane);
     let ready = take_ready(&mut lines, ready);
     let wins = lines.all_wins();
-    VenueEnd::new(consumed, in_lane, ready, wins, sums)
+    VenueEnd::new(consumed, in_lane, ready, wins, counted)
 }

@@ -5,14 +5,12 @@ ghost use Rattle.filter_terms.specs.Allowed.{IsAllowed};
 ghost use Rattle.filter_terms.specs.Strategies.{closure_of};
 ghost use Rattle.live_feed.specs.subscriber.Logs.{SubscriberLogInvariant, Polls, logged};
 ghost use Rattle.live_feed.specs.subscriber.Asking.{AsksForAdvice, AsksOnce};
-ghost use Rattle.live_feed.specs.hub.Offers.{AreRising};
 
-use crate::bells::Bells;
-use crate::feed_name::FeedName;
 use crate::subscriber::Subscriber;
 use crate::subscriber::advising::{advise, holding_within};
 use crate::subscriber::kept_log::KeptLog;
 use crate::subscriber::logged::{Logged, PollFault};
+use feed_steps::{Bells, FeedName};
 use feed_types::{Notice, SubscriberId};
 use fifo_lane::{Receiver, RisingNotices};
 use filter_terms::{Advice, Limits, Strategy};
@@ -173,7 +171,7 @@ impl<N: FeedName> SubscriberLog<N> {
         rt: &W,
         strategy: &mut Strategy,
     ) -> Result<Option<Advice>, PollFault>
-        ensures polls { Polls AreRising result self.old self.new }
+        ensures polls { Polls result self.old self.new }
         ensures asks { AsksForAdvice result self.old self.new strategy.old strategy.new }
     {
         if self.taken.is_full() {
@@ -193,7 +191,7 @@ impl<N: FeedName> SubscriberLog<N> {
     /// Takes the next notice out of the lane as [`Subscriber::poll`] does, and logs that the advice
     /// is to hold. A thread that is handed the log alone, with no strategy, may call it.
     pub fn poll_holding<W: Wait>(&mut self, rt: &W) -> Result<Option<Advice>, PollFault>
-        ensures polls { Polls AreRising result self.old self.new }
+        ensures polls { Polls result self.old self.new }
         ensures holds { IfOk result (λ polled. IfSome polled (λ advice. advice ≡ Advice.Hold)) }
     {
         self.poll(rt, &mut holding_within(self.bounds))

@@ -15,6 +15,6 @@ scoped-requires g c =
         param_send 2 _ (arg_send _ no _ b.send-S),
         param_sync 0 _ (arg_sync _ no _ b.sync-G),
         param_sync 1 _ (arg_sync _ no _ b.sync-N),
-        param_sync 3 _ (arg_sync _ no _ b.sync-R),
+        param_sync 4 _ (arg_sync _ no _ b.sync-R),
       ),
     ))

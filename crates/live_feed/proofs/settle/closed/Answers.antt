@@ -5,11 +5,11 @@ use Rattle.feed_types.specs.declared.item.Numbered.{Numbered}
 use Rattle.feed_types.specs.declared.journal.Notice.{Notice}
 use Rattle.journal_book.specs.Journals.{JournalState, kept_of}
 use Rattle.fifo_lane.specs.Lane.{LaneEnd}
-use Rattle.live_feed.specs.hub.Hubs.{IsConsumed, IsOffered}
+use Rattle.hub_lanes.specs.Hubs.{IsConsumed, IsOffered}
 use Rattle.live_feed.specs.settle.Rooms.{HasVenueRoom, HasSubscriberRoom}
 use Rattle.live_feed.specs.settle.Settlements.{IsClosedVenue, SettlementState, ShowsSubscriber}
 use Rattle.live_feed.specs.settle.Closings.{IsClosedFeed}
-use Rattle.live_feed.proofs.HubMoves.{below_of}
+use Rattle.feed_steps.specs.laws.Lists.{found_within}
 use Rattle.live_feed.proofs.Sides.{at_map, seen_zipped}
 use Rattle.live_feed.proofs.settle.closed.Goals as goal
 
@@ -67,7 +67,7 @@ made_of_three-subscriber_ends-requires-clause-callable g c =
     let at = at_map (λ s. s.log) c.args.subscribers.items id subscriber left in
     let is = c.requires.order id log at in
     let sent = ap (λ (l : List (LaneEnd Notice)). slice_get l id) (sym parts.2) ∙ mid in
-    let below = below_of logs id log (sym at) in
+    let below = found_within logs id log (sym at) in
     let counted = c.requires.counts.1 in
     let same = length-map c.args.subscribers.items (λ s. s.log) in
     let cursors = ap (λ (j : JournalState). length j.cursors) parts.0 in

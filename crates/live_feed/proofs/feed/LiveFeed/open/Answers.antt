@@ -1,8 +1,8 @@
 use Rattle.std.proofs.Common.{List, sym, ap, subst, ◌∙◌}
 use Rattle.feed_types.specs.declared.journal.Notice.{Notice}
 use Rattle.fifo_lane.specs.Lane.{LaneEnd}
-use Rattle.live_feed.specs.Lanes.{FeedLanes}
-use Rattle.live_feed.specs.hub.Hubs.{HubLockInvariant}
+use Rattle.feed_steps.specs.Lanes.{FeedLanes}
+use Rattle.hub_lanes.specs.Hubs.{HubLockInvariant}
 use Rattle.live_feed.proofs.FeedMoves.{fresh, have_lanes, starts_count}
 use Rattle.live_feed.proofs.feed.LiveFeed.open.Goals as goal
 
@@ -21,15 +21,14 @@ new-core-requires g c =
     (fresh inside.starts.items inside.from_venues.items inside.kept inside.spare_lanes.items _ lanes c.self.invariant
     (c.self.view_is ∙ c.requires) premise)
 
-pub locked-requires-clause-lanes : goal.locked-requires-clause-lanes
-locked-requires-clause-lanes g c =
+pub open-venues-requires-clause-lanes : goal.open-venues-requires-clause-lanes
+open-venues-requires-clause-lanes g c =
     have_lanes c.self.inside.starts.items c.self.inside.from_venues.items c.self.inside.kept
     c.self.inside.spare_lanes.items _ g.N.FeedName.lanes c.self.invariant (c.self.view_is ∙ c.requires)
 
-pub new-venues-requires : goal.new-venues-requires
-new-venues-requires g c =
-    c.locked.ensures
-    ∙ starts_count c.self.inside.starts.items c.self.inside.from_venues.items c.self.inside.kept
+pub open-venues-requires-clause-count : goal.open-venues-requires-clause-count
+open-venues-requires-clause-count g c =
+    starts_count c.self.inside.starts.items c.self.inside.from_venues.items c.self.inside.kept
     c.self.inside.spare_lanes.items _ g.N.FeedName.lanes c.self.invariant (c.self.view_is ∙ c.requires)
 
 pub new-log_size-requires : goal.new-log_size-requires

@@ -1,5 +1,6 @@
 use Rattle.std.proofs.Common.{[], ◌∷◌, ◌++◌, None, Some, ap, rules, Ok, subst, ◌∙◌}
-use Rattle.live_feed.specs.venue.Datagrams.{brought_by, bytes_of}
+use Rattle.live_feed.specs.run.Runs.{brought_by}
+use Rattle.venue_lines.specs.Datagrams.{bytes_of}
 use Rattle.live_feed.specs.run.Runs.{HasTaken, failures_after}
 use Rattle.live_feed.proofs.RunMoves.{brings_still, genuine_at, line_ended, read_more, seat_stays, taken_more}
 use Rattle.live_feed.proofs.run.line_work.work_line.Goals as goal

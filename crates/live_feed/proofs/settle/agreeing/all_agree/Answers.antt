@@ -1,6 +1,6 @@
 use Rattle.std.proofs.Common.{map, refl, sym, subst, arith}
 use Rattle.std.proofs.lemmas.List.{length-map}
-use Rattle.live_feed.proofs.HubMoves.{at_index}
+use Rattle.feed_steps.specs.laws.Lists.{at_index}
 use Rattle.live_feed.specs.settle.Settlements.{AgreesWithSeats}
 use Rattle.live_feed.proofs.Sides.{at_map, one_more, all_places}
 use Rattle.live_feed.proofs.settle.agreeing.all_agree.Goals as goal

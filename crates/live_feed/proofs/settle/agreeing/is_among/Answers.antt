@@ -1,6 +1,6 @@
 use Rattle.std.proofs.Common.{refl, sym}
-use Rattle.live_feed.proofs.HubMoves.{at_index}
-use Rattle.live_feed.specs.venue.Seats.{is_seat_of}
+use Rattle.feed_steps.specs.laws.Lists.{at_index}
+use Rattle.venue_lines.specs.Seats.{is_seat_of}
 use Rattle.live_feed.proofs.Sides.{any_more, any_none}
 use Rattle.live_feed.proofs.settle.agreeing.is_among.Goals as goal
 

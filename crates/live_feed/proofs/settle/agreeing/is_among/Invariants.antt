@@ -1,6 +1,6 @@
 use Rattle.std.proofs.Common.{◌≡◌, drop}
 use Rattle.std.specs.List.{list_any}
-use Rattle.live_feed.specs.venue.Seats.{is_seat_of}
+use Rattle.venue_lines.specs.Seats.{is_seat_of}
 use Rattle.live_feed.proofs.settle.agreeing.is_among.Given as goal
 
 abbrev pub invariant-loop-place : goal.invariant-loop-place

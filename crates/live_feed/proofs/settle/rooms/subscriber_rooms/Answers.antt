@@ -1,6 +1,6 @@
 use Rattle.std.proofs.Common.{ℕ, ◌∷◌, [], length, refl, sym, ap, subst, ◌∙◌, arith, length-append}
 use Rattle.std.specs.Prelude.{slice_get}
-use Rattle.live_feed.proofs.HubMoves.{at_index}
+use Rattle.feed_steps.specs.laws.Lists.{at_index}
 use Rattle.live_feed.specs.settle.Rooms.{HasSubscriberRoom}
 use Rattle.live_feed.proofs.Sides.{match_more}
 use Rattle.live_feed.proofs.settle.rooms.subscriber_rooms.Goals as goal

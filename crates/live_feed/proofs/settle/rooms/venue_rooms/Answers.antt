@@ -1,7 +1,7 @@
 use Rattle.std.proofs.Common.{ℕ, ◌∷◌, [], length, map, refl, sym, ap, subst, ◌∙◌, arith, length-append}
 use Rattle.std.specs.Prelude.{slice_get}
-use Rattle.live_feed.proofs.HubMoves.{at_index}
-use Rattle.live_feed.specs.venue.Cells.{CellState}
+use Rattle.feed_steps.specs.laws.Lists.{at_index}
+use Rattle.venue_lines.specs.Cells.{CellState}
 use Rattle.live_feed.specs.settle.Rooms.{HasVenueRoom}
 use Rattle.live_feed.specs.declared.settle.rooms.VenueRoom.{VenueRoom}
 use Rattle.live_feed.proofs.Sides.{at_map, match_more}

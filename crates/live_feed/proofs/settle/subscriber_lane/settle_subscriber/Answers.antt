@@ -6,7 +6,7 @@ use Rattle.journal_book.specs.Cursors.{IsUnseen}
 use Rattle.fifo_lane.specs.Lane.{Keeps, LaneEnd}
 use Rattle.live_feed.specs.declared.subscriber.logged.Logged.{Logged}
 use Rattle.live_feed.specs.settle.Settlements.{IsServed, ShowsSubscriber, SubscriberEndState}
-use Rattle.live_feed.proofs.HubMoves.{one_there}
+use Rattle.feed_steps.specs.laws.Lists.{one_there}
 use Rattle.live_feed.proofs.ClosedSubscribers.{served}
 use Rattle.live_feed.proofs.settle.subscriber_lane.settle_subscriber.Goals as goal
 

@@ -1,6 +1,6 @@
 use Rattle.std.proofs.Common.{◌∙◌, refl, arith}
 use Rattle.filter_terms.specs.Terms.{meets}
-use Rattle.live_feed.proofs.HubMoves.{at_index}
+use Rattle.feed_steps.specs.laws.Lists.{at_index}
 use Rattle.live_feed.proofs.ClosedSubscribers.{wanted_more, wanted_all}
 use Rattle.live_feed.proofs.settle.subscriber_lane.wanted_of.Goals as goal
 

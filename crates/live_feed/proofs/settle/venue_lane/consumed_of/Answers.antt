@@ -1,5 +1,5 @@
 use Rattle.std.proofs.Common.{◌∙◌, refl, arith, vec_capacity}
-use Rattle.live_feed.proofs.HubMoves.{at_index}
+use Rattle.feed_steps.specs.laws.Lists.{at_index}
 use Rattle.journal_book.specs.ItemsIn.{items_in}
 use Rattle.live_feed.proofs.ClosedLanes.{items_more, items_all, room_more}
 use Rattle.live_feed.proofs.settle.venue_lane.consumed_of.Goals as goal

@@ -6,13 +6,13 @@ use Rattle.line_arbiter.specs.Streams.{place_of, stream_of}
 use Rattle.line_arbiter.specs.Fits.{Fits}
 use Rattle.line_arbiter.specs.States.{State}
 use Rattle.fifo_lane.specs.Lane.{Keeps, LaneEnd}
-use Rattle.live_feed.specs.Premises.{AreInSequence}
+use Rattle.feed_steps.specs.Premises.{AreInSequence}
 use Rattle.feed_types.specs.declared.per_line.PerLine.{PerLine}
-use Rattle.live_feed.specs.venue.Sums.{Sums}
+use Rattle.venue_lines.specs.Brought.{Brought}
 use Rattle.journal_book.specs.ItemsIn.{items_in}
 use Rattle.journal_book.specs.Journals.{kept_of}
 use Rattle.live_feed.specs.settle.Settlements.{IsClosedVenue, IsSettled, VenueEndState}
-use Rattle.live_feed.proofs.HubMoves.{one_there}
+use Rattle.feed_steps.specs.laws.Lists.{one_there}
 use Rattle.live_feed.proofs.ClosedLanes.{settled}
 use Rattle.live_feed.proofs.settle.venue_lane.settle_venue.Goals as goal
 
@@ -59,11 +59,11 @@ returns g c =
     subst (λ (v : VenueEndState). IsClosedVenue g.G.Genuine g.N.FeedName.lanes journal cell v)
     (sym c.new.ensures) (record {
       kept = k;
-      settled = subst (λ (x : List Numbered × (List Numbered × PerLine Sums)). IsSettled premise cell.arbiter.venue
+      settled = subst (λ (x : List Numbered × (List Numbered × PerLine Brought)). IsSettled premise cell.arbiter.venue
           g.N.FeedName.lanes.setting.window cell.lane.items x.0 x.1.0 c.take_ready-ready.result.items
           c.all_wins-wins.result x.1.1)
           (λ i. (same i, (sym c.drained-in_lane.ensures i, sym parts.2 i))) whole;
       consumed = consumed;
       wins = wins;
-      accepted = parts.2;
+      brought = parts.2;
     })

@@ -1,6 +1,6 @@
 use Rattle.std.proofs.Common.{List, length, map, ap, subst, arith}
 use Rattle.std.proofs.lemmas.List.{length-map}
-use Rattle.live_feed.specs.venue.Seats.{SeatState}
+use Rattle.venue_lines.specs.Seats.{SeatState}
 use Rattle.live_feed.specs.settle.Settlements.{AllAgree, AreInOrder}
 use Rattle.live_feed.proofs.Settled.{settlement}
 use Rattle.live_feed.proofs.feed.open_feed.OpenFeed.settle.Goals as goal

@@ -1,7 +1,0 @@
-use Rattle.std.proofs.Common.{◌≡◌, length}
-use Rattle.live_feed.specs.feed.Feeds.{AreStarts}
-use Rattle.live_feed.proofs.feed.making.new_starts.Given as goal
-
-abbrev pub invariant-loop-place : goal.invariant-loop-place
-invariant-loop-place g l = AreStarts l.config.window l.config.lane l.starts.items l.receivers.items
-    × (length l.receivers.items ≡ l.place)

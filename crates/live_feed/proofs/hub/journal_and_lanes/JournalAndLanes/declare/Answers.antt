@@ -1,7 +1,0 @@
-use Rattle.live_feed.proofs.HubMoves.{declare_kept}
-use Rattle.live_feed.proofs.hub.journal_and_lanes.JournalAndLanes.declare.Goals as goal
-
-pub invariant_of-self : goal.invariant_of-self
-invariant_of-self g c =
-    declare_kept g.G.Genuine g.N.FeedName.lanes _ c.args.venue c.args.on c.declare.result c.declare.new.self
-    c.self.invariant c.declare.ensures.declares
