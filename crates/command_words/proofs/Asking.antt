@@ -18,8 +18,8 @@ use Rattle.command_words.specs.declared.best_format.FormatFault.{FormatFault}
 use Rattle.command_words.specs.Commands.{nbbo_app}
 use Rattle.command_words.specs.declared.addresses.LinesFault.{LinesFault}
 use Rattle.command_words.specs.declared.addresses.LinesFault.TheVariants as lines
-use Rattle.command_words.specs.declared.feed_settings.FeedSettings.{FeedSettings}
-use Rattle.command_words.specs.declared.run_output.RunOutput.{RunOutput}
+use Rattle.run_settings.specs.declared.feed_settings.FeedSettings.{FeedSettings}
+use Rattle.run_settings.specs.declared.run_output.RunOutput.{RunOutput}
 use Rattle.command_words.specs.declared.refusal.Refusal.{Refusal}
 use Rattle.command_words.specs.declared.refusal.Refusal.TheVariants.{Shown, Usage, NotText, BadLines, NoMemory}
 

@@ -1,10 +1,10 @@
 -- The lines that the options of replay ask for: all, or the best ones alone in a format.
 use Rattle.std.specs.Prelude.{◌≡◌, ℕ, Bool, true, false, List, Option, Some, None, codes, if◌then◌else◌}
 use Rattle.std.specs.Str.{bytes_eq}
-use Rattle.feed_text.specs.declared.formats.BestFormat.{BestFormat}
-use Rattle.feed_text.specs.declared.formats.BestFormat.TheVariants.{Text, Csv, Json}
-use Rattle.command_words.specs.declared.run_output.RunOutput.{RunOutput}
-use Rattle.command_words.specs.declared.run_output.RunOutput.TheVariants.{Lines, Bests}
+use Rattle.run_settings.specs.declared.formats.BestFormat.{BestFormat}
+use Rattle.run_settings.specs.declared.formats.BestFormat.TheVariants.{Text, Csv, Json}
+use Rattle.run_settings.specs.declared.run_output.RunOutput.{RunOutput}
+use Rattle.run_settings.specs.declared.run_output.RunOutput.TheVariants.{Lines, Bests}
 
 -- the format of this name
 abbrev pub format_named : List ℕ → Option BestFormat

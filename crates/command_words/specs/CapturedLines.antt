@@ -1,14 +1,14 @@
 -- The lines of a packet capture on the command line: the list of addresses is that of lines that
 -- are received, and no two may be of one address and port, since a datagram goes to one line.
-use Rattle.std.specs.Prelude.{◌≡◌, ◌⊎◌, ℕ, ◌≤◌, List, [], Option, Some, None}
+use Rattle.std.specs.Prelude.{◌≡◌, ◌⊎◌, ℕ, ◌≤◌, List, Option, Some, None}
 use Rattle.std.specs.declared.net.socket_addr.SocketAddr.{SocketAddr}
-use Rattle.line_captures.specs.declared.captured_line.CapturedLine.{CapturedLine}
-use Rattle.line_captures.specs.Lists.{AreApart, lines_from}
+use Rattle.run_settings.specs.declared.captured_line.CapturedLine.{CapturedLine}
+use Rattle.run_settings.specs.Lists.{AreApart, lines_from}
 use Rattle.command_words.specs.Addresses.{NameLines, HasLinesFault}
 use Rattle.command_words.specs.declared.addresses.LinesFault.{LinesFault}
 use Rattle.command_words.specs.declared.addresses.LinesFault.TheVariants.{BadLines, NoMemory}
-use Rattle.command_words.specs.declared.run_input.RunInput.{RunInput}
-use Rattle.command_words.specs.declared.run_input.RunInput.TheVariants.{Own, Packets}
+use Rattle.run_settings.specs.declared.run_input.RunInput.{RunInput}
+use Rattle.run_settings.specs.declared.run_input.RunInput.TheVariants.{Own, Packets}
 
 -- The list names these lines of `venues` venues.
 pub record NameCapturedLines (list : List ℕ) (venues : ℕ) (lines : List CapturedLine)
@@ -41,11 +41,6 @@ NamesInput _ venues _ = ⊥
 abbrev pub HasInputFault : Option (List ℕ) → (venues : ℕ) → LinesFault → Type 0
 HasInputFault None venues fault = ⊥
 HasInputFault (Some list) venues fault = HasCapturedLinesFault list venues fault
-
--- the lines of a packet capture, none of a capture of the project's own format
-abbrev pub captured_lines_in : RunInput → List CapturedLine
-captured_lines_in Own = []
-captured_lines_in (Packets lines) = lines.items
 
 -- The list names these lines of as many venues as it has addresses for, 1 to 16.
 pub record NameAllLines (list : List ℕ) (lines : List CapturedLine) : Type 0 where

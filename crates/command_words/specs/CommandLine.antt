@@ -18,13 +18,13 @@ use Rattle.command_words.specs.declared.sessions.SessionsFault.{SessionsFault}
 use Rattle.command_words.specs.declared.sessions.SessionsFault.TheVariants as sessions
 use Rattle.command_words.specs.declared.symbols.SymbolsFault.{SymbolsFault}
 use Rattle.command_words.specs.declared.symbols.SymbolsFault.TheVariants as symbols
-use Rattle.command_words.specs.declared.listen_settings.ListenSettings.{ListenSettings}
-use Rattle.command_words.specs.declared.run_settings.RunSettings.{RunSettings}
+use Rattle.run_settings.specs.declared.listen_settings.ListenSettings.{ListenSettings}
+use Rattle.run_settings.specs.declared.run_settings.RunSettings.{RunSettings}
 use Rattle.command_words.specs.declared.task.Task.{Task}
 use Rattle.command_words.specs.declared.task.Task.TheVariants.{Run, Convert, Listen}
 use Rattle.command_words.specs.declared.refusal.Refusal.{Refusal}
 use Rattle.command_words.specs.declared.refusal.Refusal.TheVariants.{Shown, Usage, NotText, BadSession, TooManySessions, BadLines, BadRequest, BadFormat, BadEnd, KeptUnfollowed, BadSymbol, TooManySymbols, DuplicateSymbol, NoMemory}
-use Rattle.line_captures.specs.declared.captured_line.CapturedLine.{CapturedLine}
+use Rattle.run_settings.specs.declared.captured_line.CapturedLine.{CapturedLine}
 use Rattle.command_words.specs.OptionValues.{lines_in, rows_of_command}
 use Rattle.command_words.specs.RunRequests.{Gives, GivesNoStats, GivesNone, GivesStats}
 use Rattle.command_words.specs.ListenRequests.{GivesListening, GivesNoListening}

@@ -1,8 +1,8 @@
 -- Which ends of session end a line that is listened to.
 use Rattle.std.specs.Prelude.{◌≡◌, ℕ, List, Option, Some, None, codes, if◌then◌else◌}
 use Rattle.std.specs.Str.{bytes_eq}
-use Rattle.command_words.specs.declared.end_rule.EndRule.{EndRule}
-use Rattle.command_words.specs.declared.end_rule.EndRule.TheVariants.{AnySession, OwnSession, NoSession}
+use Rattle.run_settings.specs.declared.end_rule.EndRule.{EndRule}
+use Rattle.run_settings.specs.declared.end_rule.EndRule.TheVariants.{AnySession, OwnSession, NoSession}
 
 -- the rule of this name
 abbrev pub end_rule_named : List ℕ → Option EndRule

@@ -5,7 +5,7 @@ use Rattle.command_words.specs.Sessions.{sessions_in}
 use Rattle.command_words.specs.declared.sessions.SessionsFault.TheVariants as sessions
 use Rattle.command_words.specs.Symbols.{HasSymbolsFault, NameSymbols}
 use Rattle.command_words.specs.declared.symbols.SymbolsFault.TheVariants as symbols
-use Rattle.command_words.specs.declared.feed_settings.FeedSettings.{FeedSettings}
+use Rattle.run_settings.specs.declared.feed_settings.FeedSettings.{FeedSettings}
 use Rattle.command_words.specs.declared.refusal.Refusal.{Refusal}
 use Rattle.command_words.specs.declared.refusal.Refusal.TheVariants.{BadSession, TooManySessions, BadSymbol, TooManySymbols, DuplicateSymbol, NoMemory}
 use Rattle.command_words.specs.OptionValues.{IsWindowOf, list_in, symbol_words_in}

@@ -3,14 +3,14 @@ use Rattle.std.specs.Prelude.{◌≡◌, ℕ, List, Bool, true, false, Option, S
 use Rattle.clap.specs.Walk.{Row, Text, first_of, one_of}
 use Rattle.command_words.specs.Addresses.{HasLinesFault, NameLines, NamesRequest, NamesNoRequest}
 use Rattle.command_words.specs.EndRules.{NamesEndRule, NamesNoEndRule}
-use Rattle.command_words.specs.declared.end_rule.EndRule.{EndRule}
+use Rattle.run_settings.specs.declared.end_rule.EndRule.{EndRule}
 use Rattle.command_words.specs.Sessions.{sessions_in}
 use Rattle.command_words.specs.declared.addresses.LinesFault.TheVariants as lines
 use Rattle.command_words.specs.declared.sessions.SessionsFault.TheVariants as sessions
 use Rattle.command_words.specs.Symbols.{HasSymbolsFault, NameSymbols}
 use Rattle.command_words.specs.declared.symbols.SymbolsFault.{SymbolsFault}
 use Rattle.command_words.specs.declared.symbols.SymbolsFault.TheVariants as symbols
-use Rattle.command_words.specs.declared.listen_settings.ListenSettings.{ListenSettings}
+use Rattle.run_settings.specs.declared.listen_settings.ListenSettings.{ListenSettings}
 use Rattle.command_words.specs.declared.refusal.Refusal.{Refusal}
 use Rattle.command_words.specs.declared.refusal.Refusal.TheVariants.{BadSession, TooManySessions, BadLines, BadRequest, BadEnd, KeptUnfollowed, BadSymbol, TooManySymbols, DuplicateSymbol, NoMemory}
 use Rattle.std.specs.declared.net.socket_addr.SocketAddr.{SocketAddr}
@@ -22,16 +22,16 @@ use Rattle.command_words.specs.FeedRequests.{GivesFeed, GivesVenues}
 abbrev pub usual_journal : Bool → ℕ
 usual_journal follow = if follow then 4294967295 else 1000000
 
--- The values of the options of listen let a line read so many datagrams: any number, where best
--- lines are printed as they come and none is given.
+-- The values of the options of listen say how many datagrams a line reads at most: any number,
+-- where best lines are printed as they come and none is given.
 abbrev pub GivesDatagrams : List Row → (follow : Bool) → Option ℕ → Type 0
 GivesDatagrams rows true datagrams = IsGivenCount (one_of (codes "datagrams") rows) datagrams
 GivesDatagrams rows false (Some datagrams) =
     IsCount 1000000 (one_of (codes "datagrams") rows) datagrams
 GivesDatagrams rows false None = ⊥
 
--- They let the subscriber be behind by so many changes, where best lines are printed as they come;
--- else all changes are kept, and no such number is given.
+-- They say how many changes the subscriber may be behind, where best lines are printed as they
+-- come; else all changes are kept, and no such number is given.
 abbrev pub GivesKept : List Row → (follow : Bool) → Option ℕ → Type 0
 GivesKept rows true (Some kept) = IsCount 65536 (one_of (codes "kept") rows) kept
 GivesKept rows true None = ⊥

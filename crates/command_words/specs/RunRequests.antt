@@ -2,14 +2,14 @@
 use Rattle.std.specs.Prelude.{◌≡◌, List, Bool, false, codes, length}
 use Rattle.clap.specs.Walk.{Row, first_of, one_of}
 use Rattle.command_words.specs.CapturedLines.{HasInputFault, NamesInput}
-use Rattle.feed_text.specs.declared.skip_rule.SkipRule.{SkipRule}
+use Rattle.run_settings.specs.declared.skip_rule.SkipRule.{SkipRule}
 use Rattle.command_words.specs.BestFormats.{HasFormatFault, NamesFormat}
 use Rattle.command_words.specs.SkipRules.{skip_rule_by}
 use Rattle.command_words.specs.declared.addresses.LinesFault.TheVariants as lines
 use Rattle.command_words.specs.StatsFormats.{NamesNoStatsFormat, NamesStatsFormat}
-use Rattle.command_words.specs.declared.run_output.RunOutput.{RunOutput}
-use Rattle.command_words.specs.declared.run_output.RunOutput.TheVariants.{Stats}
-use Rattle.command_words.specs.declared.run_settings.RunSettings.{RunSettings}
+use Rattle.run_settings.specs.declared.run_output.RunOutput.{RunOutput}
+use Rattle.run_settings.specs.declared.run_output.RunOutput.TheVariants.{Stats}
+use Rattle.run_settings.specs.declared.run_settings.RunSettings.{RunSettings}
 use Rattle.command_words.specs.declared.refusal.Refusal.{Refusal}
 use Rattle.command_words.specs.declared.refusal.Refusal.TheVariants.{BadLines, BadFormat}
 use Rattle.command_words.specs.OptionValues.{IsCount, IsFlag}

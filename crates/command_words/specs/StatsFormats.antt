@@ -1,8 +1,8 @@
 -- The form in which the counts of a capture are printed.
 use Rattle.std.specs.Prelude.{◌≡◌, ℕ, List, Option, Some, None, codes, if◌then◌else◌}
 use Rattle.std.specs.Str.{bytes_eq}
-use Rattle.feed_text.specs.declared.formats.StatsFormat.{StatsFormat}
-use Rattle.feed_text.specs.declared.formats.StatsFormat.TheVariants.{Table, Json}
+use Rattle.run_settings.specs.declared.formats.StatsFormat.{StatsFormat}
+use Rattle.run_settings.specs.declared.formats.StatsFormat.TheVariants.{Table, Json}
 
 -- the form of this name
 abbrev pub stats_format_named : List ℕ → Option StatsFormat

@@ -2,8 +2,7 @@
 ghost use Rattle.std.specs.Prelude.{◌≡◌, IfErr, IfOk, option_map};
 ghost use Rattle.command_words.specs.BestFormats.{HasFormatFault, NamesFormat, format_named};
 
-use crate::run_output::RunOutput;
-use feed_text::BestFormat;
+use run_settings::{BestFormat, RunOutput};
 
 /// The format is none of those that there are, or is given where all lines are printed.
 #[derive(Clone, Copy, Debug, PartialEq, Eq)]

@@ -1,12 +1,12 @@
 //! The lines of a packet capture on the command line.
 ghost use Rattle.std.specs.Prelude.{◌*◌, ◌≤◌, IfOk, IfErr, OnOk, option_map};
-ghost use Rattle.line_captures.specs.Lists.{AreOfVenues};
-ghost use Rattle.command_words.specs.CapturedLines.{HasAllLinesFault, HasCapturedLinesFault, HasInputFault, NameAllLines, NameCapturedLines, NamesInput, captured_lines_in};
+ghost use Rattle.run_settings.specs.Lists.{AreOfVenues};
+ghost use Rattle.command_words.specs.CapturedLines.{HasAllLinesFault, HasCapturedLinesFault, HasInputFault, NameAllLines, NameCapturedLines, NamesInput};
+ghost use Rattle.run_settings.specs.RunInputs.{captured_lines_in};
 
 use crate::addresses::{LinesFault, read_lines};
-use crate::run_input::RunInput;
 use feed_types::MAX_VENUES;
-use line_captures::{CapturedLine, are_apart, lines_at};
+use run_settings::{CapturedLine, RunInput, are_apart, lines_at};
 use std::alloc::Global;
 
 /// The lines that a list names, two for each of `venues` venues, where no two are of one address and

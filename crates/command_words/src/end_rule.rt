@@ -1,17 +1,8 @@
-//! Which ends of session end a line that is listened to.
+//! The rules for ends of session by their names.
 ghost use Rattle.std.specs.Prelude.{◌≡◌, IfErr, IfOk, option_map};
 ghost use Rattle.command_words.specs.EndRules.{NamesEndRule, NamesNoEndRule, end_rule_named};
 
-/// Which ends of session end a line.
-#[derive(Clone, Copy, Debug, PartialEq, Eq)]
-pub enum EndRule {
-    /// An end of any session.
-    AnySession,
-    /// An end of the venue's own session, and of no other one.
-    OwnSession,
-    /// None.
-    NoSession,
-}
+use run_settings::EndRule;
 
 /// The name is that of no rule.
 #[derive(Clone, Copy, Debug, PartialEq, Eq)]

@@ -2,8 +2,9 @@
 ghost use Rattle.std.specs.Prelude.{◌≤◌, IfErr, IfOk, codes};
 ghost use Rattle.clap.specs.Matches.{found_of};
 ghost use Rattle.clap.specs.Walk.{first_of, rows_of};
-ghost use Rattle.line_captures.specs.Lists.{AreOfVenues};
-ghost use Rattle.command_words.specs.CapturedLines.{HasInputFault, NamesInput, captured_lines_in};
+ghost use Rattle.run_settings.specs.Lists.{AreOfVenues};
+ghost use Rattle.command_words.specs.CapturedLines.{HasInputFault, NamesInput};
+ghost use Rattle.run_settings.specs.RunInputs.{captured_lines_in};
 ghost use Rattle.command_words.specs.RunRequests.{Gives, GivesBadFormat, GivesNone, GivesNoStats, GivesOutput, GivesStats};
 ghost use Rattle.command_words.specs.StatsFormats.{NamesNoStatsFormat, NamesStatsFormat};
 
@@ -13,13 +14,10 @@ use crate::captured_lines::read_input;
 use crate::command_line::{count_of, feed_of, flag_of};
 use crate::limits::DEFAULT_COUNT;
 use crate::refusal::Refusal;
-use crate::run_input::RunInput;
-use crate::run_output::RunOutput;
-use crate::run_settings::RunSettings;
 use crate::skip_words::skips_of;
 use crate::stats_format::read_stats_format;
 use clap::ArgMatches;
-use feed_text::StatsFormat;
+use run_settings::{RunInput, RunOutput, RunSettings, StatsFormat};
 use std::alloc::Global;
 
 /// The input for `venues` venues that the options give: with `--lines` a packet capture.

@@ -7,7 +7,7 @@ ghost use Rattle.command_words.specs.SkipRules.{skip_rule_by};
 
 use crate::command_line::flag_of;
 use clap::ArgMatches;
-use feed_text::SkipRule;
+use run_settings::SkipRule;
 
 /// The rule by the two flags. To skip gaps is to join, too.
 fn skip_rule_by(join: bool, skip_gaps: bool) -> SkipRule

@@ -17,9 +17,9 @@ use std::alloc::{AllocError, Global};
 const ABOUT: &str = "Replays a capture and prints what happened in it, counted";
 
 const LONG_ABOUT: &str = "\
-Replays a capture from standard input, as 'nbbo replay --gaps' does, and prints none of its lines,
-but what they tell, counted: of each venue and each of its lines, and of the national bests of the
-symbols that are named. 'nbbo replay --help' says what a capture is.";
+Replays a capture from standard input and prints counts in place of the lines of 'nbbo replay': of
+each venue and each of its lines the packets, messages and gaps, and of the symbols that are named
+the changes of the national bests. 'nbbo replay --help' says what a capture is.";
 
 /// The usage of `stats`.
 const USAGE: &str = "nbbo stats [OPTIONS] --sessions <LIST> [SYMBOL]... < CAPTURE";

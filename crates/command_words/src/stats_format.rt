@@ -3,7 +3,7 @@ ghost use Rattle.std.specs.Prelude.{◌≡◌, IfErr, IfOk, option_map};
 ghost use Rattle.command_words.specs.StatsFormats.{NamesNoStatsFormat, NamesStatsFormat, stats_format_named};
 
 use crate::best_format::FormatFault;
-use feed_text::StatsFormat;
+use run_settings::StatsFormat;
 
 /// The form of this name.
 fn stats_format_named(name: &str) -> Option<StatsFormat>

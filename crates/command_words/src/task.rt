@@ -1,8 +1,6 @@
 //! The tasks of the program.
 
-use crate::listen_settings::ListenSettings;
-use crate::run_settings::RunSettings;
-use line_captures::CapturedLine;
+use run_settings::{CapturedLine, ListenSettings, RunSettings};
 
 /// The task of the program.
 #[derive(Debug, Drop)]

@@ -4,7 +4,7 @@ use Rattle.clap.specs.Matches.{found_of}
 use Rattle.clap.specs.Walk.{first_of, rows_of}
 use Rattle.command_words.specs.RunRequests.{GivesStatsOutput}
 use Rattle.command_words.specs.StatsFormats.{NamesNoStatsFormat}
-use Rattle.command_words.specs.declared.run_output.RunOutput.TheVariants.{Stats}
+use Rattle.run_settings.specs.declared.run_output.RunOutput.TheVariants.{Stats}
 use Rattle.command_words.proofs.Asking.{GivesNoRun-lines}
 use Rattle.command_words.proofs.run_words.stats_of.Goals as goal
 

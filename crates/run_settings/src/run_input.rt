@@ -1,6 +1,6 @@
 //! The input of a run.
 
-use line_captures::CapturedLine;
+use crate::captured_line::CapturedLine;
 
 /// What is replayed.
 #[derive(Debug, Drop)]

@@ -1,12 +1,12 @@
 //! The settings of `nbbo replay` and of `nbbo stats`.
 ghost use Rattle.std.specs.Prelude.{vec_len};
-ghost use Rattle.line_captures.specs.Lists.{AreOfVenues};
-ghost use Rattle.command_words.specs.CapturedLines.{captured_lines_in};
+ghost use Rattle.run_settings.specs.Lists.{AreOfVenues};
+ghost use Rattle.run_settings.specs.RunInputs.{captured_lines_in};
 
 use crate::feed_settings::FeedSettings;
 use crate::run_input::RunInput;
 use crate::run_output::RunOutput;
-use feed_text::SkipRule;
+use crate::skip_rule::SkipRule;
 
 /// What is replayed, and what is printed of it.
 #[derive(Debug, Drop)]

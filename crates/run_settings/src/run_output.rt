@@ -1,6 +1,6 @@
 //! The output of a run.
 
-use feed_text::{BestFormat, StatsFormat};
+use crate::formats::{BestFormat, StatsFormat};
 
 /// What is printed of a replay.
 #[derive(Clone, Copy, Debug, PartialEq, Eq)]

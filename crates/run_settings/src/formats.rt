@@ -1,0 +1,21 @@
+//! The forms in which what a replay prints is passed on.
+
+/// The form of the best lines, where they alone are passed on.
+#[derive(Clone, Copy, Debug, PartialEq, Eq)]
+pub enum BestFormat {
+    /// The lines as they are.
+    Text,
+    /// A header line, and then a row of comma-separated values for each.
+    Csv,
+    /// A JSON object for each, on a line of its own.
+    Json,
+}
+
+/// The form of the counts of a capture.
+#[derive(Clone, Copy, Debug, PartialEq, Eq)]
+pub enum StatsFormat {
+    /// A table for each venue, and one of the national bests.
+    Table,
+    /// One JSON object.
+    Json,
+}

@@ -1,0 +1,35 @@
+//! What a run of the program is asked to do, and how: the settings of each command, the lines whose
+//! datagrams a packet capture has, the rules for gaps and for ends of session, and the forms in
+//! which best lines and statistics are printed.
+//!
+//! Contract: each value that a setting can have is in its range, by the invariants of the types:
+//! 1 to 16 sessions, each symbol once, two lines for each venue, the lines of a packet capture those
+//! of the feed's venues. [`lines_at`] makes the lines of a list of addresses, and [`are_apart`]
+//! says whether no two are of one address and port (`specs/Lists.antt`).
+//!
+//! `command_words` reads settings from words, and the runs take them: neither waits for the other.
+//!
+//! Begin with `run_settings.rt` and `listen_settings.rt`, then `feed_settings.rt`, which both have.
+#![tactic(auto)]
+
+mod captured_line;
+mod end_rule;
+mod feed_settings;
+mod formats;
+mod line_list;
+mod listen_settings;
+mod run_input;
+mod run_output;
+mod run_settings;
+mod skip_rule;
+
+pub use captured_line::CapturedLine;
+pub use end_rule::EndRule;
+pub use feed_settings::FeedSettings;
+pub use formats::{BestFormat, StatsFormat};
+pub use line_list::{are_apart, lines_at};
+pub use listen_settings::ListenSettings;
+pub use run_input::RunInput;
+pub use run_output::RunOutput;
+pub use run_settings::RunSettings;
+pub use skip_rule::SkipRule;
