@@ -25,7 +25,7 @@ use Rattle.line_arbiter.specs.laws.Bringing.{first_of-push}
 use Rattle.line_arbiter.specs.laws.Fronts.{carried_above, front_greatest, given_up, none_is}
 use Rattle.line_arbiter.specs.laws.SkipAnswers.{one_skip}
 use Rattle.feed_text.specs.declared.replay.ReplayConfig.{ReplayConfig}
-use Rattle.feed_text.specs.declared.skip_rule.SkipRule.{SkipRule}
+use Rattle.run_settings.specs.declared.skip_rule.SkipRule.{SkipRule}
 use Rattle.feed_text.specs.Capture.{CaptureRecord, datagram_record, renewal_record, skip_record, self_help_record, record_venue}
 use Rattle.feed_text.specs.Emitted.{last_sent, EmitsAt}
 use Rattle.feed_text.specs.Rules.{IsAhead, PutsIn, SkipsAt, SkipsBefore, first_come, held_at_last, skip_at}

@@ -31,7 +31,7 @@ pub record ReplayVenue : Type 0 where
   pub sent_before : ℕ
   pub opens_after : ℕ
 
--- The venue at this place, with a window of this width, has this history, and so many items of its
+-- The venue at this place, with a window of this width, has this history, and `count` items of its
 -- present session were sent.
 pub record HasSent (width place count : ℕ) (v : ReplayVenue) (h : History) : Type 0 where
   pub history : FitsHistory v.arbiter h

@@ -56,7 +56,7 @@ abbrev pub IsCutOff : {S F : Type 0} → Parsing S F → S → List ℕ → Type
 IsCutOff parsing format rest =
     parsing.wants format rest × ((rest ≡ []) × parsing.is_whole format → ⊥)
 
--- `calls` calls read whole pieces, which hold these records of so many venues, and then this rest.
+-- `calls` calls read whole pieces, which hold these records of `venues` venues, and then this rest.
 pub record HasReadRecords {R S F : Type 0} (reading : Reading R) (parsing : Parsing S F)
     (venues : ℕ) (from : R) (calls : ℕ) (to : R) (start : S) (records : List TimedRecord)
     (finish : S) (rest : List ℕ) : Type 0 where

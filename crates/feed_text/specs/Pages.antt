@@ -23,6 +23,11 @@ pub record KeepsRoom {E : Type 0} (before after : BufferedText) (done : Result (
   pub size : memory_of before ≤ memory_of after
   pub fits : 1024 ≤ before.room → IsOk done
 
+-- These bytes were put after the text, and its memory stays.
+pub record Puts (old : BufferedText) (bytes : List ℕ) (new : BufferedText) : Type 0 where
+  pub items : new.items ≡ old.items ++ bytes
+  pub size : memory_of new ≡ memory_of old
+
 -- These bytes, at most `most` of them, were placed after the text, in its room.
 pub record Appends (old : BufferedText) (bytes : List ℕ) (most : ℕ) (new : BufferedText) : Type 0
   where

@@ -8,8 +8,8 @@ use Rattle.line_arbiter.specs.Histories.{History}
 use Rattle.line_arbiter.specs.Outcomes.{IsOutcome}
 use Rattle.line_arbiter.specs.States.{State}
 use Rattle.line_arbiter.specs.Streams.{front_of, held_count, missing_count}
-use Rattle.feed_text.specs.declared.skip_rule.SkipRule.{SkipRule}
-use Rattle.feed_text.specs.declared.skip_rule.SkipRule.TheVariants.{Never, Join, Gaps}
+use Rattle.run_settings.specs.declared.skip_rule.SkipRule.{SkipRule}
+use Rattle.run_settings.specs.declared.skip_rule.SkipRule.TheVariants.{Never, Join, Gaps}
 use Rattle.feed_text.specs.declared.replay.ReplayConfig.{ReplayConfig}
 use Rattle.feed_text.specs.Capture.{CaptureRecord, datagram_record, renewal_record, skip_record, self_help_record, record_venue}
 use Rattle.feed_text.specs.Formats.{TimedRecord, timed_record}

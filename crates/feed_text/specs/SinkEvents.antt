@@ -13,10 +13,9 @@ use Rattle.journal_book.specs.Changes.{notice_of}
 use Rattle.feed_text.specs.declared.event.Event.{Event}
 use Rattle.feed_text.specs.declared.event.Event.TheVariants.{Packet, Refusal, Item, Best, Gap, Renewal, Skip, Declaration, Last}
 
--- A packet with messages from this number on, and so many of them, was answered, a datagram was no
--- packet, an item was taken, a national best changed, messages are to be asked for, a renewal or a
--- skip was answered, self-help was declared or withdrawn, or the capture is over: what came to a
--- venue.
+-- A packet was answered, with its messages' first number and their count; a datagram was no packet,
+-- an item was taken, a national best changed, messages are to be asked for, a renewal or a skip was
+-- answered, self-help was declared or withdrawn, or the capture is over: the venue's last state.
 pub data SinkEvent : Type 0 where
   told_packet : (venue : ℕ) (line : LineId) (number count : ℕ) (answer : Result Outcome LineFault)
       → SinkEvent

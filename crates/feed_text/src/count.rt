@@ -6,7 +6,6 @@ use std::sync::ledger::{Blank, Book, Ledger, Share};
 
 /// The number of calls of a device, or of those that failed. It exists in the contracts alone, as a
 /// sum in std's ledger named `L`.
-/// ledger named `L`.
 #[derive(Drop)]
 pub struct Count<L: Ledger> {
     book: Book<L>,

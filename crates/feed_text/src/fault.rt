@@ -1,8 +1,5 @@
 //! The faults of a replay.
-ghost use Rattle.std.specs.Prelude.{◌≡◌};
-ghost use Rattle.feed_text.specs.declared.fault.ReplayFault.TheVariants.{NoMemory};
 
-use std::alloc::AllocError;
 use thiserror::Error;
 
 /// Why a replay ended early.
@@ -29,12 +26,4 @@ pub enum ReplayFault {
     /// Memory was refused.
     #[error("no memory")]
     NoMemory,
-}
-
-impl From<AllocError> for ReplayFault {
-    ghost from_gives = { λ _ e. e ≡ NoMemory };
-
-    fn from(_error: AllocError) -> ReplayFault {
-        ReplayFault::NoMemory
-    }
 }

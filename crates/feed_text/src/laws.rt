@@ -10,7 +10,7 @@ ghost use Rattle.feed_text.specs.Formats.{TimedRecord};
 ghost use Rattle.feed_text.specs.SinkEvents.{TimedEvent};
 ghost use Rattle.feed_text.specs.Texts.{EmitsAll};
 ghost use Rattle.feed_text.specs.Told.{AreAllTaken, IsToldOf, IsToldOfAll, IsToldToFull};
-ghost use Rattle.feed_text.specs.declared.skip_rule.SkipRule.{SkipRule};
+ghost use Rattle.run_settings.specs.declared.skip_rule.SkipRule.{SkipRule};
 ghost use Rattle.feed_text.specs.Rules.{SkipsAt, skip_at};
 ghost use Rattle.feed_text.specs.VenueItems.{items_taken};
 

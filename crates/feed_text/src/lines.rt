@@ -1,12 +1,12 @@
 //! The printed lines of `specs/Lines.antt`.
 //!
-//! Room for a whole line is made after the text, its parts are placed there, and then the text ends
-//! after them. So a line takes memory at most once, and where that is refused the text is
+//! There is room for a whole line after the text; its parts are placed there, and then the text ends
+//! after them. Where a text grows, room is made first, and where that is refused the text is
 //! unchanged.
 ghost use Rattle.std.specs.Prelude.{◌≡◌, ◌+◌, ◌<◌, ◌≤◌, ◌++◌, codes, length, IsTrue, Ok, OnOk, OnErr};
 ghost use Rattle.feed_text.specs.Lines.{field, line_end, packet_head, packet_line, fault_line, refused_tail, outcome_tail, item_word, item_line, side_field, state_tail, best_line, gap_line, renew_line, skip_line, on_word, declare_line, venue_line, wins_by};
 ghost use Rattle.feed_types.specs.Text.{best_text};
-ghost use Rattle.feed_text.specs.Pages.{KeepsRoom};
+ghost use Rattle.feed_text.specs.Pages.{KeepsRoom, Puts};
 ghost use Rattle.feed_text.specs.Placing.{Placed};
 ghost use Rattle.journal_book.specs.Changes.{notice_of};
 
@@ -20,9 +20,6 @@ use line_arbiter::{LineFault, Outcome, RenewFault, SkipFault};
 use mold_packet::Request;
 use nbbo_book::Change;
 use std::alloc::AllocError;
-
-/// Room for any line but a best line and a venue's last one.
-const LINE: usize = 64;
 
 /// Room for a best line.
 const BEST_LINE: usize = 192;
@@ -78,6 +75,20 @@ fn place_digits(room: &mut [u8], at: usize, new: u16, repeated: u16) -> usize
     place_word(room, at, [b' ', new, b' ', repeated, b'\n', 0, 0, 0], 5)
 }
 
+/// Places the tail of any taken packet's line.
+#[inline(never)]
+fn place_counts(room: &mut [u8], at: usize, new: u16, repeated: u16) -> usize
+    requires { at + 25 ≤ length room.old }
+    ensures placed { let tail = outcome_tail (Ok (Outcome.Taken new repeated)) in
+        Placed room.old room.new at tail result }
+    ensures short { result ≤ at + 25 }
+{
+    let at = place_word(room, at, *b" taken  ", 6);
+    let at = place_short_field(room, at, new);
+    let at = place_short_field(room, at, repeated);
+    place(room, at, *b"\n")
+}
+
 /// Places the tail of a taken packet's line: how many messages are new, and how many came before.
 #[inline(always)]
 fn place_taken(room: &mut [u8], at: usize, new: u16, repeated: u16) -> usize
@@ -89,13 +100,26 @@ fn place_taken(room: &mut [u8], at: usize, new: u16, repeated: u16) -> usize
     if are_digits(new, repeated) {
         return place_digits(room, at, new, repeated);
     }
-    let at = place_word(room, at, *b" taken  ", 6);
-    let at = place_short_field(room, at, new);
-    let at = place_short_field(room, at, repeated);
-    place(room, at, *b"\n")
+    place_counts(room, at, new, repeated)
 }
 
-/// Places the tail of a datagram's line: the outcome of its packet.
+/// Places the tail of any datagram's line: the outcome of its packet.
+#[inline(never)]
+fn place_any_outcome(room: &mut [u8], at: usize, outcome: &Result<Outcome, LineFault>) -> usize
+    requires { at + 25 ≤ length room.old }
+    ensures placed { Placed room.old room.new at (outcome_tail outcome.now) result }
+    ensures short { result ≤ at + 25 }
+{
+    match *outcome {
+        Ok(Outcome::Taken { new, repeated }) => place_counts(room, at, new, repeated),
+        Ok(Outcome::Heartbeat) => place(room, at, *b" heartbeat\n"),
+        Ok(Outcome::Ended) => place(room, at, *b" ended\n"),
+        Ok(Outcome::Ahead) => place(room, at, *b" ahead\n"),
+        Err(fault) => place_refused(room, at, fault.code()),
+    }
+}
+
+/// Places the tail of a datagram's line: the outcome of its packet, most often that it was taken.
 #[inline(always)]
 fn place_outcome(room: &mut [u8], at: usize, outcome: &Result<Outcome, LineFault>) -> usize
     requires { at + 25 ≤ length room.old }
@@ -104,10 +128,7 @@ fn place_outcome(room: &mut [u8], at: usize, outcome: &Result<Outcome, LineFault
 {
     match *outcome {
         Ok(Outcome::Taken { new, repeated }) => place_taken(room, at, new, repeated),
-        Ok(Outcome::Heartbeat) => place(room, at, *b" heartbeat\n"),
-        Ok(Outcome::Ended) => place(room, at, *b" ended\n"),
-        Ok(Outcome::Ahead) => place(room, at, *b" ahead\n"),
-        Err(fault) => place_refused(room, at, fault.code()),
+        _ => place_any_outcome(room, at, outcome),
     }
 }
 
@@ -134,38 +155,26 @@ pub(crate) fn put_packet(
     venue: VenueId,
     line: LineId,
     outcome: &Result<Outcome, LineFault>,
-) -> Result<(), AllocError>
-    ensures line { OnOk result
-        (text.new.items ≡ text.old.items ++ packet_line venue line outcome.now) }
-    ensures part { OnErr result (text.new.items ≡ text.old.items) }
-    ensures room { KeepsRoom text.old text.new result }
+)
+    requires { 64 ≤ text.old.room }
+    ensures { Puts text.old (packet_line venue line outcome.now) text.new }
 {
-    text.make_room(LINE)?;
     let at = text.end;
     let room = text.bytes.as_mut_slice();
     text.end = place_packet(room, at, venue, line, outcome);
-    Ok(())
 }
 
 /// Appends the line of a datagram that is no packet. It is rare, and so a call of its own.
 #[inline(never)]
-pub(crate) fn put_fault(
-    text: &mut LineBuffer,
-    venue: VenueId,
-    line: LineId,
-    code: u8,
-) -> Result<(), AllocError>
-    ensures line { OnOk result (text.new.items ≡ text.old.items ++ fault_line venue line code) }
-    ensures part { OnErr result (text.new.items ≡ text.old.items) }
-    ensures room { KeepsRoom text.old text.new result }
+pub(crate) fn put_fault(text: &mut LineBuffer, venue: VenueId, line: LineId, code: u8)
+    requires { 64 ≤ text.old.room }
+    ensures { Puts text.old (fault_line venue line code) text.new }
 {
-    text.make_room(LINE)?;
     let at = text.end;
     let room = text.bytes.as_mut_slice();
     let at = place_packet_head(room, at, venue, line);
     let at = place_refused(room, at, code);
     text.end = at;
-    Ok(())
 }
 
 /// Places the tail of an item's line: what the item is.
@@ -198,23 +207,16 @@ fn place_item_head(room: &mut [u8], at: usize, venue: VenueId) -> usize
 
 /// Appends the line of an item that was ready.
 #[inline(always)]
-pub(crate) fn put_item(
-    text: &mut LineBuffer,
-    venue: VenueId,
-    item: &Numbered,
-) -> Result<(), AllocError>
-    ensures line { OnOk result (text.new.items ≡ text.old.items ++ item_line venue item.now) }
-    ensures part { OnErr result (text.new.items ≡ text.old.items) }
-    ensures room { KeepsRoom text.old text.new result }
+pub(crate) fn put_item(text: &mut LineBuffer, venue: VenueId, item: &Numbered)
+    requires { 64 ≤ text.old.room }
+    ensures { Puts text.old (item_line venue item.now) text.new }
 {
-    text.make_room(LINE)?;
     let at = text.end;
     let room = text.bytes.as_mut_slice();
     let at = place_item_head(room, at, venue);
     let at = place_number(room, at, item.number);
     let at = place_item_word(room, at, &item.item);
     text.end = at;
-    Ok(())
 }
 
 /// Places the head of a side of a national best: its venue.
@@ -271,13 +273,10 @@ fn place_state(room: &mut [u8], at: usize, state: NationalState) -> usize
 
 /// Appends the line of a change of the national best, under this number.
 #[inline(never)]
-pub fn put_change(text: &mut LineBuffer, number: u64, change: &Change) -> Result<(), AllocError>
-    ensures line { OnOk result
-        (text.new.items ≡ text.old.items ++ best_line (notice_of number change.now)) }
-    ensures part { OnErr result (text.new.items ≡ text.old.items) }
-    ensures room { KeepsRoom text.old text.new result }
+pub fn put_change(text: &mut LineBuffer, number: u64, change: &Change)
+    requires { 192 ≤ text.old.room }
+    ensures { Puts text.old (best_line (notice_of number change.now)) text.new }
 {
-    text.make_room(BEST_LINE)?;
     let at = text.end;
     let room = text.bytes.as_mut_slice();
     let at = place_word(room, at, *b"best    ", 5);
@@ -289,34 +288,29 @@ pub fn put_change(text: &mut LineBuffer, number: u64, change: &Change) -> Result
     let at = place_side(room, at, &change.national.offer);
     let at = place_state(room, at, change.national.state());
     text.end = at;
-    Ok(())
 }
 
-/// Appends the line of a notice.
+/// Appends the line of a notice to a text that grows.
 pub fn put_best(text: &mut LineBuffer, notice: &Notice) -> Result<(), AllocError>
     ensures line { OnOk result (text.new.items ≡ text.old.items ++ best_line notice.now) }
     ensures part { OnErr result (text.new.items ≡ text.old.items) }
     ensures room { KeepsRoom text.old text.new result }
 {
+    text.make_room(BEST_LINE)?;
     let change = Change {
         position: notice.position,
         symbol: notice.symbol,
         national: notice.national,
     };
-    put_change(text, notice.number, &change)
+    put_change(text, notice.number, &change);
+    Ok(())
 }
 
 /// Appends the line of the run of messages to ask for.
-pub(crate) fn put_gap(
-    text: &mut LineBuffer,
-    venue: VenueId,
-    request: &Request,
-) -> Result<(), AllocError>
-    ensures line { OnOk result (text.new.items ≡ text.old.items ++ gap_line venue request.now) }
-    ensures part { OnErr result (text.new.items ≡ text.old.items) }
-    ensures room { KeepsRoom text.old text.new result }
+pub(crate) fn put_gap(text: &mut LineBuffer, venue: VenueId, request: &Request)
+    requires { 64 ≤ text.old.room }
+    ensures { Puts text.old (gap_line venue request.now) text.new }
 {
-    text.make_room(LINE)?;
     let at = text.end;
     let room = text.bytes.as_mut_slice();
     let at = place(room, at, *b"gap");
@@ -325,7 +319,6 @@ pub(crate) fn put_gap(
     let at = place_short_field(room, at, request.count);
     let at = place(room, at, *b"\n");
     text.end = at;
-    Ok(())
 }
 
 /// Places whether self-help is declared or withdrawn.
@@ -343,17 +336,10 @@ fn place_on(room: &mut [u8], at: usize, on: bool) -> usize
 }
 
 /// Appends the line of a declaration: the position of its entry, or that it is declared already.
-pub(crate) fn put_declared(
-    text: &mut LineBuffer,
-    venue: VenueId,
-    on: bool,
-    position: Option<u64>,
-) -> Result<(), AllocError>
-    ensures line { OnOk result (text.new.items ≡ text.old.items ++ declare_line venue on position) }
-    ensures part { OnErr result (text.new.items ≡ text.old.items) }
-    ensures room { KeepsRoom text.old text.new result }
+pub(crate) fn put_declared(text: &mut LineBuffer, venue: VenueId, on: bool, position: Option<u64>)
+    requires { 64 ≤ text.old.room }
+    ensures { Puts text.old (declare_line venue on position) text.new }
 {
-    text.make_room(LINE)?;
     let at = text.end;
     let room = text.bytes.as_mut_slice();
     let at = place_word(room, at, *b"declare ", 7);
@@ -367,20 +353,13 @@ pub(crate) fn put_declared(
         None => place(room, at, *b" already\n"),
     };
     text.end = at;
-    Ok(())
 }
 
 /// Appends the line of a renewal: the ordinal of the session that begins, or why none does.
-pub(crate) fn put_renewal(
-    text: &mut LineBuffer,
-    venue: VenueId,
-    renewal: &Result<u64, RenewFault>,
-) -> Result<(), AllocError>
-    ensures line { OnOk result (text.new.items ≡ text.old.items ++ renew_line venue renewal.now) }
-    ensures part { OnErr result (text.new.items ≡ text.old.items) }
-    ensures room { KeepsRoom text.old text.new result }
+pub(crate) fn put_renewal(text: &mut LineBuffer, venue: VenueId, renewal: &Result<u64, RenewFault>)
+    requires { 64 ≤ text.old.room }
+    ensures { Puts text.old (renew_line venue renewal.now) text.new }
 {
-    text.make_room(LINE)?;
     let at = text.end;
     let room = text.bytes.as_mut_slice();
     let at = place(room, at, *b"renew");
@@ -393,7 +372,6 @@ pub(crate) fn put_renewal(
         Err(fault) => place_refused(room, at, fault.code()),
     };
     text.end = at;
-    Ok(())
 }
 
 /// Appends the line of a skip: the number to go on from, or why nothing is given up.
@@ -402,12 +380,10 @@ pub(crate) fn put_skip(
     venue: VenueId,
     number: u64,
     skip: &Result<(), SkipFault>,
-) -> Result<(), AllocError>
-    ensures line { OnOk result (text.new.items ≡ text.old.items ++ skip_line venue number skip.now) }
-    ensures part { OnErr result (text.new.items ≡ text.old.items) }
-    ensures room { KeepsRoom text.old text.new result }
+)
+    requires { 64 ≤ text.old.room }
+    ensures { Puts text.old (skip_line venue number skip.now) text.new }
 {
-    text.make_room(LINE)?;
     let at = text.end;
     let room = text.bytes.as_mut_slice();
     let at = place(room, at, *b"skip");
@@ -420,11 +396,37 @@ pub(crate) fn put_skip(
         Err(fault) => place_refused(room, at, fault.code()),
     };
     text.end = at;
-    Ok(())
 }
 
 /// Appends the last line of a venue: how many items were sent, and how many numbers came first on
 /// A, on B and by recovery.
+pub(crate) fn put_last(
+    text: &mut LineBuffer,
+    venue: VenueId,
+    sent: u64,
+    a: u64,
+    b: u64,
+    recovery: u64,
+)
+    requires { 128 ≤ text.old.room }
+    ensures { Puts text.old (venue_line venue sent (wins_by a b recovery)) text.new }
+{
+    let at = text.end;
+    let room = text.bytes.as_mut_slice();
+    let at = place(room, at, *b"venue");
+    let at = place_venue(room, at, venue);
+    let at = place(room, at, *b" sent");
+    let at = place_field(room, at, sent);
+    let at = place(room, at, *b" wins");
+    let at = place_field(room, at, a);
+    let at = place_field(room, at, b);
+    let at = place_field(room, at, recovery);
+    let at = place(room, at, *b"\n");
+    text.end = at;
+}
+
+/// Appends the last line of a venue to a text that grows: how many items were sent, and how many
+/// numbers came first on A, on B and by recovery.
 pub fn put_venue(
     text: &mut LineBuffer,
     venue: VenueId,
@@ -439,17 +441,6 @@ pub fn put_venue(
     ensures room { KeepsRoom text.old text.new result }
 {
     text.make_room(VENUE_LINE)?;
-    let at = text.end;
-    let room = text.bytes.as_mut_slice();
-    let at = place(room, at, *b"venue");
-    let at = place_venue(room, at, venue);
-    let at = place(room, at, *b" sent");
-    let at = place_field(room, at, sent);
-    let at = place(room, at, *b" wins");
-    let at = place_field(room, at, a);
-    let at = place_field(room, at, b);
-    let at = place_field(room, at, recovery);
-    let at = place(room, at, *b"\n");
-    text.end = at;
+    put_last(text, venue, sent, a, b, recovery);
     Ok(())
 }

@@ -19,13 +19,13 @@ use crate::record_format::{CAPTURE_ROOM, RecordFormat};
 use crate::replay_stop::{ReplayStop, Replayed};
 use crate::report::ReplaySink;
 use crate::run::run;
-use crate::skip_rule::SkipRule;
 use crate::text_page::TextPage;
 use crate::text_sink::TextSink;
 use crate::unread::ReadBuffer;
 use crate::venues::Venues;
 use feed_types::SymbolName;
 use journal_book::NumberedBook;
+use run_settings::SkipRule;
 use std::alloc::{AllocError, Global};
 
 /// The settings of a replay.

@@ -12,9 +12,9 @@ use crate::capture::Record;
 use crate::event_sink::EventSink;
 use crate::replay::ReplayConfig;
 use crate::report::{PublishStop, ReplaySink};
-use crate::skip_rule::SkipRule;
 use crate::venues::Venues;
 use feed_types::VenueId;
+use run_settings::SkipRule;
 
 /// Takes the skips that the rule puts in before a datagram of these bytes, one after the other, and
 /// publishes the events of each.

@@ -9,11 +9,11 @@ ghost use Rattle.feed_text.specs.Emitted.{last_sent};
 ghost use Rattle.feed_text.specs.Following.{Follows};
 ghost use Rattle.feed_text.specs.Rules.{Allows, HasSentAll, IsAhead, SkipsAt, SkipsBefore, first_come};
 
-use crate::skip_rule::SkipRule;
 use crate::venue::VenueReplay;
 use feed_types::Anything;
 use line_arbiter::{Arbiter, ArbiterStatus};
 use mold_packet::{Kind, Packet, read_packet};
+use run_settings::SkipRule;
 
 /// Returns whether the rule gives anything up of a venue with these cursors.
 fn allows(rule: SkipRule, cursors: &ArbiterStatus) -> bool

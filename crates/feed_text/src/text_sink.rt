@@ -1,7 +1,7 @@
 //! The sink of lines.
-ghost use Rattle.std.specs.Prelude.{◌≡◌, ◌++◌, [], OnErr, OnOk};
+ghost use Rattle.std.specs.Prelude.{◌≡◌, ◌≤◌, ◌++◌, [], OnErr, OnOk};
 ghost use Rattle.feed_text.specs.EventLines.{event_line, timed_line};
-ghost use Rattle.feed_text.specs.Pages.{KeepsRoom};
+ghost use Rattle.feed_text.specs.Pages.{Puts};
 ghost use Rattle.feed_text.specs.SinkEvents.{told_by};
 ghost use Rattle.feed_text.specs.TextPages.{TakesText, FailsText};
 ghost use Rattle.feed_text.specs.TextPageLaws.{takes_no_text, takes_more_text, fails_after_text, fails_longer_text};
@@ -10,12 +10,11 @@ use crate::devices::TextOut;
 use crate::event::Event;
 use crate::event_sink::{EventSink, SinkStop};
 use crate::lines::{
-    put_change, put_declared, put_fault, put_gap, put_item, put_packet, put_renewal, put_skip,
-    put_venue,
+    put_change, put_declared, put_fault, put_gap, put_item, put_last, put_packet, put_renewal,
+    put_skip,
 };
 use crate::page::LineBuffer;
 use crate::text_page::TextPage;
-use std::alloc::AllocError;
 
 /// The line of each event, written by the page.
 #[derive(Drop)]
@@ -39,11 +38,11 @@ impl<W> TextSink<W> {
     }
 }
 
-/// Appends the line of an event.
-#[inline(always)]
-fn put_event(text: &mut LineBuffer, event: &Event<'_>) -> Result<(), AllocError>
-    ensures line { OnOk result (text.new.items ≡ text.old.items ++ event_line (told_by event.now)) }
-    ensures room { KeepsRoom text.old text.new result }
+/// Appends the line of any event. Those that come with most records have a way of their own.
+#[inline(never)]
+fn put_any(text: &mut LineBuffer, event: &Event<'_>)
+    requires { 1024 ≤ text.old.room }
+    ensures { Puts text.old (event_line (told_by event.now)) text.new }
 {
     match event {
         Event::Packet {
@@ -73,7 +72,26 @@ fn put_event(text: &mut LineBuffer, event: &Event<'_>) -> Result<(), AllocError>
             a,
             b,
             recovery,
-        } => put_venue(text, *venue, *sent, *a, *b, *recovery),
+        } => put_last(text, *venue, *sent, *a, *b, *recovery),
+    }
+}
+
+/// Appends the line of an event. It is small, so that it is inlined where the event is made.
+#[inline(always)]
+fn put_event(text: &mut LineBuffer, event: &Event<'_>)
+    requires { 1024 ≤ text.old.room }
+    ensures { Puts text.old (event_line (told_by event.now)) text.new }
+{
+    match event {
+        Event::Packet {
+            venue,
+            line,
+            answer,
+            ..
+        } => put_packet(text, *venue, *line, answer),
+        Event::Item { venue, item } => put_item(text, *venue, item),
+        Event::Best { number, change } => put_change(text, *number, change),
+        _ => put_any(text, event),
     }
 }
 
@@ -98,9 +116,7 @@ impl<W: TextOut> EventSink for TextSink<W> {
     #[inline(always)]
     fn take(&mut self, _time: Option<u64>, event: &Event<'_>) -> Result<(), SinkStop> {
         self.page.write_full()?;
-        let Ok(()) = put_event(&mut self.page.text, event) else {
-            unreachable!();
-        };
+        put_event(&mut self.page.text, event);
         Ok(())
     }
 

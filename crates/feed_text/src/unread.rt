@@ -187,20 +187,6 @@ impl<const ROOM: usize> ReadBuffer<ROOM> {
         self.end = end + bytes.len();
     }
 
-    /// Moves bytes from the front into the front of `buf`, as many as it has room for, and returns how
-    /// many.
-    pub fn pop_into(&mut self, buf: &mut [u8]) -> usize
-        ensures count { result ≡ min (length self.old) (length buf.old) }
-        ensures len { length buf.new ≡ length buf.old }
-        ensures front { take result buf.new ≡ take result self.old }
-        ensures rest { self.new ≡ drop result self.old }
-    {
-        let count = self.len().min(buf.len());
-        buf[..count].copy_from_slice(&self.bytes()[..count]);
-        self.advance(count);
-        count
-    }
-
     /// One call of the reader, which adds what it gives at the end.
     pub fn read_from<R: CaptureIn>(&mut self, reader: &mut R) -> ReadStep
         requires room { length self.old < ROOM }

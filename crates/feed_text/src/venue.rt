@@ -262,14 +262,8 @@ impl VenueReplay {
             packet.now self.old (state_of_replay report.old) self.new
             (state_of_replay report.new) result }
     {
-        match self.arbiter.take(line, packet) {
-            Ok(outcome) => {
-                publish_answer(&mut self.arbiter, venue, line, packet, &Ok(outcome), report)
-            }
-            Err(fault) => {
-                publish_answer(&mut self.arbiter, venue, line, packet, &Err(fault), report)
-            }
-        }
+        let answer = self.arbiter.take(line, packet);
+        publish_answer(&mut self.arbiter, venue, line, packet, &answer, report)
     }
 
     /// Takes a packet, and publishes its outcome and each item that is ready then. Most go past the

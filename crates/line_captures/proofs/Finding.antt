@@ -1,69 +1,18 @@
--- The first of a list that has a property, and lines that are apart.
-use Rattle.std.proofs.Common.{◌≡◌, ℕ, zero, suc, ◌+◌, ◌<◌, ◌≤◌, ◌⊎◌, inl, inr, List, [], ◌∷◌, Some, length, take, get_or, refl, sym, ap, subst, ◌∙◌, arith}
+-- The first of a list that has a property.
+use Rattle.std.proofs.Common.{◌≡◌, ℕ, ◌+◌, ◌<◌, inl, inr, List, Some, length, get_or, refl, ap, subst, ◌∙◌, arith}
 use Rattle.std.specs.Prelude.{slice_get}
-use Rattle.std.proofs.lemmas.Option.{same_Some, none-some, slice_get_read}
-use Rattle.line_captures.specs.declared.captured_line.CapturedLine.{CapturedLine}
-use Rattle.line_captures.specs.Lists.{AreSame, HasSame, AreApart}
-
-cut : (m n : ℕ) → m < n + 1 → (m < n) ⊎ (m ≡ n)
-cut zero zero h = inr refl
-cut zero (suc n) h = inl (omega arith)
-cut (suc m) zero h = absurd (omega arith)
-cut (suc m) (suc n) h = elim (cut m n (omega arith)) [ inl less ↦ inl (omega arith) | inr same ↦ inr (ap suc same) ]
-
--- what stands at a place
-pub at_index : {X : Type 0} (xs : List X) (n : ℕ) (x : X) → n < length xs → x ≡ get_or xs n x → Some x ≡ slice_get xs n
-at_index xs n x few at = sym (slice_get_read xs (length xs) n x refl few at)
+use Rattle.std.proofs.lemmas.Bool.{cases_lt}
+use Rattle.std.proofs.lemmas.Option.{same_Some, slice_get_read}
 
 -- one place more that hasn't the property
-pub none_more : {X : Type 0} (T : X → Type 0) (xs : List X) (n : ℕ) (x : X) → n < length xs → x ≡ get_or xs n x → ((k : ℕ) (y : X) → k < n → Some y ≡ slice_get xs k → T y → ⊥) → (T x → ⊥) → (k : ℕ) (y : X) → k < n + 1 → Some y ≡ slice_get xs k → T y → ⊥
-none_more {X} T xs n x few at none unlike k y less there t = elim (cut k n less) [
+pub none_more : {X : Type 0} (T : X → Type 0) (xs : List X) (n : ℕ) (x : X) → n < length xs
+    → x ≡ get_or xs n x → ((k : ℕ) (y : X) → k < n → Some y ≡ slice_get xs k → T y → ⊥)
+    → (T x → ⊥) → (k : ℕ) (y : X) → k < n + 1 → Some y ≡ slice_get xs k → T y → ⊥
+none_more {X} T xs n x few at none unlike k y less there t = elim (cases_lt k n) [
   | inl before ↦ none k y before there t
-  | inr same ↦
-      let one : y ≡ x = same_Some y x (there ∙ ap (slice_get xs) same ∙ sym (at_index xs n x few at)) in
+  | inr high ↦
+      let same : k ≡ n = omega (arith, less, high) in
+      let read = slice_get_read xs (length xs) n x refl few at in
+      let one : y ≡ x = same_Some y x (there ∙ ap (slice_get xs) same ∙ read) in
       unlike (subst T one t)
 ]
-
-pub below : {X : Type 0} (xs : List X) (k : ℕ) (y : X) → Some y ≡ slice_get xs k → k < length xs
-below [] k y e = absurd (none-some y (sym e))
-below (x ∷ xs) zero y e = omega arith
-below (x ∷ xs) (suc k) y e = let h = below xs k y e in omega arith
-
--- a front of a list
-in_front : {X : Type 0} (xs : List X) (n k : ℕ) → k < n → slice_get (take n xs) k ≡ slice_get xs k
-in_front xs zero k less = absurd (omega arith)
-in_front [] (suc n) k less = refl
-in_front (x ∷ xs) (suc n) zero less = refl
-in_front (x ∷ xs) (suc n) (suc k) less = in_front xs n k (omega arith)
-
-of_front : {X : Type 0} (xs : List X) (n k : ℕ) (y : X) → Some y ≡ slice_get (take n xs) k → k < n
-of_front xs zero k y e = absurd (none-some y (sym e))
-of_front [] (suc n) k y e = absurd (none-some y (sym e))
-of_front (x ∷ xs) (suc n) zero y e = omega arith
-of_front (x ∷ xs) (suc n) (suc k) y e = let h = of_front xs n k y e in omega arith
-
--- the lines up to a place are apart
-abbrev pub AreApartUpTo : ℕ → List CapturedLine → Type 0
-AreApartUpTo n lines =
-    (place earlier : ℕ) (line other : CapturedLine) → place < n → earlier < place
-    → Some other ≡ slice_get lines earlier → Some line ≡ slice_get lines place → AreSame other line → ⊥
-
-pub apart_more : (lines : List CapturedLine) (n : ℕ) (line : CapturedLine) → n < length lines → line ≡ get_or lines n line → (HasSame (take n lines) line → ⊥) → AreApartUpTo n lines → AreApartUpTo (n + 1) lines
-apart_more lines n line few at unlike apart place earlier one other less before there here same = elim (cut place n less) [
-  | inl below ↦ apart place earlier one other below before there here same
-  | inr is ↦
-      let it : one ≡ line = same_Some one line (here ∙ ap (slice_get lines) is ∙ sym (at_index lines n line few at)) in
-      let lower : earlier < n = omega (arith, is, before) in
-      let S : CapturedLine → Type 0 = λ x. AreSame other x in
-      unlike (record { place = earlier; other = other; is = there ∙ sym (in_front lines n earlier lower); same = subst S it same })
-]
-
-pub apart_all : (lines : List CapturedLine) (n : ℕ) → length lines ≤ n → AreApartUpTo n lines → AreApart lines
-apart_all lines n most apart place earlier line other before there here same =
-    let h = below lines place line here in
-    apart place earlier line other (omega arith) before there here same
-
-pub not_apart : (lines : List CapturedLine) (n : ℕ) (line : CapturedLine) → n < length lines → line ≡ get_or lines n line → HasSame (take n lines) line → AreApart lines → ⊥
-not_apart lines n line few at h apart =
-    let lower = of_front lines n h.place h.other h.is in
-    apart n h.place line h.other lower (h.is ∙ in_front lines n h.place lower) (at_index lines n line few at) h.same

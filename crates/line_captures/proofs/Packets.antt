@@ -15,10 +15,10 @@ use Rattle.feed_text.specs.Capture.{CaptureRecord, IsKind, IsRecord, record_of}
 use Rattle.feed_text.specs.declared.record_format.Step.{Step}
 use Rattle.feed_text.specs.declared.record_format.Step.TheVariants.{Came, Passed, Wants, Bad}
 use Rattle.feed_text.specs.Formats.{TimedRecord, TakesPiece, StepsTo, timed_record}
-use Rattle.line_captures.specs.declared.captured_line.CapturedLine.{CapturedLine}
+use Rattle.run_settings.specs.declared.captured_line.CapturedLine.{CapturedLine}
 use Rattle.line_captures.specs.declared.passed_over.Progress.{Progress}
 use Rattle.line_captures.specs.Counts.{CountsFrame, CountsPieces, IsFate, count_after, passed_after, falls_after, last_after, timed_after, times_of}
-use Rattle.line_captures.specs.Lists.{AreOfVenues}
+use Rattle.run_settings.specs.Lists.{AreOfVenues}
 use Rattle.line_captures.specs.Records.{AreOfFrame, IsOfLine}
 use Rattle.line_captures.specs.PacketFormats.{PacketState, AreTimed, ReadsPackets, IsStepOf, IsStopStep, wants_packets, is_bad_packets}
 use Rattle.line_captures.proofs.Fronts.{piece_len, few_unread}

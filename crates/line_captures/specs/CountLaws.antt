@@ -6,7 +6,7 @@ use Rattle.std.proofs.lemmas.Grind.{flat_map-append}
 use Rattle.std.specs.Prelude.{Bool, cond}
 use Rattle.packet_capture.specs.Captures.{PieceContent, frames_in, frames_of}
 use Rattle.packet_capture.specs.Frames.{FrameContent}
-use Rattle.line_captures.specs.declared.captured_line.CapturedLine.{CapturedLine}
+use Rattle.run_settings.specs.declared.captured_line.CapturedLine.{CapturedLine}
 use Rattle.line_captures.specs.declared.passed_over.PassedOver.{PassedOver}
 use Rattle.line_captures.specs.declared.passed_over.Progress.{Progress}
 use Rattle.line_captures.specs.Counts.{FrameFate, IsFate, CountsPieces, count_after, passed_after, falls_after, last_after, times_in, times_of, is_without, is_fragment, is_cut, is_malformed, is_unreadable, goes_elsewhere, goes_to_line}

@@ -1,5 +1,4 @@
 pub mod Lines
-pub mod Lists
 pub mod Records
 pub mod Counts
 pub mod CountLaws

@@ -3,7 +3,7 @@ use Rattle.std.specs.Prelude.{◌≡◌, ℕ, ◌<◌, ◌⊎◌, List, Some, re
 use Rattle.packet_capture.specs.declared.datagram.Address.{Address}
 use Rattle.packet_capture.specs.declared.datagram.Address.TheVariants.{V4, V6}
 use Rattle.packet_capture.specs.Datagrams.{DatagramContent}
-use Rattle.line_captures.specs.declared.captured_line.CapturedLine.{CapturedLine}
+use Rattle.run_settings.specs.declared.captured_line.CapturedLine.{CapturedLine}
 
 -- an address of zeros
 abbrev pub IsZeros : Address → Type 0

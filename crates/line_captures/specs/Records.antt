@@ -6,7 +6,7 @@ use Rattle.packet_capture.specs.Datagrams.{DatagramContent, CarriesDatagram}
 use Rattle.packet_capture.specs.FrameFaults.{HasFrameFault}
 use Rattle.packet_capture.specs.Frames.{FrameContent}
 use Rattle.feed_text.specs.Capture.{CaptureRecord, datagram_record}
-use Rattle.line_captures.specs.declared.captured_line.CapturedLine.{CapturedLine}
+use Rattle.run_settings.specs.declared.captured_line.CapturedLine.{CapturedLine}
 use Rattle.line_captures.specs.Lines.{GoesTo, GoesToNone}
 
 -- the record of a datagram that came on a line

@@ -1,21 +1,10 @@
-//! Where the datagrams of a line go.
+//! The line that a datagram goes to.
 ghost use Rattle.std.specs.Prelude.{◌≡◌, ◌⊎◌, IfSome, IfNone, IsTrue, ◌↔◌};
 ghost use Rattle.packet_capture.specs.Datagrams.{datagram_content};
 ghost use Rattle.line_captures.specs.Lines.{IsZeros, Takes, GoesTo, GoesToNone};
 
-use feed_types::{LineId, VenueId};
 use packet_capture::{Address, Datagram};
-
-/// A line of a venue, and where its datagrams go in a capture.
-#[derive(Clone, Copy, Debug, PartialEq, Eq)]
-pub struct CapturedLine {
-    /// The address of one machine or of a group. One of zeros takes each destination with the port.
-    pub address: Address,
-    /// The port.
-    pub port: u16,
-    pub venue: VenueId,
-    pub line: LineId,
-}
+use run_settings::CapturedLine;
 
 fn is_zeros(address: &Address) -> bool
     ensures { IsTrue result ↔ IsZeros address.now }

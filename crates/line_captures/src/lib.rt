@@ -16,12 +16,9 @@
 
 mod captured_line;
 mod conversion;
-mod line_list;
 mod packet_format;
 mod passed_over;
 
-pub use captured_line::CapturedLine;
 pub use conversion::convert;
-pub use line_list::{are_apart, lines_at};
 pub use packet_format::PacketFormat;
 pub use passed_over::PassedOver;

@@ -5,17 +5,18 @@ ghost use Rattle.packet_capture.specs.Frames.{frame_of};
 ghost use Rattle.feed_text.specs.Capture.{record_of};
 ghost use Rattle.feed_text.specs.Formats.{CameOf};
 ghost use Rattle.line_captures.specs.Counts.{CountsFrame, CountsPieces};
-ghost use Rattle.line_captures.specs.Lists.{AreOfVenues};
+ghost use Rattle.run_settings.specs.Lists.{AreOfVenues};
 ghost use Rattle.line_captures.specs.Records.{AreOfFrame, IsOfLine};
 ghost use Rattle.line_captures.specs.PacketFormats.{IsStepOf, IsStopStep, ReadsPackets, new_packets, wants_packets, is_bad_packets, is_whole_packets};
 ghost use Rattle.line_captures.specs.PacketFormatLaws.{packets_none, packets_more, packets_longer, packets_venues};
 
-use crate::captured_line::{CapturedLine, line_to};
+use crate::captured_line::line_to;
 use crate::passed_over::{PassedOver, Progress};
 use feed_text::{Record, RecordFormat, Step};
 use packet_capture::{
     CaptureFault, CaptureReader, Frame, Piece, Stop, read_as_bytes_come, read_datagram,
 };
+use run_settings::CapturedLine;
 use std::marker::Model;
 
 /// A packet capture (pcap or pcapng), of which the datagrams to some lines are records, each at the
@@ -29,7 +30,7 @@ pub struct PacketFormat<'a> {
 }
 
 impl<'a> Model for PacketFormat<'a> {
-    ghost use Rattle.line_captures.specs.Lists.{AreOfVenues};
+    ghost use Rattle.run_settings.specs.Lists.{AreOfVenues};
     ghost use Rattle.line_captures.specs.PacketFormats.{PacketState};
 
     ghost Value = { PacketState };

@@ -34,7 +34,7 @@ use Rattle.line_arbiter.specs.laws.Parts.{first_one, one_part}
 use Rattle.feed_core.specs.Worlds.{Setting}
 use Rattle.feed_core.specs.laws.WholeSessionsLaw.{whole}
 use Rattle.feed_text.specs.declared.replay.ReplayConfig.{ReplayConfig}
-use Rattle.feed_text.specs.declared.skip_rule.SkipRule.TheVariants.{Never}
+use Rattle.run_settings.specs.declared.skip_rule.SkipRule.TheVariants.{Never}
 use Rattle.feed_text.specs.Capture.{CaptureRecord, datagram_record}
 use Rattle.feed_text.specs.ReplayEvents.{ReplayEvent, packet_answered, item_taken, entries_of}
 use Rattle.feed_text.specs.Emitted.{last_sent, items_emitted, EmitsRecord, Emits}

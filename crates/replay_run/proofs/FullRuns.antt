@@ -13,15 +13,16 @@ use Rattle.nbbo_book.specs.Eligible.{is_so}
 use Rattle.line_arbiter.specs.Streams.{stream_of, gap_of}
 use Rattle.line_arbiter.specs.Histories.{History, new_history, streams_of}
 use Rattle.filter_terms.specs.declared.terms.Terms.{Terms}
-use Rattle.feed_core.specs.declared.event.Event.{Event}
-use Rattle.feed_core.specs.declared.event.Event.TheVariants.{Packet, Push, Consume, Declare, Skip}
-use Rattle.feed_core.specs.declared.event.Done.{Done}
-use Rattle.feed_core.specs.declared.event.Done.TheVariants as outcome
+use Rattle.feed_steps.specs.declared.event.Event.{Event}
+use Rattle.feed_steps.specs.declared.event.Event.TheVariants.{Packet, Push, Consume, Declare, Skip}
+use Rattle.feed_steps.specs.declared.event.Done.{Done}
+use Rattle.feed_steps.specs.declared.event.Done.TheVariants as outcome
 use Rattle.feed_core.specs.Worlds.{Venue, World, Setting, new_venue, new_world}
-use Rattle.feed_core.specs.Steps.{Applies, Refused, Changes, next_out, journal_item, consume_next, journal_full, already_so, declare_help, with_intake}
+use Rattle.feed_steps.specs.Steps.{Applies, Refused, Changes, journal_item, consume_next, journal_full, already_so}
+use Rattle.feed_core.specs.Steps.{next_out, declare_help, with_intake}
 use Rattle.feed_core.specs.OneStep.{IsStep}
 use Rattle.feed_core.specs.Runs.{IsRun}
-use Rattle.feed_core.specs.Steps as steps
+use Rattle.feed_steps.specs.Steps as parts
 use Rattle.feed_core.specs.VenueHalf.{BringsOnly, BringOnly}
 use Rattle.feed_core.specs.laws.HeadlineLaw.{headline}
 use Rattle.feed_text.specs.declared.replay.ReplayConfig.{ReplayConfig}
@@ -280,7 +281,7 @@ module _ (s : Setting) (gaps : Bool) (lane : 1 ≤ s.lane) (hs : List History) (
       → length (entries_of E first) ≤ s.journal → s.journal < length (entries_after (entries_of E first) next)
       → LastRan s (datagram_record venue line bytes) hs E emitted first
   packet_stops line bytes first others next new t room short =
-      ready_stops (datagram_record venue line bytes) (Packet venue line (slice_of bytes)) (steps.packet_done t.answer)
+      ready_stops (datagram_record venue line bytes) (Packet venue line (slice_of bytes)) (parts.packet_done t.answer)
       (packet_answered venue line t.packet.number (length t.packet.messages) t.answer) (drop (stream_length h) (stream_of new.present.packets)) gaps first others
       next new (packet_begins s gaps lane hs E venue h there kept line bytes (first ++ next ∷ others) new t)
       (λ l. refl) (λ l. refl) (λ place. refl) (λ n. (n, refl, refl)) (sym t.emitted_is)
@@ -292,7 +293,7 @@ module _ (s : Setting) (gaps : Bool) (lane : 1 ≤ s.lane) (hs : List History) (
       → LastRan s (skip_record venue number) hs E emitted first
   skip_stops number first others next new t room short =
       let ready : List Numbered = drop (stream_length h) (stream_of new.present.packets) in
-      ready_stops (skip_record venue number) (Skip venue number) (steps.skip_done number t.answer)
+      ready_stops (skip_record venue number) (Skip venue number) (parts.skip_done number t.answer)
       (skip_answered venue number t.answer) ready false first others next new
       (skip_begins s gaps lane hs E venue h there kept number (first ++ next ∷ others) new t)
       (λ l. refl) (λ l. refl) (λ place. refl) (λ n. (n, refl, refl))

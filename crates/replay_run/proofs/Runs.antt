@@ -26,18 +26,20 @@ use Rattle.line_arbiter.specs.Outcomes.{IsOutcome}
 use Rattle.line_arbiter.specs.Renewals.{IsRenewal}
 use Rattle.line_arbiter.specs.Skips.{IsSkip}
 use Rattle.filter_terms.specs.declared.terms.Terms.{Terms}
-use Rattle.feed_core.specs.declared.event.Event.{Event}
-use Rattle.feed_core.specs.declared.event.Event.TheVariants.{Packet, Push, Consume, Declare, Renew, Skip}
-use Rattle.feed_core.specs.declared.event.Done.{Done}
-use Rattle.feed_core.specs.declared.event.Done.TheVariants as done
+use Rattle.feed_steps.specs.declared.event.Event.{Event}
+use Rattle.feed_steps.specs.declared.event.Event.TheVariants.{Packet, Push, Consume, Declare, Renew, Skip}
+use Rattle.feed_steps.specs.declared.event.Done.{Done}
+use Rattle.feed_steps.specs.declared.event.Done.TheVariants as done
 use Rattle.feed_core.specs.Worlds.{is_full, Venue, session_count, session_sent, World, Setting, new_venue, new_world}
-use Rattle.feed_core.specs.Steps.{Stays, Applies, Refused, Changes, next_in, next_out, push_next, journal_item, consume_next, journal_full, unknown_venue, already_so, declare_help, Intake, put_venue, with_sent, with_intake, RefusesBytes, AnswersRenewal, AnswersSkip}
+use Rattle.feed_steps.specs.Steps.{Stays, Applies, Refused, Changes, push_next, journal_item, consume_next, journal_full, unknown_venue, already_so, Intake}
+use Rattle.feed_core.specs.Steps.{next_in, next_out, declare_help, put_venue, with_sent, with_intake, RefusesBytes, AnswersRenewal, AnswersSkip}
 use Rattle.feed_core.specs.OneStep.{IsStep}
 use Rattle.feed_core.specs.Runs.{IsRun}
+use Rattle.feed_steps.specs.Steps as parts
 use Rattle.feed_core.specs.Steps as steps
 use Rattle.feed_core.specs.VenueHalf.{BringsOnly, BringOnly, IsAmong, AreVenueItems, VenueHalf}
 use Rattle.feed_core.specs.Headline.{Headline}
-use Rattle.feed_core.specs.laws.Lists.{begins_drop}
+use Rattle.feed_steps.specs.laws.Lists.{begins_drop}
 use Rattle.feed_core.specs.laws.HeadlineLaw.{headline}
 use Rattle.line_arbiter.specs.laws.Histories.{items_push}
 use Rattle.feed_text.specs.declared.replay.ReplayConfig.{ReplayConfig}
@@ -287,11 +289,11 @@ module _ (s : Setting) (gaps : Bool) (lane : 1 ≤ s.lane) (hs : List History) (
   -- the packet is answered, and nothing is pushed yet
   pub packet_begins : (line : LineId) (bytes : List ℕ) (emitted : List ReplayEvent) (new : History)
       (t : EmitsPacket s.window gaps venue line bytes h emitted new)
-      → IsStep s (world_of hs entries) (Packet venue line (slice_of bytes)) (steps.packet_done t.answer)
+      → IsStep s (world_of hs entries) (Packet venue line (slice_of bytes)) (parts.packet_done t.answer)
       (at (map consumed_all hs) venue (venue_at new (streams_of h)) entries)
   packet_begins line bytes emitted new t =
       let w : World = world_of hs entries in
-      let d : Done = steps.packet_done t.answer in
+      let d : Done = parts.packet_done t.answer in
       let mid : World = at (map consumed_all hs) venue (venue_at new (streams_of h)) entries in
       at_venue w venue (consumed_all h) d mid
       (λ v. RefusesBytes bytes w d mid ⊎ steps.AnswersPacket s.window venue v line bytes w d mid) there_is (inr (record {
@@ -354,7 +356,7 @@ module _ (s : Setting) (gaps : Bool) (lane : 1 ≤ s.lane) (hs : List History) (
       → EmitsPacket s.window gaps venue line bytes h emitted new → length (entries_of entries emitted) ≤ s.journal
       → Ran s (datagram_record venue line bytes) hs entries emitted (slice_set hs venue new)
   packet_ran line bytes emitted new t room =
-      let d : Done = steps.packet_done t.answer in
+      let d : Done = parts.packet_done t.answer in
       let ready : List Numbered = drop (stream_length h) (stream_of new.present.packets) in
       let silent = gap_silent s.window gaps venue new in
       let hs1 : List ReplayEvent = map (item_taken venue) ready in
@@ -373,11 +375,11 @@ module _ (s : Setting) (gaps : Bool) (lane : 1 ≤ s.lane) (hs : List History) (
   -- the skip is answered, and nothing is pushed yet
   pub skip_begins : (number : ℕ) (emitted : List ReplayEvent) (new : History)
       (t : EmitsSkip venue number h emitted new)
-      → IsStep s (world_of hs entries) (Skip venue number) (steps.skip_done number t.answer)
+      → IsStep s (world_of hs entries) (Skip venue number) (parts.skip_done number t.answer)
       (at (map consumed_all hs) venue (venue_at new (streams_of h)) entries)
   skip_begins number emitted new t =
       let w : World = world_of hs entries in
-      let d : Done = steps.skip_done number t.answer in
+      let d : Done = parts.skip_done number t.answer in
       let mid : World = at (map consumed_all hs) venue (venue_at new (streams_of h)) entries in
       at_venue w venue (consumed_all h) d mid (λ v. AnswersSkip venue v number w d mid) there_is (record {
         answer = t.answer;
@@ -402,7 +404,7 @@ module _ (s : Setting) (gaps : Bool) (lane : 1 ≤ s.lane) (hs : List History) (
       → length (entries_of entries emitted) ≤ s.journal
       → Ran s (skip_record venue number) hs entries emitted (slice_set hs venue new)
   skip_ran number emitted new t room =
-      drained (Skip venue number) (steps.skip_done number t.answer)
+      drained (Skip venue number) (parts.skip_done number t.answer)
       (drop (stream_length h) (stream_of new.present.packets)) emitted new (skip_begins number emitted new t)
       (ap (outcomes_of entries) t.emitted_is) (ap (entries_of entries) t.emitted_is)
       (skip_behind number emitted new t) room
@@ -411,7 +413,7 @@ module _ (s : Setting) (gaps : Bool) (lane : 1 ≤ s.lane) (hs : List History) (
       → Ran s (renewal_record venue name) hs entries emitted (slice_set hs venue new)
   renewal_ran name emitted new t =
       let w : World = world_of hs entries in
-      let d : Done = steps.renewal_done t.answer in
+      let d : Done = parts.renewal_done t.answer in
       let mid : World = at (map consumed_all hs) venue (venue_at new (streams_of h)) entries in
       let streams : streams_of new ≡ streams_of h =
       (here s.window gaps (renewal_record venue name) h new emitted kept t).items

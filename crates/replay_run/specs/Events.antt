@@ -9,12 +9,12 @@ use Rattle.journal_book.specs.Changes.{changes_of}
 use Rattle.journal_book.specs.ItemsIn.{items_in}
 use Rattle.line_arbiter.specs.Histories.{History, streams_of}
 use Rattle.filter_terms.specs.declared.terms.Terms.{Terms}
-use Rattle.feed_core.specs.declared.event.Event.{Event}
-use Rattle.feed_core.specs.declared.event.Event.TheVariants.{Packet, Push, Consume, Declare, Renew, Skip}
-use Rattle.feed_core.specs.declared.event.Done.{Done}
-use Rattle.feed_core.specs.declared.event.Done.TheVariants as done
+use Rattle.feed_steps.specs.declared.event.Event.{Event}
+use Rattle.feed_steps.specs.declared.event.Event.TheVariants.{Packet, Push, Consume, Declare, Renew, Skip}
+use Rattle.feed_steps.specs.declared.event.Done.{Done}
+use Rattle.feed_steps.specs.declared.event.Done.TheVariants as done
 use Rattle.feed_core.specs.Worlds.{Venue, World, Setting, new_world}
-use Rattle.feed_core.specs.Steps.{packet_done, renewal_done, skip_done, already_so}
+use Rattle.feed_steps.specs.Steps.{packet_done, renewal_done, skip_done, already_so}
 use Rattle.feed_core.specs.Runs.{IsRun}
 use Rattle.feed_core.specs.VenueHalf.{AreVenueItems}
 use Rattle.feed_core.specs.Headline.{Headline}

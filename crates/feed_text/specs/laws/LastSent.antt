@@ -16,7 +16,7 @@ module _ (h : History) where
       let part = length-stream packets (front_of packets) in
       omega arith
 
-  -- so many items lie up to the last one
+  -- the items up to the last one are as many as the streams are long
   pub place_last : place_of h.present.packets (last_sent h) ≡ stream_length h
   place_last =
       let packets = h.present.packets in

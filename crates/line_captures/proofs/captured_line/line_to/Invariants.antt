@@ -1,6 +1,6 @@
 use Rattle.std.proofs.Common.{◌≡◌, ℕ, ◌<◌, Some, slice_get}
 use Rattle.packet_capture.specs.Datagrams.{datagram_content}
-use Rattle.line_captures.specs.declared.captured_line.CapturedLine.{CapturedLine}
+use Rattle.run_settings.specs.declared.captured_line.CapturedLine.{CapturedLine}
 use Rattle.line_captures.specs.Lines.{Takes}
 use Rattle.line_captures.proofs.captured_line.line_to.Given as goal
 

@@ -2,7 +2,7 @@ use Rattle.std.proofs.Common.{◌≡◌, ℕ, List, Option, Some, None, subst, s
 use Rattle.std.specs.Prelude.{MatchOption}
 use Rattle.mold_packet.specs.Content.{Content, Spells}
 use Rattle.line_arbiter.specs.Histories.{History}
-use Rattle.feed_text.specs.declared.skip_rule.SkipRule.{SkipRule}
+use Rattle.run_settings.specs.declared.skip_rule.SkipRule.{SkipRule}
 use Rattle.feed_text.specs.Following.{ReplayVenue, Follows}
 use Rattle.feed_text.specs.Rules.{SkipsBefore}
 use Rattle.feed_text.proofs.VenueSteps.{all_sent}

@@ -1,9 +1,0 @@
-use Rattle.std.proofs.Common.{◌≡◌, take}
-use Rattle.line_captures.specs.Lists.{lines_from}
-use Rattle.line_captures.proofs.line_list.lines_at.Given as goal
-
-abbrev pub invariant-loop-address : goal.invariant-loop-address
-invariant-loop-address l = record {
-  place : l.place ≡ l.address-index;
-  lines : l.lines.items ≡ lines_from 0 (take l.address-index l.addresses);
-}
