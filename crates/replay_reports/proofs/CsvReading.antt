@@ -15,7 +15,7 @@ use Rattle.csv.specs.Machine.{next_record}
 use Rattle.csv.specs.Reading.{default_config}
 use Rattle.csv.specs.Writing.{default_writer, escaped, field_text, fields_text, is_blank, needs_byte, row_text}
 use Rattle.csv.specs.declared.parser.State.TheVariants as st
-use Rattle.feed_text.specs.declared.formats.BestFormat.TheVariants.{Csv}
+use Rattle.run_settings.specs.declared.formats.BestFormat.TheVariants.{Csv}
 use Rattle.feed_types.specs.Nationals.{state_of}
 use Rattle.replay_reports.specs.rows.Quoting.{csv_text, escaped_byte, needs_quotes, quoted}
 use Rattle.replay_reports.specs.declared.rows.row_time.RowTime.{RowTime}

@@ -1,7 +1,7 @@
 -- The laws of the texts: what a sink prints that took events since it was made.
 use Rattle.std.proofs.Common.{◌≡◌, ℕ, List, [], append-nil, length, reverse, ap, subst, ◌∙◌}
 use Rattle.feed_text.specs.SinkEvents.{TimedEvent}
-use Rattle.feed_text.specs.declared.formats.StatsFormat.{StatsFormat}
+use Rattle.run_settings.specs.declared.formats.StatsFormat.{StatsFormat}
 use Rattle.replay_reports.specs.declared.times.timed_stats.TimedStats.{TimedStats}
 use Rattle.replay_reports.specs.counts.Sinks.{TakesCounts}
 use Rattle.replay_reports.specs.counts.Stats.{Counted, counted_after, nothing_counted, untimed}

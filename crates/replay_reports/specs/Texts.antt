@@ -1,8 +1,8 @@
 -- The counts as a text.
 use Rattle.std.specs.Prelude.{◌≡◌, ℕ, List, [], ◌++◌, reverse}
 use Rattle.feed_text.specs.SinkEvents.{TimedEvent}
-use Rattle.feed_text.specs.declared.formats.StatsFormat.{StatsFormat}
-use Rattle.feed_text.specs.declared.formats.StatsFormat.TheVariants.{Table, Json}
+use Rattle.run_settings.specs.declared.formats.StatsFormat.{StatsFormat}
+use Rattle.run_settings.specs.declared.formats.StatsFormat.TheVariants.{Table, Json}
 use Rattle.replay_reports.specs.declared.times.figures.TimeFigures.{TimeFigures}
 use Rattle.replay_reports.specs.declared.times.timed_stats.TimedStats.{TimedStats}
 use Rattle.replay_reports.specs.counts.Json.{stats_json}

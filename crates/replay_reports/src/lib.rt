@@ -6,8 +6,8 @@
 //! event (`specs/rows/RowSinks.antt`). A [`Stats`] writes nothing: it counts events for each venue,
 //! each of its lines and the national bests (`specs/counts/Counts.antt`: a filter, then a count or a
 //! sum). A [`TimedStats`] also holds how a packet capture's lines run in time
-//! (`specs/times/Timing.antt`). [`stats_text`] and [`timed_stats_text`] give the text of either, as a
-//! table or as JSON (`specs/Texts.antt`).
+//! (`specs/times/Timing.antt`). Each is a [`StatsSink`], which has its statistics as a text: a table or
+//! JSON (`specs/Texts.antt`).
 //!
 //! Begin at `rows/row_sink.rt`, or at `counts/stats.rt`.
 #![tactic(auto)]
@@ -24,7 +24,7 @@ pub use counts::venue_stats::{ItemStats, SessionStats, VenueStats};
 pub use rows::read_back::csv_reads_back;
 pub use rows::row_sink::BestRows;
 pub use rows::style::{RowStyle, has_times};
-pub use text::{stats_text, timed_stats_text};
+pub use text::StatsSink;
 pub use times::durations::Durations;
 pub use times::figures::{DurationTimes, SpellTimes, TimeFigures, VenueTimes};
 pub use times::line_leads::LineLeads;

@@ -16,11 +16,12 @@ mod seconds;
 pub(crate) mod style;
 
 use csv_rows::put_csv;
-use feed_text::{BestFormat, LineBuffer, put_bytes, put_change};
+use feed_text::{LineBuffer, put_bytes, put_change};
 use feed_types::NationalState;
 use json_rows::put_json;
 use nbbo_book::Change;
 use row_time::RowTime;
+use run_settings::BestFormat;
 use style::RowStyle;
 
 /// Appends the word of a state.
@@ -53,10 +54,7 @@ pub(crate) fn put_row(
 {
     let time = RowTime::of(style.timed, time);
     match style.format {
-        BestFormat::Text => match put_change(text, number, change) {
-            Ok(()) => {}
-            Err(_) => unreachable!(),
-        },
+        BestFormat::Text => put_change(text, number, change),
         BestFormat::Csv => put_csv(text, time, number, change),
         BestFormat::Json => put_json(text, time, number, change),
     }

@@ -1,5 +1,7 @@
-//! The counts as a text.
-ghost use Rattle.std.specs.Prelude.{◌≡◌, [], IfOk};
+//! Statistics as a text.
+ghost use Rattle.std.specs.Prelude.{◌≡◌, ℕ, [], IfOk, List};
+ghost use Rattle.feed_text.specs.SinkEvents.{TimedEvent};
+ghost use Rattle.run_settings.specs.declared.formats.StatsFormat.{StatsFormat};
 ghost use Rattle.replay_reports.specs.Texts.{IsTimedText, text_of_stats, text_of_times};
 
 use crate::counts::json::put_json;
@@ -9,7 +11,8 @@ use crate::times::figures::TimeFigures;
 use crate::times::timed_stats::TimedStats;
 use crate::times::times_json::put_times_json;
 use crate::times::times_table::put_times_table;
-use feed_text::StatsFormat;
+use feed_text::EventSink;
+use run_settings::StatsFormat;
 use std::alloc::{AllocError, Global};
 
 /// Returns the counts as a text in the format, with `more`: lines after a table, or members of an
@@ -49,22 +52,37 @@ fn times_text(
     Ok(text)
 }
 
-/// Returns the counts as a text in the format. Fails where memory is refused.
-pub fn stats_text(alloc: Global, stats: &Stats, format: StatsFormat) -> Result<Vec<u8>, AllocError>
-    ensures { IfOk result (λ text. text.items ≡ text_of_stats format stats.now []) }
-{
-    text_with(alloc, stats, format, b"")
+/// A sink of events that keeps statistics of them, and has them as a text.
+pub trait StatsSink: EventSink {
+    /// A text of what it keeps, in a format.
+    ghost is_text: { Self → StatsFormat → List ℕ → Type 0 };
+
+    /// Returns what it keeps as a text in the format. Fails where memory is refused.
+    fn text(&self, alloc: Global, format: StatsFormat) -> Result<Vec<u8>, AllocError>
+        ensures { IfOk result (λ text. is_text self.now format text.items) };
+
+    /// No call of it fails.
+    ghost never_fails: { (s t : Self) (events : List TimedEvent) → Self.fails s events t → ⊥ };
 }
 
-/// Returns the counts and the times as a text in the format. Fails where memory is refused.
-pub fn timed_stats_text(
-    alloc: Global,
-    timed: &TimedStats,
-    format: StatsFormat,
-) -> Result<Vec<u8>, AllocError>
-    ensures { IfOk result (λ text. IsTimedText format timed.now text.items) }
-{
-    let figures = timed.times.figures(alloc)?;
-    let times = times_text(alloc, &figures, format)?;
-    text_with(alloc, &timed.stats, format, times.as_slice())
+impl StatsSink for Stats {
+    ghost is_text = { λ s format text. text ≡ text_of_stats format s [] };
+
+    ghost never_fails = { λ s t events failed. failed };
+
+    fn text(&self, alloc: Global, format: StatsFormat) -> Result<Vec<u8>, AllocError> {
+        text_with(alloc, self, format, b"")
+    }
+}
+
+impl StatsSink for TimedStats {
+    ghost is_text = { λ s format text. IsTimedText format s text };
+
+    ghost never_fails = { λ s t events failed. failed };
+
+    fn text(&self, alloc: Global, format: StatsFormat) -> Result<Vec<u8>, AllocError> {
+        let figures = self.times.figures(alloc)?;
+        let times = times_text(alloc, &figures, format)?;
+        text_with(alloc, &self.stats, format, times.as_slice())
+    }
 }

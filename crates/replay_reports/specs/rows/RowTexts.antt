@@ -5,8 +5,8 @@ use Rattle.feed_types.specs.declared.national.Best.{Best}
 use Rattle.feed_types.specs.Nationals.{state_of}
 use Rattle.feed_types.specs.Symbols.{name_of}
 use Rattle.feed_types.specs.Text.{price_text, state_text}
-use Rattle.feed_text.specs.declared.formats.BestFormat.{BestFormat}
-use Rattle.feed_text.specs.declared.formats.BestFormat.TheVariants.{Text, Csv, Json}
+use Rattle.run_settings.specs.declared.formats.BestFormat.{BestFormat}
+use Rattle.run_settings.specs.declared.formats.BestFormat.TheVariants.{Text, Csv, Json}
 use Rattle.feed_text.specs.Lines.{best_line}
 use Rattle.feed_text.specs.SinkEvents.{SinkEvent, TimedEvent, told_best}
 use Rattle.replay_reports.specs.declared.rows.row_time.RowTime.{RowTime}

@@ -33,7 +33,7 @@ messages_told e = messages_of (clock_of e.time) e.event
 abbrev pub has_numbers : ℕ → ℕ → Bool
 has_numbers number count = nat_lt 0 number && nat_lt (number + count) 18446744073709551617
 
--- what came of a venue's present session on lines A and B, after one more event
+-- the messages of a venue's present session that lines A and B brought, after one more event
 abbrev pub came_after : ℕ → ℕ → SinkEvent → List MessageOn → List MessageOn
 came_after venue clock (told_packet at line number count (Ok (Taken new repeated))) came =
     if at == venue && has_numbers number count then come_on line number count clock came else came

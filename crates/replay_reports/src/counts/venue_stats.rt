@@ -53,7 +53,7 @@ fn given_up(last: u64, numbered: &Numbered) -> u64
     }
 }
 
-/// What came of a venue's present session, and what all its sessions gave up.
+/// The messages of a venue's present session, and those that all its sessions gave up.
 #[derive(Clone, Copy, Debug, Default, PartialEq, Eq)]
 pub struct SessionStats {
     /// The number of the present session's last item, 0 where there is none.

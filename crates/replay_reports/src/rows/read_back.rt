@@ -1,7 +1,7 @@
 //! A law of rows.
 ghost use Rattle.std.specs.Prelude.{Bool};
 ghost use Rattle.feed_types.specs.declared.journal.Notice.{Notice};
-ghost use Rattle.feed_text.specs.declared.formats.BestFormat.TheVariants.{Csv};
+ghost use Rattle.run_settings.specs.declared.formats.BestFormat.TheVariants.{Csv};
 ghost use Rattle.replay_reports.specs.declared.rows.row_time.RowTime.{RowTime};
 ghost use Rattle.replay_reports.specs.rows.CsvFields.{HasWords, ReadsBack, csv_fields, csv_names};
 ghost use Rattle.replay_reports.specs.rows.RowTexts.{csv_row, header_of};

@@ -3,7 +3,8 @@ ghost use Rattle.std.specs.Prelude.{◌≡◌, ◌≤◌};
 ghost use Rattle.feed_text.specs.Pages.{Appends};
 ghost use Rattle.replay_reports.specs.rows.RowTexts.{has_times, header_of, time_name};
 
-use feed_text::{BestFormat, LineBuffer, put_bytes};
+use feed_text::{LineBuffer, put_bytes};
+use run_settings::BestFormat;
 
 /// How the rows of national bests are written.
 #[derive(Clone, Copy, Debug, PartialEq, Eq)]

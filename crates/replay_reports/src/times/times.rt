@@ -29,7 +29,7 @@ pub struct Times {
     pub venues: Vec<VenueTiming>,
 }
 
-/// Returns the timing of venues to which nothing came, so many. Fails where memory is refused.
+/// Returns the timing of this many venues to which nothing came. Fails where memory is refused.
 fn new_venues(alloc: Global, count: usize, window: usize) -> Result<Vec<VenueTiming>, AllocError>
     ensures count { IfOk result (λ v. length v.items ≡ count) }
     ensures timed { IfOk result (λ v. 0 < window → AreVenuesTimed window [] v.items) }

@@ -1,5 +1,5 @@
 use Rattle.std.proofs.Common.{ap, sym}
-use Rattle.feed_text.specs.declared.formats.BestFormat.{BestFormat}
+use Rattle.run_settings.specs.declared.formats.BestFormat.{BestFormat}
 use Rattle.replay_reports.specs.rows.RowTexts.{header_of}
 use Rattle.replay_reports.proofs.Appending.{appends_as, appends_more}
 use Rattle.replay_reports.proofs.rows.style.put_header.Goals as goal

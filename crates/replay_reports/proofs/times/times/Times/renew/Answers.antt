@@ -1,4 +1,4 @@
-use Rattle.std.proofs.Common.{◌∷◌, Ok, Err, Result, ℕ, refl, subst, sym}
+use Rattle.std.proofs.Common.{◌∷◌, Result, ℕ, refl, subst, sym}
 use Rattle.line_arbiter.specs.declared.faults.RenewFault.{RenewFault}
 use Rattle.feed_text.specs.SinkEvents.{timed_event, told_renewal}
 use Rattle.replay_reports.specs.times.Timing.{AreVenuesTimed}

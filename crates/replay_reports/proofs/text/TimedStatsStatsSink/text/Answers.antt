@@ -1,7 +1,7 @@
 use Rattle.std.proofs.Common.{ap, ◌∙◌}
 use Rattle.replay_reports.specs.Texts.{text_of_stats}
 use Rattle.replay_reports.proofs.Putting.{on_text}
-use Rattle.replay_reports.proofs.text.timed_stats_text.Goals as goal
+use Rattle.replay_reports.proofs.text.TimedStatsStatsSink.text.Goals as goal
 
 pub returns : goal.returns
 returns c =
@@ -9,7 +9,7 @@ returns c =
     (λ text is. record {
       figures = c.in_ok-figures.figures;
       are = λ window events timed. c.in_ok-figures.ensures window events timed.times;
-      text_is = is ∙ ap (text_of_stats c.args.format c.args.timed.now.stats)
+      text_is = is ∙ ap (text_of_stats c.args.format c.args.self.now.stats)
           (c.as_slice.ensures.value ∙ c.in_ok-times.ensures);
     })
     c.text_with.ensures
