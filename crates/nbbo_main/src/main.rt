@@ -7,45 +7,31 @@
 //! `nbbo stats --sessions LIST [--lines LIST] [--window N] [--join] [--skip-gaps] [--format FORMAT]
 //! [SYMBOL]...` replays a capture and prints the statistics of its events (`replay_reports`).
 //!
-//! At the end of a replay standard error says what venues lack (`lacks.rt`).
+//! At the end of a replay standard error says what venues lack (`nbbo_runs`).
 //!
 //! `nbbo listen --sessions LIST --lines LIST [--request ADDR] [--join] [--skip-after MS] [--window N] [--journal N]
 //! [--datagrams N] [--end WHICH] [--buffer BYTES] [--follow [--kept N]] [SYMBOL]...` receives the lines of live venues by UDP, runs them as a live feed
 //! (`live_feed`), and prints what they came to once all have ended, or as it comes.
 //!
-//! The contract here is that of `run::run`: of any words, over any input, output and standard error,
-//! it says what is read, what is written where, and the status, or that the words ask to listen
-//! (`specs/Runs.antt`). Outside of it stand, in this file, the opening of the three streams and of
-//! the sockets, the words as the system gives them, what a terminal is told beside it (`hints.rt`),
-//! and the exit; and listening itself (`udp_listening`), which tests show.
+//! The contract is that of `nbbo_runs::run`: of any words, over any input, output and standard error,
+//! it says what is read, what is written where, and the status, or that the words ask to listen.
+//! Outside of it stand, in this file, the opening of the three streams and of the sockets, the words
+//! as the system gives them, what a terminal is told beside it, and the exit; and listening itself
+//! (`udp_listening`), which tests show.
 //!
-//! Begin with `run.rt`, then `runs.rt` and `printing.rt`: a run is one over any format of captures,
-//! and prints lines, rows of best lines or statistics. `command_words` has what the words ask for,
-//! `udp_listening` live lines, `ending.rt` the texts of faults.
+//! Begin with `nbbo_runs`. `command_words` has what the words ask for, `udp_listening` live lines.
 #![tactic(auto)]
 
 ghost use Rattle.std.specs.Prelude.{◌≡◌, ◌≢◌, ◌<◌};
 ghost use Rattle.command_words.specs.declared.refusal.Refusal.TheVariants.{NoMemory, NotText};
 
-mod capture_report;
-mod config;
-mod ending;
-mod hints;
-mod kept_start;
-mod lacks;
-mod noted_errors;
-mod printing;
-mod run;
-mod runs;
-mod terminals;
-mod told_format;
-
-use command_words::{ListenSettings, Refusal};
+use command_words::Refusal;
 use feed_text::{CaptureIn, Count, StreamIn, StreamOut, TextOut, write_stderr};
-use hints::{asks_for_packets, format_hint, hint_at_file, journal_hint};
-use kept_start::KeptStart;
-use noted_errors::NotedErrors;
-use run::{Next, refuse, run};
+use nbbo_runs::{
+    KeptStart, Next, NotedErrors, Terminals, asks_for_packets, format_hint, hint_at_file,
+    journal_hint, refuse, run,
+};
+use run_settings::ListenSettings;
 use std::alloc::{AllocError, Global};
 use std::io::{ErrorKind, IsTerminal, Stderr, Stdin, Stdout};
 use std::marker::Brand;
@@ -55,7 +41,6 @@ use std::sync::Wait;
 use std::sync::ledger::{Blank, Ledger};
 use std::thread::Threads;
 use std::{env, io};
-use terminals::Terminals;
 use udp_listening::{NO_MEMORY, bind_sockets, enlarge, listen_with, listening_line};
 
 /// The words of the command line, the program's name first.

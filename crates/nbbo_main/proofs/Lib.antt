@@ -1,5 +1,0 @@
-pub mod CaptureCounts
-pub mod Keeping
-pub mod NamedLines
-pub mod PrintedTexts
-pub mod SaidLacks

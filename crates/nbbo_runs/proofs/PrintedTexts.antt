@@ -1,0 +1,51 @@
+-- The texts that are printed at the end of a replay.
+use Rattle.std.proofs.Common.{◌≡◌, List, ℕ, Ok, Err, subst}
+use Rattle.std.specs.Prelude.{IfOk, IsOkAnd, Result}
+use Rattle.feed_text.specs.declared.replay.ReplayConfig.{ReplayConfig}
+use Rattle.feed_text.specs.declared.replay_stop.ReplayStop.{ReplayStop}
+use Rattle.feed_text.specs.declared.replay_stop.ReplayStop.TheVariants.{ReadFailed, SinkFailed, Bad, Short, TooManyTurns, JournalFull, NoMemory}
+use Rattle.feed_text.specs.Devices.{Reading, Writing}
+use Rattle.feed_text.specs.Formats.{Parsing}
+use Rattle.feed_text.specs.SinkEvents.{TimedEvent}
+use Rattle.nbbo_runs.specs.Printing.{PrintsFigures, PrintsText}
+
+-- a text of one kind is of another one, too
+pub text_as : {W F : Type 0} (writing : Writing W) (One Other : List ℕ → Type 0) (before after : W)
+    (printed : Result (Unit {0}) (ReplayStop F)) → ((text : List ℕ) → One text → Other text)
+    → PrintsText writing One before after printed → PrintsText writing Other before after printed
+text_as writing One Other before after (Ok done) each (text, is, wrote, kept) =
+    (text, each text is, wrote, kept)
+text_as writing One Other before after (Err SinkFailed) each (text, is, wrote, failed) =
+    (text, each text is, wrote, failed)
+text_as writing One Other before after (Err NoMemory) each kept = kept
+text_as writing One Other before after (Err ReadFailed) each bad = absurd bad
+text_as writing One Other before after (Err (Bad fault)) each bad = absurd bad
+text_as writing One Other before after (Err Short) each bad = absurd bad
+text_as writing One Other before after (Err TooManyTurns) each bad = absurd bad
+text_as writing One Other before after (Err JournalFull) each bad = absurd bad
+
+-- a text that was made is of the kind of what was made
+pub made_as : {A E : Type 0} (items : A → List ℕ) (made : Result A E) (P : A → Type 0)
+    (Is : List ℕ → Type 0) (text : List ℕ) → IfOk made P → ((a : A) → P a → Is (items a))
+    → IsOkAnd made (λ a. items a ≡ text) → Is text
+made_as items (Ok a) P Is text made each same = subst Is same (each a made)
+made_as items (Err e) P Is text made each none = absurd none
+
+-- so are the texts of the events that were told
+pub figures_as : {R S F W : Type 0} (reading : Reading R) (writing : Writing W)
+    (parsing : Parsing S F) (config : ReplayConfig) (One Other : List TimedEvent → List ℕ → Type 0)
+    (from to : R) (start finish : S) (before after : W)
+    (outcome : Result (Unit {0}) (ReplayStop F))
+    → ((told : List TimedEvent) (text : List ℕ) → One told text → Other told text)
+    → PrintsFigures reading writing parsing config One from to start finish before after outcome
+    → PrintsFigures reading writing parsing config Other from to start finish before after outcome
+figures_as reading writing parsing config One Other from to start finish before after outcome each
+    figures = record {
+      told = figures.told;
+      seen = figures.seen;
+      run = figures.run;
+      printed = figures.printed;
+      prints = text_as writing (One figures.told) (Other figures.told) before after figures.printed
+          (each figures.told) figures.prints;
+      ends = figures.ends;
+    }

@@ -1,0 +1,57 @@
+use Rattle.std.proofs.Common.{ℕ, List, subst}
+use Rattle.feed_text.specs.declared.lack.Lack.{Lack}
+use Rattle.feed_text.specs.Devices.{Reading, Writing}
+use Rattle.feed_text.specs.Formats.{Parsing}
+use Rattle.feed_text.specs.StandardError.{Says}
+use Rattle.feed_text.specs.laws.SaidTexts.{says_each}
+use Rattle.nbbo_runs.specs.Lacks.{tells_lacks, told_lacks}
+use Rattle.nbbo_runs.specs.Printing.{PrintsAsked}
+use Rattle.nbbo_runs.proofs.SaidLacks.{tells_items}
+use Rattle.nbbo_runs.proofs.runs.run_over.Goals as goal
+
+pub returns : goal.returns
+returns g c =
+    let reading : Reading g.row.R.Denot = record {
+      gives = g.R.CaptureIn.gives;
+      ends = g.R.CaptureIn.ends;
+      failures = g.R.CaptureIn.failures;
+      fails = g.R.CaptureIn.fails;
+    } in
+    let writing : Writing g.row.W.Denot =
+    record { adds = g.W.TextOut.adds; failures = g.W.TextOut.failures } in
+    let telling : Writing g.row.E.Denot =
+    record { adds = g.E.TextOut.adds; failures = g.E.TextOut.failures } in
+    let parsing : Parsing g.row.F.Denot g.row.F-Fault.Denot = record {
+      reads = g.F.RecordFormat.reads;
+      wants = g.F.RecordFormat.wants;
+      is_bad = g.F.RecordFormat.is_bad;
+      is_whole = g.F.RecordFormat.is_whole;
+    } in
+    let settings = c.args.settings.now in
+    let outcome = c.print-printed.result.outcome in
+    let lacks = c.print-printed.new.lacks.items in
+    let finish = c.print-printed.new.format in
+    let silent = c.args.errors.now in
+    let hinted = c.write_stderr.new.errors in
+    let said = c.tell_lacks.new.errors in
+    let due = tells_lacks settings c.args.terminals in
+    record {
+      finish = finish;
+      outcome = outcome;
+      lacks = lacks;
+      prints = subst (λ (old : List Lack). PrintsAsked reading writing parsing settings
+          c.args.input.now c.print-printed.new.input c.args.format finish c.args.output
+          c.print-printed.result.sink old lacks outcome)
+          c.new-lacks.ensures.items c.print-printed.ensures;
+      says = (
+        hinted,
+        subst (λ (text : List ℕ). Says telling text silent hinted) c.input_hint.ensures
+            c.write_stderr.ensures,
+        says_each telling (told_lacks outcome due lacks)
+            (g.F.ToldFormat.end_texts finish outcome) hinted said c.tell_end.new.errors
+            (tells_items telling outcome _ due _ lacks hinted said c.tells_lacks-is_told.ensures
+            c.as_slice.ensures.value c.tell_lacks.ensures)
+            c.tell_end.ensures,
+      );
+      ends = c.status_of.ensures;
+    }

@@ -1,0 +1,71 @@
+-- What is said of a packet capture on standard error.
+use Rattle.std.specs.Prelude.{ℕ, zero, suc, List, [], ◌∷◌, ◌++◌, codes, decimal, Result, Ok, Err}
+use Rattle.packet_capture.specs.declared.fault.CaptureFault.{CaptureFault}
+use Rattle.packet_capture.specs.declared.fault.CaptureFault.TheVariants.{NotCapture, UnknownVersion, TooLong, BadByteOrder, BadBlockLength, LengthsDiffer, ShortBlock, UnknownInterface, FramePastBlock, OptionPastBlock, TooManyInterfaces}
+use Rattle.feed_text.specs.declared.replay_stop.ReplayStop.{ReplayStop}
+use Rattle.feed_text.specs.declared.replay_stop.ReplayStop.TheVariants.{Bad}
+use Rattle.line_captures.specs.declared.passed_over.PassedOver.{PassedOver}
+use Rattle.line_captures.specs.PacketFormats.{PacketState}
+use Rattle.nbbo_runs.specs.Ending.{stop_line_text}
+
+-- a line with a count, where that isn't 0
+abbrev pub count_texts : List ℕ → ℕ → List (List ℕ)
+count_texts label zero = []
+count_texts label (suc more) = label ∷ decimal (suc more) ∷ codes "\n" ∷ []
+
+-- what a line may have lost
+abbrev pub lost_texts : PassedOver → List (List ℕ)
+lost_texts passed =
+    count_texts (codes "nbbo: fragments passed over: ") passed.fragments
+    ++ (count_texts (codes "nbbo: cut frames passed over: ") passed.cut
+    ++ count_texts (codes "nbbo: malformed packets passed over: ") passed.malformed)
+
+-- and what else is to be known of the frames
+abbrev pub other_texts : PassedOver → List (List ℕ)
+other_texts passed =
+    count_texts (codes "nbbo: frames that can't be read passed over: ") passed.not_read
+    ++ count_texts (codes "nbbo: frames out of time order: ") passed.disordered
+
+abbrev pub passed_texts : PassedOver → List (List ℕ)
+passed_texts passed = lost_texts passed ++ other_texts passed
+
+-- why the bytes are no packet capture, or none that is read: the number of the refusal, and what it
+-- means
+abbrev pub capture_fault_text : CaptureFault → List ℕ
+capture_fault_text NotCapture = codes ": 40, neither pcap nor pcapng\n"
+capture_fault_text UnknownVersion = codes ": 41, a version of pcap or pcapng that is not known\n"
+capture_fault_text TooLong = codes ": 42, a frame or a block of more than 1048576 bytes\n"
+capture_fault_text BadByteOrder = codes ": 43, a section that does not show its byte order\n"
+capture_fault_text BadBlockLength =
+    codes ": 44, a length of a block that is below 12 or no multiple of 4\n"
+capture_fault_text LengthsDiffer = codes ": 45, two lengths of a block that differ\n"
+capture_fault_text ShortBlock = codes ": 46, a block that is too short for its fields\n"
+capture_fault_text UnknownInterface = codes ": 47, a packet of an interface that is not described\n"
+capture_fault_text FramePastBlock = codes ": 48, a frame that runs past its block\n"
+capture_fault_text OptionPastBlock = codes ": 49, an option that runs past its block\n"
+capture_fault_text TooManyInterfaces = codes ": 50, more than 256 interfaces in a section\n"
+
+-- that no datagram goes to a line, by how many do
+abbrev pub no_line_texts : ℕ → List (List ℕ)
+no_line_texts zero = codes "nbbo: no datagram goes to a line\n" ∷ []
+no_line_texts (suc more) = []
+
+-- at which byte the piece begins that is bad, and why
+abbrev pub bad_capture_texts : CaptureFault → ℕ → List (List ℕ)
+bad_capture_texts fault position =
+    codes "nbbo: bad capture at byte " ∷ decimal position ∷ capture_fault_text fault ∷ []
+
+-- the line of an outcome; of a whole capture, that no datagram goes to a line
+abbrev pub capture_outcome_texts : Result (Unit {0}) (ReplayStop CaptureFault) → ℕ → ℕ
+    → List (List ℕ)
+capture_outcome_texts (Ok done) position to_lines = no_line_texts to_lines
+capture_outcome_texts (Err (Bad fault)) position to_lines =
+    bad_capture_texts fault position
+capture_outcome_texts (Err stop) position to_lines = stop_line_text stop ∷ []
+
+-- after a packet capture of which so much was read
+abbrev pub capture_texts : PacketState → Result (Unit {0}) (ReplayStop CaptureFault)
+    → List (List ℕ)
+capture_texts read outcome =
+    passed_texts read.progress.passed
+    ++ capture_outcome_texts outcome read.progress.position read.progress.passed.to_lines

@@ -1,0 +1,43 @@
+-- What is told of the messages that venues lack at the end of a replay.
+use Rattle.std.specs.Prelude.{ℕ, Bool, true, false, ◌||◌, List, [], flat_map, Result, Ok}
+use Rattle.feed_text.specs.LackTexts.{lack_texts}
+use Rattle.feed_text.specs.declared.lack.Lack.{Lack}
+use Rattle.run_settings.specs.declared.skip_rule.SkipRule.{SkipRule}
+use Rattle.run_settings.specs.declared.skip_rule.SkipRule.TheVariants.{Never, Join, Gaps}
+use Rattle.run_settings.specs.declared.run_input.RunInput.{RunInput}
+use Rattle.run_settings.specs.declared.run_input.RunInput.TheVariants.{Own, Packets}
+use Rattle.run_settings.specs.declared.run_output.RunOutput.{RunOutput}
+use Rattle.run_settings.specs.declared.run_output.RunOutput.TheVariants.{Lines, Bests, Stats}
+use Rattle.run_settings.specs.declared.run_settings.RunSettings.{RunSettings}
+use Rattle.nbbo_runs.specs.declared.terminals.Terminals.{Terminals}
+
+-- whether any gaps are given up
+abbrev pub has_rule : SkipRule → Bool
+has_rule Never = false
+has_rule Join = true
+has_rule Gaps = true
+
+-- whether the input is a packet capture
+abbrev pub is_packet_input : RunInput → Bool
+is_packet_input Own = false
+is_packet_input (Packets lines) = true
+
+-- whether less than all lines is printed
+abbrev pub is_part : RunOutput → Bool
+is_part Lines = false
+is_part (Bests format) = true
+is_part (Stats format) = true
+
+-- A replay of a packet capture tells it; one of a capture of the project's own format where
+-- standard error is a terminal, where not all lines are printed, and where gaps are given up. So
+-- that stays silent by default.
+abbrev pub tells_lacks : RunSettings → Terminals → Bool
+tells_lacks settings terminals =
+    is_packet_input settings.input
+    || (is_part settings.output || (has_rule settings.skips || terminals.errors))
+
+-- After a run that ended well a line for each venue that lacks anything, if that is told; after
+-- another one it isn't known what they lack.
+abbrev pub told_lacks : {F : Type 0} → Result (Unit {0}) F → Bool → List Lack → List (List ℕ)
+told_lacks (Ok done) true lacks = flat_map lack_texts lacks
+told_lacks outcome is_told lacks = []

@@ -1,0 +1,138 @@
+-- A run of the program: from the words of the command line to what is read, what is written where,
+-- and the status, the last argument.
+use Rattle.std.specs.Prelude.{◌≡◌, ◌≢◌, ◌⊎◌, ℕ, ◌+◌, List, [], ◌∷◌, ◌++◌, length, Result}
+use Rattle.clap.specs.Walk.{Text}
+use Rattle.packet_capture.specs.declared.fault.CaptureFault.{CaptureFault}
+use Rattle.feed_text.specs.declared.replay_stop.ReplayStop.{ReplayStop}
+use Rattle.feed_text.specs.Devices.{Writing, Wrote}
+use Rattle.feed_text.specs.Formats.{Parsing}
+use Rattle.feed_text.specs.OwnFormats.{own_parsing}
+use Rattle.feed_text.specs.StandardError.{Says, SaysEach}
+use Rattle.feed_text.specs.declared.lack.Lack.{Lack}
+use Rattle.run_settings.specs.declared.captured_line.CapturedLine.{CapturedLine}
+use Rattle.line_captures.specs.Conversions.{AnswersConversion}
+use Rattle.line_captures.specs.PacketFormats.{PacketState, new_packets, packet_parsing}
+use Rattle.command_words.specs.CommandLine.{Asks, AsksConversion, AsksRun, IsRefused, refusal_status, refusal_text}
+use Rattle.run_settings.specs.declared.listen_settings.ListenSettings.{ListenSettings}
+use Rattle.command_words.specs.declared.refusal.Refusal.{Refusal}
+use Rattle.run_settings.specs.declared.run_input.RunInput.{RunInput}
+use Rattle.run_settings.specs.declared.run_input.RunInput.TheVariants.{Own, Packets}
+use Rattle.run_settings.specs.declared.run_settings.RunSettings.{RunSettings}
+use Rattle.command_words.specs.declared.task.Task.TheVariants.{Listen}
+use Rattle.nbbo_runs.specs.CaptureTexts.{capture_texts}
+use Rattle.nbbo_runs.specs.Ending.{ending_status, own_end_texts, write_failed_text}
+use Rattle.nbbo_runs.specs.Hints.{hint_text}
+use Rattle.nbbo_runs.specs.Lacks.{tells_lacks, told_lacks}
+use Rattle.nbbo_runs.specs.Printing.{PrintsAsked}
+use Rattle.nbbo_runs.specs.Streams.{Devices, Streams}
+use Rattle.nbbo_runs.specs.declared.program_run.Next.{Next}
+use Rattle.nbbo_runs.specs.declared.program_run.Next.TheVariants.{Ended, Listens}
+use Rattle.nbbo_runs.specs.declared.terminals.Terminals.{Terminals}
+
+-- A capture of a format was replayed and printed, as the settings say. Standard error has the hint,
+-- then what venues lack, if that is told, and then what is to be said of what was read and of the
+-- outcome, by `end_texts`.
+pub record RunsOver {R W E S F : Type 0} (devices : Devices R W E) (parsing : Parsing S F)
+    (end_texts : S → Result (Unit {0}) (ReplayStop F) → List (List ℕ))
+    (settings : RunSettings) (terminals : Terminals) (start : S)
+    (before after : Streams R W E) (status : ℕ) : Type 0 where
+  pub finish : S
+  pub outcome : Result (Unit {0}) (ReplayStop F)
+  pub lacks : List Lack
+  pub prints : PrintsAsked devices.reading devices.writing parsing settings
+      before.input after.input start finish before.output after.output [] lacks outcome
+  pub says : SaysEach devices.telling
+      (hint_text terminals.input
+      ∷ told_lacks outcome (tells_lacks settings terminals) lacks ++ end_texts finish outcome)
+      before.errors after.errors
+  pub ends : status ≡ ending_status outcome
+
+-- a run over a capture of the project's own format, or over a packet capture
+abbrev pub RunsBy : {R W E : Type 0} (devices : Devices R W E) (settings : RunSettings)
+    (terminals : Terminals) (before after : Streams R W E) (status : ℕ) → RunInput → Type 0
+RunsBy devices settings terminals before after status Own =
+    RunsOver devices own_parsing own_end_texts settings terminals
+    (length settings.feed.sessions.items) before after status
+RunsBy devices settings terminals before after status (Packets lines) =
+    RunsOver devices packet_parsing capture_texts settings terminals
+    (new_packets (length settings.feed.sessions.items) lines.items) before after status
+
+-- The words ask for a run, and it was made.
+pub record Ran {R W E : Type 0} (devices : Devices R W E) (words : List Text)
+    (terminals : Terminals) (before after : Streams R W E) (status : ℕ) : Type 0 where
+  pub settings : RunSettings
+  pub asked : AsksRun words settings
+  pub runs : RunsBy devices settings terminals before after status settings.input
+
+-- A packet capture was converted onto output. Standard error has the hint, and then what is to be
+-- said of what was read and of the outcome.
+pub record RunsConversion {R W E : Type 0} (devices : Devices R W E) (lines : List CapturedLine)
+    (terminals : Terminals) (before after : Streams R W E) (status : ℕ) : Type 0 where
+  pub finish : PacketState
+  pub outcome : Result (Unit {0}) (ReplayStop CaptureFault)
+  pub converts : AnswersConversion devices.reading packet_parsing devices.writing 16 1000000000
+      before.input after.input (new_packets 16 lines) finish before.output after.output outcome
+  pub says : SaysEach devices.telling
+      (hint_text terminals.input ∷ capture_texts finish outcome) before.errors after.errors
+  pub ends : status ≡ ending_status outcome
+
+-- The words ask to convert a packet capture, and it was converted.
+pub record Converted {R W E : Type 0} (devices : Devices R W E) (words : List Text)
+    (terminals : Terminals) (before after : Streams R W E) (status : ℕ) : Type 0 where
+  pub lines : List CapturedLine
+  pub asked : AsksConversion words lines
+  pub runs : RunsConversion devices lines terminals before after status
+
+-- ---- refusals
+
+-- A text that was asked for is on output, and nothing on standard error, with status 0. Where it
+-- couldn't be written whole, that is the run's fault.
+abbrev pub Shows : {W E : Type 0} (writing : Writing W) (telling : Writing E) (text : List ℕ)
+    (before after : W) (silent told : E) (status : ℕ) → Type 0
+Shows writing telling text before after silent told status =
+    (writing.adds before text after × (told ≡ silent) × (status ≡ 0))
+    ⊎ (Wrote writing.adds before text after × (writing.failures after ≡ writing.failures before + 1)
+    × Says telling write_failed_text silent told × (status ≡ 1))
+
+-- Nothing is on output, and the reason on standard error.
+pub record Complains {W E : Type 0} (telling : Writing E) (text : List ℕ) (due : ℕ)
+    (before after : W) (silent told : E) (status : ℕ) : Type 0 where
+  pub same : after ≡ before
+  pub says : Says telling text silent told
+  pub ends : status ≡ due
+
+-- A refusal is printed: help and the version on output, all else on standard error.
+pub record TellsRefusal {W E : Type 0} (writing : Writing W) (telling : Writing E)
+    (refusal : Refusal) (before after : W) (silent told : E) (status : ℕ) : Type 0 where
+  pub asked : refusal_status refusal ≡ 0
+      → Shows writing telling (refusal_text refusal) before after silent told status
+  pub refused : refusal_status refusal ≢ 0
+      → Complains telling (refusal_text refusal) (refusal_status refusal)
+      before after silent told status
+
+-- The words are refused, and nothing was read.
+pub record Refused {R W E : Type 0} (devices : Devices R W E) (words : List Text)
+    (before after : Streams R W E) (status : ℕ) : Type 0 where
+  pub refusal : Refusal
+  pub why : IsRefused words refusal
+  pub unread : after.input ≡ before.input
+  pub tells : TellsRefusal devices.writing devices.telling refusal
+      before.output after.output before.errors after.errors status
+
+-- ---- the whole
+
+-- The words ask to listen, and nothing was read or written.
+pub record LeavesToListen {R W E : Type 0} (words : List Text) (settings : ListenSettings)
+    (before after : Streams R W E) : Type 0 where
+  pub asked : Asks words (Listen settings)
+  pub untouched : after ≡ before
+
+-- The result of any run: its end, or that it is left to listen.
+abbrev pub Leads : {R W E : Type 0} (devices : Devices R W E) (words : List Text)
+    (terminals : Terminals) (before after : Streams R W E) → Next → Type 0
+Leads devices words terminals before after (Ended status) =
+    Ran devices words terminals before after status
+    ⊎ Converted devices words terminals before after status
+    ⊎ Refused devices words before after status
+Leads devices words terminals before after (Listens settings) =
+    LeavesToListen words settings before after

@@ -1,0 +1,130 @@
+//! What is said of a packet capture on standard error.
+ghost use Rattle.std.specs.Prelude.{◌≡◌, ◌∷◌, [], codes, decimal};
+ghost use Rattle.feed_text.specs.StandardError.{SaysEach};
+ghost use Rattle.nbbo_runs.specs.CaptureTexts.{bad_capture_texts, capture_fault_text, capture_outcome_texts, count_texts, lost_texts, no_line_texts, other_texts, passed_texts};
+
+use crate::ending::stop_line;
+use feed_text::{ReplayStop, TextOut, write_number, write_stderr};
+use line_captures::PassedOver;
+use packet_capture::CaptureFault;
+
+/// Writes a line with a number.
+fn write_counted<E: TextOut>(label: &str, count: u64, errors: &mut E)
+    ensures { SaysEach (record { adds = E.adds; failures = E.failures })
+        (label.now ∷ decimal count ∷ codes "\n" ∷ []) errors.old errors.new }
+{
+    write_stderr(label, errors);
+    write_number(count, errors);
+    write_stderr("\n", errors);
+}
+
+/// Writes a line with a count, unless that is 0.
+fn write_count<E: TextOut>(label: &str, count: u64, errors: &mut E)
+    ensures { SaysEach (record { adds = E.adds; failures = E.failures })
+        (count_texts label.now count) errors.old errors.new }
+{
+    if count == 0 {
+        return;
+    }
+    write_counted(label, count, errors);
+}
+
+/// Writes what a line may have lost.
+fn write_lost<E: TextOut>(passed: &PassedOver, errors: &mut E)
+    ensures { SaysEach (record { adds = E.adds; failures = E.failures })
+        (lost_texts passed.now) errors.old errors.new }
+{
+    write_count("nbbo: fragments passed over: ", passed.fragments, errors);
+    write_count("nbbo: cut frames passed over: ", passed.cut, errors);
+    write_count(
+        "nbbo: malformed packets passed over: ",
+        passed.malformed,
+        errors,
+    );
+}
+
+/// Writes what else is to be known of the frames.
+fn write_other<E: TextOut>(passed: &PassedOver, errors: &mut E)
+    ensures { SaysEach (record { adds = E.adds; failures = E.failures })
+        (other_texts passed.now) errors.old errors.new }
+{
+    write_count(
+        "nbbo: frames that can't be read passed over: ",
+        passed.not_read,
+        errors,
+    );
+    write_count(
+        "nbbo: frames out of time order: ",
+        passed.disordered,
+        errors,
+    );
+}
+
+/// Writes what was passed over.
+pub fn write_passed<E: TextOut>(passed: &PassedOver, errors: &mut E)
+    ensures { SaysEach (record { adds = E.adds; failures = E.failures })
+        (passed_texts passed.now) errors.old errors.new }
+{
+    write_lost(passed, errors);
+    write_other(passed, errors);
+}
+
+/// The end of the line about a capture that is bad.
+fn capture_fault_end(fault: CaptureFault) -> &'static str
+    ensures { result.now ≡ capture_fault_text fault }
+{
+    match fault {
+        CaptureFault::NotCapture => ": 40, neither pcap nor pcapng\n",
+        CaptureFault::UnknownVersion => ": 41, a version of pcap or pcapng that is not known\n",
+        CaptureFault::TooLong => ": 42, a frame or a block of more than 1048576 bytes\n",
+        CaptureFault::BadByteOrder => ": 43, a section that does not show its byte order\n",
+        CaptureFault::BadBlockLength => {
+            ": 44, a length of a block that is below 12 or no multiple of 4\n"
+        }
+        CaptureFault::LengthsDiffer => ": 45, two lengths of a block that differ\n",
+        CaptureFault::ShortBlock => ": 46, a block that is too short for its fields\n",
+        CaptureFault::UnknownInterface => ": 47, a packet of an interface that is not described\n",
+        CaptureFault::FramePastBlock => ": 48, a frame that runs past its block\n",
+        CaptureFault::OptionPastBlock => ": 49, an option that runs past its block\n",
+        CaptureFault::TooManyInterfaces => ": 50, more than 256 interfaces in a section\n",
+    }
+}
+
+/// Writes at which byte a piece begins that is bad, and why.
+fn write_bad_capture<E: TextOut>(fault: CaptureFault, position: u64, errors: &mut E)
+    ensures { SaysEach (record { adds = E.adds; failures = E.failures })
+        (bad_capture_texts fault position) errors.old errors.new }
+{
+    write_stderr("nbbo: bad capture at byte ", errors);
+    write_number(position, errors);
+    write_stderr(capture_fault_end(fault), errors);
+}
+
+/// Writes that no datagram goes to a line, where none does.
+fn write_no_line<E: TextOut>(to_lines: u64, errors: &mut E)
+    ensures { SaysEach (record { adds = E.adds; failures = E.failures })
+        (no_line_texts to_lines) errors.old errors.new }
+{
+    if to_lines != 0 {
+        return;
+    }
+    write_stderr("nbbo: no datagram goes to a line\n", errors);
+}
+
+/// Writes the line of an outcome, if it has one: of a capture whose next piece begins at this byte,
+/// and of which this many datagrams go to a line.
+pub fn write_outcome<E: TextOut>(
+    outcome: &Result<(), ReplayStop<CaptureFault>>,
+    position: u64,
+    to_lines: u64,
+    errors: &mut E,
+)
+    ensures { SaysEach (record { adds = E.adds; failures = E.failures })
+        (capture_outcome_texts outcome.now position to_lines) errors.old errors.new }
+{
+    match outcome {
+        Ok(()) => write_no_line(to_lines, errors),
+        Err(ReplayStop::Bad(fault)) => write_bad_capture(*fault, position, errors),
+        Err(stop) => write_stderr(stop_line(stop), errors),
+    }
+}

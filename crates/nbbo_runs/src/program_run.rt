@@ -1,0 +1,116 @@
+//! A run of the program over any input, output and standard error.
+ghost use Rattle.std.specs.Prelude.{◌≡◌, map, string_bytes};
+ghost use Rattle.nbbo_runs.specs.Runs.{Leads, TellsRefusal};
+
+use crate::ending::WRITE_FAILED;
+use crate::runs::{run_conversion, run_settings};
+use crate::terminals::Terminals;
+use command_words::{Refusal, Task, settings};
+use feed_text::{CaptureIn, TextOut, write_all, write_stderr};
+use run_settings::ListenSettings;
+use std::alloc::Global;
+
+/// The result of a run.
+#[derive(Debug, Drop)]
+pub enum Next {
+    /// The run is over; the status of the program.
+    Ended(u8),
+    /// The words ask to listen, and nothing else was done.
+    Listens(ListenSettings),
+}
+
+/// The result of a run, and its input and output as the last calls left them.
+#[derive(Debug, Drop)]
+pub struct ProgramRun<R, W> {
+    pub next: Next,
+    pub input: R,
+    pub output: W,
+}
+
+/// Prints why nothing is replayed: help and the version on the output, all else on standard error.
+/// A text that was asked for and can't be written is a fault of writing. Returns the status of the
+/// program.
+pub fn refuse<W: TextOut, E: TextOut>(refusal: &Refusal, output: &mut W, errors: &mut E) -> u8
+    ensures { TellsRefusal
+        (record { adds = W.adds; failures = W.failures })
+        (record { adds = E.adds; failures = E.failures })
+        refusal.now output.old output.new errors.old errors.new result }
+{
+    let status = refusal.status();
+    if status != 0 {
+        write_stderr(refusal.text(), errors);
+        return status;
+    }
+    match write_all(refusal.text().as_bytes(), output) {
+        Ok(()) => status,
+        Err(_) => {
+            write_stderr(WRITE_FAILED, errors);
+            1
+        }
+    }
+}
+
+/// The result of a run that is over.
+fn ended<R, W>(status: u8, input: R, output: W) -> ProgramRun<R, W>
+    ensures { result ≡ record { next = Next.Ended status; input = input; output = output } }
+{
+    ProgramRun {
+        next: Next::Ended(status),
+        input,
+        output,
+    }
+}
+
+/// Does what the words ask for, of which the first is the program's name, except listening, which
+/// takes sockets and threads: then the settings for it are returned.
+///
+/// The input is read only for a replay, a conversion or statistics. The lines of a replay, the rows
+/// of its best lines, its statistics, or the converted capture are all that is written on the
+/// output. Before a terminal is read, standard error says so.
+pub fn run<R: CaptureIn + Drop, W: TextOut, E: TextOut>(
+    alloc: Global,
+    words: &[String],
+    terminals: Terminals,
+    mut input: R,
+    mut output: W,
+    errors: &mut E,
+) -> ProgramRun<R, W>
+    ensures { Leads
+        (record {
+          reading = record {
+            gives = R.gives;
+            ends = R.ends;
+            failures = R.failures;
+            fails = R.fails;
+          };
+          writing = record { adds = W.adds; failures = W.failures };
+          telling = record { adds = E.adds; failures = E.failures };
+        })
+        (map (λ word. string_bytes word) words.now) terminals
+        (record { input = input; output = output; errors = errors.old })
+        (record { input = result.input; output = result.output; errors = errors.new })
+        result.next }
+{
+    match settings(alloc, words) {
+        Ok(Task::Run(settings)) => {
+            let (status, output) = run_settings(
+                alloc, &settings, terminals, &mut input, output, errors,
+            );
+            ended(status, input, output)
+        }
+        Ok(Task::Convert(lines)) => {
+            let lines = lines.as_slice();
+            let status = run_conversion(alloc, lines, terminals, &mut input, &mut output, errors);
+            ended(status, input, output)
+        }
+        Ok(Task::Listen(settings)) => ProgramRun {
+            next: Next::Listens(settings),
+            input,
+            output,
+        },
+        Err(refusal) => {
+            let status = refuse(&refusal, &mut output, errors);
+            ended(status, input, output)
+        }
+    }
+}

@@ -1,0 +1,128 @@
+//! Runs over captures: replays that are printed, and conversions.
+ghost use Rattle.std.specs.Prelude.{◌≡◌, vec_len};
+ghost use Rattle.run_settings.specs.Lists.{AreOfVenues};
+ghost use Rattle.nbbo_runs.specs.Runs.{RunsBy, RunsConversion, RunsOver};
+
+use crate::config::MAX_TURNS;
+use crate::ending::status_of;
+use crate::hints::input_hint;
+use crate::lacks::{tell_lacks, tells_lacks};
+use crate::printing::print;
+use crate::terminals::Terminals;
+use crate::told_format::ToldFormat;
+use feed_text::{CaptureIn, OwnFormat, TextOut, write_stderr};
+use line_captures::{PacketFormat, convert};
+use run_settings::{CapturedLine, RunInput, RunSettings};
+use std::alloc::Global;
+
+/// The most venues of a capture.
+const VENUES: usize = 16;
+
+/// Replays a capture of a format, of which nothing was read, and prints it as the settings say.
+/// Returns the status of the program, and the output.
+fn run_over<R: CaptureIn, F: ToldFormat + Drop, W: TextOut, E: TextOut>(
+    alloc: Global,
+    settings: &RunSettings,
+    terminals: Terminals,
+    mut format: F,
+    input: &mut R,
+    output: W,
+    errors: &mut E,
+) -> (u8, W)
+    requires { F.venues format ≡ vec_len settings.now.feed.sessions }
+    ensures { RunsOver
+        (record {
+          reading = record {
+            gives = R.gives;
+            ends = R.ends;
+            failures = R.failures;
+            fails = R.fails;
+          };
+          writing = record { adds = W.adds; failures = W.failures };
+          telling = record { adds = E.adds; failures = E.failures };
+        })
+        (record { reads = F.reads; wants = F.wants; is_bad = F.is_bad; is_whole = F.is_whole })
+        F.end_texts settings.now terminals format
+        (record { input = input.old; output = output; errors = errors.old })
+        (record { input = input.new; output = result.1; errors = errors.new }) result.0 }
+{
+    write_stderr(input_hint(terminals.input), errors);
+    let mut lacks = Vec::new(alloc);
+    let printed = print(alloc, settings, &mut format, input, output, &mut lacks);
+    let is_told = tells_lacks(settings, terminals);
+    tell_lacks(&printed.outcome, is_told, lacks.as_slice(), errors);
+    format.tell_end(&printed.outcome, errors);
+    (status_of(&printed.outcome), printed.sink)
+}
+
+/// Replays the input, a capture of the project's own format or a packet capture, and prints it as
+/// the settings say. Returns the status of the program, and the output.
+pub fn run_settings<R: CaptureIn, W: TextOut, E: TextOut>(
+    alloc: Global,
+    settings: &RunSettings,
+    terminals: Terminals,
+    input: &mut R,
+    output: W,
+    errors: &mut E,
+) -> (u8, W)
+    ensures { RunsBy
+        (record {
+          reading = record {
+            gives = R.gives;
+            ends = R.ends;
+            failures = R.failures;
+            fails = R.fails;
+          };
+          writing = record { adds = W.adds; failures = W.failures };
+          telling = record { adds = E.adds; failures = E.failures };
+        })
+        settings.now terminals
+        (record { input = input.old; output = output; errors = errors.old })
+        (record { input = input.new; output = result.1; errors = errors.new })
+        result.0 settings.now.input }
+{
+    let venues = settings.feed.sessions.len();
+    match &settings.input {
+        RunInput::Own => {
+            let format = OwnFormat::new(venues);
+            run_over(alloc, settings, terminals, format, input, output, errors)
+        }
+        RunInput::Packets(lines) => {
+            let format = PacketFormat::new(lines.as_slice(), venues);
+            run_over(alloc, settings, terminals, format, input, output, errors)
+        }
+    }
+}
+
+/// Converts the packet capture that the input is, onto the output. Returns the status of the
+/// program.
+pub fn run_conversion<R: CaptureIn, W: TextOut, E: TextOut>(
+    alloc: Global,
+    lines: &[CapturedLine],
+    terminals: Terminals,
+    input: &mut R,
+    output: &mut W,
+    errors: &mut E,
+) -> u8
+    requires { AreOfVenues 16 lines.now }
+    ensures { RunsConversion
+        (record {
+          reading = record {
+            gives = R.gives;
+            ends = R.ends;
+            failures = R.failures;
+            fails = R.fails;
+          };
+          writing = record { adds = W.adds; failures = W.failures };
+          telling = record { adds = E.adds; failures = E.failures };
+        })
+        lines.now terminals
+        (record { input = input.old; output = output.old; errors = errors.old })
+        (record { input = input.new; output = output.new; errors = errors.new }) result }
+{
+    write_stderr(input_hint(terminals.input), errors);
+    let mut format = PacketFormat::new(lines, VENUES);
+    let outcome = convert(alloc, MAX_TURNS, &mut format, input, output);
+    format.tell_end(&outcome, errors);
+    status_of(&outcome)
+}

@@ -1,0 +1,44 @@
+//! What formats of captures have to say on standard error after a run.
+ghost use Rattle.std.specs.Prelude.{ℕ, List, Result};
+ghost use Rattle.feed_text.specs.declared.replay_stop.ReplayStop.{ReplayStop};
+ghost use Rattle.feed_text.specs.StandardError.{SaysEach};
+ghost use Rattle.nbbo_runs.specs.CaptureTexts.{capture_texts};
+ghost use Rattle.nbbo_runs.specs.Ending.{own_end_texts};
+
+use crate::capture_report::{write_outcome, write_passed};
+use crate::ending::stop_line;
+use feed_text::{OwnFormat, RecordFormat, ReplayStop, TextOut, write_stderr};
+use line_captures::PacketFormat;
+use packet_capture::CaptureFault;
+
+/// A format of captures that has something to say after a run.
+pub trait ToldFormat: RecordFormat {
+    /// What is said of what was read and of the outcome.
+    ghost end_texts: { Self → Result (Unit {0}) (ReplayStop Self.Fault) → List (List ℕ) };
+
+    /// Writes what is to be said of what was read and of the outcome.
+    fn tell_end<E: TextOut>(&self, outcome: &Result<(), ReplayStop<Self::Fault>>, errors: &mut E)
+        ensures { SaysEach (record { adds = E.adds; failures = E.failures })
+            (end_texts self.now outcome.now) errors.old errors.new };
+}
+
+impl ToldFormat for OwnFormat {
+    ghost end_texts = { own_end_texts };
+
+    fn tell_end<E: TextOut>(&self, outcome: &Result<(), ReplayStop<()>>, errors: &mut E) {
+        match outcome {
+            Ok(()) => {}
+            Err(stop) => write_stderr(stop_line(stop), errors),
+        }
+    }
+}
+
+impl ToldFormat for PacketFormat<'_> {
+    ghost end_texts = { capture_texts };
+
+    fn tell_end<E: TextOut>(&self, outcome: &Result<(), ReplayStop<CaptureFault>>, errors: &mut E) {
+        let passed = self.passed_over();
+        write_passed(&passed, errors);
+        write_outcome(outcome, self.position(), passed.to_lines, errors);
+    }
+}
