@@ -7,7 +7,6 @@ use Rattle.feed_types.specs.Prefix.{IsPrefix}
 use Rattle.feed_text.specs.Devices.{Writing, Wrote}
 use Rattle.feed_text.specs.Lines.{best_line}
 use Rattle.std.specs.Prelude.{Result, Ok, Err, Option, Some, None}
-use Rattle.feed_types.specs.declared.journal.Notice.{Notice}
 use Rattle.filter_terms.specs.declared.advice.Advice.{Advice}
 use Rattle.live_feed.specs.declared.subscriber.logged.Logged.{Logged}
 use Rattle.live_feed.specs.declared.subscriber.logged.PollFault.{PollFault}
@@ -155,18 +154,18 @@ lines_same : (old new : SubscriberLogState) → new ≡ old → IsPrefix old.lin
 lines_same old new e = subst (λ (s : SubscriberLogState). IsPrefix old.lines s.lines) (sym e) (prefix_itself old.lines)
 
 -- a poll leaves the log's lines in front
-pub prefix_by_poll : (may_send : ℕ → List Notice → Type 0) (answer : Result (Option Advice) PollFault)
-    (old new : SubscriberLogState) → Polls may_send answer old new → IsPrefix old.lines new.lines
-prefix_by_poll may_send (Err LogFull) old new p = lines_same old new p.1
-prefix_by_poll may_send (Err NoMemory) old new p = lines_same old new p.1
-prefix_by_poll may_send (Ok None) old new p = lines_same old new p.1
-prefix_by_poll may_send (Ok (Some advice)) old new p =
+pub prefix_by_poll : (answer : Result (Option Advice) PollFault)
+    (old new : SubscriberLogState) → Polls answer old new → IsPrefix old.lines new.lines
+prefix_by_poll (Err LogFull) old new p = lines_same old new p.1
+prefix_by_poll (Err NoMemory) old new p = lines_same old new p.1
+prefix_by_poll (Ok None) old new p = lines_same old new p.1
+prefix_by_poll (Ok (Some advice)) old new p =
     record { rest = logged p.1 advice ∷ []; is = ap (λ (s : SubscriberLogState). s.lines) p.3 }
 
 -- and forgets none of them
-pub forgotten_by_poll : (may_send : ℕ → List Notice → Type 0) (answer : Result (Option Advice) PollFault)
-    (old new : SubscriberLogState) → Polls may_send answer old new → new.forgotten ≡ old.forgotten
-forgotten_by_poll may_send (Err LogFull) old new p = ap (λ (s : SubscriberLogState). s.forgotten) p.1
-forgotten_by_poll may_send (Err NoMemory) old new p = ap (λ (s : SubscriberLogState). s.forgotten) p.1
-forgotten_by_poll may_send (Ok None) old new p = ap (λ (s : SubscriberLogState). s.forgotten) p.1
-forgotten_by_poll may_send (Ok (Some advice)) old new p = ap (λ (s : SubscriberLogState). s.forgotten) p.3
+pub forgotten_by_poll : (answer : Result (Option Advice) PollFault)
+    (old new : SubscriberLogState) → Polls answer old new → new.forgotten ≡ old.forgotten
+forgotten_by_poll (Err LogFull) old new p = ap (λ (s : SubscriberLogState). s.forgotten) p.1
+forgotten_by_poll (Err NoMemory) old new p = ap (λ (s : SubscriberLogState). s.forgotten) p.1
+forgotten_by_poll (Ok None) old new p = ap (λ (s : SubscriberLogState). s.forgotten) p.1
+forgotten_by_poll (Ok (Some advice)) old new p = ap (λ (s : SubscriberLogState). s.forgotten) p.3

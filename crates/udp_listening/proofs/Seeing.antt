@@ -3,8 +3,8 @@ use Rattle.std.proofs.Common.{◌≡◌, ◌∙◌, List, ℕ, Option, Some, Non
 use Rattle.std.specs.Prelude.{IfSome, IsTrue, is_some}
 use Rattle.mold_packet.specs.Content.{Content, Spells}
 use Rattle.mold_packet.specs.declared.packet.Kind.TheVariants.{End}
-use Rattle.command_words.specs.declared.end_rule.EndRule.{EndRule}
-use Rattle.command_words.specs.declared.end_rule.EndRule.TheVariants.{AnySession, OwnSession, NoSession}
+use Rattle.run_settings.specs.declared.end_rule.EndRule.{EndRule}
+use Rattle.run_settings.specs.declared.end_rule.EndRule.TheVariants.{AnySession, OwnSession, NoSession}
 use Rattle.udp_listening.specs.UdpLines.{EndsLine, IsLast, SpellsEndOf}
 
 -- the bytes are this packet and no other one

@@ -1,14 +1,14 @@
 -- Gaps of venues that are given up while a run goes on: which, and what standard error has of them. The
 -- texts are this project's own.
 use Rattle.std.specs.Prelude.{◌≡◌, ℕ, ◌+◌, ◌-◌, ◌/◌, ◌^◌, ◌==◌, min, nat_le, nat_lt, Bool, false, ◌&&◌, ◌||◌, List, [], ◌∷◌, ◌++◌, All, Contains, flat_map, Option, Some, None, MatchOption, is_some, if◌then◌else◌, codes, decimal}
-use Rattle.command_words.specs.declared.listen_settings.ListenSettings.{ListenSettings}
+use Rattle.run_settings.specs.declared.listen_settings.ListenSettings.{ListenSettings}
 use Rattle.feed_text.specs.Devices.{Writing}
 use Rattle.feed_text.specs.StandardError.{SaysEach}
 use Rattle.line_arbiter.specs.declared.arbiter.ArbiterStatus.{ArbiterStatus}
 use Rattle.mold_packet.specs.declared.request.Request.{Request}
 use Rattle.udp_listening.specs.declared.gap_news.GapNews.{GapNews}
 use Rattle.udp_listening.specs.declared.gap_rule.GapRule.{GapRule}
-use Rattle.live_feed.specs.declared.venue.status.VenueStatus.{VenueStatus}
+use Rattle.venue_lines.specs.declared.status.VenueStatus.{VenueStatus}
 use Rattle.udp_listening.specs.declared.gap_watch.DueGap.{DueGap}
 use Rattle.udp_listening.specs.declared.gap_watch.GapWatch.{GapWatch}
 use Rattle.udp_listening.specs.declared.gap_watch.StandingGap.{StandingGap}
@@ -35,7 +35,7 @@ abbrev pub standing_after : Option StandingGap → ℕ → Option Request → Op
 standing_after before now None = None
 standing_after before now (Some gap) = Some (standing_at before now gap)
 
--- for so many milliseconds, if for any number
+-- for this many milliseconds, if for any number
 abbrev pub has_stood : Option ℕ → ℕ → Bool
 has_stood None stood = false
 has_stood (Some ms) stood = nat_le ms stood

@@ -24,7 +24,7 @@ use Rattle.udp_listening.specs.UdpLines.{UdpLineState}
 use Rattle.udp_listening.specs.declared.desk.Desk.{Desk}
 use Rattle.udp_listening.specs.declared.desk.Following.{Following}
 use Rattle.udp_listening.specs.declared.desk.Following.TheVariants.{On, Off, Failed}
-use Rattle.command_words.specs.declared.listen_settings.ListenSettings.{ListenSettings}
+use Rattle.run_settings.specs.declared.listen_settings.ListenSettings.{ListenSettings}
 use Rattle.udp_listening.specs.declared.listening.ListenFault.{ListenFault}
 use Rattle.udp_listening.specs.declared.listening.ListenFault.TheVariants.{NoMemory, Unsettled}
 use Rattle.udp_listening.specs.declared.listening.ListenReport.{ListenReport}

@@ -4,7 +4,7 @@ use Rattle.std.specs.Prelude.{ℕ, ◌/◌, ◌%◌, ◌==◌, List, [], map, ve
 use Rattle.std.specs.List.{range_with_len}
 use Rattle.feed_types.specs.declared.line.LineId.{LineId}
 use Rattle.feed_types.specs.declared.line.LineId.TheVariants.{A, B}
-use Rattle.command_words.specs.declared.listen_settings.ListenSettings.{ListenSettings}
+use Rattle.run_settings.specs.declared.listen_settings.ListenSettings.{ListenSettings}
 use Rattle.udp_listening.specs.Gaps.{gives_up, rule_of}
 use Rattle.udp_listening.specs.declared.gap_watch.GapWatch.{GapWatch}
 use Rattle.udp_listening.specs.declared.gap_watches.GapWatches.{GapWatches}

@@ -2,8 +2,8 @@
 use Rattle.std.specs.Prelude.{◌≡◌, ◌⊎◌, ℕ, ◌==◌, ◌&&◌, not, Bool, true, false, IsTrue, List, Option, Some, None, is_some}
 use Rattle.mold_packet.specs.Content.{Content, Spells}
 use Rattle.mold_packet.specs.declared.packet.Kind.TheVariants.{End}
-use Rattle.command_words.specs.declared.end_rule.EndRule.{EndRule}
-use Rattle.command_words.specs.declared.end_rule.EndRule.TheVariants.{AnySession, OwnSession, NoSession}
+use Rattle.run_settings.specs.declared.end_rule.EndRule.{EndRule}
+use Rattle.run_settings.specs.declared.end_rule.EndRule.TheVariants.{AnySession, OwnSession, NoSession}
 
 -- the venue, its session, which ends of session end the line, how many datagrams it may still read,
 -- if there is any limit, whether its socket has failed, and whether its last datagram was an end that

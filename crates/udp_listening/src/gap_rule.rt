@@ -2,7 +2,7 @@
 ghost use Rattle.std.specs.Prelude.{◌≡◌};
 ghost use Rattle.udp_listening.specs.Gaps.{gives_up, has_stood, is_due, rule_of};
 
-use command_words::ListenSettings;
+use run_settings::ListenSettings;
 
 /// Which gaps of a run's venues are given up while it goes on.
 #[derive(Clone, Copy, Debug, PartialEq, Eq)]

@@ -7,10 +7,10 @@ ghost use Rattle.udp_listening.specs.RunLines.{skipping_venues, watched_venue, w
 
 use crate::gap_rule::GapRule;
 use crate::gap_watch::GapWatch;
-use command_words::ListenSettings;
 use feed_text::TextOut;
 use feed_types::VenueId;
 use live_feed::VenueStatus;
+use run_settings::ListenSettings;
 use std::alloc::{AllocError, Global};
 
 /// How many milliseconds are between two looks at least: so long two lines may bring the same packets apart.

@@ -12,11 +12,11 @@ use crate::listening::{ListenFault, ListenReport, ListenTask, Listened, feed_of,
 use crate::run_watches::RunWatches;
 use crate::sources::lines_over;
 use crate::summary::summary_of;
-use command_words::ListenSettings;
 use feed_text::{TextOut, write_all, write_stderr};
 use feed_types::{LineId, VenueId};
 use filter_terms::Terms;
 use live_feed::Stop;
+use run_settings::ListenSettings;
 use std::alloc::Global;
 use std::io::Stdin;
 use std::marker::Brand;

@@ -12,13 +12,13 @@ use crate::desk::Desk;
 use crate::run_watches::RunWatches;
 use crate::sources::seated;
 use crate::udp_line::UdpLine;
-use command_words::ListenSettings;
 use feed_text::{Lack, LineBuffer, TextOut};
 use feed_types::{Anything, FeedConfig, LineId, MAX_VENUES, VenueId};
 use filter_terms::{Filter, Strategy, Terms};
 use live_feed::{
     CoreFault, FeedName, LiveFeed, SettleFault, Settlement, Shareable, Stop, VenueStatus,
 };
+use run_settings::ListenSettings;
 use std::alloc::{AllocError, Global};
 use std::rt::Clock;
 use std::sync::Wait;

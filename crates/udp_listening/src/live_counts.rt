@@ -1,6 +1,6 @@
 //! What is counted of the lines of a feed that runs.
 
-use live_feed::{LineStatus, VenueStatus};
+use live_feed::VenueStatus;
 
 /// The refusals of a datagram have numbers below this.
 pub const REFUSALS: usize = 12;
@@ -45,16 +45,16 @@ impl LineCounts {
         refused: [0; REFUSALS],
     };
 
-    /// The counts that the line's status shows.
-    pub fn of(status: &LineStatus) -> LineCounts {
+    /// The counts that the venue's status shows of the line.
+    pub fn of(counts: &live_feed::LineCounts) -> LineCounts {
         LineCounts {
-            new: status.wins,
-            repeated: status.packets.repeated,
-            taken: status.packets.taken,
-            heartbeats: status.packets.heartbeats,
-            ends: status.packets.ends,
-            ahead: status.packets.ahead,
-            refused: status.refused.by_code(),
+            new: counts.wins,
+            repeated: counts.repeated,
+            taken: counts.taken,
+            heartbeats: counts.heartbeats,
+            ends: counts.ends,
+            ahead: counts.ahead,
+            refused: counts.refused,
         }
     }
 

@@ -2,7 +2,7 @@
 
 use crate::elapsed::Elapsed;
 use crate::input_end::InputEnd;
-use command_words::ListenSettings;
+use run_settings::ListenSettings;
 use std::io::Stdin;
 use std::time::Clock;
 

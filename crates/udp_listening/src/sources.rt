@@ -6,9 +6,9 @@ ghost use Rattle.udp_listening.specs.RunLines.{line_at, listened_lines, watched_
 use crate::line_watch::{LineWatch, LineWatches};
 use crate::listening::ListenFault;
 use crate::udp_line::{UdpLine, UdpLineSettings};
-use command_words::ListenSettings;
 use feed_types::{Anything, LineId, VenueId};
 use live_feed::{FeedName, Line, LineSeat, LineSource};
+use run_settings::ListenSettings;
 use std::alloc::{AllocError, Global};
 use std::net::UdpSocket;
 use std::rt::Clock;
