@@ -4,5 +4,5 @@ A script imports it by
 
     sys.path.insert(0, str(Path(__file__).resolve().parent.parent / 'tools'))
 
-and bench/model does without: it is written from the definitions, and shares nothing with what it is compared with.
+and tests/model does without: it is written from the definitions, and shares nothing with what it is compared with.
 """

@@ -2,13 +2,15 @@
 
 import threading
 from collections.abc import Callable
+from typing import Self
 
 from .loopback import HOST, address_of, udp_socket
 from .packets import Request, request_of
 
 
 class GapServer:
-    """A thread that answers each request with one packet, or with none where `reply` gives none."""
+    """A thread that answers each request with one packet, or with none where `reply` gives none, until its context
+    ends."""
 
     def __init__(self, reply: Callable[[Request], bytes | None], host: str = HOST) -> None:
         self.reply = reply
@@ -18,6 +20,13 @@ class GapServer:
         self.address = address_of(host, self.socket.getsockname()[1])
         self.is_over = False
         self.thread = threading.Thread(target=self.serve)
+
+    def __enter__(self) -> Self:
+        self.start()
+        return self
+
+    def __exit__(self, *_: object) -> None:
+        self.close()
 
     def start(self) -> None:
         self.thread.start()

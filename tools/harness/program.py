@@ -56,7 +56,7 @@ def is_read(pipe: int) -> bool:
 
 
 def script(path: str) -> ModuleType:
-    """A script of the repository, as 'bench/model', as a module."""
+    """A script of the repository, as 'tests/model', as a module."""
     name = path.rpartition('/')[2]
     spec = spec_from_loader(name, SourceFileLoader(name, str(ROOT / path)))
     assert spec is not None and spec.loader is not None

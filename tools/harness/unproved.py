@@ -39,6 +39,12 @@ def place_tests(crate: str, copy: Path) -> None:
         root.write_text(root.read_text() + '\n#[cfg(test)]\nmod tests;\n')
 
 
+def further_libraries(crate: str) -> list[str]:
+    """The libraries that a crate's tests use and the crate doesn't: the words of the file `uses` beside them."""
+    file = UNPROVED / crate / 'uses'
+    return file.read_text().split() if file.is_file() else []
+
+
 def refuses_memory(crate: str, copy: Path) -> bool:
     """Whether tests of a crate refuse requests for memory."""
     tests = copy / 'crates' / crate / 'src' / 'tests.rt'
@@ -56,6 +62,6 @@ def said_of_tests(crate: str, copy: Path, seconds: int) -> str:
         objects = [copy / f'{crate}.o']
         compiler = os.environ.get('CC', 'cc')
         subprocess.run([compiler, '-O2', '-c', TESTS / 'refuse_memory.c', '-o', objects[0]], check=True)
-    words = test_words(crate, copy / 'crates', seconds, objects)
+    words = test_words(crate, copy / 'crates', seconds, objects, further_libraries(crate))
     how = {'stdin': subprocess.DEVNULL, 'stdout': subprocess.PIPE, 'stderr': subprocess.STDOUT}
     return subprocess.run(words, cwd=folder, check=False, text=True, errors='replace', **how).stdout
