@@ -31,68 +31,112 @@ abbrev number_of : Text → ℕ
 number_of text = digits_value 10 (without_leading_plus text)
 
 -- a number that was read and kept is the window
-pub IsWindowOf-read : (text : Option Text) (w : ℕ) → (text ≡ None → Some w ≡ None) → ((t : Text) → text ≡ Some t → w ≡ number_of t) → IsWindowOf text w
+pub IsWindowOf-read : (text : Option Text) (w : ℕ) → (text ≡ None → Some w ≡ None)
+    → ((t : Text) → text ≡ Some t → w ≡ number_of t) → IsWindowOf text w
 IsWindowOf-read None w none value = absurd (not_some w (none refl))
 IsWindowOf-read (Some t) w none value = λ numeral some few. value t refl
 
 -- where the number that was read is out of range the window is the usual one
-pub IsWindowOf-out : (text : Option Text) (w : ℕ) → ((t : Text) → text ≡ Some t → w ≡ number_of t) → (w < 1) ⊎ (65535 < w) → IsWindowOf text 4096
+pub IsWindowOf-out : (text : Option Text) (w : ℕ) → ((t : Text) → text ≡ Some t → w ≡ number_of t)
+    → (w < 1) ⊎ (65535 < w) → IsWindowOf text 4096
 IsWindowOf-out None w value out = refl
 IsWindowOf-out (Some t) w value out = λ numeral some few.
     let is = value t refl in
     elim out [ inl low ↦ absurd (omega arith) | inr high ↦ absurd (omega arith) ]
 
 -- and where none was read
-pub IsWindowOf-none : (text : Option Text) → ((t : Text) → text ≡ Some t → IsNumeral 10 (without_leading_plus t) × (number_of t < 2 ^ 32) → ⊥) → IsWindowOf text 4096
+pub IsWindowOf-none : (text : Option Text)
+    → ((t : Text) → text ≡ Some t → IsNumeral 10 (without_leading_plus t) × (number_of t < 2 ^ 32)
+    → ⊥) → IsWindowOf text 4096
 IsWindowOf-none None unread = refl
 IsWindowOf-none (Some t) unread = λ numeral some few. absurd (unread t refl (numeral, omega arith))
 
 -- a number that was read is the count
-pub IsCount-read : (usual : ℕ) (text : Option Text) (n : ℕ) → (text ≡ None → Some n ≡ None) → ((t : Text) → text ≡ Some t → n ≡ number_of t) → IsCount usual text n
+pub IsCount-read : (usual : ℕ) (text : Option Text) (n : ℕ) → (text ≡ None → Some n ≡ None)
+    → ((t : Text) → text ≡ Some t → n ≡ number_of t) → IsCount usual text n
 IsCount-read usual None n none value = absurd (not_some n (none refl))
 IsCount-read usual (Some t) n none value = λ numeral few. value t refl
 
 -- and where none was read
-pub IsCount-none : (usual : ℕ) (text : Option Text) → ((t : Text) → text ≡ Some t → IsNumeral 10 (without_leading_plus t) × (number_of t < 2 ^ 32) → ⊥) → IsCount usual text usual
+pub IsCount-none : (usual : ℕ) (text : Option Text)
+    → ((t : Text) → text ≡ Some t → IsNumeral 10 (without_leading_plus t) × (number_of t < 2 ^ 32)
+    → ⊥) → IsCount usual text usual
 IsCount-none usual None unread = refl
 IsCount-none usual (Some t) unread = λ numeral few. absurd (unread t refl (numeral, omega arith))
 
 -- a number that was read is the one that is given
-pub IsGivenCount-read : (text : Option Text) (n : ℕ) → (text ≡ None → Some n ≡ None) → ((t : Text) → text ≡ Some t → n ≡ number_of t) → IsGivenCount text (Some n)
+pub IsGivenCount-read : (text : Option Text) (n : ℕ) → (text ≡ None → Some n ≡ None)
+    → ((t : Text) → text ≡ Some t → n ≡ number_of t) → IsGivenCount text (Some n)
 IsGivenCount-read None n none value = absurd (not_some n (none refl))
 IsGivenCount-read (Some t) n none value = λ numeral few. ap (λ (m : ℕ). Some m) (value t refl)
 
 -- and where none was read
-pub IsGivenCount-none : (text : Option Text) → ((t : Text) → text ≡ Some t → IsNumeral 10 (without_leading_plus t) × (number_of t < 2 ^ 32) → ⊥) → IsGivenCount text None
+pub IsGivenCount-none : (text : Option Text)
+    → ((t : Text) → text ≡ Some t → IsNumeral 10 (without_leading_plus t) × (number_of t < 2 ^ 32)
+    → ⊥) → IsGivenCount text None
 IsGivenCount-none None unread = refl
 IsGivenCount-none (Some t) unread = λ numeral few. absurd (unread t refl (numeral, omega arith))
 
 -- the lines that the options ask for, and that they give no format
-pub gives_output : (rows : List Row) (flag : Bool) (text : Option Text) (r : Result RunOutput FormatFault) → IsFlag (one_of (codes "best-only") rows) flag → text ≡ first_of (codes "format") rows → IfOk r (NamesFormat flag text) → IfOk r (GivesOutput rows)
-gives_output rows flag text (Ok output) given e told = record { best_only = flag; flag = given; format = subst (λ (t : Option Text). NamesFormat flag t output) e told }
+pub gives_output : (rows : List Row) (flag : Bool) (text : Option Text)
+    (r : Result RunOutput FormatFault) → IsFlag (one_of (codes "best-only") rows) flag
+    → text ≡ first_of (codes "format") rows → IfOk r (NamesFormat flag text)
+    → IfOk r (GivesOutput rows)
+gives_output rows flag text (Ok output) given e told = record {
+  best_only = flag;
+  flag = given;
+  format = subst (λ (t : Option Text). NamesFormat flag t output) e told;
+}
 gives_output rows flag text (Err fault) given e told = tt
 
-pub gives_bad_format : (rows : List Row) (flag : Bool) (text : Option Text) (r : Result RunOutput FormatFault) → IsFlag (one_of (codes "best-only") rows) flag → text ≡ first_of (codes "format") rows → IfErr r (λ _. HasFormatFault flag text) → IfErr r (λ _. GivesBadFormat rows)
+pub gives_bad_format : (rows : List Row) (flag : Bool) (text : Option Text)
+    (r : Result RunOutput FormatFault) → IsFlag (one_of (codes "best-only") rows) flag
+    → text ≡ first_of (codes "format") rows → IfErr r (λ _. HasFormatFault flag text)
+    → IfErr r (λ _. GivesBadFormat rows)
 gives_bad_format rows flag text (Ok output) given e told = tt
-gives_bad_format rows flag text (Err fault) given e told = record { best_only = flag; flag = given; fault = subst (λ (t : Option Text). HasFormatFault flag t) e told }
+gives_bad_format rows flag text (Err fault) given e told = record {
+  best_only = flag;
+  flag = given;
+  fault = subst (λ (t : Option Text). HasFormatFault flag t) e told;
+}
 
--- a fault of the list of lines is the refusal, where the settings of the feed and the output are right
-pub GivesNoRun-lines : (rows : List Row) (IsOutput : RunOutput → Type 0) (IsFault : Type 0) (feed : FeedSettings) (output : RunOutput) (fault : LinesFault) → GivesFeed rows feed → IsOutput output → HasInputFault (first_of (codes "lines") rows) (length feed.sessions.items) fault → GivesNoRun rows IsOutput IsFault (lines_refusal_by fault)
-GivesNoRun-lines rows IsOutput IsFault feed output lines.BadLines given prints fault = (feed.sessions.items, given.sessions, (feed.symbols.items, given.symbols, (output, prints, fault)))
+-- a fault of the list of lines is the refusal, where the settings of the feed and the output are
+-- right
+pub GivesNoRun-lines : (rows : List Row) (IsOutput : RunOutput → Type 0) (IsFault : Type 0)
+    (feed : FeedSettings) (output : RunOutput) (fault : LinesFault) → GivesFeed rows feed
+    → IsOutput output → HasInputFault (first_of (codes "lines") rows) (length feed.sessions.items)
+    fault → GivesNoRun rows IsOutput IsFault (lines_refusal_by fault)
+GivesNoRun-lines rows IsOutput IsFault feed output lines.BadLines given prints fault = (
+  feed.sessions.items,
+  given.sessions,
+  (
+    feed.symbols.items,
+    given.symbols,
+    (output, prints, fault),
+  ),
+)
 GivesNoRun-lines rows IsOutput IsFault feed output lines.NoMemory given prints fault = tt
 
 -- one subcommand isn't another one
-not_both : (words : List Text) → IsCommand (codes "listen") words → IsCommand (codes "convert") words → ⊥
-not_both words listens converts = let bad : Some (codes "listen") ≡ Some (codes "convert") = sym listens ∙ converts in absurd (cc)
+not_both : (words : List Text) → IsCommand (codes "listen") words
+    → IsCommand (codes "convert") words → ⊥
+not_both words listens converts = let bad : Some (codes "listen") ≡ Some (codes "convert") =
+    sym listens ∙ converts in absurd (cc)
 
-not_listening_and_counting : (words : List Text) → IsCommand (codes "listen") words → IsCommand (codes "stats") words → ⊥
-not_listening_and_counting words listens counts = let bad : Some (codes "listen") ≡ Some (codes "stats") = sym listens ∙ counts in absurd (cc)
+not_listening_and_counting : (words : List Text) → IsCommand (codes "listen") words
+    → IsCommand (codes "stats") words → ⊥
+not_listening_and_counting words listens counts = let bad : Some (codes "listen") ≡ Some
+    (codes "stats") = sym listens ∙ counts in absurd (cc)
 
-not_converting_and_counting : (words : List Text) → IsCommand (codes "convert") words → IsCommand (codes "stats") words → ⊥
-not_converting_and_counting words converts counts = let bad : Some (codes "convert") ≡ Some (codes "stats") = sym converts ∙ counts in absurd (cc)
+not_converting_and_counting : (words : List Text) → IsCommand (codes "convert") words
+    → IsCommand (codes "stats") words → ⊥
+not_converting_and_counting words converts counts = let bad : Some (codes "convert") ≡ Some
+    (codes "stats") = sym converts ∙ counts in absurd (cc)
 
 -- the values of the options of listen are refused
-pub IsRefused-listening : (words : List Text) (refusal : Refusal) → IsAccepted words → IsCommand (codes "listen") words → GivesNoListening (values_of (codes "listen") words) refusal → IsRefused words refusal
+pub IsRefused-listening : (words : List Text) (refusal : Refusal) → IsAccepted words
+    → IsCommand (codes "listen") words → GivesNoListening (values_of (codes "listen") words) refusal
+    → IsRefused words refusal
 IsRefused-listening words (Shown text) taken listens none = absurd none
 IsRefused-listening words (Usage text) taken listens none = absurd none
 IsRefused-listening words NotText taken listens none = absurd none
@@ -106,7 +150,9 @@ IsRefused-listening words refusal taken listens none = record {
 }
 
 -- the values of the option of convert are refused
-pub IsRefused-converting : (words : List Text) (refusal : Refusal) → IsAccepted words → IsCommand (codes "convert") words → GivesNoConversion (values_of (codes "convert") words) refusal → IsRefused words refusal
+pub IsRefused-converting : (words : List Text) (refusal : Refusal) → IsAccepted words
+    → IsCommand (codes "convert") words → GivesNoConversion (values_of (codes "convert") words)
+    refusal → IsRefused words refusal
 IsRefused-converting words BadLines taken converts none = record {
   taken = taken;
   listening = λ listens. absurd (not_both words listens converts);
@@ -118,7 +164,9 @@ IsRefused-converting words NoMemory taken converts none = tt
 IsRefused-converting words _ taken converts none = absurd none
 
 -- the values of the options of stats are refused
-pub IsRefused-counting : (words : List Text) (refusal : Refusal) → IsAccepted words → IsCommand (codes "stats") words → GivesNoStats (values_of (codes "stats") words) refusal → IsRefused words refusal
+pub IsRefused-counting : (words : List Text) (refusal : Refusal) → IsAccepted words
+    → IsCommand (codes "stats") words → GivesNoStats (values_of (codes "stats") words) refusal
+    → IsRefused words refusal
 IsRefused-counting words (Shown text) taken counts none = absurd none
 IsRefused-counting words (Usage text) taken counts none = absurd none
 IsRefused-counting words NotText taken counts none = absurd none
@@ -132,7 +180,9 @@ IsRefused-counting words refusal taken counts none = record {
 }
 
 -- an error of clap by one of its kinds is the refusal
-pub IsRefused-by : (words : List Text) (kind : ErrorKind) (refusal : Refusal) → RefusesBy kind refusal → (kind ≡ OutOfMemory) ⊎ IsAmong kind (fault_of nbbo_app words) → IsRefused words refusal
+pub IsRefused-by : (words : List Text) (kind : ErrorKind) (refusal : Refusal)
+    → RefusesBy kind refusal → (kind ≡ OutOfMemory) ⊎ IsAmong kind (fault_of nbbo_app words)
+    → IsRefused words refusal
 IsRefused-by words kind (Shown text) is (inl memory) = elim is [
   | inl help ↦ let bad : DisplayHelp ≡ OutOfMemory = sym help ∙ memory in absurd (cc)
   | inr version ↦ let bad : DisplayVersion ≡ OutOfMemory = sym version ∙ memory in absurd (cc)
@@ -144,8 +194,10 @@ IsRefused-by words kind NoMemory is among = tt
 IsRefused-by words kind _ is among = absurd is
 
 -- where the values of an option are, and where it has none
-pub all_found : (found all : Option (List Text)) (words : List Text) → Some words ≡ found → found ≡ all → words ≡ unwrap_or all []
+pub all_found : (found all : Option (List Text)) (words : List Text) → Some words ≡ found
+    → found ≡ all → words ≡ unwrap_or all []
 all_found found all words e f = ap (λ (o : Option (List Text)). unwrap_or o []) (e ∙ f)
 
-pub none_found : (found all : Option (List Text)) → None ≡ found → found ≡ all → [] ≡ unwrap_or all []
+pub none_found : (found all : Option (List Text)) → None ≡ found → found ≡ all
+    → [] ≡ unwrap_or all []
 none_found found all e f = ap (λ (o : Option (List Text)). unwrap_or o []) (e ∙ f)

@@ -6,10 +6,16 @@ use Rattle.command_words.specs.declared.addresses.LinesFault.TheVariants.{BadLin
 cut : (m n : ℕ) → m ≤ n + 1 → (m ≤ n) ⊎ (m ≡ n + 1)
 cut zero n h = inl (omega arith)
 cut (suc m) zero h = inr (omega arith)
-cut (suc m) (suc n) h = elim (cut m n (omega arith)) [ inl less ↦ inl (omega arith) | inr same ↦ inr (omega arith) ]
+cut (suc m) (suc n) h = elim (cut m n (omega arith)) [
+  | inl less ↦ inl (omega arith)
+  | inr
+      same ↦ inr (omega arith)
+]
 
 -- one number of venues more for which the list names none
-pub none_more : (list : List ℕ) (n : ℕ) → ((venues : ℕ) → 1 ≤ venues → venues ≤ n → HasCapturedLinesFault list venues BadLines) → HasCapturedLinesFault list (n + 1) BadLines
+pub none_more : (list : List ℕ) (n : ℕ)
+    → ((venues : ℕ) → 1 ≤ venues → venues ≤ n → HasCapturedLinesFault list venues BadLines)
+    → HasCapturedLinesFault list (n + 1) BadLines
     → (venues : ℕ) → 1 ≤ venues → venues ≤ n + 1 → HasCapturedLinesFault list venues BadLines
 none_more list n none one venues some few =
     let P : ℕ → Type 0 = λ v. HasCapturedLinesFault list v BadLines in

@@ -18,10 +18,13 @@ texts words = map (λ word. word.now) words
 abbrev AreNamed : List (Bor (List ℕ)) → List (List ℕ) → Type 0
 AreNamed words symbols = symbols ≡ map (λ word. filled word.now) words
 
-are_all : (words : List (Bor (List ℕ))) (symbols : List (List ℕ)) → AreNamed words symbols → symbols ≡ named_symbols (texts words)
+are_all : (words : List (Bor (List ℕ))) (symbols : List (List ℕ)) → AreNamed words symbols
+    → symbols ≡ named_symbols (texts words)
 are_all words symbols e = e ∙ sym (map-map filled (λ word. word.now) words)
 
-pub symbols_named : (words : List (Bor (List ℕ))) (symbols : List (List ℕ)) → list_all (λ word. is_symbol_name word.now) words ≡ true → length words ≤ 4096 → AreNamed words symbols → IsDistinct bytes_eq symbols → NameSymbols (texts words) symbols
+pub symbols_named : (words : List (Bor (List ℕ))) (symbols : List (List ℕ))
+    → list_all (λ word. is_symbol_name word.now) words ≡ true → length words ≤ 4096
+    → AreNamed words symbols → IsDistinct bytes_eq symbols → NameSymbols (texts words) symbols
 symbols_named words symbols names few e distinct = record {
   names = list_all-map is_symbol_name (λ word. word.now) words ∙ names;
   few = omega (arith, few, length-map words (λ word. word.now));
@@ -29,18 +32,24 @@ symbols_named words symbols names few e distinct = record {
   distinct = distinct;
 }
 
-pub one_is_bad : (words : List (Bor (List ℕ))) → list_all (λ word. is_symbol_name word.now) words ≡ false → HasSymbolsFault (texts words) BadSymbol
+pub one_is_bad : (words : List (Bor (List ℕ))) → list_all (λ word. is_symbol_name word.now)
+    words ≡ false → HasSymbolsFault (texts words) BadSymbol
 one_is_bad words bad = list_all-map is_symbol_name (λ word. word.now) words ∙ bad
 
-pub are_too_many : (words : List (Bor (List ℕ))) → list_all (λ word. is_symbol_name word.now) words ≡ true → 4096 < length words → HasSymbolsFault (texts words) TooManySymbols
+pub are_too_many : (words : List (Bor (List ℕ))) → list_all (λ word. is_symbol_name word.now)
+    words ≡ true → 4096 < length words → HasSymbolsFault (texts words) TooManySymbols
 are_too_many words names many = (
   list_all-map is_symbol_name (λ word. word.now) words ∙ names,
   omega (arith, many, length-map words (λ word. word.now)),
 )
 
-pub one_is_twice : (words : List (Bor (List ℕ))) (symbols : List (List ℕ)) → list_all (λ word. is_symbol_name word.now) words ≡ true → length words ≤ 4096 → AreNamed words symbols → (IsDistinct bytes_eq symbols → ⊥) → HasSymbolsFault (texts words) DuplicateSymbol
+pub one_is_twice : (words : List (Bor (List ℕ))) (symbols : List (List ℕ))
+    → list_all (λ word. is_symbol_name word.now) words ≡ true → length words ≤ 4096
+    → AreNamed words symbols → (IsDistinct bytes_eq symbols → ⊥)
+    → HasSymbolsFault (texts words) DuplicateSymbol
 one_is_twice words symbols names few e twice = (
   list_all-map is_symbol_name (λ word. word.now) words ∙ names,
   omega (arith, few, length-map words (λ word. word.now)),
-  λ distinct. twice (subst (λ (s : List (List ℕ)). IsDistinct bytes_eq s) (sym (are_all words symbols e)) distinct),
+  λ distinct. twice (subst (λ (s : List (List ℕ)). IsDistinct bytes_eq s)
+      (sym (are_all words symbols e)) distinct),
 )

@@ -14,23 +14,34 @@ use Rattle.command_words.specs.declared.sessions.SessionsFault.TheVariants.{BadS
 abbrev pub AreNamesOf : List (Bor (List ℕ)) → List ℕ → Type 0
 AreNamesOf names list = map (λ name. name.now) names ≡ names_in list
 
-list_all-names : (names : List (Bor (List ℕ))) (list : List ℕ) → AreNamesOf names list → list_all is_session_name (names_in list) ≡ list_all (λ name. is_session_name name.now) names
-list_all-names names list e = ap (list_all is_session_name) (sym e) ∙ list_all-map is_session_name (λ name. name.now) names
+list_all-names : (names : List (Bor (List ℕ))) (list : List ℕ) → AreNamesOf names list
+    → list_all is_session_name (names_in list) ≡ list_all (λ name. is_session_name name.now) names
+list_all-names names list e = ap (list_all is_session_name) (sym e)
+    ∙ list_all-map is_session_name (λ name. name.now) names
 
-length-names : (names : List (Bor (List ℕ))) (list : List ℕ) → AreNamesOf names list → length (names_in list) ≡ length names
+length-names : (names : List (Bor (List ℕ))) (list : List ℕ) → AreNamesOf names list
+    → length (names_in list) ≡ length names
 length-names names list e = ap length (sym e) ∙ length-map names (λ name. name.now)
 
-pub sessions_in-bad : (names : List (Bor (List ℕ))) (list : List ℕ) → AreNamesOf names list → list_all (λ name. is_session_name name.now) names ≡ false → sessions_in list ≡ Err BadSession
+pub sessions_in-bad : (names : List (Bor (List ℕ))) (list : List ℕ) → AreNamesOf names list
+    → list_all (λ name. is_session_name name.now) names ≡ false → sessions_in list ≡ Err BadSession
 sessions_in-bad names list e bad = let h = list_all-names names list e ∙ bad in rw h refl
 
-pub sessions_in-too_many : (names : List (Bor (List ℕ))) (list : List ℕ) → AreNamesOf names list → list_all (λ name. is_session_name name.now) names ≡ true → 16 < length names → sessions_in list ≡ Err TooManySessions
+pub sessions_in-too_many : (names : List (Bor (List ℕ))) (list : List ℕ) → AreNamesOf names list
+    → list_all (λ name. is_session_name name.now) names ≡ true → 16 < length names
+    → sessions_in list ≡ Err TooManySessions
 sessions_in-too_many names list e good many =
     let h = list_all-names names list e ∙ good in
-    let n : nat_le (length (names_in list)) 16 ≡ false = lt-leb _ _ (omega (arith, many, length-names names list e)) in
+    let n : nat_le (length (names_in list)) 16 ≡ false =
+    lt-leb _ _ (omega (arith, many, length-names names list e)) in
     rw h (rw n refl)
 
-pub sessions_in-ok : (names : List (Bor (List ℕ))) (list : List ℕ) → AreNamesOf names list → list_all (λ name. is_session_name name.now) names ≡ true → length names ≤ 16 → sessions_in list ≡ Ok (map (λ name. filled_name name.now) names)
+pub sessions_in-ok : (names : List (Bor (List ℕ))) (list : List ℕ) → AreNamesOf names list
+    → list_all (λ name. is_session_name name.now) names ≡ true → length names ≤ 16
+    → sessions_in list ≡ Ok (map (λ name. filled_name name.now) names)
 sessions_in-ok names list e good few =
     let h = list_all-names names list e ∙ good in
-    let n : nat_le (length (names_in list)) 16 ≡ true = le-leb _ _ (omega (arith, few, length-names names list e)) in
-    rw h (rw n (ap (λ (s : List (List ℕ)). Ok s) (ap (map filled_name) (sym e) ∙ map-map filled_name (λ name. name.now) names)))
+    let n : nat_le (length (names_in list)) 16 ≡ true =
+    le-leb _ _ (omega (arith, few, length-names names list e)) in
+    rw h (rw n (ap (λ (s : List (List ℕ)). Ok s) (ap (map filled_name) (sym e)
+    ∙ map-map filled_name (λ name. name.now) names)))

@@ -23,8 +23,8 @@ fn format_named(name: &str) -> Option<BestFormat>
     }
 }
 
-/// The lines that are printed: all, or the best ones alone in the format that is named, `Text` where
-/// none is. Where all lines are printed no format may be named.
+/// The lines that are printed: all, or the best ones alone in the format that is named, `Text`
+/// where none is. Where all lines are printed no format may be named.
 pub fn read_output(best_only: bool, name: Option<&str>) -> Result<RunOutput, FormatFault>
     ensures ok { IfOk result (NamesFormat best_only (option_map (λ name. name.now) name.entry)) }
     ensures err { IfErr result (λ _.

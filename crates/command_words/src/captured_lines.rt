@@ -9,8 +9,8 @@ use feed_types::MAX_VENUES;
 use run_settings::{CapturedLine, RunInput, are_apart, lines_at};
 use std::alloc::Global;
 
-/// The lines that a list names, two for each of `venues` venues, where no two are of one address and
-/// port.
+/// The lines that a list names, two for each of `venues` venues, where no two are of one address
+/// and port.
 pub fn read_captured_lines(
     alloc: Global,
     list: &str,

@@ -9,8 +9,8 @@
 //! `specs/BestFormats.antt`, `specs/StatsFormats.antt`, `specs/SkipRules.antt`,
 //! `specs/EndRules.antt`).
 //!
-//! Begin with `command_line.rt`, then `commands.rt` and a command, as `listen_command.rt`. An option
-//! stands with its texts in `options.rt` if commands share it, else in `listen_options.rt`,
+//! Begin with `command_line.rt`, then `commands.rt` and a command, as `listen_command.rt`. An
+//! option stands with its texts in `options.rt` if commands share it, else in `listen_options.rt`,
 //! `replay_options.rt` or with its command; its rule in the file of that name in `specs/`.
 #![tactic(auto)]
 

@@ -1,4 +1,5 @@
-//! The counts that bound a run that listens: of entries, of datagrams, and of changes that are kept.
+//! The counts that bound a run that listens: of entries, of datagrams, and of changes that are
+//! kept.
 ghost use Rattle.std.specs.Prelude.{◌≡◌, IfOk, OnErr, codes};
 ghost use Rattle.clap.specs.Matches.{found_of};
 ghost use Rattle.clap.specs.Walk.{rows_of};
@@ -20,8 +21,8 @@ pub fn usual_journal(follow: bool) -> u32
     if follow { u32::MAX } else { DEFAULT_COUNT }
 }
 
-/// The most datagrams that a line reads, if there is any limit: where best lines are printed as they
-/// come there is none but the one that the option gives.
+/// The most datagrams that a line reads, if there is any limit: where best lines are printed as
+/// they come there is none but the one that the option gives.
 pub fn datagrams_of(listen: &ArgMatches<'_>, follow: bool) -> Option<u32>
     ensures { GivesDatagrams (rows_of (found_of listen.now)) follow result }
 {

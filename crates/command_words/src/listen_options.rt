@@ -1,5 +1,5 @@
-//! The options of `nbbo listen` alone: of each its texts and its argument, as `clap` takes it. Its rule stands in
-//! `specs/ListenOptions.antt`.
+//! The options of `nbbo listen` alone: of each its texts and its argument, as `clap` takes it. Its
+//! rule stands in `specs/ListenOptions.antt`.
 ghost use Rattle.std.specs.Prelude.{◌≡◌, false};
 ghost use Rattle.clap.specs.Walk.{rule_of};
 ghost use Rattle.command_words.specs.ListenOptions.{buffer_rule, datagrams_rule, follow_rule, kept_rule, live_journal_rule, request_rule, seconds_rule, skip_after_rule, stats_rule, until_input_ends_rule, which_end_rule};

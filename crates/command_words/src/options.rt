@@ -1,5 +1,5 @@
-//! The options that several commands share: of each its texts and its argument, as `clap` takes it. Its rule stands in
-//! `specs/Options.antt`.
+//! The options that several commands share: of each its texts and its argument, as `clap` takes it.
+//! Its rule stands in `specs/Options.antt`.
 ghost use Rattle.std.specs.Prelude.{◌≡◌, false};
 ghost use Rattle.clap.specs.Walk.{rule_of};
 ghost use Rattle.command_words.specs.Options.{captured_lines_rule, join_rule, journal_rule, sessions_rule, skip_gaps_rule, symbols_rule, window_rule};

@@ -28,12 +28,13 @@ pub enum Refusal {
     BadLines,
     /// The text for the address of requests is no address, or one to which no request can be sent.
     BadRequest,
-    /// The format of the best lines is none of those that there are, or is given where all lines are
-    /// printed.
+    /// The format of the best lines is none of those that there are, or is given where all lines
+    /// are printed.
     BadFormat,
     /// The rule by which an end of session ends a line is none of those that there are.
     BadEnd,
-    /// How many changes are kept is said where all are, since best lines aren't printed as they come.
+    /// How many changes are kept is said where all are, since best lines aren't printed as they
+    /// come.
     KeptUnfollowed,
     /// A symbol is empty, has more than eight bytes, or has a byte outside of `21` to `7e`.
     BadSymbol,

@@ -1,5 +1,5 @@
-//! The options of `nbbo replay` alone: of each its texts and its argument, as `clap` takes it. Its rule stands in
-//! `specs/ReplayOptions.antt`.
+//! The options of `nbbo replay` alone: of each its texts and its argument, as `clap` takes it. Its
+//! rule stands in `specs/ReplayOptions.antt`.
 ghost use Rattle.std.specs.Prelude.{◌≡◌, false};
 ghost use Rattle.clap.specs.Walk.{rule_of};
 ghost use Rattle.command_words.specs.Options.{format_rule};

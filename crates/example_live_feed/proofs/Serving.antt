@@ -13,7 +13,8 @@ there (x ∷ xs) (suc n) few = there xs n (omega (arith, few))
 
 pub each_served : {S premise lanes seats logs : _} (s : SettlementState)
     → IsSettlement {S = S} premise lanes seats logs s
-    → (id : ℕ) → IfSome (slice_get s.subscribers id) (λ end. IsServed s.journal id end.log end.queued end.unoffered)
+    → (id : ℕ) → IfSome (slice_get s.subscribers id) (λ end. IsServed s.journal id end.log
+    end.queued end.unoffered)
 each_served {logs = logs} s is id = by (slice_get s.subscribers id) refl
   where
     by : (o : Option SubscriberEndState) → slice_get s.subscribers id ≡ o

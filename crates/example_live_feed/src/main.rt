@@ -1,5 +1,5 @@
-//! An example of linking the crates, by threads: a live feed of two venues, each with two lines, and
-//! two subscribers with filters and strategies of their own; and the same lines again, with a
+//! An example of linking the crates, by threads: a live feed of two venues, each with two lines,
+//! and two subscribers with filters and strategies of their own; and the same lines again, with a
 //! thread beside the run that reads the feed. docs/LINKING.md goes through it.
 #![tactic(auto)]
 
@@ -268,8 +268,8 @@ fn last_look(
     Some(Look { status, national })
 }
 
-/// Looks until `look` has found what it looks for, and returns that. None where it has looked in vain
-/// long enough.
+/// Looks until `look` has found what it looks for, and returns that. None where it has looked in
+/// vain long enough.
 fn look_until<R, L>(rt: &R, look: L) -> Option<[Look; 2]>
 where
     R: Wait + Clock,
@@ -374,8 +374,8 @@ fn settled<R: Threads + Wait + Sync>(rt: &R, alloc: Global) -> Option<Settlement
     run_feed::<Brand, R>(rt, alloc, closed)
 }
 
-/// Runs the feed of both venues again, with a thread beside the run. None where memory was refused, or
-/// the thread saw less than all.
+/// Runs the feed of both venues again, with a thread beside the run. None where memory was refused,
+/// or the thread saw less than all.
 fn watched<R: Threads + Wait + Clock + Sync>(rt: &R, alloc: Global) -> Option<[Look; 2]> {
     let closed = new_feed(alloc)?;
     watch_feed::<Brand, R>(rt, alloc, closed)

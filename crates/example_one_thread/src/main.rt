@@ -87,8 +87,8 @@ fn main(rt: HostRuntime) -> io::Result<()> {
     let (Some(venue), Some(symbol)) = (VenueId::new(0), SymbolName::from_text(b"ACME")) else {
         return Ok(());
     };
-    // Stored closures are made where they are used: no function hands one out. Nor is what holds one, as
-    // the journal, handed to a function of another crate.
+    // Stored closures are made where they are used: no function hands one out. Nor is what holds
+    // one, as the journal, handed to a function of another crate.
     let advise = Box::new(
         alloc,
         |notice: &Notice| -> Advice

@@ -26,7 +26,10 @@ abbrev HasStep : (Done → World → Type 0) → Type 0
 HasStep Step = (outcome : Done) × (new : World) × Step outcome new
 
 -- where the part isn't there, the old world is the new one
-known : {X : Type 0} (o : Option X) (refusal : Done) (old : World) (Known : X → Done → World → Type 0) → ((x : X) → HasStep (Known x)) → HasStep (λ outcome new. MatchOption o (Stays refusal old outcome new) (λ x. Known x outcome new))
+known : {X : Type 0} (o : Option X) (refusal : Done) (old : World) (Known : X → Done → World
+    → Type 0) → ((x : X) → HasStep (Known x))
+    → HasStep (λ outcome new. MatchOption o (Stays refusal old outcome new)
+    (λ x. Known x outcome new))
 known None refusal old Known each = (refusal, old, (refl, refl))
 known (Some x) refusal old Known each = each x
 
@@ -38,11 +41,18 @@ module _ (place : ℕ) (v : Venue) (old : World) where
   abbrev with_history : History → World
   with_history h = put_venue old place (record v { history = h })
 
-  packet : (window : ℕ) (line : LineId) (bytes : List ℕ) → AreBytes bytes → HasStep (λ outcome new. RefusesBytes bytes old outcome new ⊎ AnswersPacket window place v line bytes old outcome new)
+  packet : (window : ℕ) (line : LineId) (bytes : List ℕ) → AreBytes bytes
+      → HasStep (λ outcome new. RefusesBytes bytes old outcome new ⊎ AnswersPacket window place v
+      line bytes old outcome new)
   packet window line bytes are = elim (read_or_fault bytes are) [
-    | inr fault ↦ (done.Refused (code_of fault.0), old, inl (record { fault = fault.0; has = fault.1; is = (refl, refl) }))
+    | inr fault ↦ (
+      done.Refused (code_of fault.0),
+      old,
+      inl (record { fault = fault.0; has = fault.1; is = (refl, refl) }),
+    )
     | inl read ↦
-        let given = every_answer v.history.present.name window (session_sent v) v.history.present.packets read.0 in
+        let given = every_answer v.history.present.name window (session_sent v)
+        v.history.present.packets read.0 in
         let history : History = after_input v.history (arrival_of line read.0 given.0) in (
           packet_done given.0,
           with_history history,
@@ -61,7 +71,8 @@ module _ (place : ℕ) (v : Venue) (old : World) where
 
   renewed : (name : List ℕ) → HasStep (AnswersRenewal place v name old)
   renewed name =
-      let given = every_renewal (names_of v.history) (end_of v.history.present.packets) (session_sent v) name in
+      let given = every_renewal (names_of v.history) (end_of v.history.present.packets)
+      (session_sent v) name in
       let history : History = history_after v.history name given.0 in (
         renewal_done given.0,
         with_history history,
@@ -94,17 +105,24 @@ subscription None old = (done.NoFilter, old, (refl, refl))
 subscription (Some terms) old = came _ _ (record old { used = old.used + 1 })
 
 every_step : (s : Setting) (old : World) (e : Event) → BringsBytes e → HasStep (IsStep s old e)
-every_step s old (Packet venue line bytes) are = known (slice_get old.venues venue) _ old _ (λ v. packet venue v old s.window line bytes.now are)
-every_step s old (Renew venue name) are = known (slice_get old.venues venue) _ old _ (λ v. renewed venue v old name)
-every_step s old (Skip venue number) are = known (slice_get old.venues venue) _ old _ (λ v. skipped venue v old number)
+every_step s old (Packet venue line bytes) are = known (slice_get old.venues venue) _ old _
+    (λ v. packet venue v old s.window line bytes.now are)
+every_step s old (Renew venue name) are = known (slice_get old.venues venue) _ old _
+    (λ v. renewed venue v old name)
+every_step s old (Skip venue number) are = known (slice_get old.venues venue) _ old _
+    (λ v. skipped venue v old number)
 every_step s old (Push venue) are = known (slice_get old.venues venue) _ old _ (λ v. came _ _ old)
-every_step s old (Consume venue) are = known (slice_get old.venues venue) _ old _ (λ v. came _ _ old)
-every_step s old (Declare venue on) are = known (slice_get old.venues venue) _ old _ (λ v. came _ _ old)
+every_step s old (Consume venue) are = known (slice_get old.venues venue) _
+    old _ (λ v. came _ _ old)
+every_step s old (Declare venue on) are = known (slice_get old.venues venue) _
+    old _ (λ v. came _ _ old)
 every_step s old Subscribe are = subscription (slice_get s.filters old.used) old
 every_step s old (Offer id) are = known (slice_get old.subscribers id) _ old _ (λ x. came _ _ old)
 every_step s old (Dequeue id) are = known (slice_get old.subscribers id) _ old _ (λ x. came _ _ old)
 
-pub every_run : (s : Setting) (old : World) (events : List Event) → AllByRecursion BringsBytes events → (outcomes : List Done) × (new : World) × IsRun s old events outcomes new
+pub every_run : (s : Setting) (old : World) (events : List Event)
+    → AllByRecursion BringsBytes events → (outcomes : List Done) × (new : World)
+    × IsRun s old events outcomes new
 every_run s old [] are = ([], old, refl)
 every_run s old (e ∷ es) are =
     let first = every_step s old e are.0 in

@@ -29,14 +29,18 @@ pub record Same (a b : Done) (v w : World) : Type 0 where
   pub world : v ≡ w
 
 -- two outcomes and two worlds, each equal to the other
-same : {a b c d : Done} {v w x y : World} → c ≡ d → x ≡ y → a ≡ c → v ≡ x → b ≡ d → w ≡ y → Same a b v w
+same : {a b c d : Done} {v w x y : World} → c ≡ d → x ≡ y → a ≡ c → v ≡ x
+    → b ≡ d → w ≡ y → Same a b v w
 same e f p q r t = record { outcome = p ∙ e ∙ sym r; world = q ∙ f ∙ sym t }
 
-came : {X : Type 0} {a b : Done} {v w : World} (put : X → World) (c : Transition X) (old : World) → Applies put c old a v → Applies put c old b w → Same a b v w
+came : {X : Type 0} {a b : Done} {v w : World} (put : X → World) (c : Transition X) (old : World)
+    → Applies put c old a v → Applies put c old b w → Same a b v w
 came put (Refused d) old p q = same refl refl p.0 p.1 q.0 q.1
 came put (Changes d x) old p q = same refl refl p.0 p.1 q.0 q.1
 
-known : {X : Type 0} {a b : Done} {v w : World} (o : Option X) (d : Done) (old : World) (P Q : X → Type 0) → ((x : X) → P x → Q x → Same a b v w) → MatchOption o (Stays d old a v) P → MatchOption o (Stays d old b w) Q → Same a b v w
+known : {X : Type 0} {a b : Done} {v w : World} (o : Option X) (d : Done) (old : World) (P Q : X
+    → Type 0) → ((x : X) → P x → Q x → Same a b v w) → MatchOption o (Stays d old a v) P
+    → MatchOption o (Stays d old b w) Q → Same a b v w
 known None d old P Q f p q = same refl refl p.0 p.1 q.0 q.1
 known (Some x) d old P Q f p q = f x p q
 
@@ -44,52 +48,76 @@ module _ (place : ℕ) (x : Venue) (old : World) where
   abbrev with_history : History → World
   with_history h = put_venue old place (record x { history = h })
 
-  arrival_same : (line : LineId) (p q : Content) (r s : Result Outcome LineFault) → p ≡ q → r ≡ s → after_input x.history (arrival_of line p r) ≡ after_input x.history (arrival_of line q s)
+  arrival_same : (line : LineId) (p q : Content) (r s : Result Outcome LineFault) → p ≡ q → r ≡ s
+      → after_input x.history (arrival_of line p r) ≡ after_input x.history (arrival_of line q s)
   arrival_same line p q r s e f = rw (e, f) refl
 
-  packets : (window : ℕ) (line : LineId) (bytes : List ℕ) (a b : Done) (v w : World) → RefusesBytes bytes old a v ⊎ AnswersPacket window place x line bytes old a v → RefusesBytes bytes old b w ⊎ AnswersPacket window place x line bytes old b w → Same a b v w
+  packets : (window : ℕ) (line : LineId) (bytes : List ℕ) (a b : Done) (v w : World)
+      → RefusesBytes bytes old a v ⊎ AnswersPacket window place x line bytes old a v
+      → RefusesBytes bytes old b w ⊎ AnswersPacket window place x line bytes old b w → Same a b v w
   packets window line bytes a b v w p q = elim p [
     | inl f ↦ elim q [
-      | inl g ↦ same (ap (λ (e : PacketFault). done.Refused (code_of e)) (same_fault bytes f.fault g.fault f.has g.has)) refl f.is.0 f.is.1 g.is.0 g.is.1
+      | inl g ↦ same (ap (λ (e : PacketFault). done.Refused (code_of e)) (same_fault bytes f.fault
+          g.fault f.has g.has)) refl f.is.0 f.is.1 g.is.0 g.is.1
       | inr g ↦ absurd (no_fault bytes g.packet g.rest f.fault g.spells f.has)
     ]
     | inr f ↦ elim q [
       | inl g ↦ absurd (no_fault bytes f.packet f.rest g.fault f.spells g.has)
       | inr g ↦
           let one = same_packet bytes f.packet g.packet f.rest g.rest f.spells g.spells in
-          let right = subst (λ (p : Content). IsOutcome x.history.present.name window (session_sent x) x.history.present.packets p f.answer) one f.taken.right in
-          let answer = one_answer x.history.present.name window (session_sent x) x.history.present.packets g.packet f.answer g.answer right g.taken.right in
-          let history = f.taken.is ∙ arrival_same line f.packet g.packet f.answer g.answer one answer ∙ sym g.taken.is in
-          same (ap packet_done answer) (ap with_history history) f.outcome_is f.new_is g.outcome_is g.new_is
+          let right = subst (λ (p : Content). IsOutcome x.history.present.name window
+          (session_sent x) x.history.present.packets p f.answer) one f.taken.right in
+          let answer = one_answer x.history.present.name window (session_sent x)
+          x.history.present.packets g.packet f.answer g.answer right g.taken.right in
+          let history = f.taken.is ∙ arrival_same line f.packet g.packet f.answer g.answer one
+          answer ∙ sym g.taken.is in
+          same (ap packet_done answer) (ap with_history history) f.outcome_is
+          f.new_is g.outcome_is g.new_is
     ]
   ]
 
-  renewals : (name : List ℕ) (a b : Done) (v w : World) → AnswersRenewal place x name old a v → AnswersRenewal place x name old b w → Same a b v w
+  renewals : (name : List ℕ) (a b : Done) (v w : World) → AnswersRenewal place x name old a v
+      → AnswersRenewal place x name old b w → Same a b v w
   renewals name a b v w f g =
-      let answer = one_renewal (names_of x.history) (end_of x.history.present.packets) (session_sent x) name f.answer g.answer f.renewed.right g.renewed.right in
+      let answer = one_renewal (names_of x.history) (end_of x.history.present.packets)
+      (session_sent x) name f.answer g.answer f.renewed.right g.renewed.right in
       let history = f.renewed.is ∙ ap (history_after x.history name) answer ∙ sym g.renewed.is in
-      same (ap renewal_done answer) (ap with_history history) f.outcome_is f.new_is g.outcome_is g.new_is
+      same (ap renewal_done answer) (ap with_history history) f.outcome_is
+      f.new_is g.outcome_is g.new_is
 
-  skips : (number : ℕ) (a b : Done) (v w : World) → AnswersSkip place x number old a v → AnswersSkip place x number old b w → Same a b v w
+  skips : (number : ℕ) (a b : Done) (v w : World) → AnswersSkip place x number old a v
+      → AnswersSkip place x number old b w → Same a b v w
   skips number a b v w f g =
-      let answer = one_skip x.history.present.packets (session_sent x) number f.answer g.answer f.skipped.right g.skipped.right in
+      let answer = one_skip x.history.present.packets (session_sent x) number f.answer g.answer
+      f.skipped.right g.skipped.right in
       let history = f.skipped.is ∙ ap (skip_after x.history number) answer ∙ sym g.skipped.is in
-      same (ap (skip_done number) answer) (ap with_history history) f.outcome_is f.new_is g.outcome_is g.new_is
+      same (ap (skip_done number) answer) (ap with_history history) f.outcome_is
+      f.new_is g.outcome_is g.new_is
 
-subscriptions : (o : Option Terms) (old : World) (a b : Done) (v w : World) → AnswersSubscribe o old a v → AnswersSubscribe o old b w → Same a b v w
+subscriptions : (o : Option Terms) (old : World) (a b : Done) (v w : World)
+    → AnswersSubscribe o old a v → AnswersSubscribe o old b w → Same a b v w
 subscriptions None old a b v w p q = same refl refl p.0 p.1 q.0 q.1
 subscriptions (Some terms) old a b v w p q = came _ _ (record old { used = old.used + 1 }) p q
 
-pub one_step : (s : Setting) (old : World) (e : Event) (a b : Done) (v w : World) → IsStep s old e a v → IsStep s old e b w → Same a b v w
-one_step s old (Packet venue line bytes) a b v w p q = known (slice_get old.venues venue) _ old _ _ (λ x f g. packets venue x old s.window line bytes.now a b v w f g) p q
-one_step s old (Renew venue name) a b v w p q = known (slice_get old.venues venue) _ old _ _ (λ x f g. renewals venue x old name a b v w f g) p q
-one_step s old (Skip venue number) a b v w p q = known (slice_get old.venues venue) _ old _ _ (λ x f g. skips venue x old number a b v w f g) p q
-one_step s old (Push venue) a b v w p q = known (slice_get old.venues venue) _ old _ _ (λ x f g. came _ _ old f g) p q
-one_step s old (Consume venue) a b v w p q = known (slice_get old.venues venue) _ old _ _ (λ x f g. came _ _ old f g) p q
-one_step s old (Declare venue on) a b v w p q = known (slice_get old.venues venue) _ old _ _ (λ x f g. came _ _ old f g) p q
+pub one_step : (s : Setting) (old : World) (e : Event) (a b : Done) (v w : World)
+    → IsStep s old e a v → IsStep s old e b w → Same a b v w
+one_step s old (Packet venue line bytes) a b v w p q = known (slice_get old.venues venue) _ old _ _
+    (λ x f g. packets venue x old s.window line bytes.now a b v w f g) p q
+one_step s old (Renew venue name) a b v w p q = known (slice_get old.venues venue) _ old _ _
+    (λ x f g. renewals venue x old name a b v w f g) p q
+one_step s old (Skip venue number) a b v w p q = known (slice_get old.venues venue) _ old _ _
+    (λ x f g. skips venue x old number a b v w f g) p q
+one_step s old (Push venue) a b v w p q = known (slice_get old.venues venue) _ old _ _
+    (λ x f g. came _ _ old f g) p q
+one_step s old (Consume venue) a b v w p q = known (slice_get old.venues venue) _ old _ _
+    (λ x f g. came _ _ old f g) p q
+one_step s old (Declare venue on) a b v w p q = known (slice_get old.venues venue) _ old _ _
+    (λ x f g. came _ _ old f g) p q
 one_step s old Subscribe a b v w p q = subscriptions (slice_get s.filters old.used) old a b v w p q
-one_step s old (Offer id) a b v w p q = known (slice_get old.subscribers id) _ old _ _ (λ x f g. came _ _ old f g) p q
-one_step s old (Dequeue id) a b v w p q = known (slice_get old.subscribers id) _ old _ _ (λ x f g. came _ _ old f g) p q
+one_step s old (Offer id) a b v w p q = known (slice_get old.subscribers id) _ old _ _
+    (λ x f g. came _ _ old f g) p q
+one_step s old (Dequeue id) a b v w p q = known (slice_get old.subscribers id) _ old _ _
+    (λ x f g. came _ _ old f g) p q
 
 pub record SameRun (a b : List Done) (v w : World) : Type 0 where
   pub outcomes : a ≡ b
@@ -98,7 +126,8 @@ pub record SameRun (a b : List Done) (v w : World) : Type 0 where
 more : (a b : Done) (ds es : List Done) → a ≡ b → ds ≡ es → a ∷ ds ≡ b ∷ es
 more a b ds es e f = rw (e, f) refl
 
-pub run_once : (s : Setting) (old : World) (events : List Event) (a b : List Done) (v w : World) → IsRun s old events a v → IsRun s old events b w → SameRun a b v w
+pub run_once : (s : Setting) (old : World) (events : List Event) (a b : List Done) (v w : World)
+    → IsRun s old events a v → IsRun s old events b w → SameRun a b v w
 run_once s old [] [] [] v w p q = record { outcomes = refl; world = p ∙ sym q }
 run_once s old [] [] (b ∷ bs) v w p q = absurd q
 run_once s old [] (a ∷ cs) b v w p q = absurd p
@@ -106,5 +135,6 @@ run_once s old (e ∷ es) [] b v w p q = absurd p
 run_once s old (e ∷ es) (a ∷ cs) [] v w p q = absurd q
 run_once s old (e ∷ es) (a ∷ cs) (b ∷ bs) v w p q =
     let first = one_step s old e a b p.0 q.0 p.1 q.1 in
-    let rest = run_once s q.0 es cs bs v w (subst (λ (m : World). IsRun s m es cs v) first.world p.2) q.2 in
+    let rest = run_once s q.0 es cs bs v w (subst (λ (m : World). IsRun s m es cs v)
+    first.world p.2) q.2 in
     record { outcomes = more a b cs bs first.outcome rest.outcomes; world = rest.world }

@@ -111,7 +111,8 @@ pub record LeftOffered (old : JournalState) (id capacity : ℕ) (x : Subscriber)
       x.lane.sent outcome lane.sent
   pub subscription : Subscription
   pub kept : subscriptions_of new ≡ slice_set (subscriptions_of old) id subscription
-  pub fits : FitsSubscriber subscription lane (record x { lane = record x.lane { sent = lane.sent } })
+  pub fits : FitsSubscriber subscription lane
+      (record x { lane = record x.lane { sent = lane.sent } })
 
 -- what Consume looks at
 abbrev pub intake_of : Lane Numbered → JournalState → Intake
@@ -125,7 +126,8 @@ pub record KeepsJournal (old new : JournalState) : Type 0 where
   pub kept : new.kept ≡ old.kept
   pub offered : subscriptions_of new ≡ subscriptions_of old
 
--- the machine: its venues, the journal, the subscribers' lanes, the capacity of a lane, and how many
+-- the machine: its venues, the journal, the subscribers' lanes, the capacity of a lane, and how
+-- many
 -- filters were used
 pub record MachineView : Type 0 where
   pub venues : List VenueView
@@ -139,7 +141,8 @@ pub record FitVenues (window : ℕ) (cs : List VenueView) (vs : List Venue) : Ty
   pub each : (i : ℕ) (c : VenueView) (v : Venue) → slice_get cs i ≡ Some c → slice_get vs i ≡ Some v
       → FitsVenue window i c v
 
--- the journal's subscriptions and the lanes are those of the subscribers, and a subscriber's terms are
+-- the journal's subscriptions and the lanes are those of the subscribers, and a subscriber's terms
+-- are
 -- those of the filter at its place
 pub record FitSubscribers (s : Setting) (subscriptions : List Subscription)
     (lanes : List (Lane Notice)) (xs : List Subscriber) : Type 0 where

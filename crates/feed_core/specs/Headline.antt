@@ -15,7 +15,8 @@ use Rattle.feed_core.specs.SubscriberHalf.{SubscriberHalf}
 
 -- The headline, of a world to which these events led: the venue half for each venue, whose first
 -- session is the one that it is set up with; the journal's items of the venue are those that were
--- consumed there, in order; and the subscriber half for each subscriber, whose terms are those of the
+-- consumed there, in order; and the subscriber half for each subscriber, whose terms are those of
+-- the
 -- filter at its place.
 pub record Headline (s : Setting) (events : List Event) (w : World) : Type 0 where
   pub venues : (place : ℕ) (v : Venue) → slice_get w.venues place ≡ Some v

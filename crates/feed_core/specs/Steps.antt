@@ -1,4 +1,5 @@
--- One event on its part of the world (the steps of feed_steps, and two more), and that part put back
+-- One event on its part of the world (the steps of feed_steps, and two more), and that part put
+-- back
 -- in its place. The step (OneStep.antt) chooses among these. Refusals are listed in the order in
 -- which they are looked for.
 use Rattle.std.specs.Prelude.{◌≡◌, ℕ, ◌+◌, Bool, nat_le, List, [], ◌∷◌, ◌++◌, length, MatchOption, Option, Some, None, Result, slice_get, slice_set, if◌then◌else◌}

@@ -1,5 +1,5 @@
-//! The reference machine that a feed is proved against, and the headline: what a whole feed does, as
-//! one list of events.
+//! The reference machine that a feed is proved against, and the headline: what a whole feed does,
+//! as one list of events.
 //!
 //! [`run`] takes a list of events (packets that come on lines, items that are pushed and consumed,
 //! notices that are offered and dequeued, ..) and returns their outcomes and what the feed then
@@ -8,8 +8,8 @@
 //!
 //! Contract: what is shown is that of the one run over the events (`specs/Runs.antt`), and the
 //! headline holds of it (`specs/Headline.antt`, law [`headline`]). Begin at `specs/Worlds.antt`,
-//! `specs/OneStep.antt` for what an event does (its steps are those of `feed_steps`), and at `running.rt` for the
-//! code.
+//! `specs/OneStep.antt` for what an event does (its steps are those of `feed_steps`), and at
+//! `running.rt` for the code.
 #![tactic(auto)]
 
 mod journaling;

@@ -293,7 +293,8 @@ impl Machine {
     ) -> Result<Vec<Done>, AllocError>
         requires { self.old.used ≤ length filters.now }
         ensures { IfOk result (λ outcomes. (s : Setting) → s.filters ≡ all_terms filters.now
-            → FitsWorld s self.old (new_world s) → HasReached s events.now outcomes.items self.new) }
+            → FitsWorld s self.old (new_world s)
+            → HasReached s events.now outcomes.items self.new) }
     {
         let mut outcomes = Vec::new(alloc);
         for event in events {

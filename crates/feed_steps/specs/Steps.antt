@@ -1,6 +1,7 @@
 -- One event on its part of the world: the part that it looks at, and that in a running feed is
 -- under one lock or at one end of a lane. The step of the reference machine (feed_core,
--- OneStep.antt) puts that part back in its place. Refusals are listed in the order in which they are
+-- OneStep.antt) puts that part back in its place. Refusals are listed in the order in which they
+-- are
 -- looked for.
 use Rattle.std.specs.Prelude.{◌≡◌, ℕ, ◌+◌, Bool, nat_le, List, [], ◌∷◌, ◌++◌, length, Option, Some, None, Result, Ok, Err, if◌then◌else◌}
 use Rattle.feed_types.specs.declared.item.Numbered.{Numbered}

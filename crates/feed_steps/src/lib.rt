@@ -3,9 +3,9 @@
 //! The reference machine (`feed_core`) runs over these events; the two halves of a live feed
 //! (`venue_lines`, `hub_lanes`) say by the same steps what is done in a section under a lock.
 //!
-//! Contract: an [`Event`] and its outcome [`Done`] are plain values; `specs/Steps.antt` says what an
-//! event does on its part of the world, the part that in a running feed is under one lock or at one
-//! end of a lane. A [`FeedName`] has no calls: its lanes and its setting are those of
+//! Contract: an [`Event`] and its outcome [`Done`] are plain values; `specs/Steps.antt` says what
+//! an event does on its part of the world, the part that in a running feed is under one lock or at
+//! one end of a lane. A [`FeedName`] has no calls: its lanes and its setting are those of
 //! `specs/Lanes.antt`. What the lines may carry is said in the words of `specs/Premises.antt`.
 //! Begin at `specs/Steps.antt`.
 #![tactic(auto)]

@@ -5,6 +5,6 @@
 pub enum Unsent {
     /// There is nothing to push now.
     Nothing,
-    /// The lane was full at a moment of the call.
+    /// The lane took nothing: as many items were pushed to it before as it has room for.
     LaneFull,
 }

@@ -29,135 +29,232 @@ use Rattle.feed_text.specs.Told.{AreAllTaken, TakenEmit, told_by_records, told_f
 
 -- the laws of packets and of their answers
 pub record Single : Type 0 where
-  pub packet : (bytes : List ℕ) (p q : Content) (rest more : List ℕ) → Spells bytes p rest → Spells bytes q more → p ≡ q
-  pub no_fault : (bytes : List ℕ) (p : Content) (rest : List ℕ) (fault : PacketFault) → Spells bytes p rest → HasFault bytes fault → ⊥
+  pub packet : (bytes : List ℕ) (p q : Content) (rest more : List ℕ) → Spells bytes p rest
+      → Spells bytes q more → p ≡ q
+  pub no_fault : (bytes : List ℕ) (p : Content) (rest : List ℕ) (fault : PacketFault)
+      → Spells bytes p rest → HasFault bytes fault → ⊥
   pub fault : (bytes : List ℕ) (f g : PacketFault) → HasFault bytes f → HasFault bytes g → f ≡ g
-  pub outcome : (session : List ℕ) (window sent : ℕ) (P : List Input) (p : Content) (a b : Result Outcome LineFault) → IsOutcome session window sent P p a → IsOutcome session window sent P p b → a ≡ b
+  pub outcome : (session : List ℕ) (window sent : ℕ) (P : List Input) (p : Content)
+      (a b : Result Outcome LineFault) → IsOutcome session window sent P p a
+      → IsOutcome session window sent P p b → a ≡ b
 
-one_fault : (window : ℕ) (gaps : Bool) (venue : ℕ) (line : LineId) (bytes : List ℕ) (old n1 n2 : History) (l1 l2 : List ReplayEvent) → Single → EmitsFault window gaps venue line bytes old l1 n1 → EmitsFault window gaps venue line bytes old l2 n2 → (l1 ≡ l2) × (n1 ≡ n2)
+one_fault : (window : ℕ) (gaps : Bool) (venue : ℕ) (line : LineId) (bytes : List ℕ)
+    (old n1 n2 : History) (l1 l2 : List ReplayEvent) → Single
+    → EmitsFault window gaps venue line bytes old l1 n1 → EmitsFault window gaps venue line bytes
+    old l2 n2 → (l1 ≡ l2) × (n1 ≡ n2)
 one_fault window gaps venue line bytes old n1 n2 l1 l2 one a b =
-    let F : PacketFault → History → List ReplayEvent = λ f h. packet_refused venue line f ∷ gap_emitted window gaps venue h in
+    let F : PacketFault → History → List ReplayEvent = λ f h. packet_refused venue line f
+    ∷ gap_emitted window gaps venue h in
     let f = one.fault bytes a.fault b.fault a.has b.has in
-    let n : n1 ≡ n2 = a.same ∙ sym b.same in
-    (a.emitted_is ∙ ap (λ (x : PacketFault). F x n1) f ∙ ap (λ (h : History). F b.fault h) n ∙ sym b.emitted_is, n)
+    let n : n1 ≡ n2 = a.same ∙ sym b.same in (
+      a.emitted_is ∙ ap (λ (x : PacketFault). F x n1) f ∙ ap (λ (h : History). F b.fault h)
+          n ∙ sym b.emitted_is,
+      n,
+    )
 
-one_packet : (window : ℕ) (gaps : Bool) (venue : ℕ) (line : LineId) (bytes : List ℕ) (old n1 n2 : History) (l1 l2 : List ReplayEvent) → Single → EmitsPacket window gaps venue line bytes old l1 n1 → EmitsPacket window gaps venue line bytes old l2 n2 → (l1 ≡ l2) × (n1 ≡ n2)
+one_packet : (window : ℕ) (gaps : Bool) (venue : ℕ) (line : LineId) (bytes : List ℕ)
+    (old n1 n2 : History) (l1 l2 : List ReplayEvent) → Single
+    → EmitsPacket window gaps venue line bytes old l1 n1 → EmitsPacket window gaps venue line bytes
+    old l2 n2 → (l1 ≡ l2) × (n1 ≡ n2)
 one_packet window gaps venue line bytes old n1 n2 l1 l2 one a b =
-    let G : Content → Result Outcome LineFault → History = λ p x. after_input old (arrival_of line p x) in
-    let F : Content → Result Outcome LineFault → History → List ReplayEvent = λ q x h. packet_answered venue line q.number (length q.messages) x ∷ items_emitted venue old h.present.packets ++ gap_emitted window gaps venue h in
-    let p : a.packet ≡ b.packet = one.packet bytes a.packet b.packet a.rest b.rest a.spells b.spells in
-    let first : IsOutcome old.present.name window (last_sent old) old.present.packets b.packet a.answer = subst (λ (q : Content). IsOutcome old.present.name window (last_sent old) old.present.packets q a.answer) p a.taken.right in
-    let x : a.answer ≡ b.answer = one.outcome old.present.name window (last_sent old) old.present.packets b.packet a.answer b.answer first b.taken.right in
-    let n : n1 ≡ n2 = a.taken.is ∙ ap (λ (q : Content). G q a.answer) p ∙ ap (λ (y : Result Outcome LineFault). G b.packet y) x ∙ sym b.taken.is in
-    (a.emitted_is ∙ ap (λ (q : Content). F q a.answer n1) p ∙ ap (λ (y : Result Outcome LineFault). F b.packet y n1) x ∙ ap (λ (h : History). F b.packet b.answer h) n ∙ sym b.emitted_is, n)
+    let G : Content → Result Outcome LineFault
+    → History = λ p x. after_input old (arrival_of line p x) in
+    let F : Content → Result Outcome LineFault → History
+    → List ReplayEvent = λ q x h. packet_answered venue line q.number (length q.messages) x
+    ∷ items_emitted venue old h.present.packets ++ gap_emitted window gaps venue h in
+    let p : a.packet ≡ b.packet = one.packet bytes a.packet b.packet a.rest b.rest a.spells b.spells
+    in
+    let first : IsOutcome old.present.name window (last_sent old) old.present.packets b.packet
+    a.answer = subst (λ (q : Content). IsOutcome old.present.name window (last_sent old)
+    old.present.packets q a.answer) p a.taken.right in
+    let x : a.answer ≡ b.answer = one.outcome old.present.name window (last_sent old)
+    old.present.packets b.packet a.answer b.answer first b.taken.right in
+    let n : n1 ≡ n2 = a.taken.is ∙ ap (λ (q : Content). G q a.answer) p
+    ∙ ap (λ (y : Result Outcome LineFault). G b.packet y) x ∙ sym b.taken.is in (
+      a.emitted_is ∙ ap (λ (q : Content). F q a.answer n1) p
+          ∙ ap (λ (y : Result Outcome LineFault). F b.packet y n1) x
+          ∙ ap (λ (h : History). F b.packet b.answer h) n ∙ sym b.emitted_is,
+      n,
+    )
 
-one_at : (window : ℕ) (gaps : Bool) (r : CaptureRecord) (old n1 n2 : History) (l1 l2 : List ReplayEvent) → Single → EmitsAt window gaps r old l1 n1 → EmitsAt window gaps r old l2 n2 → (l1 ≡ l2) × (n1 ≡ n2)
-one_at window gaps (datagram_record venue line bytes) old n1 n2 l1 l2 one (inl a) (inl b) = one_fault window gaps venue line bytes old n1 n2 l1 l2 one a b
-one_at window gaps (datagram_record venue line bytes) old n1 n2 l1 l2 one (inl a) (inr b) = absurd (one.no_fault bytes b.packet b.rest a.fault b.spells a.has)
-one_at window gaps (datagram_record venue line bytes) old n1 n2 l1 l2 one (inr a) (inl b) = absurd (one.no_fault bytes a.packet a.rest b.fault a.spells b.has)
-one_at window gaps (datagram_record venue line bytes) old n1 n2 l1 l2 one (inr a) (inr b) = one_packet window gaps venue line bytes old n1 n2 l1 l2 one a b
+one_at : (window : ℕ) (gaps : Bool) (r : CaptureRecord) (old n1 n2 : History)
+    (l1 l2 : List ReplayEvent) → Single → EmitsAt window gaps r old l1 n1
+    → EmitsAt window gaps r old l2 n2 → (l1 ≡ l2) × (n1 ≡ n2)
+one_at window gaps (datagram_record venue line bytes) old n1 n2 l1 l2 one (inl a) (inl b) =
+    one_fault window gaps venue line bytes old n1 n2 l1 l2 one a b
+one_at window gaps (datagram_record venue line bytes) old n1 n2 l1 l2 one (inl a) (inr b) =
+    absurd (one.no_fault bytes b.packet b.rest a.fault b.spells a.has)
+one_at window gaps (datagram_record venue line bytes) old n1 n2 l1 l2 one (inr a) (inl b) =
+    absurd (one.no_fault bytes a.packet a.rest b.fault a.spells b.has)
+one_at window gaps (datagram_record venue line bytes) old n1 n2 l1 l2 one (inr a) (inr b) =
+    one_packet window gaps venue line bytes old n1 n2 l1 l2 one a b
 one_at window gaps (renewal_record venue name) old n1 n2 l1 l2 one a b =
-    let x = one_renewal (names_of old) _ (last_sent old) name a.answer b.answer a.renewed.right b.renewed.right in
-    (a.emitted_is ∙ ap (λ (y : Result ℕ RenewFault). renewal_answered venue y ∷ []) x ∙ sym b.emitted_is, a.renewed.is ∙ ap (history_after old name) x ∙ sym b.renewed.is)
+    let x = one_renewal (names_of old) _ (last_sent old) name a.answer b.answer
+    a.renewed.right b.renewed.right in (
+      a.emitted_is ∙ ap (λ (y : Result ℕ RenewFault). renewal_answered venue y ∷ []) x
+          ∙ sym b.emitted_is,
+      a.renewed.is ∙ ap (history_after old name) x ∙ sym b.renewed.is,
+    )
 one_at window gaps (skip_record venue number) old n1 n2 l1 l2 one a b =
-    let F : Result (Unit {0}) SkipFault → History → List ReplayEvent = λ y h. skip_answered venue number y ∷ items_emitted venue old h.present.packets in
-    let x = one_skip old.present.packets (last_sent old) number a.answer b.answer a.skipped.right b.skipped.right in
-    let n : n1 ≡ n2 = a.skipped.is ∙ ap (skip_after old number) x ∙ sym b.skipped.is in
-    (a.emitted_is ∙ ap (λ (y : Result (Unit {0}) SkipFault). F y n1) x ∙ ap (λ (h : History). F b.answer h) n ∙ sym b.emitted_is, n)
-one_at window gaps (self_help_record venue on) old n1 n2 l1 l2 one a b = (a.emitted_is ∙ sym b.emitted_is, a.same ∙ sym b.same)
+    let F : Result (Unit {0}) SkipFault → History → List ReplayEvent = λ y h. skip_answered venue
+    number y ∷ items_emitted venue old h.present.packets in
+    let x = one_skip old.present.packets (last_sent old) number a.answer b.answer
+    a.skipped.right b.skipped.right in
+    let n : n1 ≡ n2 = a.skipped.is ∙ ap (skip_after old number) x ∙ sym b.skipped.is in (
+      a.emitted_is ∙ ap (λ (y : Result (Unit {0}) SkipFault). F y n1) x
+          ∙ ap (λ (h : History). F b.answer h) n ∙ sym b.emitted_is,
+      n,
+    )
+one_at window gaps (self_help_record venue on) old n1 n2 l1 l2 one a b =
+    (a.emitted_is ∙ sym b.emitted_is, a.same ∙ sym b.same)
 
-one_record : (window : ℕ) (gaps : Bool) (r : CaptureRecord) (old n1 n2 : List History) (l1 l2 : List ReplayEvent) → Single → EmitsRecord window gaps r old l1 n1 → EmitsRecord window gaps r old l2 n2 → (l1 ≡ l2) × (n1 ≡ n2)
+one_record : (window : ℕ) (gaps : Bool) (r : CaptureRecord) (old n1 n2 : List History)
+    (l1 l2 : List ReplayEvent) → Single → EmitsRecord window gaps r old l1 n1
+    → EmitsRecord window gaps r old l2 n2 → (l1 ≡ l2) × (n1 ≡ n2)
 one_record window gaps r old n1 n2 l1 l2 one a b =
     let some : Some a.before ≡ Some b.before = sym a.at ∙ b.at in
     let same : a.before ≡ b.before = cc in
-    let x = one_at window gaps r b.before a.after b.after l1 l2 one (subst (λ (h : History). EmitsAt window gaps r h l1 a.after) same a.emits) b.emits in
+    let x = one_at window gaps r b.before a.after b.after l1 l2 one
+    (subst (λ (h : History). EmitsAt window gaps r h l1 a.after) same a.emits) b.emits in
     (x.0, a.others ∙ ap (slice_set old (record_venue r)) x.1 ∙ sym b.others)
 
-pub one_told : (window : ℕ) (gaps : Bool) (rs : List CaptureRecord) (old n1 n2 : List History) (l1 l2 : List ReplayEvent) → Single → Emits window gaps rs old l1 n1 → Emits window gaps rs old l2 n2 → (l1 ≡ l2) × (n1 ≡ n2)
+pub one_told : (window : ℕ) (gaps : Bool) (rs : List CaptureRecord) (old n1 n2 : List History)
+    (l1 l2 : List ReplayEvent) → Single → Emits window gaps rs old l1 n1
+    → Emits window gaps rs old l2 n2 → (l1 ≡ l2) × (n1 ≡ n2)
 one_told window gaps [] old n1 n2 l1 l2 one a b = (a.0 ∙ sym b.0, a.1 ∙ sym b.1)
-one_told window gaps (r ∷ rs) old n1 n2 l1 l2 one (m, first, others, record_is, more, whole) (k, head, tail, is, rest, all) =
+one_told window gaps (r ∷ rs) old n1 n2 l1 l2 one (m, first, others, record_is, more, whole)
+    (k, head, tail, is, rest, all) =
     let x = one_record window gaps r old m k first head one record_is is in
-    let y = one_told window gaps rs k n1 n2 others tail one (subst (λ (h : List History). Emits window gaps rs h others n1) x.1 more) rest in
-    (whole ∙ ap (λ (t : List ReplayEvent). t ++ others) x.0 ∙ ap (λ (t : List ReplayEvent). head ++ t) y.0 ∙ sym all, y.1)
+    let y = one_told window gaps rs k n1 n2 others tail one
+    (subst (λ (h : List History). Emits window gaps rs h others n1) x.1 more) rest in (
+      whole ∙ ap (λ (t : List ReplayEvent). t ++ others) x.0 ∙ ap (λ (t : List ReplayEvent). head
+          ++ t) y.0 ∙ sym all,
+      y.1,
+    )
 
 -- before a record a rule puts in one skip, or none
-one_skip_at : (config : ReplayConfig) (r : CaptureRecord) (h : History) (m n : ℕ) → Single → SkipsAt config.skips config.window r h m → SkipsAt config.skips config.window r h n → m ≡ n
-one_skip_at config (datagram_record venue line bytes) h m n one (p, rest, spells, x) (q, more, others, y) =
+one_skip_at : (config : ReplayConfig) (r : CaptureRecord) (h : History) (m n : ℕ) → Single
+    → SkipsAt config.skips config.window r h m → SkipsAt config.skips config.window r h n → m ≡ n
+one_skip_at config (datagram_record venue line bytes) h m n one (
+  p,
+  rest,
+  spells,
+  x,
+) (q, more, others, y) =
     let same = one.packet bytes p q rest more spells others in
     x.first ∙ ap (first_come config.window h) same ∙ sym y.first
 one_skip_at config (renewal_record venue name) h m n one x y = absurd x
 one_skip_at config (skip_record venue number) h m n one x y = absurd x
 one_skip_at config (self_help_record venue on) h m n one x y = absurd x
 
-one_put : (config : ReplayConfig) (hs : List History) (r : CaptureRecord) (m n : ℕ) → Single → PutsIn config hs r m → PutsIn config hs r n → m ≡ n
+one_put : (config : ReplayConfig) (hs : List History) (r : CaptureRecord) (m n : ℕ) → Single
+    → PutsIn config hs r m → PutsIn config hs r n → m ≡ n
 one_put config hs r m n one x y =
     let some : Some x.before ≡ Some y.before = sym x.at ∙ y.at in
     let same : x.before ≡ y.before = cc in
-    one_skip_at config r y.before m n one (subst (λ (h : History). SkipsAt config.skips config.window r h m) same x.skips) y.skips
+    one_skip_at config r y.before m n one
+    (subst (λ (h : History). SkipsAt config.skips config.window r h m) same x.skips) y.skips
 
 -- of these records one is taken next
-one_next : (config : ReplayConfig) (hs : List History) (rs : List TimedRecord) (t u : TimedRecord) (left others : List TimedRecord) → Single → IsTakenNext config hs rs t left → IsTakenNext config hs rs u others → (t ≡ u) × (left ≡ others)
+one_next : (config : ReplayConfig) (hs : List History) (rs : List TimedRecord) (t u : TimedRecord)
+    (left others : List TimedRecord) → Single → IsTakenNext config hs rs t left
+    → IsTakenNext config hs rs u others → (t ≡ u) × (left ≡ others)
 one_next config hs [] t u left others one x y = absurd x
-one_next config hs (r ∷ rs) t u left others one (inl x) (inl y) =
-    (x.0.2 ∙ ap (λ (n : ℕ). timed_record (skip_at r.what n) r.time) (one_put config hs r.what x.0.0 y.0.0 one x.0.1 y.0.1) ∙ sym y.0.2, x.1 ∙ sym y.1)
+one_next config hs (r ∷ rs) t u left others one (inl x) (inl y) = (
+  x.0.2 ∙ ap (λ (n : ℕ). timed_record (skip_at r.what n) r.time) (one_put config hs r.what x.0.0
+      y.0.0 one x.0.1 y.0.1) ∙ sym y.0.2,
+  x.1 ∙ sym y.1,
+)
 one_next config hs (r ∷ rs) t u left others one (inl x) (inr y) = absurd (y.0 x.0.0 x.0.1)
 one_next config hs (r ∷ rs) t u left others one (inr x) (inl y) = absurd (x.0 y.0.0 y.0.1)
 one_next config hs (r ∷ rs) t u left others one (inr x) (inr y) = (x.1 ∙ sym y.1, x.2 ∙ sym y.2)
 
 -- so all that is taken of records is one list
-one_taken : (config : ReplayConfig) (rs ts us : List TimedRecord) (old n1 n2 : List History) → Single → AreTakenOf config rs old ts [] n1 → AreTakenOf config rs old us [] n2 → ts ≡ us
+one_taken : (config : ReplayConfig) (rs ts us : List TimedRecord) (old n1 n2 : List History)
+    → Single → AreTakenOf config rs old ts [] n1 → AreTakenOf config rs old us [] n2 → ts ≡ us
 one_taken config rs [] [] old n1 n2 one x y = refl
 one_taken config rs [] (u ∷ us) old n1 n2 one x (others, emitted, mid, next, tells, rest) =
     absurd (subst (λ (l : List TimedRecord). IsTakenNext config old l u others) (sym x.0) next)
 one_taken config rs (t ∷ ts) [] old n1 n2 one (others, emitted, mid, next, tells, rest) y =
     absurd (subst (λ (l : List TimedRecord). IsTakenNext config old l t others) (sym y.0) next)
-one_taken config rs (t ∷ ts) (u ∷ us) old n1 n2 one (others, emitted, mid, next, tells, rest) (ends, told, between, is, here, more) =
+one_taken config rs (t ∷ ts) (u ∷ us) old n1 n2 one (others, emitted, mid, next, tells, rest)
+    (ends, told, between, is, here, more) =
     let n = one_next config old rs t u others ends one next is in
-    let r = one_record config.window config.gaps u.what old mid between emitted told one (subst (λ (k : TimedRecord). EmitsRecord config.window config.gaps k.what old emitted mid) n.0 tells) here in
+    let r = one_record config.window config.gaps u.what old mid between emitted told one
+    (subst (λ (k : TimedRecord). EmitsRecord config.window config.gaps k.what old emitted mid)
+    n.0 tells) here in
     let tail : AreTakenOf config ends between ts [] n1 =
-    subst (λ (l : List TimedRecord). AreTakenOf config l between ts [] n1) n.1 (subst (λ (hs : List History). AreTakenOf config others hs ts [] n1) r.1 rest) in
+    subst (λ (l : List TimedRecord). AreTakenOf config l between ts [] n1) n.1
+    (subst (λ (hs : List History). AreTakenOf config others hs ts [] n1) r.1 rest) in
     let same = one_taken config ends ts us between n1 n2 one tail more in
     ap (λ (k : TimedRecord). k ∷ ts) n.0 ∙ ap (λ (l : List TimedRecord). u ∷ l) same
 
 -- what is told of records that emit the same
-one_by : (config : ReplayConfig) (rs : List TimedRecord) (old now : List History) (es fs : List Entry) (x y : List ReplayEvent) (n1 n2 : List History) → Single → old ≡ now → es ≡ fs
-    → (a : Emits config.window config.gaps (map what_of rs) old x n1) → (b : Emits config.window config.gaps (map what_of rs) now y n2)
+one_by : (config : ReplayConfig) (rs : List TimedRecord) (old now : List History)
+    (es fs : List Entry) (x y : List ReplayEvent) (n1 n2 : List History)
+    → Single → old ≡ now → es ≡ fs
+    → (a : Emits config.window config.gaps (map what_of rs) old x n1)
+    → (b : Emits config.window config.gaps (map what_of rs) now y n2)
     → told_by_records config rs old es x n1 a ≡ told_by_records config rs now fs y n2 b
 one_by config [] old now es fs x y n1 n2 one same equal a b = refl
-one_by config (r ∷ rs) old now es fs x y n1 n2 one same equal (m, first, others, is, more, whole) (k, head, tail, at, rest, all) =
-    let c = one_record config.window config.gaps r.what now m k first head one (subst (λ (hs : List History). EmitsRecord config.window config.gaps r.what hs first m) same is) at in
-    let entries : entries_of es first ≡ entries_of fs head = ap (λ (l : List Entry). entries_of l first) equal ∙ ap (entries_of fs) c.0 in
-    let tails = one_by config rs m k (entries_of es first) (entries_of fs head) others tail n1 n2 one c.1 entries more rest in
-    ap (λ (l : List Entry). at_time r.time (told_of config.symbols.now l first) ++ told_by_records config rs m (entries_of es first) others n1 more) equal
-    ∙ ap (λ (l : List ReplayEvent). at_time r.time (told_of config.symbols.now fs l) ++ told_by_records config rs m (entries_of es first) others n1 more) c.0
+one_by config (r ∷ rs) old now es fs x y n1 n2 one same equal (m, first, others, is, more, whole)
+    (k, head, tail, at, rest, all) =
+    let c = one_record config.window config.gaps r.what now m k first head one
+    (subst (λ (hs : List History). EmitsRecord config.window config.gaps r.what hs first m) same
+    is) at in
+    let entries : entries_of es first ≡ entries_of fs head =
+    ap (λ (l : List Entry). entries_of l first) equal ∙ ap (entries_of fs) c.0 in
+    let tails = one_by config rs m k (entries_of es first) (entries_of fs head) others tail n1 n2
+    one c.1 entries more rest in
+    ap (λ (l : List Entry). at_time r.time (told_of config.symbols.now l first)
+    ++ told_by_records config rs m (entries_of es first) others n1 more) equal
+    ∙ ap (λ (l : List ReplayEvent). at_time r.time (told_of config.symbols.now fs l)
+    ++ told_by_records config rs m (entries_of es first) others n1 more) c.0
     ∙ ap (λ (l : List TimedEvent). at_time r.time (told_of config.symbols.now fs head) ++ l) tails
 
-one_first : (config : ReplayConfig) (ts us : List TimedRecord) (x y : List ReplayEvent) (hs ks : List History) → Single → ts ≡ us → (a : TakenEmit config ts x hs) → (b : TakenEmit config us y ks)
+one_first : (config : ReplayConfig) (ts us : List TimedRecord) (x y : List ReplayEvent)
+    (hs ks : List History) → Single → ts ≡ us → (a : TakenEmit config ts x hs)
+    → (b : TakenEmit config us y ks)
     → told_first config ts x hs a ≡ told_first config us y ks b
 one_first config ts us x y hs ks one same a =
-    subst (λ (l : List TimedRecord). (b : TakenEmit config l y ks) → told_first config ts x hs a ≡ told_first config l y ks b) same
-    (λ b. one_by config ts (new_histories config) (new_histories config) [] [] x y hs ks one refl refl a b)
+    subst (λ (l : List TimedRecord). (b : TakenEmit config l y ks) → told_first config ts x hs
+    a ≡ told_first config l y ks b) same
+    (λ b. one_by config ts (new_histories config) (new_histories config) [] [] x y
+    hs ks one refl refl a b)
 
-one_all : (config : ReplayConfig) (records ts us : List TimedRecord) (x y : List ReplayEvent) (hs ks : List History) → Single → AreAllTaken config records ts hs → AreAllTaken config records us ks → TakenEmit config ts x hs → TakenEmit config us y ks
+one_all : (config : ReplayConfig) (records ts us : List TimedRecord) (x y : List ReplayEvent)
+    (hs ks : List History) → Single → AreAllTaken config records ts hs
+    → AreAllTaken config records us ks → TakenEmit config ts x hs → TakenEmit config us y ks
     → (ts ≡ us) × (hs ≡ ks)
 one_all config records ts us x y hs ks one a b e f =
-    let same = one_taken config records ts us (new_histories config) hs ks one a b in
-    (same, (one_told config.window config.gaps (map what_of us) (new_histories config) hs ks x y one (subst (λ (l : List TimedRecord). TakenEmit config l x hs) same e) f).1)
+    let same = one_taken config records ts us (new_histories config) hs ks one a b in (
+      same,
+      (one_told config.window config.gaps (map what_of us) (new_histories config) hs ks x y one
+          (subst (λ (l : List TimedRecord). TakenEmit config l x hs) same e) f).1,
+    )
 
-pub one_of_all : (config : ReplayConfig) (records : List TimedRecord) (t u : List TimedEvent) → Single → IsToldOfAll config records t → IsToldOfAll config records u → t ≡ u
+pub one_of_all : (config : ReplayConfig) (records : List TimedRecord) (t u : List TimedEvent)
+    → Single → IsToldOfAll config records t → IsToldOfAll config records u → t ≡ u
 one_of_all config records t u one a b =
-    let x = one_all config records a.taken b.taken a.emitted b.emitted a.histories b.histories one a.are_taken b.are_taken a.emits b.emits in
-    let same = one_first config a.taken b.taken a.emitted b.emitted a.histories b.histories one x.0 a.emits b.emits in
+    let x = one_all config records a.taken b.taken a.emitted b.emitted a.histories b.histories one
+    a.are_taken b.are_taken a.emits b.emits in
+    let same = one_first config a.taken b.taken a.emitted b.emitted a.histories b.histories
+    one x.0 a.emits b.emits in
     a.told_is ∙ ap (λ (l : List TimedEvent). l ++ at_time None (lasts_told 0 a.histories)) same
-    ∙ ap (λ (hs : List History). told_first config b.taken b.emitted b.histories b.emits ++ at_time None (lasts_told 0 hs)) x.1 ∙ sym b.told_is
+    ∙ ap (λ (hs : List History). told_first config b.taken b.emitted b.histories b.emits
+    ++ at_time None (lasts_told 0 hs)) x.1 ∙ sym b.told_is
 
-pub one_of : (config : ReplayConfig) (records : List TimedRecord) (t u : List TimedEvent) → Single → IsToldOf config records t → IsToldOf config records u → t ≡ u
+pub one_of : (config : ReplayConfig) (records : List TimedRecord) (t u : List TimedEvent) → Single
+    → IsToldOf config records t → IsToldOf config records u → t ≡ u
 one_of config records t u one a b =
-    let x = one_all config records a.taken b.taken a.emitted b.emitted a.histories b.histories one a.are_taken b.are_taken a.emits b.emits in
-    a.told_is ∙ one_first config a.taken b.taken a.emitted b.emitted a.histories b.histories one x.0 a.emits b.emits ∙ sym b.told_is
+    let x = one_all config records a.taken b.taken a.emitted b.emitted a.histories b.histories one
+    a.are_taken b.are_taken a.emits b.emits in
+    a.told_is ∙ one_first config a.taken b.taken a.emitted b.emitted a.histories b.histories one x.0
+    a.emits b.emits ∙ sym b.told_is
 
 -- what had room up to the next event is the same prefix
-one_front : (limit : ℕ) (old : List Entry) (f g : List ReplayEvent) (x y : ReplayEvent) (xs ys : List ReplayEvent) → f ++ x ∷ xs ≡ g ++ y ∷ ys
+one_front : (limit : ℕ) (old : List Entry) (f g : List ReplayEvent) (x y : ReplayEvent)
+    (xs ys : List ReplayEvent) → f ++ x ∷ xs ≡ g ++ y ∷ ys
     → length (entries_of old f) ≤ limit → length (entries_of old g) ≤ limit
     → limit < length (entries_of old (f ++ x ∷ [])) → limit < length (entries_of old (g ++ y ∷ []))
     → f ≡ g
@@ -178,20 +275,29 @@ one_front limit old (h ∷ f) [] x y xs ys e fit_f fit_g full_f full_g =
 one_front limit old (h ∷ f) (k ∷ g) x y xs ys e fit_f fit_g full_f full_g =
     let same : k ≡ h = cc in
     let rest : f ++ x ∷ xs ≡ g ++ y ∷ ys = cc in
-    let tails : f ≡ g = one_front limit (entries_after old h) f g x y xs ys rest fit_f (rw same at fit_g) full_f (rw same at full_g) in
+    let tails : f ≡ g = one_front limit (entries_after old h) f g x y xs ys rest fit_f
+    (rw same at fit_g) full_f (rw same at full_g) in
     cc
 
 -- what has room, and what has none, after what was emitted before
-room_behind : (config : ReplayConfig) (emitted more : List ReplayEvent) → HasJournalRoom config (emitted ++ more) → length (entries_of (entries_of [] emitted) more) ≤ config.journal
-room_behind config emitted more h = subst (λ (es : List Entry). length es ≤ config.journal) (entries_more [] emitted more) h
+room_behind : (config : ReplayConfig) (emitted more : List ReplayEvent)
+    → HasJournalRoom config (emitted ++ more)
+    → length (entries_of (entries_of [] emitted) more) ≤ config.journal
+room_behind config emitted more h = subst (λ (es : List Entry). length es ≤ config.journal)
+    (entries_more [] emitted more) h
 
-full_behind : (config : ReplayConfig) (emitted first : List ReplayEvent) (next : ReplayEvent) → config.journal < length (entries_of [] (emitted ++ first ++ next ∷ [])) → config.journal < length (entries_of (entries_of [] emitted) (first ++ next ∷ []))
+full_behind : (config : ReplayConfig) (emitted first : List ReplayEvent) (next : ReplayEvent)
+    → config.journal < length (entries_of [] (emitted ++ first ++ next ∷ []))
+    → config.journal < length (entries_of (entries_of [] emitted) (first ++ next ∷ []))
 full_behind config emitted first next h =
-    subst (λ (es : List Entry). config.journal < length es) (ap (entries_of []) (append_assoc emitted first (next ∷ [])) ∙ entries_more [] emitted (first ++ next ∷ [])) h
+    subst (λ (es : List Entry). config.journal < length es)
+    (ap (entries_of []) (append_assoc emitted first (next ∷ [])) ∙ entries_more [] emitted
+    (first ++ next ∷ [])) h
 
 -- what was taken up to a full journal: of the last one the first events had room, and the next one
 -- had none
-record Filled (config : ReplayConfig) (old : List Entry) (rs ts : List TimedRecord) (hs : List History) (emitted : List ReplayEvent) : Type 0 where
+record Filled (config : ReplayConfig) (old : List Entry) (rs ts : List TimedRecord)
+    (hs : List History) (emitted : List ReplayEvent) : Type 0 where
   read_last : TimedRecord
   mid : List History
   are : AreTakenOf config rs hs ts (read_last ∷ []) mid
@@ -207,7 +313,9 @@ record Filled (config : ReplayConfig) (old : List Entry) (rs ts : List TimedReco
   room : length (entries_of (entries_of old emitted) first) ≤ config.journal
   full : config.journal < length (entries_of (entries_of old emitted) (first ++ next ∷ []))
 
-filled : (config : ReplayConfig) (records : List TimedRecord) (t : List TimedEvent) (x : IsToldToFull config records t) → Filled config [] records x.taken (new_histories config) x.emitted
+filled : (config : ReplayConfig) (records : List TimedRecord) (t : List TimedEvent)
+    (x : IsToldToFull config records t)
+    → Filled config [] records x.taken (new_histories config) x.emitted
 filled config records t x = record {
   read_last = x.read_last;
   mid = x.histories;
@@ -226,10 +334,15 @@ filled config records t x = record {
 }
 
 -- the first of what was taken, and what came after it
-filled_on : (config : ReplayConfig) (old : List Entry) (rs ts : List TimedRecord) (t : TimedRecord) (hs : List History) (emitted head tail : List ReplayEvent) (mid : List History) (others : List TimedRecord) (x : Filled config old rs (t ∷ ts) hs emitted)
-    → emitted ≡ head ++ tail → AreTakenOf config others mid ts (x.read_last ∷ []) x.mid → Emits config.window config.gaps (map what_of ts) mid tail x.mid → Filled config (entries_of old head) others ts mid tail
+filled_on : (config : ReplayConfig) (old : List Entry) (rs ts : List TimedRecord) (t : TimedRecord)
+    (hs : List History) (emitted head tail : List ReplayEvent) (mid : List History)
+    (others : List TimedRecord) (x : Filled config old rs (t ∷ ts) hs emitted)
+    → emitted ≡ head ++ tail → AreTakenOf config others mid ts (x.read_last ∷ []) x.mid
+    → Emits config.window config.gaps (map what_of ts) mid tail x.mid
+    → Filled config (entries_of old head) others ts mid tail
 filled_on config old rs ts t hs emitted head tail mid others x e are emits =
-    let both : entries_of old emitted ≡ entries_of (entries_of old head) tail = ap (entries_of old) e ∙ entries_more old head tail in
+    let both : entries_of old emitted ≡ entries_of (entries_of old head) tail = ap (entries_of old)
+    e ∙ entries_more old head tail in
     record {
       read_last = x.read_last;
       mid = x.mid;
@@ -243,61 +356,107 @@ filled_on config old rs ts t hs emitted head tail mid others x e are emits =
       others = x.others;
       after = x.after;
       tells = x.tells;
-      room = subst (λ (es : List Entry). length (entries_of es x.first) ≤ config.journal) both x.room;
-      full = subst (λ (es : List Entry). config.journal < length (entries_of es (x.first ++ x.next ∷ []))) both x.full;
+      room = subst (λ (es : List Entry). length (entries_of es x.first) ≤ config.journal) both
+          x.room;
+      full = subst (λ (es : List Entry). config.journal < length
+          (entries_of es (x.first ++ x.next ∷ []))) both x.full;
     }
 
 -- what had no room has none with more after it
-no_room : (limit : ℕ) (old : List Entry) (first : List ReplayEvent) (next : ReplayEvent) (others more : List ReplayEvent) → limit < length (entries_of old (first ++ next ∷ [])) → length (entries_of (entries_of old (first ++ next ∷ others)) more) ≤ limit → ⊥
+no_room : (limit : ℕ) (old : List Entry) (first : List ReplayEvent) (next : ReplayEvent)
+    (others more : List ReplayEvent) → limit < length (entries_of old (first ++ next ∷ []))
+    → length (entries_of (entries_of old (first ++ next ∷ others)) more) ≤ limit → ⊥
 no_room limit old first next others more full room =
-    let split : first ++ next ∷ others ≡ (first ++ next ∷ []) ++ others = sym (append_assoc first (next ∷ []) others) in
-    let all : entries_of (entries_of old (first ++ next ∷ others)) more ≡ entries_of (entries_of (entries_of old (first ++ next ∷ [])) others) more =
-    ap (λ (hs : List ReplayEvent). entries_of (entries_of old hs) more) split ∙ ap (λ (es : List Entry). entries_of es more) (entries_more old (first ++ next ∷ []) others) in
+    let split : first ++ next ∷ others ≡ (first ++ next ∷ [])
+    ++ others = sym (append_assoc first (next ∷ []) others) in
+    let all : entries_of (entries_of old (first ++ next ∷ others)) more ≡ entries_of
+    (entries_of (entries_of old (first ++ next ∷ [])) others) more =
+    ap (λ (hs : List ReplayEvent). entries_of (entries_of old hs) more) split
+    ∙ ap (λ (es : List Entry). entries_of es more)
+    (entries_more old (first ++ next ∷ []) others) in
     let one = entries_grow (entries_of old (first ++ next ∷ [])) others in
     let two = entries_grow (entries_of (entries_of old (first ++ next ∷ [])) others) more in
     let len = ap length all in
     omega arith
 
 -- where one is full at what the other takes first, with room
-not_first : (config : ReplayConfig) (old : List Entry) (rs ts : List TimedRecord) (u : TimedRecord) (hs : List History) (none emitted head tail more : List ReplayEvent) (mid : List History) (left : List TimedRecord) → Single → (x : Filled config old rs [] hs none)
-    → IsTakenNext config hs rs u left → EmitsRecord config.window config.gaps u.what hs head mid → emitted ≡ head ++ tail → length (entries_of (entries_of old emitted) more) ≤ config.journal → ⊥
+not_first : (config : ReplayConfig) (old : List Entry) (rs ts : List TimedRecord) (u : TimedRecord)
+    (hs : List History) (none emitted head tail more : List ReplayEvent) (mid : List History)
+    (left : List TimedRecord) → Single → (x : Filled config old rs [] hs none)
+    → IsTakenNext config hs rs u left → EmitsRecord config.window config.gaps u.what hs head mid
+    → emitted ≡ head ++ tail → length (entries_of (entries_of old emitted) more) ≤ config.journal
+    → ⊥
 not_first config old rs ts u hs none emitted head tail more mid left one x next tells e room =
-    let here : IsTakenNext config hs rs x.last x.left = subst (λ (l : List TimedRecord). IsTakenNext config hs l x.last x.left) x.are.0 (subst (λ (k : List History). IsTakenNext config k (x.read_last ∷ []) x.last x.left) x.are.1 x.is_last) in
+    let here : IsTakenNext config hs rs x.last x.left = subst (λ (l : List TimedRecord). IsTakenNext
+    config hs l x.last x.left) x.are.0
+    (subst (λ (k : List History). IsTakenNext config k (x.read_last ∷ []) x.last x.left) x.are.1
+    x.is_last) in
     let n = one_next config hs rs x.last u x.left left one here next in
-    let mine : EmitsRecord config.window config.gaps u.what hs (x.first ++ x.next ∷ x.others) x.after =
-    subst (λ (r : TimedRecord). EmitsRecord config.window config.gaps r.what hs (x.first ++ x.next ∷ x.others) x.after) n.0 (subst (λ (k : List History). EmitsRecord config.window config.gaps x.last.what k (x.first ++ x.next ∷ x.others) x.after) x.are.1 x.tells) in
-    let y = one_record config.window config.gaps u.what hs x.after mid (x.first ++ x.next ∷ x.others) head one mine tells in
-    let all : emitted ≡ (x.first ++ x.next ∷ x.others) ++ tail = e ∙ ap (λ (l : List ReplayEvent). l ++ tail) (sym y.0) in
-    let full : config.journal < length (entries_of old (x.first ++ x.next ∷ [])) = subst (λ (l : List ReplayEvent). config.journal < length (entries_of (entries_of old l) (x.first ++ x.next ∷ []))) x.emits.0 x.full in
-    let later : entries_of (entries_of old emitted) more ≡ entries_of (entries_of old (x.first ++ x.next ∷ x.others)) (tail ++ more) =
+    let mine : EmitsRecord config.window config.gaps u.what hs (x.first
+    ++ x.next ∷ x.others) x.after =
+    subst (λ (r : TimedRecord). EmitsRecord config.window config.gaps r.what hs (x.first ++ x.next
+    ∷ x.others) x.after) n.0 (subst (λ (k : List History). EmitsRecord config.window config.gaps
+    x.last.what k (x.first ++ x.next ∷ x.others) x.after) x.are.1 x.tells) in
+    let y = one_record config.window config.gaps u.what hs x.after mid (x.first ++ x.next
+    ∷ x.others) head one mine tells in
+    let all : emitted ≡ (x.first ++ x.next ∷ x.others) ++ tail = e
+    ∙ ap (λ (l : List ReplayEvent). l ++ tail) (sym y.0) in
+    let full : config.journal < length (entries_of old (x.first ++ x.next ∷ [])) =
+    subst (λ (l : List ReplayEvent). config.journal < length (entries_of (entries_of old l)
+    (x.first ++ x.next ∷ []))) x.emits.0 x.full in
+    let later : entries_of (entries_of old emitted) more ≡ entries_of
+    (entries_of old (x.first ++ x.next ∷ x.others)) (tail ++ more) =
     ap (λ (l : List ReplayEvent). entries_of (entries_of old l) more) all
-    ∙ ap (λ (es : List Entry). entries_of es more) (entries_more old (x.first ++ x.next ∷ x.others) tail)
+    ∙ ap (λ (es : List Entry). entries_of es more)
+    (entries_more old (x.first ++ x.next ∷ x.others) tail)
     ∙ sym (entries_more (entries_of old (x.first ++ x.next ∷ x.others)) tail more) in
-    no_room config.journal old x.first x.next x.others (tail ++ more) full (subst (λ (es : List Entry). length es ≤ config.journal) later room)
+    no_room config.journal old x.first x.next x.others (tail ++ more) full
+    (subst (λ (es : List Entry). length es ≤ config.journal) later room)
 
 -- what is the same of two of them
-record SameFilled (config : ReplayConfig) (old : List Entry) (rs ts us : List TimedRecord) (hs : List History) (e f : List ReplayEvent) (x : Filled config old rs ts hs e) (y : Filled config old rs us hs f) : Type 0 where
+record SameFilled (config : ReplayConfig) (old : List Entry) (rs ts us : List TimedRecord)
+    (hs : List History) (e f : List ReplayEvent) (x : Filled config old rs ts hs e)
+    (y : Filled config old rs us hs f) : Type 0 where
   taken : ts ≡ us
   emitted : e ≡ f
   last : x.last ≡ y.last
   first : x.first ≡ y.first
 
 -- where the same has room up to the same place, what had room is the same
-filled_once : (config : ReplayConfig) (old : List Entry) (rs ts us : List TimedRecord) (hs : List History) (e f : List ReplayEvent) → Single → (x : Filled config old rs ts hs e) → (y : Filled config old rs us hs f) → SameFilled config old rs ts us hs e f x y
+filled_once : (config : ReplayConfig) (old : List Entry) (rs ts us : List TimedRecord)
+    (hs : List History) (e f : List ReplayEvent) → Single → (x : Filled config old rs ts hs e)
+    → (y : Filled config old rs us hs f) → SameFilled config old rs ts us hs e f x y
 unfolding filled_on
 filled_once config old rs [] [] hs e f one x y =
-    let here : IsTakenNext config hs rs x.last x.left = subst (λ (l : List TimedRecord). IsTakenNext config hs l x.last x.left) x.are.0 (subst (λ (k : List History). IsTakenNext config k (x.read_last ∷ []) x.last x.left) x.are.1 x.is_last) in
-    let there : IsTakenNext config hs rs y.last y.left = subst (λ (l : List TimedRecord). IsTakenNext config hs l y.last y.left) y.are.0 (subst (λ (k : List History). IsTakenNext config k (y.read_last ∷ []) y.last y.left) y.are.1 y.is_last) in
+    let here : IsTakenNext config hs rs x.last x.left = subst (λ (l : List TimedRecord). IsTakenNext
+    config hs l x.last x.left) x.are.0
+    (subst (λ (k : List History). IsTakenNext config k (x.read_last ∷ []) x.last x.left) x.are.1
+    x.is_last) in
+    let there : IsTakenNext config hs rs y.last y.left =
+    subst (λ (l : List TimedRecord). IsTakenNext config hs l y.last y.left) y.are.0
+    (subst (λ (k : List History). IsTakenNext config k (y.read_last ∷ []) y.last y.left) y.are.1
+    y.is_last) in
     let n = one_next config hs rs x.last y.last x.left y.left one here there in
-    let mine : EmitsRecord config.window config.gaps y.last.what hs (x.first ++ x.next ∷ x.others) x.after =
-    subst (λ (r : TimedRecord). EmitsRecord config.window config.gaps r.what hs (x.first ++ x.next ∷ x.others) x.after) n.0 (subst (λ (k : List History). EmitsRecord config.window config.gaps x.last.what k (x.first ++ x.next ∷ x.others) x.after) x.are.1 x.tells) in
-    let theirs : EmitsRecord config.window config.gaps y.last.what hs (y.first ++ y.next ∷ y.others) y.after = subst (λ (k : List History). EmitsRecord config.window config.gaps y.last.what k (y.first ++ y.next ∷ y.others) y.after) y.are.1 y.tells in
-    let same = one_record config.window config.gaps y.last.what hs x.after y.after (x.first ++ x.next ∷ x.others) (y.first ++ y.next ∷ y.others) one mine theirs in
-    let front : x.first ≡ y.first = one_front config.journal old x.first y.first x.next y.next x.others y.others same.0
-    (subst (λ (l : List ReplayEvent). length (entries_of (entries_of old l) x.first) ≤ config.journal) x.emits.0 x.room)
-    (subst (λ (l : List ReplayEvent). length (entries_of (entries_of old l) y.first) ≤ config.journal) y.emits.0 y.room)
-    (subst (λ (l : List ReplayEvent). config.journal < length (entries_of (entries_of old l) (x.first ++ x.next ∷ []))) x.emits.0 x.full)
-    (subst (λ (l : List ReplayEvent). config.journal < length (entries_of (entries_of old l) (y.first ++ y.next ∷ []))) y.emits.0 y.full) in
+    let mine : EmitsRecord config.window config.gaps y.last.what hs (x.first
+    ++ x.next ∷ x.others) x.after =
+    subst (λ (r : TimedRecord). EmitsRecord config.window config.gaps r.what hs (x.first ++ x.next
+    ∷ x.others) x.after) n.0 (subst (λ (k : List History). EmitsRecord config.window config.gaps
+    x.last.what k (x.first ++ x.next ∷ x.others) x.after) x.are.1 x.tells) in
+    let theirs : EmitsRecord config.window config.gaps y.last.what hs (y.first ++ y.next ∷ y.others)
+    y.after = subst (λ (k : List History). EmitsRecord config.window config.gaps y.last.what k
+    (y.first ++ y.next ∷ y.others) y.after) y.are.1 y.tells in
+    let same = one_record config.window config.gaps y.last.what hs x.after y.after (x.first
+    ++ x.next ∷ x.others) (y.first ++ y.next ∷ y.others) one mine theirs in
+    let front : x.first ≡ y.first = one_front config.journal old x.first y.first x.next y.next
+    x.others y.others same.0
+    (subst (λ (l : List ReplayEvent). length (entries_of (entries_of old l)
+    x.first) ≤ config.journal) x.emits.0 x.room)
+    (subst (λ (l : List ReplayEvent). length (entries_of (entries_of old l)
+    y.first) ≤ config.journal) y.emits.0 y.room)
+    (subst (λ (l : List ReplayEvent). config.journal < length (entries_of (entries_of old l)
+    (x.first ++ x.next ∷ []))) x.emits.0 x.full)
+    (subst (λ (l : List ReplayEvent). config.journal < length (entries_of (entries_of old l)
+    (y.first ++ y.next ∷ []))) y.emits.0 y.full) in
     record { taken = refl; emitted = x.emits.0 ∙ sym y.emits.0; last = n.0; first = front }
 filled_once config old rs [] (u ∷ us) hs e f one x y =
     let (others, told, mid, next, tells, rest) = y.are in
@@ -315,55 +474,89 @@ filled_once config old rs (t ∷ ts) (u ∷ us) hs e f one x y =
     let a = one_record config.window config.gaps t.what hs mid m told head one tells is in
     let b = one_record config.window config.gaps u.what hs between k said front one says at in
     let n = one_next config hs rs t u others ends one next here in
-    let c = one_record config.window config.gaps u.what hs m k head front one (subst (λ (r : TimedRecord). EmitsRecord config.window config.gaps r.what hs head m) n.0 is) at in
+    let c = one_record config.window config.gaps u.what hs m k head front one
+    (subst (λ (r : TimedRecord). EmitsRecord config.window config.gaps r.what hs head m) n.0 is)
+    at in
     let left : AreTakenOf config ends k ts (x.read_last ∷ []) x.mid =
-    subst (λ (l : List TimedRecord). AreTakenOf config l k ts (x.read_last ∷ []) x.mid) n.1 (subst (λ (l : List History). AreTakenOf config others l ts (x.read_last ∷ []) x.mid) (a.1 ∙ c.1) rest) in
-    let right : AreTakenOf config ends k us (y.read_last ∷ []) y.mid = subst (λ (l : List History). AreTakenOf config ends l us (y.read_last ∷ []) y.mid) b.1 most in
-    let p = filled_on config old rs ts t hs e front tail k ends x (all ∙ ap (λ (l : List ReplayEvent). l ++ tail) c.0) left (subst (λ (l : List History). Emits config.window config.gaps (map what_of ts) l tail x.mid) c.1 more) in
+    subst (λ (l : List TimedRecord). AreTakenOf config l k ts (x.read_last ∷ []) x.mid) n.1
+    (subst (λ (l : List History). AreTakenOf config others l ts (x.read_last ∷ []) x.mid) (a.1
+    ∙ c.1) rest) in
+    let right : AreTakenOf config ends k us (y.read_last ∷ []) y.mid =
+    subst (λ (l : List History). AreTakenOf config ends l us (y.read_last ∷ []) y.mid) b.1 most
+    in
+    let p = filled_on config old rs ts t hs e front tail k ends x (all
+    ∙ ap (λ (l : List ReplayEvent). l ++ tail) c.0) left
+    (subst (λ (l : List History). Emits config.window config.gaps (map what_of ts) l tail x.mid)
+    c.1 more) in
     let q = filled_on config old rs us u hs f front back k ends y whole right later in
     let tails = filled_once config (entries_of old front) ends ts us k tail back one p q in
     record {
-      taken = ap (λ (r : TimedRecord). r ∷ ts) n.0 ∙ ap (λ (l : List TimedRecord). u ∷ l) tails.taken;
-      emitted = all ∙ ap (λ (l : List ReplayEvent). l ++ tail) c.0 ∙ ap (λ (l : List ReplayEvent). front ++ l) tails.emitted ∙ sym whole;
+      taken = ap (λ (r : TimedRecord). r ∷ ts) n.0
+          ∙ ap (λ (l : List TimedRecord). u ∷ l) tails.taken;
+      emitted = all ∙ ap (λ (l : List ReplayEvent). l ++ tail) c.0
+          ∙ ap (λ (l : List ReplayEvent). front ++ l) tails.emitted ∙ sym whole;
       last = tails.last;
       first = tails.first;
     }
 
-pub one_full : (config : ReplayConfig) (records : List TimedRecord) (t u : List TimedEvent) → Single → IsToldToFull config records t → IsToldToFull config records u → t ≡ u
+pub one_full : (config : ReplayConfig) (records : List TimedRecord) (t u : List TimedEvent) → Single
+    → IsToldToFull config records t → IsToldToFull config records u → t ≡ u
 unfolding filled
 one_full config records t u one a b =
-    let s = filled_once config [] records a.taken b.taken (new_histories config) a.emitted b.emitted one (filled config records t a) (filled config records u b) in
-    let same = one_first config a.taken b.taken a.emitted b.emitted a.histories b.histories one s.taken a.emits b.emits in
-    let T : TimedRecord → List ReplayEvent → List ReplayEvent → List TimedEvent = λ last emitted first. at_time last.time (told_of config.symbols.now (entries_of [] emitted) first) in
+    let s = filled_once config [] records a.taken b.taken (new_histories config) a.emitted b.emitted
+    one (filled config records t a) (filled config records u b) in
+    let same = one_first config a.taken b.taken a.emitted b.emitted a.histories b.histories one
+    s.taken a.emits b.emits in
+    let T : TimedRecord → List ReplayEvent → List ReplayEvent
+    → List TimedEvent = λ last emitted first. at_time last.time (told_of config.symbols.now
+    (entries_of [] emitted) first) in
     a.told_is ∙ ap (λ (l : List TimedEvent). l ++ T a.last a.emitted a.first) same
-    ∙ ap (λ (r : TimedRecord). told_first config b.taken b.emitted b.histories b.emits ++ T r a.emitted a.first) s.last
-    ∙ ap (λ (l : List ReplayEvent). told_first config b.taken b.emitted b.histories b.emits ++ T b.last l a.first) s.emitted
-    ∙ ap (λ (l : List ReplayEvent). told_first config b.taken b.emitted b.histories b.emits ++ T b.last b.emitted l) s.first ∙ sym b.told_is
+    ∙ ap (λ (r : TimedRecord). told_first config b.taken b.emitted b.histories b.emits
+    ++ T r a.emitted a.first) s.last
+    ∙ ap (λ (l : List ReplayEvent). told_first config b.taken b.emitted b.histories b.emits
+    ++ T b.last l a.first) s.emitted
+    ∙ ap (λ (l : List ReplayEvent). told_first config b.taken b.emitted b.histories b.emits
+    ++ T b.last b.emitted l) s.first ∙ sym b.told_is
 
 -- what all has room isn't full
-all_or_full : (config : ReplayConfig) (old : List Entry) (rs ts us : List TimedRecord) (hs new : List History) (e f : List ReplayEvent) → Single → AreTakenOf config rs hs ts [] new → Emits config.window config.gaps (map what_of ts) hs e new → length (entries_of old e) ≤ config.journal → Filled config old rs us hs f → ⊥
+all_or_full : (config : ReplayConfig) (old : List Entry) (rs ts us : List TimedRecord)
+    (hs new : List History) (e f : List ReplayEvent) → Single → AreTakenOf config rs hs ts [] new
+    → Emits config.window config.gaps (map what_of ts) hs e new
+    → length (entries_of old e) ≤ config.journal → Filled config old rs us hs f → ⊥
 all_or_full config old rs [] [] hs new e f one are emits room y =
     let none : [] ≡ y.read_last ∷ [] = are.0 ∙ sym y.are.0 in
     absurd (cc)
 all_or_full config old rs [] (u ∷ us) hs new e f one are emits room y =
     let (others, told, mid, next, tells, rest) = y.are in
     absurd (subst (λ (l : List TimedRecord). IsTakenNext config hs l u others) (sym are.0) next)
-all_or_full config old rs (t ∷ ts) [] hs new e f one (others, told, mid, next, tells, rest) (m, head, tail, is, more, all) room y =
+all_or_full config old rs (t ∷ ts) [] hs new e f one (others, told, mid, next, tells, rest)
+    (m, head, tail, is, more, all) room y =
     not_first config old rs ts t hs f e head tail [] m others one y next is all room
-all_or_full config old rs (t ∷ ts) (u ∷ us) hs new e f one (others, told, mid, next, tells, rest) (m, head, tail, is, more, all) room y =
+all_or_full config old rs (t ∷ ts) (u ∷ us) hs new e f one (others, told, mid, next, tells, rest)
+    (m, head, tail, is, more, all) room y =
     let (ends, said, between, here, says, most) = y.are in
     let (k, front, back, at, later, whole) = y.emits in
     let a = one_record config.window config.gaps t.what hs mid m told head one tells is in
     let b = one_record config.window config.gaps u.what hs between k said front one says at in
     let n = one_next config hs rs t u others ends one next here in
-    let c = one_record config.window config.gaps u.what hs m k head front one (subst (λ (r : TimedRecord). EmitsRecord config.window config.gaps r.what hs head m) n.0 is) at in
+    let c = one_record config.window config.gaps u.what hs m k head front one
+    (subst (λ (r : TimedRecord). EmitsRecord config.window config.gaps r.what hs head m) n.0 is)
+    at in
     let left : AreTakenOf config ends k ts [] new =
-    subst (λ (l : List TimedRecord). AreTakenOf config l k ts [] new) n.1 (subst (λ (l : List History). AreTakenOf config others l ts [] new) (a.1 ∙ c.1) rest) in
-    let right : AreTakenOf config ends k us (y.read_last ∷ []) y.mid = subst (λ (l : List History). AreTakenOf config ends l us (y.read_last ∷ []) y.mid) b.1 most in
+    subst (λ (l : List TimedRecord). AreTakenOf config l k ts [] new) n.1
+    (subst (λ (l : List History). AreTakenOf config others l ts [] new) (a.1 ∙ c.1) rest) in
+    let right : AreTakenOf config ends k us (y.read_last ∷ []) y.mid =
+    subst (λ (l : List History). AreTakenOf config ends l us (y.read_last ∷ []) y.mid) b.1 most
+    in
     let q = filled_on config old rs us u hs f front back k ends y whole right later in
-    let both : entries_of old e ≡ entries_of (entries_of old front) tail = ap (entries_of old) (all ∙ ap (λ (l : List ReplayEvent). l ++ tail) c.0) ∙ entries_more old front tail in
-    all_or_full config (entries_of old front) ends ts us k new tail back one left (subst (λ (l : List History). Emits config.window config.gaps (map what_of ts) l tail new) c.1 more) (subst (λ (es : List Entry). length es ≤ config.journal) both room) q
+    let both : entries_of old e ≡ entries_of (entries_of old front) tail = ap (entries_of old) (all
+    ∙ ap (λ (l : List ReplayEvent). l ++ tail) c.0) ∙ entries_more old front tail in
+    all_or_full config (entries_of old front) ends ts us k new tail back one left
+    (subst (λ (l : List History). Emits config.window config.gaps (map what_of ts) l tail new)
+    c.1 more) (subst (λ (es : List Entry). length es ≤ config.journal) both room) q
 
-pub not_both : (config : ReplayConfig) (records : List TimedRecord) (t u : List TimedEvent) → Single → IsToldOf config records t → IsToldToFull config records u → ⊥
+pub not_both : (config : ReplayConfig) (records : List TimedRecord) (t u : List TimedEvent) → Single
+    → IsToldOf config records t → IsToldToFull config records u → ⊥
 not_both config records t u one a b =
-    all_or_full config [] records a.taken b.taken (new_histories config) a.histories a.emitted b.emitted one a.are_taken a.emits a.room (filled config records u b)
+    all_or_full config [] records a.taken b.taken (new_histories config) a.histories a.emitted
+    b.emitted one a.are_taken a.emits a.room (filled config records u b)

@@ -5,7 +5,8 @@ use Rattle.feed_text.specs.Formats.{TakesPiece, timed_record}
 use Rattle.feed_text.specs.OwnFormats.{ReadsOwn}
 
 -- a record begins the bytes
-pub own_piece : (venues len : ℕ) (bytes : List ℕ) (r : CaptureRecord) → len ≡ length (bytes_of_record r) → bytes ≡ bytes_of_record r ++ drop len bytes
+pub own_piece : (venues len : ℕ) (bytes : List ℕ) (r : CaptureRecord)
+    → len ≡ length (bytes_of_record r) → bytes ≡ bytes_of_record r ++ drop len bytes
     → TakesPiece ReadsOwn venues bytes (timed_record r None ∷ []) len venues
 own_piece venues len bytes r is front =
     let n = ap length front ∙ length-append (bytes_of_record r) (drop len bytes) in
@@ -13,19 +14,23 @@ own_piece venues len bytes r is front =
       some = omega (arith, is);
       within = omega (arith, n, is);
       read = record {
-        spelled = front ∙ ap (λ (xs : List ℕ). xs ++ drop len bytes) (sym (append-nil (bytes_of_record r)));
+        spelled = front ∙ ap (λ (xs : List ℕ). xs ++ drop len bytes)
+            (sym (append-nil (bytes_of_record r)));
         no_times = refl;
         same = refl;
       };
     }
 
 -- less than a record
-pub own_unfinished : (venues n : ℕ) (bytes : List ℕ) → IsWanted venues bytes n → IsUnfinished venues bytes
+pub own_unfinished : (venues n : ℕ) (bytes : List ℕ) → IsWanted venues bytes n
+    → IsUnfinished venues bytes
 own_unfinished venues n [] w = inl refl
 own_unfinished venues n (b ∷ bs) (inl w) = inr (record { some = omega arith; cut = inl w.0 })
-own_unfinished venues n (b ∷ bs) (inr w) = inr (record { some = omega arith; cut = inr (w.0, omega (arith, w.1, w.2)) })
+own_unfinished venues n (b ∷ bs) (inr w) =
+    inr (record { some = omega arith; cut = inr (w.0, omega (arith, w.1, w.2)) })
 
 -- so there are few of them
-pub own_wants_few : (venues n : ℕ) (bytes : List ℕ) → IsWanted venues bytes n → n < 65540 → length bytes < 1179648
+pub own_wants_few : (venues n : ℕ) (bytes : List ℕ) → IsWanted venues bytes n → n < 65540
+    → length bytes < 1179648
 own_wants_few venues n bytes (inl w) few = omega (arith, w.0)
 own_wants_few venues n bytes (inr w) few = omega (arith, w.2, few)

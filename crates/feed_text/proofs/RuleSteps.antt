@@ -34,15 +34,18 @@ use Rattle.feed_text.specs.Following.{ReplayVenue, FollowAll, EmitsNext}
 use Rattle.feed_text.specs.laws.LastSent.{last_all}
 use Rattle.feed_text.specs.laws.Lists.{get_set_same}
 
-ahead_kind : (kind : Kind) (window sent : ℕ) (packets : List Input) (p : Content) → ToKind kind window sent packets p (Ok Ahead)
-    → (kind ≡ kinds.Messages) × IsBefore (end_of packets) (last_number p) × (sent + window < last_number p)
+ahead_kind : (kind : Kind) (window sent : ℕ) (packets : List Input) (p : Content)
+    → ToKind kind window sent packets p (Ok Ahead)
+    → (kind ≡ kinds.Messages) × IsBefore (end_of packets) (last_number p)
+    × (sent + window < last_number p)
 ahead_kind kinds.Messages window sent packets p x = (refl, x.0, x.1)
 ahead_kind kinds.Heartbeat window sent packets p x = absurd x
 ahead_kind kinds.End window sent packets p x = absurd x
 
 -- a packet that would be answered Ahead has messages, and goes past the window, and not past an end
 pub ahead_is : (window : ℕ) (h : History) (p : Content) → IsAhead window h p
-    → (p.kind ≡ kinds.Messages) × IsBefore (end_of h.present.packets) (last_number p) × (last_sent h + window < last_number p)
+    → (p.kind ≡ kinds.Messages) × IsBefore (end_of h.present.packets) (last_number p)
+    × (last_sent h + window < last_number p)
 ahead_is window h p (inl x) = absurd (cc)
 ahead_is window h p (inr x) = ahead_kind p.kind window (last_sent h) h.present.packets p x.1
 
@@ -57,26 +60,31 @@ one_counted true e = absurd (omega arith)
 one_counted false e = refl
 
 -- where a range counts nothing, no number of it counts
-count_nothing : (q : ℕ → Bool) (a n m : ℕ) → count_by q (range_with_len a n) ≡ 0 → a ≤ m → m < a + n → q m ≡ false
+count_nothing : (q : ℕ → Bool) (a n m : ℕ) → count_by q (range_with_len a n) ≡ 0 → a ≤ m
+    → m < a + n → q m ≡ false
 count_nothing q a zero m none least most = absurd (omega arith)
 count_nothing q a (suc n) m none least most =
-    let all : count_by q (range_with_len a (suc n)) ≡ one_if (q a) + count_by q (range_with_len (a + 1) n) = sum_by-cons (λ y. one_if (q y)) a (range_with_len (a + 1) n) in
+    let all : count_by q (range_with_len a (suc n)) ≡ one_if (q a) + count_by q
+    (range_with_len (a + 1) n) = sum_by-cons (λ y. one_if (q y)) a (range_with_len (a + 1) n) in
     elim (cases_eq a m) [
       | inl same ↦ let first = one_counted (q a) (omega arith) in ap q (sym same) ∙ first
       | inr other ↦ count_nothing q (a + 1) n m (omega arith) (omega arith) (omega arith)
     ]
 
 -- nothing is held past the last item, so nothing past it has come
-none_held : (packets : List Input) (sent m : ℕ) → held_count sent packets ≡ 0 → sent < m → carried packets m ≡ None
+none_held : (packets : List Input) (sent m : ℕ) → held_count sent packets ≡ 0 → sent < m
+    → carried packets m ≡ None
 none_held packets sent m none past = elim (cases_lt (top_of packets) m) [
   | inl above ↦ carried_above packets m above
-  | inr within ↦ none_is (carried packets m) (count_nothing (λ k. is_some (carried packets k)) (sent + 1) (top_of packets - sent) m none (omega arith) (omega arith))
+  | inr within ↦ none_is (carried packets m) (count_nothing (λ k. is_some (carried packets k))
+      (sent + 1) (top_of packets - sent) m none (omega arith) (omega arith))
 ]
 
 no_end : (end : Option ℕ) (n : ℕ) → ((e : ℕ) → end ≡ Some e → n < e) → length (end_at end n) ≡ 0
 no_end None n late = refl
 no_end (Some e) n late = elim (cases_Bool (e == n)) [
-  | inl same ↦ let is : e ≡ n = grind (arith, nat_tests) in let past = late e refl in absurd (omega arith)
+  | inl same ↦ let is : e ≡ n = grind (arith, nat_tests) in let past = late e refl
+      in absurd (omega arith)
   | inr other ↦ rw other refl
 ]
 
@@ -85,7 +93,8 @@ none_missing None e = refl
 none_missing (Some x) e = absurd (false≢true e)
 
 -- the numbers that are missing in a row have not come
-none_in_row : (window sent : ℕ) (packets : List Input) (m : ℕ) → front_of packets < m → m < front_of packets + 1 + missing_count window sent packets → carried packets m ≡ None
+none_in_row : (window sent : ℕ) (packets : List Input) (m : ℕ) → front_of packets < m
+    → m < front_of packets + 1 + missing_count window sent packets → carried packets m ≡ None
 none_in_row window sent packets m past within =
     let front = front_of packets in
     let count = min (known_of packets) (sent + window) - front in
@@ -96,31 +105,39 @@ none_in_row window sent packets m past within =
     let at : get_or numbers (m - 1 - front) 0 ≡ m =
     get_or-range_with_len (front + 1) count (m - 1 - front) 0 (omega arith) ∙ omega arith in
     none_missing (carried packets m)
-    (subst (λ (k : ℕ). is_none (carried packets k) ≡ true) at (prefix_len_passes test numbers (m - 1 - front) 0 (omega arith)))
+    (subst (λ (k : ℕ). is_none (carried packets k) ≡ true) at (prefix_len_passes test numbers
+    (m - 1 - front) 0 (omega arith)))
 
 -- how many are missing in a row, by the gap
-pub gap_some : (name : List ℕ) (window sent : ℕ) (packets : List Input) (r : Request) → Some r ≡ gap_of name window sent packets → r.count ≡ missing_count window sent packets
+pub gap_some : (name : List ℕ) (window sent : ℕ) (packets : List Input) (r : Request)
+    → Some r ≡ gap_of name window sent packets → r.count ≡ missing_count window sent packets
 gap_some name window sent packets r e = elim (cases_Bool (missing_count window sent packets == 0)) [
   | inl none ↦ let is = rw none at e in absurd (cc)
-  | inr some ↦ let is = rw some at e in ap (λ (o : Option Request). option_map_or (λ (q : Request). q.count) o 0) is
+  | inr some ↦ let is = rw some at e
+      in ap (λ (o : Option Request). option_map_or (λ (q : Request). q.count) o 0) is
 ]
 
-pub gap_none : (name : List ℕ) (window sent : ℕ) (packets : List Input) → None ≡ gap_of name window sent packets → missing_count window sent packets ≡ 0
+pub gap_none : (name : List ℕ) (window sent : ℕ) (packets : List Input)
+    → None ≡ gap_of name window sent packets → missing_count window sent packets ≡ 0
 gap_none name window sent packets e = elim (cases_Bool (missing_count window sent packets == 0)) [
   | inl none ↦ grind (arith, nat_tests)
   | inr some ↦ let is = rw some at e in absurd (cc)
 ]
 
 -- the first number that has come, by what is held
-pub first_unheld : (window : ℕ) (h : History) (p : Content) → held_at_last h ≡ 0 → first_come window h p ≡ p.number
+pub first_unheld : (window : ℕ) (h : History) (p : Content) → held_at_last h ≡ 0
+    → first_come window h p ≡ p.number
 first_unheld window h p none = rw none refl
 
-pub first_held : (window : ℕ) (h : History) (p : Content) → (held_at_last h ≡ 0 → ⊥) → first_come window h p ≡ min p.number (front_of h.present.packets + 1 + missing_count window (last_sent h) h.present.packets)
+pub first_held : (window : ℕ) (h : History) (p : Content) → (held_at_last h ≡ 0 → ⊥)
+    → first_come window h p ≡ min p.number (front_of h.present.packets + 1 + missing_count window
+    (last_sent h) h.present.packets)
 first_held window h p some =
     let other : (held_at_last h == 0) ≡ false = grind (arith, nat_tests) in
     rw other refl
 
-module _ (rule : SkipRule) (window : ℕ) (h : History) (p : Content) (n : ℕ) (c : IsContent p) (x : SkipsBefore rule window h p n) where
+module _ (rule : SkipRule) (window : ℕ) (h : History) (p : Content) (n : ℕ) (c : IsContent p)
+    (x : SkipsBefore rule window h p n) where
   abbrev packets : List Input
   packets = h.present.packets
 
@@ -140,7 +157,8 @@ module _ (rule : SkipRule) (window : ℕ) (h : History) (p : Content) (n : ℕ) 
 
   last_is_front : last_sent h ≡ front_of packets
   last_is_front =
-      let none = no_end (end_of packets) (front_of packets + 1) (λ e is. let later = before_end e is in let past = x.missing in omega arith) in
+      let none = no_end (end_of packets) (front_of packets + 1) (λ e is. let later = before_end e is
+      in let past = x.missing in omega arith) in
       omega arith
 
   none_came : (m : ℕ) → front_of packets < m → m < n → carried packets m ≡ None
@@ -163,7 +181,8 @@ module _ (rule : SkipRule) (window : ℕ) (h : History) (p : Content) (n : ℕ) 
   }
 
   -- and its answer is that it is
-  pub skip_answer : (answer : Result (Unit {0}) SkipFault) → IsSkip packets (last_sent h) n answer → answer ≡ Ok tt
+  pub skip_answer : (answer : Result (Unit {0}) SkipFault) → IsSkip packets (last_sent h) n answer
+      → answer ≡ Ok tt
   skip_answer answer is = one_skip packets (last_sent h) n answer (Ok tt) is (last_all h, may_skip)
 
 -- the front goes on to what was given up
@@ -178,21 +197,27 @@ front_goes packets n =
 unfoldable pub front_at : List ReplayVenue → ℕ → ℕ
 front_at vs i = option_map_or (λ (v : ReplayVenue). v.arbiter.front) (slice_get vs i) 0
 
-front_here : (vs : List ReplayVenue) (i : ℕ) (v : ReplayVenue) → slice_get vs i ≡ Some v → front_at vs i ≡ v.arbiter.front
+front_here : (vs : List ReplayVenue) (i : ℕ) (v : ReplayVenue) → slice_get vs i ≡ Some v
+    → front_at vs i ≡ v.arbiter.front
 unfolding front_at
-front_here vs i v at = ap (λ (o : Option ReplayVenue). option_map_or (λ (v : ReplayVenue). v.arbiter.front) o 0) at
+front_here vs i v at = ap (λ (o : Option ReplayVenue). option_map_or
+    (λ (v : ReplayVenue). v.arbiter.front) o 0) at
 
 -- the front of a venue that follows a history is the history's
-front_follows : (window : ℕ) (vs : List ReplayVenue) (hs : List History) (i : ℕ) (h : History) → FollowAll window vs hs → slice_get hs i ≡ Some h → front_at vs i ≡ front_of h.present.packets
+front_follows : (window : ℕ) (vs : List ReplayVenue) (hs : List History) (i : ℕ) (h : History)
+    → FollowAll window vs hs → slice_get hs i ≡ Some h → front_at vs i ≡ front_of h.present.packets
 front_follows window vs hs i h f at =
     let within = slice_get_within hs i h at in
     let same = f.count in
     let v = get_within vs i (omega arith) in
     front_here vs i v.0 v.1 ∙ (f.each i v.0 h v.1 at).history.present.front
 
-pub skips_on : (rule : SkipRule) (window n : ℕ) (gaps : Bool) (r : CaptureRecord) (h after : History) (emitted : List _) → SkipsAt rule window r h n → EmitsAt window gaps (skip_at r n) h emitted after
+pub skips_on : (rule : SkipRule) (window n : ℕ) (gaps : Bool) (r : CaptureRecord)
+    (h after : History) (emitted : List _) → SkipsAt rule window r h n
+    → EmitsAt window gaps (skip_at r n) h emitted after
     → (after ≡ skip_after h n (Ok tt)) × (front_of h.present.packets + 1 < n) × (n < 2 ^ 64)
-skips_on rule window n gaps (datagram_record venue line bytes) h after emitted (p, rest, spells, x) e =
+skips_on rule window n gaps (datagram_record venue line bytes) h after emitted
+    (p, rest, spells, x) e =
     let is = skip_answer rule window h p n spells.content x e.answer e.skipped.right in
     let most = first_by_own rule window h p n spells.content x in
     let small = spells.content.small in
@@ -202,7 +227,9 @@ skips_on rule window n gaps (skip_record venue skipped) h after emitted x e = ab
 skips_on rule window n gaps (self_help_record venue on) h after emitted x e = absurd x
 
 -- A skip that the rule puts in takes the venue's front on.
-pub skip_progress : {K : Type 0} (taking : SinkTaking K) (config : ReplayConfig) (r : CaptureRecord) (n : ℕ) (hs : List History) (vs ws : List ReplayVenue) (t u : ReplayState K) → FollowAll config.window vs hs → PutsIn config hs r n
+pub skip_progress : {K : Type 0} (taking : SinkTaking K) (config : ReplayConfig) (r : CaptureRecord)
+    (n : ℕ) (hs : List History) (vs ws : List ReplayVenue) (t u : ReplayState K)
+    → FollowAll config.window vs hs → PutsIn config hs r n
     → EmitsNext taking config.window config.gaps (skip_at r n) hs t u ws (Ok tt)
     → (front_at vs (record_venue r) + 1 < n) × (n ≤ front_at ws (record_venue r) + 1) × (n < 2 ^ 64)
 skip_progress taking config r n hs vs ws t u f puts y =
@@ -210,13 +237,17 @@ skip_progress taking config r n hs vs ws t u f puts y =
     let tells = y.record_tells in
     let some : Some puts.before ≡ Some tells.before = sym puts.at ∙ tells.at in
     let same : tells.before ≡ puts.before = cc in
-    let on = skips_on config.skips config.window n config.gaps r puts.before tells.after y.emitted puts.skips (subst (λ (h : History). EmitsAt config.window config.gaps (skip_at r n) h y.emitted tells.after) same tells.emits) in
+    let on = skips_on config.skips config.window n config.gaps r puts.before tells.after y.emitted
+    puts.skips (subst (λ (h : History). EmitsAt config.window config.gaps (skip_at r n) h
+    y.emitted tells.after) same tells.emits) in
     let within = slice_get_within hs i puts.before puts.at in
     let len : length y.after ≡ length hs = ap length tells.others ∙ length-set hs i tells.after in
     let k = get_within y.after i (omega arith) in
-    let new : k.0 ≡ tells.after = get_set_same hs i tells.after k.0 (subst (λ (l : List History). slice_get l i ≡ Some k.0) tells.others k.1) in
+    let new : k.0 ≡ tells.after = get_set_same hs i tells.after k.0
+    (subst (λ (l : List History). slice_get l i ≡ Some k.0) tells.others k.1) in
     let old_front = front_follows config.window vs hs i puts.before f puts.at in
-    let new_front = front_follows config.window ws y.after i k.0 y.follow k.1 ∙ ap (λ (h : History). front_of h.present.packets) (new ∙ on.0) in
+    let new_front = front_follows config.window ws y.after i k.0 y.follow k.1
+    ∙ ap (λ (h : History). front_of h.present.packets) (new ∙ on.0) in
     let goes = front_goes puts.before.present.packets n in
     let past = on.1 in
     (omega arith, omega arith, on.2)

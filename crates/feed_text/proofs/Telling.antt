@@ -21,20 +21,27 @@ use Rattle.feed_text.proofs.VenueSteps.{on_ok}
 use Rattle.feed_text.proofs.Rest.{rest_at}
 
 -- one venue and its history go on
-follow_set : (window i : ℕ) (vs : List ReplayVenue) (hs : List History) (v : ReplayVenue) (h : History) → FollowAll window vs hs → Follows window i v h → FollowAll window (slice_set vs i v) (slice_set hs i h)
+follow_set : (window i : ℕ) (vs : List ReplayVenue) (hs : List History) (v : ReplayVenue)
+    (h : History) → FollowAll window vs hs → Follows window i v h
+    → FollowAll window (slice_set vs i v) (slice_set hs i h)
 follow_set window i vs hs v h f now = record {
   count = length-set vs i v ∙ f.count ∙ sym (length-set hs i h);
   each = λ j w k e g. elim (same_or_not j i) [
     | inl same ↦
-        let a : w ≡ v = get_set_same vs i v w (subst (λ (n : ℕ). slice_get (slice_set vs i v) n ≡ Some w) same e) in
-        let b : k ≡ h = get_set_same hs i h k (subst (λ (n : ℕ). slice_get (slice_set hs i h) n ≡ Some k) same g) in
+        let a : w ≡ v = get_set_same vs i v w
+        (subst (λ (n : ℕ). slice_get (slice_set vs i v) n ≡ Some w) same e) in
+        let b : k ≡ h = get_set_same hs i h k
+        (subst (λ (n : ℕ). slice_get (slice_set hs i h) n ≡ Some k) same g) in
         rw (same, a, b) now
-    | inr other ↦ f.each j w k (sym (get_set_other vs i j v other) ∙ e) (sym (get_set_other hs i j h other) ∙ g)
+    | inr other ↦ f.each j w k (sym (get_set_other vs i j v other) ∙ e)
+        (sym (get_set_other hs i j h other) ∙ g)
   ];
 }
 
 -- a list as long as one that has a place has it too
-pub history_at : (window : ℕ) (vs : List ReplayVenue) (hs : List History) (i : ℕ) (v : ReplayVenue) → FollowAll window vs hs → slice_get vs i ≡ Some v → (h : History) × (slice_get hs i ≡ Some h) × Follows window i v h
+pub history_at : (window : ℕ) (vs : List ReplayVenue) (hs : List History) (i : ℕ) (v : ReplayVenue)
+    → FollowAll window vs hs → slice_get vs i ≡ Some v → (h : History)
+    × (slice_get hs i ≡ Some h) × Follows window i v h
 history_at window vs hs i v f at =
     let within = slice_get_within vs i v at in
     let n = f.count in
@@ -42,8 +49,12 @@ history_at window vs hs i v f at =
     (h.0, h.1, f.each i v h.0 at h.1)
 
 -- one record
-pub takes_one : {K : Type 0} {taking : SinkTaking K} → (from to : VenueList) (r : CaptureRecord) (old new : ReplayState K) (done : Result (Unit {0}) PublishStop) (v w : ReplayVenue) → slice_get from.items (record_venue r) ≡ Some v → to.items ≡ slice_set from.items (record_venue r) w → to.gaps ≡ from.gaps
-    → ((width : ℕ) (h : History) → Follows width (record_venue r) v h → EmitsOne taking width from.gaps r h old new w done) → TakesRecord taking from r old new to done
+pub takes_one : {K : Type 0} {taking : SinkTaking K} → (from to : VenueList) (r : CaptureRecord)
+    (old new : ReplayState K) (done : Result (Unit {0}) PublishStop) (v w : ReplayVenue)
+    → slice_get from.items (record_venue r) ≡ Some v
+    → to.items ≡ slice_set from.items (record_venue r) w → to.gaps ≡ from.gaps
+    → ((width : ℕ) (h : History) → Follows width (record_venue r) v h → EmitsOne taking width
+    from.gaps r h old new w done) → TakesRecord taking from r old new to done
 takes_one {K} {taking} from to r old new done v w at set gaps step = record {
   gaps = on_ok done gaps;
   count = on_ok done (ap length set ∙ length-set from.items (record_venue r) w);
@@ -53,15 +64,26 @@ takes_one {K} {taking} from to r old new done v w at set gaps step = record {
       record {
         emitted = one.emitted;
         after = slice_set hs (record_venue r) one.after;
-        record_tells = record { before = h.0; after = one.after; at = h.1; emits = one.at; others = refl };
+        record_tells = record {
+          before = h.0;
+          after = one.after;
+          at = h.1;
+          emits =
+              one.at;
+          others = refl;
+        };
         emits = one.emits;
-        follow = on_ok_weaker done (λ g. rw set (follow_set window (record_venue r) from.items hs w one.after f g)) one.follows;
+        follow = on_ok_weaker done (λ g. rw set (follow_set window (record_venue r) from.items hs w
+            one.after f g)) one.follows;
       };
 }
 
 -- a declaration: the venues and what came to them stay
-pub takes_self_help : {K : Type 0} {taking : SinkTaking K} → (at : VenueList) (venue : ℕ) (on : Bool) (old new : ReplayState K) (done : Result (Unit {0}) PublishStop) → venue < length at.items
-    → EmitsInto taking old (self_help_declared venue on ∷ []) new done → TakesRecord taking at (self_help_record venue on) old new at done
+pub takes_self_help : {K : Type 0} {taking : SinkTaking K}
+    → (at : VenueList) (venue : ℕ) (on : Bool) (old new : ReplayState K) (done : Result (Unit {0})
+    PublishStop) → venue < length at.items
+    → EmitsInto taking old (self_help_declared venue on ∷ []) new done
+    → TakesRecord taking at (self_help_record venue on) old new at done
 takes_self_help {K} {taking} at venue on old new done within emits = record {
   gaps = on_ok done refl;
   count = on_ok done refl;
@@ -70,46 +92,72 @@ takes_self_help {K} {taking} at venue on old new done within emits = record {
       record {
         emitted = self_help_declared venue on ∷ [];
         after = hs;
-        record_tells = record { before = h.0; after = h.0; at = h.1; emits = record { same = refl; emitted_is = refl }; others = sym (same_set hs venue h.0 h.1) };
+        record_tells = record {
+          before = h.0;
+          after = h.0;
+          at = h.1;
+          emits = record {
+            same = refl;
+            emitted_is = refl;
+          };
+          others = sym (same_set hs venue h.0 h.1);
+        };
         emits = emits;
         follow = on_ok done f;
       };
 }
 
-slice_get_push : {X : Type 0} (xs : List X) (y : X) (i : ℕ) (x : X) → slice_get (xs ++ y ∷ []) i ≡ Some x → (slice_get xs i ≡ Some x) ⊎ ((i ≡ length xs) × (x ≡ y))
+slice_get_push : {X : Type 0} (xs : List X) (y : X) (i : ℕ) (x : X)
+    → slice_get (xs ++ y ∷ []) i ≡ Some x → (slice_get xs i ≡ Some x) ⊎ ((i ≡ length xs) × (x ≡ y))
 slice_get_push [] y zero x e = inr (refl, cc)
 slice_get_push [] y (suc i) x e = absurd cc
 slice_get_push (z ∷ xs) y zero x e = inl e
-slice_get_push (z ∷ xs) y (suc i) x e = elim (slice_get_push xs y i x e) [ inl a ↦ inl a | inr b ↦ inr (ap suc b.0, b.1) ]
+slice_get_push (z ∷ xs) y (suc i) x e = elim (slice_get_push xs y i x e) [
+  | inl a ↦ inl a
+  | inr b ↦
+      inr (ap suc b.0, b.1)
+]
 
-follow_push : (window : ℕ) (vs : List ReplayVenue) (hs : List History) (v : ReplayVenue) (h : History) → FollowAll window vs hs → Follows window (length hs) v h → FollowAll window (vs ++ v ∷ []) (hs ++ h ∷ [])
+follow_push : (window : ℕ) (vs : List ReplayVenue) (hs : List History) (v : ReplayVenue)
+    (h : History) → FollowAll window vs hs → Follows window (length hs) v h
+    → FollowAll window (vs ++ v ∷ []) (hs ++ h ∷ [])
 follow_push window vs hs v h f now = record {
-  count = length-append vs (v ∷ []) ∙ ap (λ (n : ℕ). n + 1) f.count ∙ sym (length-append hs (h ∷ []));
+  count = length-append vs (v ∷ []) ∙ ap (λ (n : ℕ). n + 1) f.count
+      ∙ sym (length-append hs (h ∷ []));
   each = λ i w k e g. elim (slice_get_push vs v i w e) [
     | inl a ↦ elim (slice_get_push hs h i k g) [
       | inl b ↦ f.each i w k a b
-      | inr b ↦ let past = slice_get_within vs i w a in let n = f.count in absurd (omega (arith, b.0))
+      | inr b ↦ let past = slice_get_within vs i w a in let n = f.count
+          in absurd (omega (arith, b.0))
     ]
     | inr a ↦ elim (slice_get_push hs h i k g) [
-      | inl b ↦ let past = slice_get_within hs i k b in let n = f.count in absurd (omega (arith, a.0))
+      | inl b ↦ let past = slice_get_within hs i k b in let n = f.count
+          in absurd (omega (arith, a.0))
       | inr b ↦ rw (b.0, a.1, b.1) now
     ]
   ];
 }
 
 -- one more venue, to which nothing came
-pub follow_next : (window : ℕ) (vs : List ReplayVenue) (sessions : List (List ℕ)) (i : ℕ) (v : ReplayVenue) → FollowAll window vs (map new_history (take i sessions)) → i < length sessions → Follows window i v (new_history (get_or sessions i [])) → FollowAll window (vs ++ v ∷ []) (map new_history (take (i + 1) sessions))
+pub follow_next : (window : ℕ) (vs : List ReplayVenue) (sessions : List (List ℕ)) (i : ℕ)
+    (v : ReplayVenue) → FollowAll window vs (map new_history (take i sessions))
+    → i < length sessions → Follows window i v (new_history (get_or sessions i []))
+    → FollowAll window (vs ++ v ∷ []) (map new_history (take (i + 1) sessions))
 follow_next window vs sessions i v f h now =
     let hs : List History = map new_history (take i sessions) in
-    let len : length hs ≡ i = length-map (take i sessions) new_history ∙ length-take_le i sessions h in
-    let more : map new_history (take (i + 1) sessions) ≡ hs ++ new_history (get_or sessions i []) ∷ [] = rw (take_more sessions i [] h) (map-append new_history (take i sessions) (get_or sessions i [] ∷ [])) in
+    let len : length hs ≡ i = length-map (take i sessions) new_history ∙ length-take_le i sessions h
+    in
+    let more : map new_history (take (i + 1) sessions) ≡ hs ++ new_history (get_or sessions i [])
+    ∷ [] = rw (take_more sessions i [] h) (map-append new_history (take i sessions)
+    (get_or sessions i [] ∷ [])) in
     rw more (follow_push window vs hs v (new_history (get_or sessions i [])) f (rw len now))
   where
     length-take_le : (n : ℕ) (xs : List (List ℕ)) → n < length xs → length (take n xs) ≡ n
     length-take_le n xs h = grind (arith, common_steps)
 
 -- one more last event
-pub lasts_rest : (hs : List History) (i : ℕ) (h : History) → slice_get hs i ≡ Some h → lasts_told i (drop i hs) ≡ last_told i h ∷ lasts_told (i + 1) (drop (i + 1) hs)
+pub lasts_rest : (hs : List History) (i : ℕ) (h : History) → slice_get hs i ≡ Some h
+    → lasts_told i (drop i hs) ≡ last_told i h ∷ lasts_told (i + 1) (drop (i + 1) hs)
 lasts_rest hs i h at = ap (lasts_told i) (rest_at hs i h (sym at))
 
 -- and then there is none
@@ -117,10 +165,17 @@ pub lasts_done : (hs : List History) (i : ℕ) → length hs ≤ i → lasts_tol
 lasts_done hs i h = ap (lasts_told i) (drop_of_length-le hs h)
 
 -- what one more venue lacks
-pub lacks_more : (window : ℕ) (hs : List History) (i : ℕ) (h : History) (old new all : List Lack) → slice_get hs i ≡ Some h → new ≡ old ++ lack_of window i h → old ++ lacks_of window i (drop i hs) ≡ all → new ++ lacks_of window (i + 1) (drop (i + 1) hs) ≡ all
+pub lacks_more : (window : ℕ) (hs : List History) (i : ℕ) (h : History) (old new all : List Lack)
+    → slice_get hs i ≡ Some h → new ≡ old ++ lack_of window i h → old
+    ++ lacks_of window i (drop i hs) ≡ all → new ++ lacks_of window (i + 1) (drop (i + 1) hs) ≡ all
 lacks_more window hs i h old new all at put is =
     let L = lacks_of window (i + 1) (drop (i + 1) hs) in
-    ap (λ (t : List Lack). t ++ L) put ∙ append_assoc old (lack_of window i h) L ∙ ap (λ (t : List Lack). old ++ t) (sym (ap (lacks_of window i) (rest_at hs i h (sym at)))) ∙ is
+    ap (λ (t : List Lack). t ++ L) put ∙ append_assoc old (lack_of window i h) L
+    ∙ ap (λ (t : List Lack). old ++ t) (sym (ap (lacks_of window i) (rest_at hs i h (sym at))))
+    ∙ is
 
-pub lacks_done : (window : ℕ) (hs : List History) (i : ℕ) (lacks all : List Lack) → length hs ≤ i → lacks ++ lacks_of window i (drop i hs) ≡ all → lacks ≡ all
-lacks_done window hs i lacks all h is = sym (append-nil lacks) ∙ ap (λ (t : List Lack). lacks ++ t) (sym (ap (lacks_of window i) (drop_of_length-le hs h))) ∙ is
+pub lacks_done : (window : ℕ) (hs : List History) (i : ℕ) (lacks all : List Lack) → length hs ≤ i
+    → lacks ++ lacks_of window i (drop i hs) ≡ all → lacks ≡ all
+lacks_done window hs i lacks all h is = sym (append-nil lacks)
+    ∙ ap (λ (t : List Lack). lacks ++ t) (sym (ap (lacks_of window i) (drop_of_length-le hs h)))
+    ∙ is

@@ -3,8 +3,10 @@
 -- A capture is a list of records, one after the other. A record is the venue (1 byte), a kind
 -- (1 byte), a length (2 bytes, big-endian) and that many bytes. Kinds 41 (A), 42 (B) and 52 (R) are
 -- a datagram of line A, line B or Recovery. Kind 4e (N) is a renewal: its 10 bytes are the name of
--- the venue's next session. Kind 4b (K) is a skip: its 8 bytes are a number, big-endian, and what is
--- missing at the venue below it is given up. Kinds 48 (H) and 57 (W), of length 0, declare self-help
+-- the venue's next session. Kind 4b (K) is a skip: its 8 bytes are a number, big-endian, and what
+-- is
+-- missing at the venue below it is given up. Kinds 48 (H) and 57 (W), of length 0, declare
+-- self-help
 -- on the venue and withdraw it.
 use Rattle.std.specs.Int.{w64, to_be_bytes}
 use Rattle.std.specs.Prelude.{◌≡◌, ℕ, ◌+◌, ◌*◌, ◌/◌, ◌%◌, ◌^◌, ◌<◌, ◌≤◌, ◌⊎◌, Bool, true, false, List, [], ◌∷◌, ◌++◌, length, drop, flat_map, slice_index}

@@ -87,7 +87,8 @@ pub record Renews (width place : ℕ) (name : List ℕ) (h : History) (v : Repla
   pub is : IsRenewal (names_of h) (end_of h.present.packets) (last_sent h) name answer
   pub follows : Follows width place v (history_after h name answer)
 
--- A skip was answered. Where that is Ok, the history goes on with it, and what was sent is what came
+-- A skip was answered. Where that is Ok, the history goes on with it, and what was sent is what
+-- came
 -- before it.
 pub record GivesUp (width place number : ℕ) (h : History) (v : ReplayVenue)
     (answer : Result (Unit {0}) SkipFault) : Type 0 where

@@ -73,7 +73,8 @@ pub record FailsWithin {K : Type 0} (taking : SinkTaking K) (old : ReplayState K
   pub failed : taking.fails old.sink (told_from old first) new.sink
 
 -- The results of emitting these events, by the answer.
-abbrev pub EmitsInto : {K : Type 0} → SinkTaking K → ReplayState K → List ReplayEvent → ReplayState K
+abbrev pub EmitsInto : {K : Type 0} → SinkTaking K → ReplayState K
+    → List ReplayEvent → ReplayState K
     → Result (Unit {0}) PublishStop → Type 0
 EmitsInto taking old emitted new (Ok done) = GoesOn taking old emitted new
 EmitsInto taking old emitted new (Err JournalFull) = GoesToFull taking old emitted new

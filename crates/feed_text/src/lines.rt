@@ -1,7 +1,7 @@
 //! The printed lines of `specs/Lines.antt`.
 //!
-//! There is room for a whole line after the text; its parts are placed there, and then the text ends
-//! after them. Where a text grows, room is made first, and where that is refused the text is
+//! There is room for a whole line after the text; its parts are placed there, and then the text
+//! ends after them. Where a text grows, room is made first, and where that is refused the text is
 //! unchanged.
 ghost use Rattle.std.specs.Prelude.{◌≡◌, ◌+◌, ◌<◌, ◌≤◌, ◌++◌, codes, length, IsTrue, Ok, OnOk, OnErr};
 ghost use Rattle.feed_text.specs.Lines.{field, line_end, packet_head, packet_line, fault_line, refused_tail, outcome_tail, item_word, item_line, side_field, state_tail, best_line, gap_line, renew_line, skip_line, on_word, declare_line, venue_line, wins_by};
@@ -205,8 +205,9 @@ fn place_item_head(room: &mut [u8], at: usize, venue: VenueId) -> usize
     place(room, at, [b' '])
 }
 
-/// Appends the line of an item that was ready.
-#[inline(always)]
+/// Appends the line of an item that was ready. A call of its own: inlined, it would make a call of
+/// what takes an item into the sink, which costs more.
+#[inline(never)]
 pub(crate) fn put_item(text: &mut LineBuffer, venue: VenueId, item: &Numbered)
     requires { 64 ≤ text.old.room }
     ensures { Puts text.old (item_line venue item.now) text.new }

@@ -6,7 +6,8 @@ use crate::devices::{CaptureIn, ReadStop};
 use std::alloc::{AllocError, Global};
 use std::marker::Model;
 
-/// How many bytes are read at most by one call of a reader: no more than stay in a processor's cache.
+/// How many bytes are read at most by one call of a reader: no more than stay in a processor's
+/// cache.
 const MOST_READ: usize = 131_072;
 
 /// The result of one call of the reader.
@@ -41,8 +42,8 @@ impl<const ROOM: usize> Model for ReadBuffer<ROOM> {
         × (length w.bytes.items ≤ ROOM) × (ROOM ≤ vec_capacity w.bytes) };
 }
 
-/// Lengthens the bytes to `len`, by zeros, where they are shorter. Their memory is there, and is touched
-/// once it is used.
+/// Lengthens the bytes to `len`, by zeros, where they are shorter. Their memory is there, and is
+/// touched once it is used.
 fn lengthen(bytes: &mut Vec<u8>, len: usize)
     requires { len ≤ vec_capacity bytes.old }
     ensures long { len ≤ length bytes.new.items }
@@ -72,8 +73,8 @@ fn bring_to_front(bytes: &mut Vec<u8>, start: usize, end: usize)
     }
 }
 
-/// Moves the bytes from `start` to `end` to the front, and makes room for `wanted` after them. Returns
-/// where they end.
+/// Moves the bytes from `start` to `end` to the front, and makes room for `wanted` after them.
+/// Returns where they end.
 fn make_room<const ROOM: usize>(
     bytes: &mut Vec<u8>,
     start: usize,
@@ -190,12 +191,15 @@ impl<const ROOM: usize> ReadBuffer<ROOM> {
     /// One call of the reader, which adds what it gives at the end.
     pub fn read_from<R: CaptureIn>(&mut self, reader: &mut R) -> ReadStep
         requires room { length self.old < ROOM }
-        ensures went { result ≡ ReadStep.Went → HasGiven R.gives reader.old reader.new self.old self.new 1 }
-        ensures ended { result ≡ ReadStep.Ended → R.ends reader.old reader.new × (self.new ≡ self.old) }
+        ensures went { result ≡ ReadStep.Went → HasGiven R.gives reader.old
+            reader.new self.old self.new 1 }
+        ensures ended { result ≡ ReadStep.Ended → R.ends reader.old reader.new
+            × (self.new ≡ self.old) }
         ensures failed { result ≡ ReadStep.Failed
             → (R.failures reader.new ≡ R.failures reader.old + 1) × (self.new ≡ self.old) }
         ensures fails { result ≡ ReadStep.Failed → R.fails reader.old reader.new }
-        ensures kept { (result ≡ ReadStep.Failed → ⊥) → R.failures reader.new ≡ R.failures reader.old }
+        ensures kept { (result ≡ ReadStep.Failed → ⊥)
+            → R.failures reader.new ≡ R.failures reader.old }
         ensures bound { length self.new ≤ ROOM }
     {
         let wanted = MOST_READ.min(ROOM - self.len());

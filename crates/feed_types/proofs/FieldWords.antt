@@ -64,7 +64,8 @@ all_small (y ∷ ys) h =
 
 -- ---- the word less a space in each byte
 
-module _ (xs : List ℕ) (long : length xs ≡ 8) (small : Small xs) (above : ℕ) (is : above ≡ (word_with xs + 0xdfdf_dfdf_dfdf_dfe0) % 2 ^ 64) where
+module _ (xs : List ℕ) (long : length xs ≡ 8) (small : Small xs) (above : ℕ)
+    (is : above ≡ (word_with xs + 0xdfdf_dfdf_dfdf_dfe0) % 2 ^ 64) where
   abbrev ys : List ℕ
   ys = digits 8 above
 
@@ -77,7 +78,14 @@ module _ (xs : List ℕ) (long : length xs ≡ 8) (small : Small xs) (above : �
       let longer : length (lift ys) ≡ 8 = length-map ys (λ y. y + 32) ∙ length-digits 8 above in
       let lifts = small_sum 32 (omega arith) ys h in
       same_bytes xs (lift ys) (omega (arith, longer)) small lifts
-      (omega (arith, spelt, added 32 ys, eight_of 32 ys (length-digits 8 above), below_word (lift ys) longer lifts, below_word xs long small))
+      (omega (
+        arith,
+        spelt,
+        added 32 ys,
+        eight_of 32 ys (length-digits 8 above),
+        below_word (lift ys) longer lifts,
+        below_word xs long small,
+      ))
 
   -- where each byte may be, none reaches 80
   lowered : list_all may_stand xs ≡ true → list_all is_low ys ≡ true
@@ -86,35 +94,45 @@ module _ (xs : List ℕ) (long : length xs ≡ 8) (small : Small xs) (above : �
       let shorter : length zs ≡ 8 = length-map xs (λ x. x - 32) ∙ long in
       let low = low-lower xs h in
       let back : word_with (lift zs) ≡ word_with xs = ap word_with (lift-lower xs h) in
-      let same : ys ≡ zs = same_bytes ys zs (omega (arith, shorter, length-digits 8 above)) (small_digits 8 above) (all_small zs low)
+      let same : ys ≡ zs = same_bytes ys zs (omega (arith, shorter, length-digits 8 above))
+      (small_digits 8 above) (all_small zs low)
       (omega (arith, spelt, back, added 32 zs, eight_of 32 zs shorter, below_word xs long small)) in
       subst (λ (l : List ℕ). list_all is_low l ≡ true) (sym same) low
 
   untopped : nat_eq (bit_and above 0x8080_8080_8080_8080) 0 ≡ list_all is_low ys
   untopped =
-      ap₂ (λ (w : ℕ) (m : ℕ). nat_eq (bit_and w m) 0) (sym spelt) (sym (eight_of 128 ys (length-digits 8 above)))
+      ap₂ (λ (w : ℕ) (m : ℕ). nat_eq (bit_and w m) 0) (sym spelt)
+      (sym (eight_of 128 ys (length-digits 8 above)))
       ∙ ap (λ (w : ℕ). nat_eq w 0) (tops_of ys (small_digits 8 above))
       ∙ no_marks (nat_le 128) is_low low_is ys
 
   module _ (past mis : ℕ)
       (past_is : Marks (nat_le 95) above past)
-      (mis_is : (bytes : List ℕ) → AreEightLow bytes → above ≡ word_with bytes → nat_eq mis 0 ≡ is_name_filled (map (nat_le 1) bytes)) where
-    by_low : (b : Bool) → list_all is_low ys ≡ b → (b && nat_eq past 0 && nat_eq mis 0) ≡ (list_all may_stand xs && is_name_filled (map is_no_space xs))
+      (mis_is : (bytes : List ℕ) → AreEightLow bytes → above ≡ word_with bytes
+      → nat_eq mis 0 ≡ is_name_filled (map (nat_le 1) bytes)) where
+    by_low : (b : Bool) → list_all is_low ys ≡ b
+        → (b && nat_eq past 0 && nat_eq mis 0) ≡ (list_all may_stand xs
+        && is_name_filled (map is_no_space xs))
     by_low true h =
         let are : AreEightLow ys = record { eight = length-digits 8 above; low = h } in
         ap₂ (λ (p : Bool) (m : Bool). p && m)
-        (ap (λ (w : ℕ). nat_eq w 0) (past_is ys are (sym spelt)) ∙ no_marks (nat_le 95) (λ y. may_stand (y + 32)) may_stand-lift ys ∙ stands ys)
+        (ap (λ (w : ℕ). nat_eq w 0) (past_is ys are (sym spelt))
+        ∙ no_marks (nat_le 95) (λ y. may_stand (y + 32)) may_stand-lift ys ∙ stands ys)
         (mis_is ys are (sym spelt) ∙ ap is_name_filled (sym (marks-lift ys)))
-        ∙ ap (λ (l : List ℕ). list_all may_stand l && is_name_filled (map is_no_space l)) (sym (lifted h))
+        ∙ ap (λ (l : List ℕ). list_all may_stand l && is_name_filled (map is_no_space l))
+        (sym (lifted h))
     by_low false h = by_all (list_all may_stand xs) refl
       where
-        by_all : (b : Bool) → list_all may_stand xs ≡ b → false ≡ (b && is_name_filled (map is_no_space xs))
+        by_all : (b : Bool) → list_all may_stand xs ≡ b
+            → false ≡ (b && is_name_filled (map is_no_space xs))
         by_all true e = absurd (true≢false (sym (lowered e) ∙ h))
         by_all false e = refl
 
-    pub tested_word : nat_eq (bit_or (bit_or (bit_and above 0x8080_8080_8080_8080) past) mis) 0 ≡ is_symbol_field xs
+    pub tested_word : nat_eq (bit_or (bit_or (bit_and above 0x8080_8080_8080_8080) past) mis)
+        0 ≡ is_symbol_field xs
     tested_word =
         neither (bit_or (bit_and above 0x8080_8080_8080_8080) past) mis
-        ∙ ap (λ (b : Bool). b && nat_eq mis 0) (neither (bit_and above 0x8080_8080_8080_8080) past ∙ ap (λ (b : Bool). b && nat_eq past 0) untopped)
+        ∙ ap (λ (b : Bool). b && nat_eq mis 0) (neither (bit_and above 0x8080_8080_8080_8080) past
+        ∙ ap (λ (b : Bool). b && nat_eq past 0) untopped)
         ∙ by_low (list_all is_low ys) refl
         ∙ tested xs long

@@ -29,11 +29,15 @@ and_false true = refl
 and_false false = refl
 
 -- after a space
-behind_by : (s : Bool) (x : ℕ) (xs : List ℕ) → is_space x ≡ s → (list_all may_stand xs && list_all not (map is_no_space xs)) ≡ list_all is_space xs → (list_all may_stand (x ∷ xs) && list_all not (map is_no_space (x ∷ xs))) ≡ list_all is_space (x ∷ xs)
+behind_by : (s : Bool) (x : ℕ) (xs : List ℕ) → is_space x ≡ s
+    → (list_all may_stand xs && list_all not (map is_no_space xs)) ≡ list_all is_space xs
+    → (list_all may_stand (x ∷ xs) && list_all not (map is_no_space (x ∷ xs))) ≡ list_all is_space
+    (x ∷ xs)
 behind_by true x xs e i = rw (e, space_is x e) i
 behind_by false x xs e i = rw e (and_false (list_all may_stand (x ∷ xs)))
 
-behind : (xs : List ℕ) → (list_all may_stand xs && list_all not (map is_no_space xs)) ≡ list_all is_space xs
+behind : (xs : List ℕ) → (list_all may_stand xs && list_all not (map is_no_space xs)) ≡ list_all
+    is_space xs
 behind [] = refl
 behind (x ∷ xs) = behind_by (is_space x) x xs refl (behind xs)
 
@@ -44,15 +48,21 @@ parts_space : (x : ℕ) (xs : List ℕ) → is_space x ≡ true → parts (x ∷
 unfolding parts
 parts_space x xs e = rw (e, e) refl
 
-parts_other : (x : ℕ) (xs : List ℕ) → is_space x ≡ false → parts (x ∷ xs) ≡ (is_name_byte x && parts xs)
+parts_other : (x : ℕ) (xs : List ℕ) → is_space x ≡ false
+    → parts (x ∷ xs) ≡ (is_name_byte x && parts xs)
 unfolding parts
 parts_other x xs e =
-    let one : 1 + prefix_len (λ byte. not (is_space byte)) xs ≡ suc (prefix_len (λ byte. not (is_space byte)) xs) = omega arith in
-    rw (e, one) (and_assoc (is_name_byte x) (list_all is_name_byte (name_of xs)) (list_all is_space (filling_of xs)))
+    let one : 1 + prefix_len (λ byte. not (is_space byte)) xs ≡ suc
+    (prefix_len (λ byte. not (is_space byte)) xs) = omega arith in
+    rw (e, one) (and_assoc (is_name_byte x) (list_all is_name_byte (name_of xs))
+    (list_all is_space (filling_of xs)))
 
-whole_by : (s : Bool) (x : ℕ) (xs : List ℕ) → is_space x ≡ s → (list_all may_stand xs && is_filled (map is_no_space xs)) ≡ parts xs → (list_all may_stand (x ∷ xs) && is_filled (map is_no_space (x ∷ xs))) ≡ parts (x ∷ xs)
+whole_by : (s : Bool) (x : ℕ) (xs : List ℕ) → is_space x ≡ s
+    → (list_all may_stand xs && is_filled (map is_no_space xs)) ≡ parts xs
+    → (list_all may_stand (x ∷ xs) && is_filled (map is_no_space (x ∷ xs))) ≡ parts (x ∷ xs)
 whole_by true x xs e i = rw (parts_space x xs e, e, space_is x e) (behind xs)
-whole_by false x xs e i = rw (parts_other x xs e, e, other_is x e, ← i) (and_assoc (is_name_byte x) (list_all may_stand xs) (is_filled (map is_no_space xs)))
+whole_by false x xs e i = rw (parts_other x xs e, e, other_is x e, ← i) (and_assoc (is_name_byte x)
+    (list_all may_stand xs) (is_filled (map is_no_space xs)))
 
 whole : (xs : List ℕ) → (list_all may_stand xs && is_filled (map is_no_space xs)) ≡ parts xs
 unfolding parts
@@ -68,18 +78,22 @@ name_first x xs = grind (arith, common_steps, nat_tests)
 most_eight : (n : ℕ) → n ≤ 8 → nat_le n 8 ≡ true
 most_eight n h = grind (arith, nat_tests)
 
-first_taken : (a s : Bool) (ms : List Bool) → (a && (not s && is_filled ms)) ≡ (not s && (a && is_filled (not s ∷ ms)))
+first_taken : (a s : Bool) (ms : List Bool)
+    → (a && (not s && is_filled ms)) ≡ (not s && (a && is_filled (not s ∷ ms)))
 first_taken a true ms = and_false a
 first_taken a false ms = refl
 
-pub tested : (xs : List ℕ) → length xs ≡ 8 → (list_all may_stand xs && is_name_filled (map is_no_space xs)) ≡ is_symbol_field xs
+pub tested : (xs : List ℕ) → length xs ≡ 8
+    → (list_all may_stand xs && is_name_filled (map is_no_space xs)) ≡ is_symbol_field xs
 unfolding parts
 tested [] n = absurd (omega arith)
 tested (x ∷ xs) n =
     let m = most_eight (length (name_of (x ∷ xs))) (omega (arith, name_short (x ∷ xs))) in
     first_taken (list_all may_stand (x ∷ xs)) (is_space x) (map is_no_space xs)
     ∙ ap (λ (b : Bool). not (is_space x) && b) (whole (x ∷ xs))
-    ∙ rw (n, name_first x xs, m) (sym (and_assoc (not (is_space x)) (list_all is_name_byte (name_of (x ∷ xs))) (list_all is_space (filling_of (x ∷ xs)))))
+    ∙ rw (n, name_first x xs, m)
+    (sym (and_assoc (not (is_space x)) (list_all is_name_byte (name_of (x ∷ xs)))
+    (list_all is_space (filling_of (x ∷ xs)))))
 
 -- a symbol's bytes are bytes
 small : (byte : ℕ) → may_stand byte ≡ true → byte < 256
@@ -96,8 +110,11 @@ len_eight field h = grind (arith, nat_tests)
 pub bytes_small : (field : List ℕ) → is_symbol_field field ≡ true → (i : ℕ) → get_or field i 0 < 256
 bytes_small field h =
     let n = len_eight field h in
-    all_small field (and_parts (list_all may_stand field) (is_name_filled (map is_no_space field)) (tested field n ∙ h)).0
+    all_small field (and_parts (list_all may_stand field) (is_name_filled (map is_no_space field))
+    (tested field n ∙ h)).0
 
 -- the number of a symbol's field gives its bytes again
-pub bytes_of_word : (field : List ℕ) → is_symbol_field field ≡ true → to_be_bytes w64 (key_of field) ≡ field
-bytes_of_word field h = be_bytes_8 field (key_of field) (len_eight field h) (bytes_small field h) refl
+pub bytes_of_word : (field : List ℕ) → is_symbol_field field ≡ true
+    → to_be_bytes w64 (key_of field) ≡ field
+bytes_of_word field h = be_bytes_8 field (key_of field) (len_eight field h)
+    (bytes_small field h) refl

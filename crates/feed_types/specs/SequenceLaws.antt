@@ -1,4 +1,5 @@
--- The laws of the rule of a venue's items, as terms: for rules of lanes, of which one is a member, and
+-- The laws of the rule of a venue's items, as terms: for rules of lanes, of which one is a member,
+-- and
 -- for proofs of the crates above.
 use Rattle.std.specs.Prelude.{◌≡◌, refl, ℕ, List, [], ◌∷◌, ◌++◌}
 use Rattle.feed_types.specs.declared.item.Numbered.{Numbered}

@@ -5,7 +5,7 @@
 //! | the queue is made | the first | it may do all and has done nothing |
 //! | it is parted ([`Parted`]) | both ends' | they have tag and capacity; one may push, one pop |
 //! | a push ([`Pushed`]) | the sender's | the item joins what was sent, if the rule allows it |
-//! | a refused push | the sender's | none: the queue was full, so as many were sent as it has room for |
+//! | a refused push | the sender's | none: as many were sent as it has room for |
 //! | a pop ([`Popped`]) | the receiver's | the front item joins what was received |
 //! | an empty pop | the receiver's | none |
 //! | the ends are joined ([`Joined`]) | the sender's | it has both lists |

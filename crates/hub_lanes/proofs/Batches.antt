@@ -20,7 +20,8 @@ use Rattle.hub_lanes.proofs.LaneEnds.{end_grows}
 module _ (journal venue : ℕ) (old after : Intake) where
   -- an item was journaled
   item_journaled : (b : Bool) (next : Option Numbered) (position : ℕ)
-      → AppliesTo (if b then Refused journal_full else journal_item venue next old) old (done.Consumed position) after
+      → AppliesTo (if b then Refused journal_full else journal_item venue next old) old
+      (done.Consumed position) after
       → (x : Numbered) × (after ≡ record {
         received = old.received ++ x ∷ [];
         entries = old.entries ++ entry.Consumed venue x ∷ [];
@@ -31,7 +32,8 @@ module _ (journal venue : ℕ) (old after : Intake) where
 
   -- where there was no item, there was room
   none_journaled : (b : Bool) (next : Option Numbered)
-      → AppliesTo (if b then Refused journal_full else journal_item venue next old) old done.LaneEmpty after
+      → AppliesTo (if b then Refused journal_full else journal_item venue next old)
+      old done.LaneEmpty after
       → (b ≡ false) × (after ≡ old)
   none_journaled true next e = absurd (let h = e.0 in cc)
   none_journaled false None e = (refl, e.1)
@@ -53,7 +55,8 @@ full_of m n e = grind (arith, nat_tests)
 
 module _ (venue : ℕ) (old : HubState) where
   -- nothing was journaled yet
-  pub no_items : (lane : LaneEnd Numbered) → slice_get old.receivers venue ≡ Some lane → ConsumesItems venue [] old old
+  pub no_items : (lane : LaneEnd Numbered) → slice_get old.receivers venue ≡ Some lane
+      → ConsumesItems venue [] old old
   no_items lane at = record {
     lane = lane;
     at = at;
@@ -64,7 +67,8 @@ module _ (venue : ℕ) (old : HubState) where
   }
 
   -- none was journaled
-  pub start_count : (after : HubState) → after ≡ old → venue < length old.receivers → ConsumesCount venue 0 old after
+  pub start_count : (after : HubState) → after ≡ old → venue < length old.receivers
+      → ConsumesCount venue 0 old after
   start_count after same below =
       let there = get_within old.receivers venue below in
       subst (λ (s : HubState). ConsumesCount venue 0 old s) (sym same) (record {
@@ -86,8 +90,10 @@ module _ (venue : ℕ) (old : HubState) where
         → ConsumesOne venue (Ok (Some position)) between new
         → (x : Numbered) × ConsumesItems venue (items ++ x ∷ []) old new
     one_item items position r one =
-        let found = item_journaled between.journal.journal venue (hub_intake one.lane between.journal)
-        one.after (nat_le between.journal.journal (length between.journal.entries)) one.next position
+        let found = item_journaled between.journal.journal venue
+        (hub_intake one.lane between.journal)
+        one.after (nat_le between.journal.journal (length between.journal.entries)) one.next
+        position
         one.comes in
         let x = found.0 in
         let consumed = entry.Consumed venue in (
@@ -95,9 +101,11 @@ module _ (venue : ℕ) (old : HubState) where
           record {
             lane = r.lane;
             at = r.at;
-            received = end_grows old.receivers between.receivers new.receivers venue r.lane one.lane items x
+            received = end_grows old.receivers between.receivers new.receivers venue
+                r.lane one.lane items x
                 r.at one.at r.received (one.received
-                ∙ ap (λ (i : Intake). slice_set between.receivers venue (with_items one.lane i.received))
+                ∙ ap (λ (i : Intake). slice_set between.receivers venue
+                (with_items one.lane i.received))
                 found.1);
             entries = one.entries ∙ ap (λ (i : Intake). i.entries) found.1
                 ∙ ap (λ (l : List Entry). l ++ consumed x ∷ []) r.entries
@@ -112,13 +120,16 @@ module _ (venue : ℕ) (old : HubState) where
     pub no_item_more : (items : List Numbered) → ConsumesItems venue items old between
         → ConsumesOne venue (Ok None) between new → ConsumesItems venue items old new
     no_item_more items r one =
-        let found = none_journaled between.journal.journal venue (hub_intake one.lane between.journal)
-        one.after (nat_le between.journal.journal (length between.journal.entries)) one.next one.comes in
+        let found = none_journaled between.journal.journal venue
+        (hub_intake one.lane between.journal)
+        one.after (nat_le between.journal.journal (length between.journal.entries)) one.next
+        one.comes in
         record {
           lane = r.lane;
           at = r.at;
           received = one.received
-              ∙ ap (λ (i : Intake). slice_set between.receivers venue (with_items one.lane i.received))
+              ∙ ap (λ (i : Intake). slice_set between.receivers venue
+              (with_items one.lane i.received))
               found.1
               ∙ put_same between.receivers venue one.lane one.at ∙ r.received;
           entries = one.entries ∙ ap (λ (i : Intake). i.entries) found.1 ∙ r.entries;
@@ -126,7 +137,8 @@ module _ (venue : ℕ) (old : HubState) where
         }
 
   -- one more was journaled
-  pub one_more_item : (count position : ℕ) (between new : HubState) → ConsumesCount venue count old between
+  pub one_more_item : (count position : ℕ) (between new : HubState)
+      → ConsumesCount venue count old between
       → ConsumesOne venue (Ok (Some position)) between new → KeepsButIntake between new
       → ConsumesCount venue (count + 1) old new
   one_more_item count position between new r one kept =
@@ -153,7 +165,8 @@ module _ (venue : ℕ) (old : HubState) where
       → HasEntryRoom old
   had_room between new same later =
       let one = subst (λ (s : HubState). ConsumesOne venue (Ok None) s new) same later in
-      let found = none_journaled old.journal.journal venue (hub_intake one.lane old.journal) one.after
+      let found = none_journaled old.journal.journal venue (hub_intake one.lane old.journal)
+      one.after
       (nat_le old.journal.journal (length old.journal.entries)) one.next one.comes in
       room_of old.journal.journal (length old.journal.entries) found.0
 

@@ -33,7 +33,8 @@ module _ {T : Type 0} where
       let same : now ≡ was = one_there (slice_get between k) now was at_now here in
       grown ∙ ap (more between) same ∙ ap (λ (l : List (LaneEnd T)). more l was) were
       ∙ put_twice old k was (with_items was (was.items ++ x ∷ []))
-      ∙ ap (λ (l : List T). slice_set old k (with_items lane l)) (append_assoc lane.items xs (x ∷ []))
+      ∙ ap (λ (l : List T). slice_set old k (with_items lane l))
+      (append_assoc lane.items xs (x ∷ []))
 
   -- through the end at this place went `n` items more
   pub sum_put : (xs : List (LaneEnd T)) (i n : ℕ) (l w : LaneEnd T) → slice_get xs i ≡ Some l

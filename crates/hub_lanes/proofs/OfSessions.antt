@@ -10,13 +10,17 @@ use Rattle.feed_steps.specs.Premises.{AreOfSessions, BringExactly}
 use Rattle.feed_steps.specs.Lanes.{FeedLanes}
 use Rattle.hub_lanes.specs.Hubs.{HubState, HubLockInvariant}
 
-module _ {S : Type 0} (premise : Genuine S) (of_sessions : AreOfSessions premise) (lanes : FeedLanes) where
-  pub journaled_of_sessions : (s : HubState) (venue : ℕ) (all : List Session) → HubLockInvariant premise lanes s
+module _ {S : Type 0} (premise : Genuine S) (of_sessions : AreOfSessions premise)
+    (lanes : FeedLanes) where
+  pub journaled_of_sessions : (s : HubState) (venue : ℕ) (all : List Session)
+      → HubLockInvariant premise lanes s
       → venue < length lanes.venues → BringExactly premise venue all
-      → SkipsNothing (items_in s.journal.entries venue) → IsPrefix (items_in s.journal.entries venue) (whole_sessions all)
+      → SkipsNothing (items_in s.journal.entries venue)
+      → IsPrefix (items_in s.journal.entries venue) (whole_sessions all)
   journaled_of_sessions s venue all h below names none =
       let count = h.count in
       let many = h.venues in
       let there = get_within s.receivers venue (omega arith) in
-      of_sessions venue all (items_in s.journal.entries venue) names (h.consumed venue there.0 there.1).sequence
+      of_sessions venue all (items_in s.journal.entries venue) names
+      (h.consumed venue there.0 there.1).sequence
       none

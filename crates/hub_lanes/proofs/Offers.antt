@@ -85,7 +85,8 @@ stays_over id old new kept same h = record {
   why = elim h.why [
     | inl full ↦ inl full
     | inr none ↦ inr (ap (λ (j : JournalState).
-        slice_get (wanted_of j.symbols h.terms j.entries) (length h.lane.items)) kept.journal ∙ none)
+        slice_get (wanted_of j.symbols h.terms j.entries) (length h.lane.items)) kept.journal
+        ∙ none)
   ];
 }
 
@@ -124,7 +125,8 @@ module _ (id pushed : ℕ) (old between new : HubState)
         at = r.at;
         sent = end_grows old.senders between.senders new.senders id r.lane one.lane r.notices n r.at
             one.at r.sent (one.sent_is
-            ∙ ap (λ (l : List Notice). slice_set between.senders id (with_items one.lane l)) found.1);
+            ∙ ap (λ (l : List Notice). slice_set between.senders id (with_items one.lane l))
+            found.1);
         kept = kept_on old between new r.kept kept;
       }
 
@@ -141,7 +143,8 @@ module _ (id pushed : ℕ) (old between new : HubState)
             (length one.lane.items)
 
         by_why : (u : Unsent)
-            → AppliesTo (offer_next one.full next one.lane.items) one.lane.items (offer_done (Err u)) one.sent
+            → AppliesTo (offer_next one.full next one.lane.items) one.lane.items
+            (offer_done (Err u)) one.sent
             → one.sent ≡ one.lane.items
         by_why unsent.Nothing comes = (none_wanted one.lane.items one.sent one.full next comes).1
         by_why unsent.LaneFull comes = (lane_full one.lane.items one.sent one.full next comes).1
@@ -174,7 +177,8 @@ module _ (id pushed : ℕ) (why : Unsent) (old between new : HubState)
           (length one.lane.items)
 
       by_why : (u : Unsent)
-          → AppliesTo (offer_next one.full next one.lane.items) one.lane.items (offer_done (Err u)) one.sent
+          → AppliesTo (offer_next one.full next one.lane.items) one.lane.items
+          (offer_done (Err u)) one.sent
           → HasFilled one.lane ⊎ (next ≡ None)
       by_why unsent.Nothing comes = inr (none_wanted one.lane.items one.sent one.full next comes).0
       by_why unsent.LaneFull comes =
@@ -224,7 +228,8 @@ changes_stay old new kept = ap (λ (j : JournalState). length (changes j)) kept.
 
 -- all changes were looked at
 pub all_looked_at : (id to pushed : ℕ) (unfinished : Bool) (old new : HubState)
-    → OffersUpTo id to pushed unfinished old new → to ≡ length (changes old.journal) → Offers id pushed old new
+    → OffersUpTo id to pushed unfinished old new → to ≡ length (changes old.journal)
+    → Offers id pushed old new
 all_looked_at id to pushed false old new r all = record { sends = r.sends; over = r.over }
 all_looked_at id to pushed true old new r all =
     let same = changes_stay old new r.sends.kept in
@@ -238,8 +243,10 @@ counts_of : (id pushed : ℕ) (old new : HubState) → SendsNotices id pushed ol
     → OffersCount pushed old new
 counts_of id pushed old new r = record {
   more = length r.notices;
-  total = ap (λ (l : List (LaneEnd Notice)). sum_by (λ (e : LaneEnd Notice). length e.items) l) r.sent
-      ∙ sum_put old.senders id (length r.notices) r.lane (with_items r.lane (r.lane.items ++ r.notices))
+  total = ap (λ (l : List (LaneEnd Notice)). sum_by (λ (e : LaneEnd Notice). length e.items) l)
+      r.sent
+      ∙ sum_put old.senders id (length r.notices) r.lane
+      (with_items r.lane (r.lane.items ++ r.notices))
       r.at (length-append r.lane.items r.notices);
   counted = r.counted;
   kept = r.kept;
@@ -268,7 +275,8 @@ before_or_at (suc m) (suc n) h = elim (before_or_at m n (omega arith)) [
 -- Notices were offered to the subscribers below this id.
 pub record OffersBelow (id answer : ℕ) (unfinished : Bool) (old new : HubState) : Type 0 where
   pub counts : OffersCount answer old new
-  pub over : MatchBool unfinished (1024 < length (changes new.journal)) ((k : ℕ) → k < id → HasNoOffer k new)
+  pub over : MatchBool unfinished (1024 < length (changes new.journal)) ((k : ℕ)
+      → k < id → HasNoOffer k new)
 
 pub none_yet : (s : HubState) → OffersBelow 0 0 false s s
 none_yet s = record {
@@ -280,21 +288,25 @@ none_yet s = record {
 module _ (id to : ℕ) (old between new : HubState) where
   still_over : (answer pushed : ℕ) (left cut : Bool) → OffersBelow id answer left old between
       → OffersUpTo id to pushed cut between new → 1024 ≤ to
-      → MatchBool (left || cut) (1024 < length (changes new.journal)) ((k : ℕ) → k < id + 1 → HasNoOffer k new)
+      → MatchBool (left || cut) (1024 < length (changes new.journal)) ((k : ℕ)
+      → k < id + 1 → HasNoOffer k new)
   still_over answer pushed true cut r next many =
-      let more = r.over in let same = changes_stay between new next.sends.kept in omega (arith, more, same)
+      let more = r.over in let same = changes_stay between new next.sends.kept
+      in omega (arith, more, same)
   still_over answer pushed false true r next many =
       let seen = next.over.seen in let more = next.over.more in omega (arith, seen, more, many)
   still_over answer pushed false false r next many = λ k below. elim (before_or_at k id below) [
     | inl less ↦ stays_over k between new next.sends.kept
         (ap (λ (l : List (LaneEnd Notice)). slice_get l k) next.sends.sent
-        ∙ get_other between.senders id k (with_items next.sends.lane (next.sends.lane.items ++ next.sends.notices))
+        ∙ get_other between.senders id k (with_items next.sends.lane (next.sends.lane.items
+        ++ next.sends.notices))
         (omega arith))
         (r.over k less)
     | inr same ↦ subst (λ (n : ℕ). HasNoOffer n new) (sym same) next.over
   ]
 
-pub one_offered : (id at to answer pushed sum : ℕ) (left cut : Bool) (old between new : HubState) → at ≡ id
+pub one_offered : (id at to answer pushed sum : ℕ) (left cut : Bool) (old between new : HubState)
+    → at ≡ id
     → OffersBelow id answer left old between → OffersUpTo at to pushed cut between new → 1024 ≤ to
     → sum ≡ shown (answer + pushed) → OffersBelow (id + 1) sum (left || cut) old new
 one_offered id at to answer pushed sum left cut old between new at_is r found many is =

@@ -8,6 +8,7 @@ use Rattle.hub_lanes.specs.Spares.{IsUnused, AreUnused}
 pub spares_more : (capacity : ℕ) (spare : List SpareLane) (s : SpareLane) → AreUnused capacity spare
     → IsUnused capacity (length spare) s → AreUnused capacity (spare ++ s ∷ [])
 spares_more capacity spare s before unused id x at = elim (get_push spare id s x at) [
-  | inl here ↦ subst (λ (p : ℕ × SpareLane). IsUnused capacity p.0 p.1) (λ i. (sym here.0 i, sym here.1 i)) unused
+  | inl here ↦ subst (λ (p : ℕ × SpareLane). IsUnused capacity p.0 p.1)
+      (λ i. (sym here.0 i, sym here.1 i)) unused
   | inr there ↦ before id x there.1
 ]

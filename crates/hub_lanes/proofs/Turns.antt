@@ -43,7 +43,8 @@ module _ (venues first : ℕ) (begins : (first ≡ 0) ⊎ (first < venues)) wher
 
   module _ (step at v : ℕ) (left : step < venues) (known : at < venues) (below : v < venues)
       (is : (at ≡ first + step) ⊎ (at + venues ≡ first + step)) where
-    pub next_reached : IsReached venues first (step + 1) v → IsReached venues first step v ⊎ (v ≡ at)
+    pub next_reached : IsReached venues first (step + 1) v → IsReached venues first step v
+        ⊎ (v ≡ at)
     next_reached (inl there) =
         let begun = there.0 in
         let next : v < (first + step) + 1 = (let h = there.1 in omega arith) in
@@ -116,7 +117,8 @@ module _ {S : Type 0} (premise : Genuine S) (lanes : FeedLanes) where
     still_asked : (v : ℕ) → Contains (map (λ (x : Batch). x.venue) r.batches) v
         → Contains (map (λ (x : Batch). x.venue) (r.batches ++ b ∷ [])) v
     still_asked v before =
-        subst (λ (l : List ℕ). Contains l v) (sym (map-append (λ (x : Batch). x.venue) r.batches (b ∷ [])))
+        subst (λ (l : List ℕ). Contains l v)
+        (sym (map-append (λ (x : Batch). x.venue) r.batches (b ∷ [])))
         (Contains-append_left (map (λ (x : Batch). x.venue) r.batches) (b.venue ∷ []) v before)
 
     now_asked : Contains (map (λ (x : Batch). x.venue) (r.batches ++ b ∷ [])) b.venue
@@ -157,14 +159,22 @@ module _ {S : Type 0} (premise : Genuine S) (lanes : FeedLanes) (first : ℕ)
         → RoundUpTo premise lanes first (step + 1) (consumed + count) old new
     one_call venue most count new left known is some one =
         let b : Batch = record { venue = venue; most = most; answer = Ok count; after = new } in
-        let batch : IsBatch premise lanes b between = record { known = known; asked = some; consumes = one } in
+        let batch : IsBatch premise lanes b between = record {
+          known = known;
+          asked =
+              some;
+          consumes = one;
+        } in
         record {
           intake = one_batch premise lanes b consumed old between r.intake batch;
           asked = λ v below reached.
-              elim (next_reached (length lanes.venues) first begins step venue v left known below is reached) [
+              elim (next_reached (length lanes.venues) first begins step venue v left
+              known below is reached) [
                 | inl before ↦ still_asked premise lanes b consumed old between r.intake batch v
                     (r.asked v below before)
-                | inr same ↦ subst (λ (n : ℕ). Contains (map (λ (x : Batch). x.venue) (r.intake.batches ++ b ∷ [])) n)
+                | inr same ↦ subst
+                    (λ (n : ℕ). Contains (map (λ (x : Batch). x.venue) (r.intake.batches ++ b ∷ []))
+                    n)
                     (sym same)
                     (now_asked premise lanes b consumed old between r.intake batch)
               ];

@@ -30,7 +30,8 @@ abbrev pub HasEntryRoom : HubState → Type 0
 HasEntryRoom s = length s.journal.entries < s.journal.journal
 
 -- The answer to who asks for at most `most` items, by cases. It is how many were journaled: none
--- only where none was asked for, or where there was room for one. A full journal is answered as such
+-- only where none was asked for, or where there was room for one. A full journal is answered as
+-- such
 -- where no item was journaled, whether or not there is one; a refused call changes nothing.
 abbrev pub ConsumesBatch : FeedLanes → ℕ → ℕ → Result ℕ JournalFault → HubState → HubState
     → Type 0

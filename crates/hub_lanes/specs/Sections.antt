@@ -33,7 +33,8 @@ consume_done (Err fault) = done.Refused (journal_fault_code fault)
 
 -- Consume: the next item of the venue's lane was journaled; or none was, though there was room for
 -- it; or the journal is full.
-pub record ConsumesOne (venue : ℕ) (answer : Result (Option ℕ) JournalFault) (old new : HubState) : Type 0 where
+pub record ConsumesOne (venue : ℕ) (answer : Result (Option ℕ) JournalFault)
+    (old new : HubState) : Type 0 where
   pub lane : LaneEnd Numbered
   pub at : slice_get old.receivers venue ≡ Some lane
   pub next : Option Numbered
@@ -81,7 +82,8 @@ offer_done (Ok number) = done.Offered number
 offer_done (Err unsent.Nothing) = done.NothingWanted
 offer_done (Err unsent.LaneFull) = done.LaneFull
 
--- Offer: the next notice that the subscriber wants was sent to it, or was refused by its lane, which
+-- Offer: the next notice that the subscriber wants was sent to it, or was refused by its lane,
+-- which
 -- was sent as many as it has room for.
 pub record HubOffersOne (id : ℕ) (answer : Result ℕ Unsent) (old new : HubState) : Type 0 where
   pub lane : LaneEnd Notice
@@ -98,7 +100,8 @@ pub record HubOffersOne (id : ℕ) (answer : Result ℕ Unsent) (old new : HubSt
       lane.items (offer_done answer) sent
   pub sent_is : new.senders ≡ slice_set old.senders id (with_items lane sent)
 
--- No change up to number `to` that wasn't looked at for the subscriber is wanted by it; its cursor is
+-- No change up to number `to` that wasn't looked at for the subscriber is wanted by it; its cursor
+-- is
 -- past these, and there are more. Nothing else has changed.
 pub record LooksOn (id to : ℕ) (old new : HubState) : Type 0 where
   pub most : ℕ

@@ -13,8 +13,8 @@ use filter_terms::Filter;
 use journal_book::{JournalFault, Unfinished};
 use std::sync::Wait;
 
-/// The most changes that are looked at for a subscriber in one section, so that nobody waits long for
-/// the lock where one comes late.
+/// The most changes that are looked at for a subscriber in one section, so that nobody waits long
+/// for the lock where one comes late.
 const CHANGES_A_SECTION: usize = 1_024;
 
 /// Journals the next item of the venue's lane, and returns its position; None where the lane is
@@ -62,9 +62,9 @@ pub fn consume_some<G: Genuine, N: FeedName, W: Wait>(
     Ok(most)
 }
 
-/// Journals the items of the venue's lane that are there, at most `most`, and returns how many there
-/// were, and waits for no sender: `in_the_way` becomes true where one stands in the middle of its
-/// push. UnknownVenue, else a refusal where it comes before any item; then nothing has changed.
+/// Journals the items of the venue's lane that are there, at most `most`, and returns how many
+/// there were, and waits for no sender: `in_the_way` becomes true where one stands in the middle of
+/// its push. UnknownVenue, else a refusal where it comes before any item; then nothing has changed.
 pub fn consume_at_once<G: Genuine, N: FeedName>(
     core: &mut JournalAndLanes<G, N>,
     venue: VenueId,

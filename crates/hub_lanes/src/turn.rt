@@ -22,12 +22,13 @@ pub struct Consolidated {
     pub consumed: u32,
     /// By the venue's number, whether an item of it was journaled.
     pub venues: [bool; 16],
-    /// Whether a sender stood in the middle of its push, so that its venue was passed over. It rings
-    /// once it is done.
+    /// Whether a sender stood in the middle of its push, so that its venue was passed over. It
+    /// rings once it is done.
     pub passed_over: bool,
     /// The number of notices that were offered, to all subscribers.
     pub offered: u64,
-    /// Whether changes are left that weren't looked at for a subscriber. The next turn goes on there.
+    /// Whether changes are left that weren't looked at for a subscriber. The next turn goes on
+    /// there.
     pub unfinished: bool,
     /// The refusal of journaling, if there was one: JournalFull, NoMemory or SubscriberBehind.
     pub refused: Option<JournalFault>,

@@ -12,9 +12,11 @@ use Rattle.journal_book.specs.NumberedBooks.{NumberedState}
 use Rattle.journal_book.specs.Slowest.{slowest}
 use Rattle.journal_book.proofs.CursorMoving.{slowest_from, slowest_within, within_slowest, some_behind}
 
-module _ (numbered : NumberedState) (counted : List Entry) (kept first : ℕ) (entries : List Entry) (entry_room : ℕ) (notices : List Notice)
+module _ (numbered : NumberedState) (counted : List Entry) (kept first : ℕ) (entries : List Entry)
+    (entry_room : ℕ) (notices : List Notice)
     (notice_room : ℕ) (cursors : List Cursor)
-    (keeps : Keeps numbered counted (Some kept) entries entry_room first notices notice_room cursors) where
+    (keeps : Keeps numbered counted (Some kept) entries entry_room first notices
+    notice_room cursors) where
   abbrev all : List Notice
   all = changes_of numbered.symbols numbered.entries
 
@@ -28,10 +30,12 @@ module _ (numbered : NumberedState) (counted : List Entry) (kept first : ℕ) (e
   pub few_enough : now ≤ first + length notices
   few_enough =
       let end : now ≤ length all = slowest_within (length all) cursors in
-      let count : length notices ≡ length all - first = ap length keeps.run ∙ length-drop first all in
+      let count : length notices ≡ length all - first = ap length keeps.run
+      ∙ length-drop first all in
       omega arith
 
-  pub lets_go : Keeps numbered counted (Some kept) entries entry_room now (drop (now - first) notices) notice_room cursors
+  pub lets_go : Keeps numbered counted (Some kept) entries entry_room now
+      (drop (now - first) notices) notice_room cursors
   lets_go =
       let forth : first ≤ now = goes_forth in
       let place : first + (now - first) ≡ now = omega arith in
@@ -39,7 +43,8 @@ module _ (numbered : NumberedState) (counted : List Entry) (kept first : ℕ) (e
         same = keeps.same;
         counts = keeps.counts;
         room = keeps.room;
-        run = ap (drop (now - first)) keeps.run ∙ drop-drop (now - first) first all ∙ ap (λ (n : ℕ). drop n all) place;
+        run = ap (drop (now - first)) keeps.run ∙ drop-drop (now - first) first all
+            ∙ ap (λ (n : ℕ). drop n all) place;
         within = keeps.within;
         limited = keeps.limited;
         begun = slowest_within (length all) cursors;
@@ -50,18 +55,28 @@ module _ (numbered : NumberedState) (counted : List Entry) (kept first : ℕ) (e
 
   -- and there is room
   pub makes_room : length numbered.entries < numbered.journal → length all - now ≤ kept
-      → has_room numbered.journal (length numbered.symbols) (length numbered.entries) (length entries) entry_room
+      → has_room numbered.journal (length numbered.symbols) (length numbered.entries)
+      (length entries) entry_room
       (length (drop (now - first) notices)) notice_room ≡ true
   makes_room below few =
       let none : length entries ≡ 0 = ap length keeps.same in
       let entry : 0 < entry_room = keeps.room.0 in
       let room : kept + length numbered.symbols ≤ notice_room = keeps.room.1 in
-      let count : length (drop (now - first) notices) ≡ length all - now = ap length lets_go.run ∙ length-drop now all in
+      let count : length (drop (now - first) notices) ≡ length all - now = ap length lets_go.run
+      ∙ length-drop now all in
       grind (arith, nat_tests)
 
 -- the slowest one is behind
 pub is_behind : (state : JournalState) (most : ℕ) → state.kept ≡ Some most
-    → slowest (length (changes state)) state.cursors + most < length (changes state) → IsBehind state
+    → slowest (length (changes state)) state.cursors + most < length (changes state)
+    → IsBehind state
 is_behind state most kept low =
     let found = some_behind most (length (changes state)) state.cursors low in
-    record { most = most; kept = kept; id = found.id; cursor = found.cursor; at = found.at; behind = found.behind }
+    record {
+      most = most;
+      kept = kept;
+      id = found.id;
+      cursor = found.cursor;
+      at = found.at;
+      behind = found.behind;
+    }

@@ -10,7 +10,8 @@ item_count counts venue = slice_index counts venue
 
 -- the counts with one more for the venue of the item that the entry consumes
 abbrev pub items_counted : Entry → List ℕ → List ℕ
-items_counted (Consumed venue numbered) counts = slice_set counts venue (item_count counts venue + 1)
+items_counted (Consumed venue numbered) counts = slice_set counts venue
+    (item_count counts venue + 1)
 items_counted (SelfHelp venue on) counts = counts
 
 -- sixteen counts, of each venue how many items of it are in the entries

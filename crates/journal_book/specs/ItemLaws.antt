@@ -8,7 +8,8 @@ use Rattle.feed_types.specs.declared.journal.Entry.{Entry}
 use Rattle.feed_types.specs.declared.journal.Entry.TheVariants.{Consumed, SelfHelp}
 use Rattle.journal_book.specs.ItemsIn.{item_by, items_in}
 
-pub items_put : (v : ℕ) (es : List Entry) (e : Entry) → items_in (es ++ e ∷ []) v ≡ items_in es v ++ item_by v e
+pub items_put : (v : ℕ) (es : List Entry) (e : Entry) → items_in (es ++ e ∷ []) v ≡ items_in es v
+    ++ item_by v e
 items_put v es e = flat_map-append (item_by v) es (e ∷ [])
     ∙ ap (λ (xs : List Numbered). items_in es v ++ xs) (append-nil (item_by v e))
 

@@ -116,6 +116,7 @@ Reserves old _ new = ⊥
 abbrev pub Declares : JournalState → ℕ → Bool → Result ℕ JournalFault → JournalState → Type 0
 Declares old venue on answer new =
     DeclaresBy old.venues old.journal old.entries (new ≡ old)
-    (λ fault. (venue < old.venues) × (is_so old.entries venue on ≡ false) × Reserves old (Err fault) new)
+    (λ fault. (venue < old.venues) × (is_so old.entries venue on ≡ false)
+    × Reserves old (Err fault) new)
     (λ position. Journals old (SelfHelp venue on) new × (position ≡ length new.entries))
     venue on answer

@@ -32,11 +32,13 @@ pub record IsWithin (first end : ℕ) (cursor : Cursor) : Type 0 where
   pub from : first ≤ cursor.seen
   pub to : cursor.seen ≤ end
 
--- Of a journal: its entries are all or none, its counts are of all of them, its notices are the changes of the book's entries from
+-- Of a journal: its entries are all or none, its counts are of all of them, its notices are the
+-- changes of the book's entries from
 -- `first` on, and the cursors are within them. Where not all are kept there is room for one entry,
 -- and for its changes beside as many as a subscriber may be behind.
 pub record Keeps (numbered : NumberedState) (counted : List Entry) (kept : Option ℕ)
-    (entries : List Entry) (entry_room first : ℕ) (notices : List Notice) (notice_room : ℕ) (cursors : List Cursor)
+    (entries : List Entry) (entry_room first : ℕ) (notices : List Notice) (notice_room : ℕ)
+    (cursors : List Cursor)
     : Type 0 where
   pub same : entries ≡ kept_of kept numbered.entries
   pub counts : counted ≡ numbered.entries

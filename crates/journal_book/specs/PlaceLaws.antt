@@ -1,4 +1,5 @@
--- Laws of the next wanted place, for crates above; they are proved here, and nobody has to read them.
+-- Laws of the next wanted place, for crates above; they are proved here, and nobody has to read
+-- them.
 use Rattle.std.proofs.Common.{◌≡◌, ℕ, zero, suc, ◌+◌, ◌<◌, ◌≤◌, Bool, true, false, cond, List, [], ◌∷◌, ◌++◌, filter, length, take, Option, Some, None, ap, subst, sym, refl, ◌∙◌, arith}
 use Rattle.std.specs.Prelude.{slice_get, IfSome, IsTrue}
 use Rattle.std.proofs.lemmas.List.{take_all}

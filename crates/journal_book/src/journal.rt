@@ -67,11 +67,13 @@ impl Model for Journal {
           (vec_capacity j.notices);
     } };
 
-    ghost invariant = { λ j. Keeps j.numbered j.counted j.most j.entries.items (vec_capacity j.entries)
+    ghost invariant = { λ j. Keeps j.numbered j.counted j.most j.entries.items
+        (vec_capacity j.entries)
         j.first j.notices.items (vec_capacity j.notices) j.cursors.items };
 }
 
-/// The changes that are kept, and the place of the first one that wasn't looked at for a subscriber.
+/// The changes that are kept, and the place of the first one that wasn't looked at for a
+/// subscriber.
 #[derive(Clone, Copy)]
 struct Rest<'a> {
     changes: &'a [Notice],

@@ -34,11 +34,12 @@ end_len (Some e) m h =
 pub cursor : (s : State) (packets : List Input) → Stands s packets
     → (s.sent ≤ s.front) ⊎ ((s.sent ≡ s.front + 1) × (end_of packets ≡ Some (s.front + 1)))
 cursor s packets fits = elim (cases_lt s.front s.sent) [
-  | inl past ↦ inr (let k = fits.sent in let l = length-stream packets s.front in let o = opens_most packets s.front fits.front in (
-    omega (arith, end_most (end_of packets) (s.front + 1)),
-    end_len (end_of packets)
-        (s.front + 1) (omega arith),
-  ))
+  | inl past ↦ inr (let k = fits.sent in let l = length-stream packets s.front in let o =
+      opens_most packets s.front fits.front in (
+        omega (arith, end_most (end_of packets) (s.front + 1)),
+        end_len (end_of packets)
+            (s.front + 1) (omega arith),
+      ))
   | inr le ↦ inl le
 ]
 

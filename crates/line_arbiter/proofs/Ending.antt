@@ -16,15 +16,19 @@ use Rattle.line_arbiter.proofs.Soundness.{front_before_end, none_past_end}
 use Rattle.line_arbiter.specs.laws.StreamGrowth.{EndsPast}
 
 pub ends_past : (s : State) (packets : List Input) → IsSound s → Fits s packets → EndsPast packets
-ends_past s packets sound fits e is = subst (λ (n : ℕ). n < e) fits.front (front_before_end s sound e (fits.end ∙ is))
+ends_past s packets sound fits e is = subst (λ (n : ℕ). n < e) fits.front
+    (front_before_end s sound e (fits.end ∙ is))
 
 -- the session is over, and all of its stream was sent
-pub complete : (s : State) (packets : List Input) → IsSound s → Fits s packets → HasEnded s.end s.sent → IsComplete packets × (place_of packets s.sent ≡ length (stream_of packets))
+pub complete : (s : State) (packets : List Input) → IsSound s → Fits s packets
+    → HasEnded s.end s.sent → IsComplete packets
+    × (place_of packets s.sent ≡ length (stream_of packets))
 complete s packets sound fits ended = elim (cursor s packets (stands_of fits)) [
   | inl within ↦ let below = front_before_end s sound s.sent ended in absurd (omega arith)
   | inr over ↦
       let front = fits.front in
-      let last : end_of packets ≡ Some (front_of packets + 1) = over.1 ∙ ap (λ (n : ℕ). Some (n + 1)) fits.front in
+      let last : end_of packets ≡ Some (front_of packets + 1) = over.1
+      ∙ ap (λ (n : ℕ). Some (n + 1)) fits.front in
       let one = end_one (end_of packets) (front_of packets + 1) last in
       let len = length-stream packets (front_of packets) in
       let whole = length-append (closed_of packets) (part_of packets) in

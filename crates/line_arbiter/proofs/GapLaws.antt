@@ -42,7 +42,8 @@ module _ (window sent : ℕ) (packets : List Input) where
   n = missing_count window sent packets
 
   within : n ≤ most
-  within = let a = prefix_len-le-length test numbers in let b = length-range_with_len (front_of packets + 1) most in omega arith
+  within = let a = prefix_len-le-length test numbers
+      in let b = length-range_with_len (front_of packets + 1) most in omega arith
 
   place : (k : ℕ) → k < most → get_or numbers k 0 ≡ front_of packets + 1 + k
   place k lt = get_or-range_with_len (front_of packets + 1) most k 0 lt
@@ -52,19 +53,23 @@ module _ (window sent : ℕ) (packets : List Input) where
       let w = within in
       let k = m - (front_of packets + 1) in
       let at : get_or numbers k 0 ≡ m = place k (omega arith) ∙ omega arith in
-      none_of (carried packets m) (subst (λ (j : ℕ). is_none (carried packets j) ≡ true) at (prefix_len_passes test numbers k 0 (omega arith)))
+      none_of (carried packets m) (subst (λ (j : ℕ). is_none (carried packets j) ≡ true) at
+      (prefix_len_passes test numbers k 0 (omega arith)))
 
   stopped : n < most → IsSome (carried packets (front_of packets + n + 1))
   stopped lt =
       let len = length-range_with_len (front_of packets + 1) most in
       let at : get_or numbers n 0 ≡ front_of packets + n + 1 = place n lt ∙ omega arith in
-      some_of (carried packets (front_of packets + n + 1)) (subst (λ (j : ℕ). is_none (carried packets j) ≡ false) at (prefix_len_stops test numbers 0 (omega arith)))
+      some_of (carried packets (front_of packets + n + 1))
+      (subst (λ (j : ℕ). is_none (carried packets j) ≡ false) at
+      (prefix_len_stops test numbers 0 (omega arith)))
 
   none_missing : n ≡ 0 → (known_of packets ≤ front_of packets) ⊎ (sent + window ≤ front_of packets)
   none_missing zero_is = elim (cases_lt n most) [
     | inl lt ↦
         let e : front_of packets + n + 1 ≡ front_of packets + 1 = omega arith in
-        absurd (not_none (carried packets (front_of packets + 1)) (subst (λ (m : ℕ). IsSome (carried packets m)) e (stopped lt)) (front_is packets).next)
+        absurd (not_none (carried packets (front_of packets + 1))
+        (subst (λ (m : ℕ). IsSome (carried packets m)) e (stopped lt)) (front_is packets).next)
     | inr all ↦ elim (cases_lt (front_of packets) (known_of packets)) [
       | inl known ↦ inr (omega arith)
       | inr unknown ↦ inl unknown
@@ -88,30 +93,43 @@ module _ (window sent : ℕ) (packets : List Input) where
         ];
       }
 
-  pub gap_is : (session : List ℕ) → IsGap session window sent packets (gap_of session window sent packets)
+  pub gap_is : (session : List ℕ)
+      → IsGap session window sent packets (gap_of session window sent packets)
   gap_is session =
-      let run : ℕ → Request = λ k. record { session = session; number = front_of packets + 1; count = k } in
+      let run : ℕ → Request = λ k. record {
+        session = session;
+        number =
+            front_of packets + 1;
+        count = k;
+      } in
       elim (cases_lt 0 n) [
-        | inl some ↦ subst (λ (b : Bool). IsGap session window sent packets (if b then None else Some (run n)))
+        | inl some ↦ subst (λ (b : Bool). IsGap session window sent packets
+            (if b then None else Some (run n)))
             (sym (ne_eqb n 0 (λ e. absurd (omega arith)))) (refl, refl, are_missing (omega arith))
         | inr none ↦
             let e : n ≡ 0 = omega arith in
-            subst (λ (k : ℕ). IsGap session window sent packets (if k == 0 then None else Some (run k))) (sym e) (none_missing e)
+            subst (λ (k : ℕ). IsGap session window sent packets (if k == 0 then None else Some
+            (run k))) (sym e) (none_missing e)
       ]
 
-  one_count : (a b : ℕ) → AreMissing window sent packets a → AreMissing window sent packets b → a < b → ⊥
+  one_count : (a b : ℕ) → AreMissing window sent packets a → AreMissing window sent packets b
+      → a < b → ⊥
   one_count a b x y lt =
       let k = y.known in let i = y.inside in
       elim x.stops [
         | inl e ↦ omega arith
         | inr (inl e) ↦ omega arith
-        | inr (inr some) ↦ not_none (carried packets (front_of packets + a + 1)) some (y.missing (front_of packets + a + 1) (omega arith) (omega arith))
+        | inr (inr some) ↦ not_none (carried packets (front_of packets + a + 1)) some
+            (y.missing (front_of packets + a + 1) (omega arith) (omega arith))
       ]
 
-  nothing_missing : (a : ℕ) → AreMissing window sent packets a → (known_of packets ≤ front_of packets) ⊎ (sent + window ≤ front_of packets) → ⊥
-  nothing_missing a x none = let s = x.some in let k = x.known in let i = x.inside in elim none [ inl h ↦ omega arith | inr h ↦ omega arith ]
+  nothing_missing : (a : ℕ) → AreMissing window sent packets a
+      → (known_of packets ≤ front_of packets) ⊎ (sent + window ≤ front_of packets) → ⊥
+  nothing_missing a x none = let s = x.some in let k = x.known in let i = x.inside
+      in elim none [ inl h ↦ omega arith | inr h ↦ omega arith ]
 
-  one_gap : (session : List ℕ) (a b : Option Request) → IsGap session window sent packets a → IsGap session window sent packets b → a ≡ b
+  one_gap : (session : List ℕ) (a b : Option Request) → IsGap session window sent packets a
+      → IsGap session window sent packets b → a ≡ b
   one_gap session None None x y = refl
   one_gap session None (Some q) x y = absurd (nothing_missing q.count y.2 x)
   one_gap session (Some r) None x y = absurd (nothing_missing r.count x.2 y)
@@ -127,8 +145,10 @@ module _ (window sent : ℕ) (packets : List Input) where
       let number = x.1 ∙ sym y.1 in
       λ i. Some (record { session = name i; number = number i; count = count i })
 
-  pub gap_one : (session : List ℕ) (gap : Option Request) → IsGap session window sent packets gap → gap ≡ gap_of session window sent packets
-  gap_one session gap is = one_gap session gap (gap_of session window sent packets) is (gap_is session)
+  pub gap_one : (session : List ℕ) (gap : Option Request) → IsGap session window sent packets gap
+      → gap ≡ gap_of session window sent packets
+  gap_one session gap is = one_gap session gap (gap_of session window sent packets) is
+      (gap_is session)
 
 abbrev heard_most : ℕ → Input → ℕ
 heard_most k a = max k (heard a)
@@ -137,24 +157,32 @@ most_grows : (packets : List Input) (k : ℕ) → k ≤ fold heard_most k packet
 most_grows [] k = omega arith
 most_grows (a ∷ packets) k = let rest = most_grows packets (max k (heard a)) in omega arith
 
-all_within : (packets : List Input) (k : ℕ) → AllByRecursion (λ a. heard a ≤ fold heard_most k packets) packets
+all_within : (packets : List Input) (k : ℕ)
+    → AllByRecursion (λ a. heard a ≤ fold heard_most k packets) packets
 all_within [] k = tt
-all_within (a ∷ packets) k = let rest = most_grows packets (max k (heard a)) in (omega arith, all_within packets (max k (heard a)))
+all_within (a ∷ packets) k = let rest = most_grows packets (max k (heard a))
+    in (omega arith, all_within packets (max k (heard a)))
 
-one_of : (packets : List Input) (k : ℕ) → (fold heard_most k packets ≡ k) ⊎ ((a : Input) × Contains packets a × (heard a ≡ fold heard_most k packets))
+one_of : (packets : List Input) (k : ℕ) → (fold heard_most k packets ≡ k)
+    ⊎ ((a : Input) × Contains packets a × (heard a ≡ fold heard_most k packets))
 one_of [] k = inl refl
 one_of (a ∷ packets) k = elim (one_of packets (max k (heard a))) [
   | inl same ↦ elim (cases_lt k (heard a)) [
     | inl more ↦ inr (a, (0, omega arith, refl), omega arith)
     | inr less ↦ inl (omega arith)
   ]
-  | inr found ↦ inr (found.0, (suc found.1.0, let lt = found.1.1 in omega arith, found.1.2), found.2)
+  | inr found ↦ inr (
+    found.0,
+    (suc found.1.0, let lt = found.1.1 in omega arith, found.1.2),
+    found.2,
+  )
 ]
 
 pub greatest_heard : (packets : List Input) → IsGreatestHeard packets (fold heard_most 0 packets)
 greatest_heard packets = record { most = all_within packets 0; one = one_of packets 0 }
 
-known_by : (packets : List Input) (end : Option ℕ) → IsKnown packets end (option_map_or (λ e. e - 1) end (fold heard_most 0 packets))
+known_by : (packets : List Input) (end : Option ℕ)
+    → IsKnown packets end (option_map_or (λ e. e - 1) end (fold heard_most 0 packets))
 known_by packets (Some e) = refl
 known_by packets None = greatest_heard packets
 

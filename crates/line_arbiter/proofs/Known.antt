@@ -1,4 +1,5 @@
--- How far a session is known to go: at its announced end, and when one more packet or skip has come.
+-- How far a session is known to go: at its announced end, and when one more packet or skip has
+-- come.
 use Rattle.std.proofs.Common.{◌≡◌, ℕ, ◌-◌, ◌≤◌, List, [], ◌∷◌, ◌++◌, Option, Some, None, false, refl, ap, ◌∙◌, arith}
 use Rattle.std.specs.Prelude.{fold, max}
 use Rattle.std.specs.Option.{option_map_or}
@@ -44,10 +45,12 @@ raised_from known None to = omega arith
 raised_from known (Some e) to = omega arith
 
 -- it reaches what was heard of, which no announced end precedes
-pub raised_to : (known : ℕ) (end : Option ℕ) (to : ℕ) → ((e : ℕ) → end ≡ Some e → to ≤ known) → to ≤ raised known end to
+pub raised_to : (known : ℕ) (end : Option ℕ) (to : ℕ) → ((e : ℕ) → end ≡ Some e → to ≤ known)
+    → to ≤ raised known end to
 raised_to known None to within = omega arith
 raised_to known (Some e) to within = within e refl
 
-pub raised_at_end : (known : ℕ) (end : Option ℕ) (to e : ℕ) → end ≡ Some e → raised known end to ≡ known
+pub raised_at_end : (known : ℕ) (end : Option ℕ) (to e : ℕ) → end ≡ Some e
+    → raised known end to ≡ known
 raised_at_end known None to e is = absurd cc
 raised_at_end known (Some x) to e is = refl

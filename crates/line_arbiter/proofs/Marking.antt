@@ -11,10 +11,12 @@ use Rattle.line_arbiter.specs.Marks.{is_set, is_marked}
 
 module _ (marks : List ℕ) (m word : ℕ) (words : length marks ≡ 1024) where
   marked_here : is_marked (set marks (m / 64 % 1024) word) m ≡ is_set word (m % 64)
-  marked_here = ap (λ n. is_set n (m % 64)) (get_or-set_same marks (m / 64 % 1024) word 0 (omega arith))
+  marked_here = ap (λ n. is_set n (m % 64))
+      (get_or-set_same marks (m / 64 % 1024) word 0 (omega arith))
 
   -- a word that keeps its other bits keeps the marks of the numbers that have other bits
-  marked_others : ((i : ℕ) → i < 64 → i ≢ m % 64 → bit_at word i ≡ bit_at (get_or marks (m / 64 % 1024) 0) i)
+  marked_others : ((i : ℕ) → i < 64 → i ≢ m % 64 → bit_at word i ≡ bit_at
+      (get_or marks (m / 64 % 1024) 0) i)
       → (other : ℕ) → other % 65536 ≢ m % 65536
       → is_marked (set marks (m / 64 % 1024) word) other ≡ is_marked marks other
   marked_others kept other differs =
@@ -22,9 +24,11 @@ module _ (marks : List ℕ) (m word : ℕ) (words : length marks ≡ 1024) where
       elim (cases_eq (other / 64 % 1024) (m / 64 % 1024)) [
         | inl same ↦
             rw (same, get_or-set_same marks (m / 64 % 1024) word 0 there)
-            (ap (λ b. nat_eq b 1) (kept (other % 64) (omega arith) (λ index. differs (omega arith))))
+            (ap (λ b. nat_eq b 1) (kept (other % 64) (omega arith)
+            (λ index. differs (omega arith))))
         | inr apart ↦
-            ap (λ n. is_set n (other % 64)) (get_or-set_other marks (m / 64 % 1024) (other / 64 % 1024) word 0 apart)
+            ap (λ n. is_set n (other % 64)) (get_or-set_other marks (m / 64 % 1024)
+            (other / 64 % 1024) word 0 apart)
       ]
 
 module _ (marks : List ℕ) (m word : ℕ) (words : length marks ≡ 1024)
@@ -39,7 +43,8 @@ module _ (marks : List ℕ) (m word : ℕ) (words : length marks ≡ 1024)
   cleared_word = bit_and word (bit_not w64 (1 * 2 ^ (m % 64) % 2 ^ 64))
 
   pub mark_here : is_marked (set marks (m / 64 % 1024) set_word) m ≡ true
-  mark_here = marked_here marks m _ words ∙ ap (λ b. nat_eq b 1) (bit_at_set_same w64 word (m % 64) (omega arith))
+  mark_here = marked_here marks m _ words
+      ∙ ap (λ b. nat_eq b 1) (bit_at_set_same w64 word (m % 64) (omega arith))
 
   pub mark_others : (other : ℕ) → other % 65536 ≢ m % 65536
       → is_marked (set marks (m / 64 % 1024) set_word) other ≡ is_marked marks other
@@ -48,7 +53,8 @@ module _ (marks : List ℕ) (m word : ℕ) (words : length marks ≡ 1024)
 
   pub unmark_here : is_marked (set marks (m / 64 % 1024) cleared_word) m ≡ false
   unmark_here =
-      marked_here marks m _ words ∙ ap (λ b. nat_eq b 1) (bit_at_clear_same w64 word (m % 64) (omega arith))
+      marked_here marks m _ words
+      ∙ ap (λ b. nat_eq b 1) (bit_at_clear_same w64 word (m % 64) (omega arith))
 
   pub unmark_others : (other : ℕ) → other % 65536 ≢ m % 65536
       → is_marked (set marks (m / 64 % 1024) cleared_word) other ≡ is_marked marks other
@@ -59,13 +65,17 @@ module _ (marks : List ℕ) (m word : ℕ) (words : length marks ≡ 1024)
 abbrev asked : ℕ → Bool → ℕ
 asked word wanted = if wanted then word else bit_not w64 word
 
-asked_bit : (word i : ℕ) (wanted : Bool) → word < 2 ^ 64 → i < 64 → bit_at (asked word wanted) i ≡ 1 → is_set word i ≡ wanted
+asked_bit : (word i : ℕ) (wanted : Bool) → word < 2 ^ 64 → i < 64 → bit_at (asked word wanted) i ≡ 1
+    → is_set word i ≡ wanted
 asked_bit word i true fits low h = ap (λ b. nat_eq b 1) h
-asked_bit word i false fits low h = let no : bit_at word i ≡ 0 = omega (arith, bit_at_not w64 word i fits low, bit_at-lt word i) in ap (λ b. nat_eq b 1) no
+asked_bit word i false fits low h = let no : bit_at word i ≡ 0 =
+    omega (arith, bit_at_not w64 word i fits low, bit_at-lt word i) in ap (λ b. nat_eq b 1) no
 
-other_bit : (word i : ℕ) (wanted : Bool) → word < 2 ^ 64 → i < 64 → bit_at (asked word wanted) i ≡ 0 → is_set word i ≡ not wanted
+other_bit : (word i : ℕ) (wanted : Bool) → word < 2 ^ 64 → i < 64 → bit_at (asked word wanted) i ≡ 0
+    → is_set word i ≡ not wanted
 other_bit word i true fits low h = ap (λ b. nat_eq b 1) h
-other_bit word i false fits low h = let yes : bit_at word i ≡ 1 = omega (arith, bit_at_not w64 word i fits low, bit_at-lt word i) in ap (λ b. nat_eq b 1) yes
+other_bit word i false fits low h = let yes : bit_at word i ≡ 1 =
+    omega (arith, bit_at_not w64 word i fits low, bit_at-lt word i) in ap (λ b. nat_eq b 1) yes
 
 asked_fits : (word : ℕ) (wanted : Bool) → word < 2 ^ 64 → asked word wanted < 2 ^ 64
 asked_fits word true fits = fits
@@ -76,11 +86,14 @@ shifted_bit : (n k i : ℕ) → bit_at (n / 2 ^ k) i ≡ bit_at n (k + i)
 shifted_bit n k i = ap (λ x. x % 2) (shr-shr n k i)
 
 -- where nothing is left above a bit, none from it on is as asked
-pub none_left : (word from : ℕ) (wanted : Bool) (left : ℕ) → word < 2 ^ 64 → left ≡ (if wanted then word else bit_not w64 word) → left / 2 ^ from ≡ 0 → (i : ℕ) → from ≤ i → i < 64 → is_set word i ≡ not wanted
+pub none_left : (word from : ℕ) (wanted : Bool) (left : ℕ) → word < 2 ^ 64
+    → left ≡ (if wanted then word else bit_not w64 word) → left / 2 ^ from ≡ 0 → (i : ℕ) → from ≤ i
+    → i < 64 → is_set word i ≡ not wanted
 none_left word from wanted left fits is none i low high =
     let place : from + (i - from) ≡ i = omega arith in
     other_bit word i wanted fits high (
-    ap (λ n. bit_at n i) (sym is) ∙ ap (bit_at left) (sym place) ∙ sym (shifted_bit left from (i - from))
+    ap (λ n. bit_at n i) (sym is) ∙ ap (bit_at left) (sym place)
+    ∙ sym (shifted_bit left from (i - from))
     ∙ ap (λ n. bit_at n (i - from)) none ∙ bit_at-zero (i - from))
 
 -- the first that is
@@ -89,9 +102,12 @@ pub record IsFirst (word from : ℕ) (wanted : Bool) (found : ℕ) : Type 0 wher
   pub others : (i : ℕ) → from ≤ i → i < found → is_set word i ≡ not wanted
   pub is : found < 64 → is_set word found ≡ wanted
 
-pub first_left : (word from : ℕ) (wanted : Bool) (left : ℕ) → word < 2 ^ 64 → from < 64 → left ≡ (if wanted then word else bit_not w64 word) → (left / 2 ^ from ≡ 0 → ⊥) → IsFirst word from wanted (from + trailing_zeros w64 (left / 2 ^ from))
+pub first_left : (word from : ℕ) (wanted : Bool) (left : ℕ) → word < 2 ^ 64 → from < 64
+    → left ≡ (if wanted then word else bit_not w64 word) → (left / 2 ^ from ≡ 0 → ⊥)
+    → IsFirst word from wanted (from + trailing_zeros w64 (left / 2 ^ from))
 first_left word from wanted left fits low is some =
-    let left_fits : left < 2 ^ 64 = subst (λ n. n < 2 ^ 64) (sym is) (asked_fits word wanted fits) in
+    let left_fits : left < 2 ^ 64 = subst (λ n. n < 2 ^ 64) (sym is) (asked_fits word wanted fits)
+    in
     let down = div-le_self left (2 ^ from) in
     let lowest = bit_at-trailing_zeros w64 (left / 2 ^ from) (omega arith) (omega arith) in
     let tz = trailing_zeros w64 (left / 2 ^ from) in
@@ -105,12 +121,15 @@ first_left word from wanted left fits low is some =
       others = λ i from_is below.
           let place : from + (i - from) ≡ i = omega arith in
           other_bit word i wanted fits (omega arith) (
-          ap (λ n. bit_at n i) (sym is) ∙ ap (bit_at left) (sym place) ∙ sym (shifted_bit left from (i - from)) ∙ lowest.2 (i - from) (omega arith));
-      is = λ lt. asked_bit word (from + tz) wanted fits inside (ap (λ n. bit_at n (from + tz)) (sym is) ∙ at);
+          ap (λ n. bit_at n i) (sym is) ∙ ap (bit_at left) (sym place)
+          ∙ sym (shifted_bit left from (i - from)) ∙ lowest.2 (i - from) (omega arith));
+      is = λ lt. asked_bit word (from + tz) wanted fits inside
+          (ap (λ n. bit_at n (from + tz)) (sym is) ∙ at);
     }
 
 -- numbers that lie a multiple of 65,536 apart have one bit
-pub same_bit : (marks : List ℕ) (m n : ℕ) → m % 65536 ≡ n % 65536 → is_marked marks m ≡ is_marked marks n
+pub same_bit : (marks : List ℕ) (m n : ℕ) → m % 65536 ≡ n % 65536
+    → is_marked marks m ≡ is_marked marks n
 same_bit marks m n same =
     let w : m / 64 % 1024 ≡ n / 64 % 1024 = omega arith in
     let b : m % 64 ≡ n % 64 = omega arith in
@@ -119,7 +138,8 @@ same_bit marks m n same =
 -- a bitmap of zeros has no mark
 pub none_marked : (m : ℕ) → is_marked (replicate 1024 0) m ≡ false
 none_marked m =
-    ap (λ n. is_set n (m % 64)) (all_zero 1024 (m / 64 % 1024)) ∙ ap (λ b. nat_eq b 1) (bit_at-zero (m % 64))
+    ap (λ n. is_set n (m % 64)) (all_zero 1024 (m / 64 % 1024))
+    ∙ ap (λ b. nat_eq b 1) (bit_at-zero (m % 64))
   where
     all_zero : (words k : ℕ) → slice_index (replicate words 0) k ≡ 0
     all_zero zero k = refl

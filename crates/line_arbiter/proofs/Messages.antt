@@ -9,7 +9,8 @@ use Rattle.quote_payload.specs.Payload.{item_of}
 use Rattle.line_arbiter.specs.Packets.{Input, Arrived, Skip}
 use Rattle.line_arbiter.specs.OfSession.{AreOfSession, IsInputOf, IsInputOfMessages, IsOfMessages, IsOfSession, session_of_messages}
 
-pub of_messages : (name : List ℕ) (messages : List (List ℕ)) (p : Content) → IsOfMessages name messages p → IsOfSession (session_of_messages name messages) p
+pub of_messages : (name : List ℕ) (messages : List (List ℕ)) (p : Content)
+    → IsOfMessages name messages p → IsOfSession (session_of_messages name messages) p
 of_messages name messages p of = record {
   name = of.name;
   messages = λ k lt.
@@ -19,7 +20,8 @@ of_messages name messages p of = record {
   end = λ is. let h = of.end is in let l = length-map messages item_of in omega arith;
 }
 
-input_of : (name : List ℕ) (messages : List (List ℕ)) (x : Input) → IsInputOfMessages name messages x → IsInputOf (session_of_messages name messages) x
+input_of : (name : List ℕ) (messages : List (List ℕ)) (x : Input)
+    → IsInputOfMessages name messages x → IsInputOf (session_of_messages name messages) x
 input_of name messages (Arrived a) of = λ is. of_messages name messages a.packet (of is)
 input_of name messages (Skip n) of = let l = length-map messages item_of in omega arith
 

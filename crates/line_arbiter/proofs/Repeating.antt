@@ -21,7 +21,8 @@ use Rattle.line_arbiter.proofs.LineCounts.{counted_none}
 use Rattle.line_arbiter.proofs.Soundness.{sent_known}
 
 -- at the packet's numbers past the base something is held
-held_past : (held : Held) (p : Content) (m : ℕ) → AreThere held p → held.base < m → p.number ≤ m → m < p.number + length p.messages → IsSome (held_at held m)
+held_past : (held : Held) (p : Content) (m : ℕ) → AreThere held p → held.base < m → p.number ≤ m
+    → m < p.number + length p.messages → IsSome (held_at held m)
 held_past held p m there past low high =
     let at : p.number + (m - p.number) ≡ m = omega arith in
     elim (subst (λ (k : ℕ). IsThere held k) at (there (m - p.number) (omega arith))) [
@@ -29,7 +30,8 @@ held_past held p m there past low high =
       | inr some ↦ some
     ]
 
-put_as : (held : Held) (p : Content) (m : ℕ) (found : Option Item) → AreThere held p → held_at held m ≡ found → put_all held.base p found m ≡ found
+put_as : (held : Held) (p : Content) (m : ℕ) (found : Option Item) → AreThere held p
+    → held_at held m ≡ found → put_all held.base p found m ≡ found
 put_as held p m (Some x) there is = refl
 put_as held p m None there is =
     elim (cases_lt held.base m) [
@@ -43,34 +45,40 @@ put_as held p m None there is =
       ]
     ]
 
-none_put : (held : Held) (p : Content) (m : ℕ) → AreThere held p → put_all held.base p (held_at held m) m ≡ held_at held m
+none_put : (held : Held) (p : Content) (m : ℕ) → AreThere held p
+    → put_all held.base p (held_at held m) m ≡ held_at held m
 none_put held p m there = put_as held p m (held_at held m) there refl
 
 is_some_then : (o : Option Item) → IsSome o → is_none o ≡ false
 is_some_then None some = absurd cc
 is_some_then (Some x) some = refl
 
-not_new : (held : Held) (m : ℕ) → (held.base < m → IsSome (held_at held m)) → (nat_lt held.base m && is_none (held_at held m)) ≡ false
+not_new : (held : Held) (m : ℕ) → (held.base < m → IsSome (held_at held m))
+    → (nat_lt held.base m && is_none (held_at held m)) ≡ false
 not_new held m some =
     elim (cases_lt held.base m) [
       | inl past ↦ let none = is_some_then (held_at held m) (some past) in grind (arith, nat_tests)
       | inr sent ↦ grind (arith, nat_tests)
     ]
 
-pub none_fresh : (held : Held) (p : Content) → AreThere held p → 0 ≡ fresh_to (length p.messages) held.base held p
+pub none_fresh : (held : Held) (p : Content) → AreThere held p
+    → 0 ≡ fresh_to (length p.messages) held.base held p
 none_fresh held p there =
-    sym (count_none (λ m. nat_lt held.base m && is_none (held_at held m)) p.number (length p.messages)
+    sym (count_none (λ m. nat_lt held.base m && is_none (held_at held m))
+    p.number (length p.messages)
     (λ m low high. not_new held m (λ past. held_past held p m there past low high)))
 
 -- its last message was sent, or is held: so it is known of
-known_still : (s : State) (p : Content) → IsSound s → 1 ≤ length p.messages → AreThere (held_of s) p → s.known ≡ raised s.known s.end (last_number p)
+known_still : (s : State) (p : Content) → IsSound s → 1 ≤ length p.messages → AreThere (held_of s) p
+    → s.known ≡ raised s.known s.end (last_number p)
 known_still s p sound some there = by_end s.end refl
   where
     by_end : (end : Option ℕ) → s.end ≡ end → s.known ≡ raised s.known end (last_number p)
     by_end None unended =
         let at : p.number + (length p.messages - 1) ≡ last_number p = omega arith in
         let sent = sent_known s sound unended in
-        elim (subst (λ (m : ℕ). IsThere (held_of s) m) at (there (length p.messages - 1) (omega arith))) [
+        elim (subst (λ (m : ℕ). IsThere (held_of s) m) at
+        (there (length p.messages - 1) (omega arith))) [
           | inl gone ↦ omega arith
           | inr here ↦ let known = sound.held_known (last_number p) here in omega arith
         ]
@@ -78,7 +86,8 @@ known_still s p sound some there = by_end s.end refl
 
 -- such a packet changes nothing
 pub repeats : (line : LineId) (s : State) (p : Content) → IsSound s → 1 ≤ length p.messages
-    → AreThere (held_of s) p → HeldAgrees (held_of s) p → last_number p ≤ s.sent + s.window → IsBefore s.end (last_number p)
+    → AreThere (held_of s) p → HeldAgrees (held_of s) p → last_number p ≤ s.sent + s.window
+    → IsBefore s.end (last_number p)
     → MessagesStep line s s p (Ok (Taken 0 (length p.messages)))
 repeats line s p sound some there agrees within before = (
   record {
@@ -98,5 +107,7 @@ repeats line s p sound some there agrees within before = (
 )
 
 -- so a packet of messages of the session that were all sent
-pub sent_step : (line : LineId) (s : State) (p : Content) (o : Outcome) → IsSent s p → MessagesStep line s s p (Ok o) → PacketStep line s s p (Ok o)
-sent_step line s p o sent step = inr (sent.name, subst (λ (k : Kind). KindStep k line s s p (Ok o)) (sym sent.kind) step)
+pub sent_step : (line : LineId) (s : State) (p : Content) (o : Outcome) → IsSent s p
+    → MessagesStep line s s p (Ok o) → PacketStep line s s p (Ok o)
+sent_step line s p o sent step =
+    inr (sent.name, subst (λ (k : Kind). KindStep k line s s p (Ok o)) (sym sent.kind) step)

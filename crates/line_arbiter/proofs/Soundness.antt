@@ -20,9 +20,11 @@ use Rattle.line_arbiter.proofs.Windows.{in_window}
 
 -- the front, and what is held, are before the announced end
 pub front_before_end : (s : State) → IsSound s → (e : ℕ) → s.end ≡ Some e → s.front < e
-front_before_end s sound e is = let k = sound.known_at_end e is in let f = sound.front_known in omega arith
+front_before_end s sound e is = let k = sound.known_at_end e is
+    in let f = sound.front_known in omega arith
 
-pub before_end : (s : State) → IsSound s → (e m : ℕ) (item : Item) → s.end ≡ Some e → held_at (held_of s) m ≡ Some item → m < e
+pub before_end : (s : State) → IsSound s → (e m : ℕ) (item : Item) → s.end ≡ Some e
+    → held_at (held_of s) m ≡ Some item → m < e
 before_end s sound e m item is here =
     let k = sound.known_at_end e is in
     let h = sound.held_known m (subst (λ (o : Option Item). IsSome o) (sym here) refl) in
@@ -60,8 +62,10 @@ held_some None h = absurd (false≢true h)
 held_some (Some x) h = (x, refl)
 
 -- a number that is heard of before the announced end is known of then
-pub heard_known : (s : State) → IsSound s → (to : ℕ) → IsBefore s.end to → to ≤ raised s.known s.end to
-heard_known s sound to before = raised_to s.known s.end to (λ e is. let k = sound.known_at_end e is in let b = before e is in omega arith)
+pub heard_known : (s : State) → IsSound s → (to : ℕ) → IsBefore s.end to
+    → to ≤ raised s.known s.end to
+heard_known s sound to before = raised_to s.known s.end to (λ e is. let k = sound.known_at_end e is
+    in let b = before e is in omega arith)
 
 -- a packet's messages are taken in
 pub sound_after : (line : LineId) (fresh : ℕ) (old new : State) (p : Content) → IsSound old
@@ -75,7 +79,8 @@ sound_after line fresh old new p sound before by =
     let held : (m : ℕ) → IsSome (held_at (held_of new) m) → m ≤ new.known = λ m some.
     let item = held_some (held_at (held_of new) m) some in
     elim (put_is old.sent p (held_at (held_of old) m) m item.0 (sym (by.held m) ∙ item.1)) [
-      | inl was ↦ let h = sound.held_known m (subst (λ (o : Option Item). IsSome o) (sym was) refl) in omega arith
+      | inl was ↦ let h = sound.held_known m (subst (λ (o : Option Item). IsSome o) (sym was) refl)
+          in omega arith
       | inr from ↦ let k = number_in p m from.in_packet in omega arith
     ] in
     record {
@@ -96,11 +101,17 @@ sound_after line fresh old new p sound before by =
             let from = by.from in
             elim (cases_lt old.front new.front) [
               | inl moved ↦ inl (omega arith)
-              | inr stays ↦ inr (omega arith, ap (λ (s : State). s.end) by.others ∙ ended.1 ∙ ap (λ (n : ℕ). Some n) (sym sent))
+              | inr stays ↦ inr (
+                omega arith,
+                ap (λ (s : State). s.end) by.others ∙ ended.1
+                    ∙ ap (λ (n : ℕ). Some n) (sym sent),
+              )
             ]
       ];
-      few = subst (λ (names : List (List ℕ)). length names ≤ 64) (sym (ap (λ (s : State). s.sessions) by.others)) sound.few;
-      wins_shown = λ each. rw by.wins (counted_shown line each fresh old.wins (sound.wins_shown each));
+      few = subst (λ (names : List (List ℕ)). length names ≤ 64)
+          (sym (ap (λ (s : State). s.sessions) by.others)) sound.few;
+      wins_shown = λ each. rw by.wins (counted_shown line each fresh old.wins
+          (sound.wins_shown each));
     }
 
 -- what is held past the last item sent, where that is End
@@ -111,7 +122,8 @@ none_past_end s sound ended m = by_item (held_at (held_of s) m) refl
     by_item None is = is
     by_item (Some x) is =
         let below = before_end s sound s.sent m x ended is in
-        let past = (in_window (held_of s) m (subst (λ (o : Option Item). IsSome o) (sym is) refl)).0 in
+        let past = (in_window (held_of s) m (subst (λ (o : Option Item). IsSome o) (sym is) refl)).0
+        in
         absurd (omega arith)
 
 -- the item that is sent is held no longer
@@ -124,18 +136,22 @@ still_none true o e = refl
 still_none false o e = e
 
 -- where nothing is held the next item is End
-next_end : (m : ℕ) (o : Option Item) (end : Option ℕ) → o ≡ None → IsSome (next_from m o end) → end ≡ Some m
+next_end : (m : ℕ) (o : Option Item) (end : Option ℕ) → o ≡ None
+    → IsSome (next_from m o end) → end ≡ Some m
 next_end m (Some x) end none some = absurd cc
 next_end m None None none some = absurd (false≢true some)
 next_end m None (Some e) none some = by_test (nat_eq e m) refl some
   where
-    by_test : (b : Bool) → nat_eq e m ≡ b → IsSome {T = Numbered} (if b then Some (record { number = m; item = items.End }) else None) → Some e ≡ Some m
+    by_test : (b : Bool) → nat_eq e m ≡ b
+        → IsSome {T = Numbered} (if b then Some (record { number = m; item = items.End }) else None)
+        → Some e ≡ Some m
     by_test true same some = ap (λ (n : ℕ). Some n) (eqb-true e m same)
     by_test false apart some = absurd (false≢true some)
 
 pub sound_advanced : (old new : State) → IsSound old → IsSome (next_of old)
     → new ≡ record old { sent = old.sent + 1; places = new.places }
-    → ((m : ℕ) → held_at (held_of new) m ≡ (if nat_eq m (old.sent + 1) then None else held_at (held_of old) m))
+    → ((m : ℕ) → held_at (held_of new) m ≡ (if nat_eq m (old.sent + 1) then None else
+    held_at (held_of old) m))
     → IsSound new
 sound_advanced old new sound ready others held =
     let end : new.end ≡ old.end = ap (λ (s : State). s.end) others in
@@ -144,7 +160,8 @@ sound_advanced old new sound ready others held =
     let sent : new.sent ≡ old.sent + 1 = ap (λ (s : State). s.sent) others in
     let wins : new.wins ≡ old.wins = ap (λ (s : State). s.wins) others in
     let ended_at : held_at (held_of old) (old.sent + 1) ≡ None → new.end ≡ Some new.sent = λ none.
-    end ∙ next_end (old.sent + 1) (held_at (held_of old) (old.sent + 1)) old.end none ready ∙ ap (λ (n : ℕ). Some n) (sym sent) in
+    end ∙ next_end (old.sent + 1) (held_at (held_of old) (old.sent + 1)) old.end none ready
+    ∙ ap (λ (n : ℕ). Some n) (sym sent) in
     record {
       end_small = λ e is. sound.end_small e (sym end ∙ is);
       known_at_end = λ e is. let k = sound.known_at_end e (sym end ∙ is) in omega arith;
@@ -154,20 +171,27 @@ sound_advanced old new sound ready others held =
           (subst (λ (o : Option Item). IsSome o) (held m) some)) in omega arith;
       stop =
           rw front (held (old.front + 1)
-          ∙ still_none (nat_eq (old.front + 1) (old.sent + 1)) (held_at (held_of old) (old.front + 1)) sound.stop);
+          ∙ still_none (nat_eq (old.front + 1) (old.sent + 1))
+          (held_at (held_of old) (old.front + 1)) sound.stop);
       sent_or_end = elim sound.sent_or_end [
         | inl within ↦ elim (cases_lt old.sent old.front) [
           | inl lt ↦ inl (omega arith)
           | inr le ↦
               let same : old.front ≡ old.sent = omega arith in
-              inr (omega arith, ended_at (ap (λ (n : ℕ). held_at (held_of old) (n + 1)) (sym same) ∙ sound.stop))
+              inr (
+                omega arith,
+                ended_at (ap (λ (n : ℕ). held_at (held_of old) (n + 1)) (sym same)
+                    ∙ sound.stop),
+              )
         ]
         | inr ended ↦
             let again = ended_at (none_past_end old sound ended.1 (old.sent + 1)) in
-            let both : Some (old.sent + 1) ≡ Some old.sent = ap (λ (n : ℕ). Some n) (sym sent) ∙ sym again ∙ end ∙ ended.1 in
+            let both : Some (old.sent + 1) ≡ Some old.sent = ap (λ (n : ℕ). Some n) (sym sent)
+            ∙ sym again ∙ end ∙ ended.1 in
             let no : old.sent + 1 ≡ old.sent = cc in
             absurd (omega arith)
       ];
-      few = subst (λ (names : List (List ℕ)). length names ≤ 64) (sym (ap (λ (s : State). s.sessions) others)) sound.few;
+      few = subst (λ (names : List (List ℕ)). length names ≤ 64)
+          (sym (ap (λ (s : State). s.sessions) others)) sound.few;
       wins_shown = λ each. rw wins (sound.wins_shown each);
     }

@@ -30,7 +30,8 @@ stands_of {s} {packets} fits = record {
   end = fits.end;
   opened = fits.opened;
   skipped = fits.skipped;
-  sent = subst (λ (n : ℕ). s.sent + 1 ≤ opens_of packets + length (stream_to packets n)) (sym fits.front) fits.sent;
+  sent = subst (λ (n : ℕ). s.sent + 1 ≤ opens_of packets + length (stream_to packets n))
+      (sym fits.front) fits.sent;
   held = fits.held;
   wins = fits.wins;
 }
@@ -44,7 +45,8 @@ fits_of {s} {packets} stands =
       end = stands.end;
       opened = stands.opened;
       skipped = stands.skipped;
-      sent = subst (λ (n : ℕ). s.sent + 1 ≤ opens_of packets + length (stream_to packets n)) front stands.sent;
+      sent = subst (λ (n : ℕ). s.sent + 1 ≤ opens_of packets + length (stream_to packets n)) front
+          stands.sent;
       held = stands.held;
       wins = stands.wins;
     }

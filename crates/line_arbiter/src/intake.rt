@@ -1,7 +1,7 @@
 //! A packet's messages against a window, and into it.
 //!
-//! A packet of a single message is held at once, and compared only where it can't be; one of many is
-//! compared first, so that nothing is held of it where one differs.
+//! A packet of a single message is held at once, and compared only where it can't be; one of many
+//! is compared first, so that nothing is held of it where one differs.
 
 ghost use Rattle.std.specs.Prelude.{◌≡◌, ◌≢◌, ◌↔◌, ℕ, ◌+◌, ◌<◌, ◌≤◌, None, IsSome, IsTrue, length, MatchBool, false};
 ghost use Rattle.quote_payload.specs.Payload.{item_of};

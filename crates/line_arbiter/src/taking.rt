@@ -57,7 +57,8 @@ impl<G: Genuine> Arbiter<G> {
         requires within { last_number packet.now ≤ self.now.sent + self.now.window }
         requires there { AreThere (held_of self.now) packet.now }
         requires agrees { HeldAgrees (held_of self.now) packet.now }
-        ensures step { (line : LineId) → MessagesStep line self.now self.now packet.now (Ok result) }
+        ensures step { (line : LineId) → MessagesStep line self.now self.now
+            packet.now (Ok result) }
         ensures outcome { result ≡ Outcome.Taken 0 (length packet.now.messages) }
     {
         // For the prover alone: what an arbiter keeps.

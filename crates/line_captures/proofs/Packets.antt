@@ -31,44 +31,72 @@ kind_of B len = inr (inl refl)
 kind_of Recovery len = inr (inr (inl refl))
 
 -- a record of a line is one of the venues
-pub record_ok : (venues : ℕ) (lines : List CapturedLine) (r : CaptureRecord) → IsOfLine lines r → AreOfVenues venues lines → IsRecord venues r
-record_ok venues lines r o of = rw o.is (record { venue = of o.place o.line o.listed; kind = kind_of o.line.line (length o.bytes); len = o.short; number = tt })
+pub record_ok : (venues : ℕ) (lines : List CapturedLine) (r : CaptureRecord) → IsOfLine lines r
+    → AreOfVenues venues lines → IsRecord venues r
+record_ok venues lines r o of = rw o.is (record {
+  venue = of o.place o.line o.listed;
+  kind =
+      kind_of o.line.line (length o.bytes);
+  len = o.short;
+  number = tt;
+})
 
 -- the records of a frame
-pub one_timed : (lines : List CapturedLine) (p : PieceContent) (f : FrameContent) (r : CaptureRecord) → p.frame ≡ Some f → AreOfFrame lines f (r ∷ []) → AreTimed lines (frames_in p) (timed_record r f.time ∷ [])
+pub one_timed : (lines : List CapturedLine) (p : PieceContent) (f : FrameContent)
+    (r : CaptureRecord) → p.frame ≡ Some f → AreOfFrame lines f (r ∷ [])
+    → AreTimed lines (frames_in p) (timed_record r f.time ∷ [])
 one_timed lines p f r framed h =
-    subst (λ (o : Option FrameContent). AreTimed lines (list_of o) (timed_record r f.time ∷ [])) (sym framed) (r ∷ [], [], h, refl, refl)
+    subst (λ (o : Option FrameContent). AreTimed lines (list_of o) (timed_record r f.time ∷ []))
+    (sym framed) (r ∷ [], [], h, refl, refl)
 
-pub none_timed : (lines : List CapturedLine) (p : PieceContent) (f : FrameContent) → p.frame ≡ Some f → AreOfFrame lines f [] → AreTimed lines (frames_in p) []
-none_timed lines p f framed h = subst (λ (o : Option FrameContent). AreTimed lines (list_of o) []) (sym framed) ([], [], h, refl, refl)
+pub none_timed : (lines : List CapturedLine) (p : PieceContent) (f : FrameContent)
+    → p.frame ≡ Some f → AreOfFrame lines f [] → AreTimed lines (frames_in p) []
+none_timed lines p f framed h = subst (λ (o : Option FrameContent). AreTimed lines (list_of o) [])
+    (sym framed) ([], [], h, refl, refl)
 
-pub silent_timed : (lines : List CapturedLine) (p : PieceContent) → p.frame ≡ None → AreTimed lines (frames_in p) []
-silent_timed lines p unframed = subst (λ (o : Option FrameContent). AreTimed lines (list_of o) []) (sym unframed) refl
+pub silent_timed : (lines : List CapturedLine) (p : PieceContent) → p.frame ≡ None
+    → AreTimed lines (frames_in p) []
+silent_timed lines p unframed = subst (λ (o : Option FrameContent). AreTimed lines (list_of o) [])
+    (sym unframed) refl
 
 -- ---- counts
 
 -- what one piece counts, with a frame
-pub counts_frame : (lines : List CapturedLine) (before byted timed after : Progress) (p : PieceContent) (f : FrameContent) → byted ≡ record before { position = count_after before.position p.len } → timed ≡ timed_after byted f.time → after ≡ record timed { passed = after.passed } → CountsFrame lines f timed.passed after.passed → p.frame ≡ Some f → CountsPieces lines before (p ∷ []) after
+pub counts_frame : (lines : List CapturedLine) (before byted timed after : Progress)
+    (p : PieceContent) (f : FrameContent)
+    → byted ≡ record before { position = count_after before.position p.len }
+    → timed ≡ timed_after byted f.time → after ≡ record timed { passed = after.passed }
+    → CountsFrame lines f timed.passed after.passed → p.frame ≡ Some f
+    → CountsPieces lines before (p ∷ []) after
 counts_frame lines before byted timed after p f bytes time last counts framed =
-    let frames : frames_of (p ∷ []) ≡ f ∷ [] = ap (λ (o : Option FrameContent). list_of o ++ []) framed in
-    let times : times_of (frames_of (p ∷ [])) ≡ option_to_list f.time = ap times_of frames ∙ append-nil (option_to_list f.time) in
+    let frames : frames_of (p ∷ []) ≡ f
+    ∷ [] = ap (λ (o : Option FrameContent). list_of o ++ []) framed in
+    let times : times_of (frames_of (p ∷ [])) ≡ option_to_list f.time = ap times_of frames
+    ∙ append-nil (option_to_list f.time) in
     let Z : List FrameContent → Type 0 = λ fs. AllZip (IsFate lines) fs (counts.fate ∷ []) in
     let sum : p.len ≡ sum_by (λ (piece : PieceContent). piece.len) (p ∷ []) = omega arith in
-    let start : timed ≡ timed_after (record before { position = count_after before.position p.len }) f.time = time ∙ ap (λ (x : Progress). timed_after x f.time) bytes in
+    let start : timed ≡ timed_after (record before { position = count_after before.position p.len })
+    f.time = time ∙ ap (λ (x : Progress). timed_after x f.time) bytes in
     record {
       fates = counts.fate ∷ [];
       are = subst Z (sym frames) (counts.is, tt);
-      position = ap (λ (x : Progress). x.position) last ∙ ap (λ (x : Progress). x.position) start ∙ ap (count_after before.position) sum;
-      last_time = ap (λ (x : Progress). x.last_time) last ∙ ap (λ (x : Progress). x.last_time) start ∙ ap (last_after before.last_time) (sym times);
+      position = ap (λ (x : Progress). x.position) last ∙ ap (λ (x : Progress). x.position) start
+          ∙ ap (count_after before.position) sum;
+      last_time = ap (λ (x : Progress). x.last_time) last ∙ ap (λ (x : Progress). x.last_time) start
+          ∙ ap (last_after before.last_time) (sym times);
       passed = counts.after_is
           ∙ ap (λ (x : Progress). passed_after x.passed (counts.fate ∷ []) 0) start
-          ∙ ap (λ n. passed_after before.passed (counts.fate ∷ []) (falls_after before.last_time n)) (sym times);
+          ∙ ap (λ n. passed_after before.passed (counts.fate ∷ []) (falls_after before.last_time n))
+          (sym times);
     }
 
 -- and without one
-pub counts_silent : (lines : List CapturedLine) (before after : Progress) (p : PieceContent) → after ≡ record before { position = count_after before.position p.len } → p.frame ≡ None → CountsPieces lines before (p ∷ []) after
+pub counts_silent : (lines : List CapturedLine) (before after : Progress) (p : PieceContent)
+    → after ≡ record before { position = count_after before.position p.len } → p.frame ≡ None
+    → CountsPieces lines before (p ∷ []) after
 counts_silent lines before after p bytes unframed =
-    let frames : frames_of (p ∷ []) ≡ [] = ap (λ (o : Option FrameContent). list_of o ++ []) unframed in
+    let frames : frames_of (p ∷ []) ≡ [] = ap (λ (o : Option FrameContent). list_of o ++ [])
+    unframed in
     let times : times_of (frames_of (p ∷ [])) ≡ [] = ap times_of frames in
     let Z : List FrameContent → Type 0 = λ fs. AllZip (IsFate lines) fs [] in
     let sum : p.len ≡ sum_by (λ (piece : PieceContent). piece.len) (p ∷ []) = omega arith in
@@ -76,7 +104,8 @@ counts_silent lines before after p bytes unframed =
       fates = [];
       are = subst Z (sym frames) tt;
       position = ap (λ (x : Progress). x.position) bytes ∙ ap (count_after before.position) sum;
-      last_time = ap (λ (x : Progress). x.last_time) bytes ∙ ap (last_after before.last_time) (sym times);
+      last_time = ap (λ (x : Progress). x.last_time) bytes
+          ∙ ap (last_after before.last_time) (sym times);
       passed = ap (λ (x : Progress). x.passed) bytes
           ∙ ap (λ n. passed_after before.passed [] (falls_after before.last_time n)) (sym times);
     }
@@ -84,37 +113,51 @@ counts_silent lines before after p bytes unframed =
 -- ---- steps
 
 abbrev Lasts : Type 0
-Lasts = (before after : Context) (bytes more : List ℕ) (p : PieceContent) → IsPiece before bytes p after → IsPiece before (bytes ++ more) p after
+Lasts = (before after : Context) (bytes more : List ℕ) (p : PieceContent)
+    → IsPiece before bytes p after → IsPiece before (bytes ++ more) p after
 
 -- a piece with its records
-piece_read : Lasts → (s t : PacketState) (bytes : List ℕ) (p : PieceContent) (rs : List TimedRecord) → IsPiece s.context bytes p t.context → t.lines ≡ s.lines → t.venues ≡ s.venues → CountsPieces s.lines s.progress (p ∷ []) t.progress → AreTimed s.lines (frames_in p) rs
+piece_read : Lasts → (s t : PacketState) (bytes : List ℕ) (p : PieceContent) (rs : List TimedRecord)
+    → IsPiece s.context bytes p t.context → t.lines ≡ s.lines → t.venues ≡ s.venues
+    → CountsPieces s.lines s.progress (p ∷ []) t.progress → AreTimed s.lines (frames_in p) rs
     → TakesPiece ReadsPackets s bytes rs p.len t
 piece_read law s t bytes p rs is lines venues counts timed =
     let len = piece_len s.context bytes p t.context is in
-    let left : (more : List ℕ) → drop p.len bytes ++ more ≡ drop p.len (bytes ++ more) = λ more. sym (drop-append-le p.len bytes more len.1) in
+    let left : (more : List ℕ) → drop p.len bytes ++ more ≡ drop p.len (bytes ++ more) =
+    λ more. sym (drop-append-le p.len bytes more len.1) in
     record {
       some = len.0;
       within = len.1;
       read = record {
         pieces = p ∷ [];
         are = λ more. (t.context, law s.context t.context bytes more p is, (refl, left more));
-        timed = subst (λ (fs : List FrameContent). AreTimed s.lines fs rs) (sym (append-nil (frames_in p))) timed;
+        timed = subst (λ (fs : List FrameContent). AreTimed s.lines fs rs)
+            (sym (append-nil (frames_in p))) timed;
         counts = counts;
         lines = lines;
         venues = venues;
       };
     }
 
-pub step_read : Lasts → (s t : PacketState) (bytes : List ℕ) (p : PieceContent) (step : Step CaptureFault) → IsPiece s.context bytes p t.context → t.lines ≡ s.lines → t.venues ≡ s.venues → CountsPieces s.lines s.progress (p ∷ []) t.progress → IsStepOf s.lines p step
+pub step_read : Lasts → (s t : PacketState) (bytes : List ℕ) (p : PieceContent)
+    (step : Step CaptureFault) → IsPiece s.context bytes p t.context → t.lines ≡ s.lines
+    → t.venues ≡ s.venues → CountsPieces s.lines s.progress (p ∷ []) t.progress
+    → IsStepOf s.lines p step
     → StepsTo ReadsPackets wants_packets is_bad_packets s bytes step t
-step_read law s t bytes p (Came r time len) is lines venues counts k = subst (λ (n : ℕ). TakesPiece ReadsPackets s bytes (timed_record (record_of r) time ∷ []) n t) (sym k.0) (piece_read law s t bytes p _ is lines venues counts k.1)
-step_read law s t bytes p (Passed len) is lines venues counts k = subst (λ (n : ℕ). TakesPiece ReadsPackets s bytes [] n t) (sym k.0) (piece_read law s t bytes p _ is lines venues counts k.1)
+step_read law s t bytes p (Came r time len) is lines venues counts k =
+    subst (λ (n : ℕ). TakesPiece ReadsPackets s bytes (timed_record (record_of r) time ∷ []) n t)
+    (sym k.0) (piece_read law s t bytes p _ is lines venues counts k.1)
+step_read law s t bytes p (Passed len) is lines venues counts k =
+    subst (λ (n : ℕ). TakesPiece ReadsPackets s bytes [] n t) (sym k.0) (piece_read law s t bytes p
+    _ is lines venues counts k.1)
 step_read law s t bytes p Wants is lines venues counts k = absurd k
 step_read law s t bytes p (Bad fault) is lines venues counts k = absurd k
 
-pub stop_read : (s t : PacketState) (bytes : List ℕ) (stop : Stop) (step : Step CaptureFault) → StopsReading s.context bytes stop → t ≡ s → IsStopStep stop step
+pub stop_read : (s t : PacketState) (bytes : List ℕ) (stop : Stop) (step : Step CaptureFault)
+    → StopsReading s.context bytes stop → t ≡ s → IsStopStep stop step
     → StepsTo ReadsPackets wants_packets is_bad_packets s bytes step t
-stop_read s t bytes (stops.Wants n) Wants why same k = let few = few_unread s.context bytes n why in ((n, why), omega (arith, few), same)
+stop_read s t bytes (stops.Wants n) Wants why same k = let few = few_unread s.context bytes n why
+    in ((n, why), omega (arith, few), same)
 stop_read s t bytes (stops.Bad fault) (Bad told) why same k = (rw k why, same)
 stop_read s t bytes (stops.Wants n) (Came r time len) why same k = absurd k
 stop_read s t bytes (stops.Wants n) (Passed len) why same k = absurd k

@@ -14,14 +14,18 @@ use Rattle.line_captures.specs.Counts.{FrameFate, IsFate, CountsPieces, count_af
 -- a count that is count_after twice
 raised_twice : (count m n : ℕ) → count_after (count_after count m) n ≡ count_after count (m + n)
 raised_twice count zero zero = refl
-raised_twice count zero (suc n) = let same : suc n ≡ zero + suc n = omega arith in ap (count_after count) same
-raised_twice count (suc m) zero = let same : suc m ≡ suc m + zero = omega arith in ap (count_after count) same
+raised_twice count zero (suc n) = let same : suc n ≡ zero + suc n = omega arith
+    in ap (count_after count) same
+raised_twice count (suc m) zero = let same : suc m ≡ suc m + zero = omega arith
+    in ap (count_after count) same
 raised_twice count (suc m) (suc n) =
     let sum : suc m + suc n ≡ suc (m + suc n) = omega arith in
-    let one : count_after (count_after count (suc m)) (suc n) ≡ count_after count (suc (m + suc n)) = omega arith in
+    let one : count_after (count_after count (suc m)) (suc n) ≡ count_after count
+    (suc (m + suc n)) = omega arith in
     one ∙ ap (count_after count) (sym sum)
 
-raised_both : (count m n : ℕ) (all : ℕ) → all ≡ m + n → count_after (count_after count m) n ≡ count_after count all
+raised_both : (count m n : ℕ) (all : ℕ) → all ≡ m + n
+    → count_after (count_after count m) n ≡ count_after count all
 raised_both count m n all e = raised_twice count m n ∙ ap (count_after count) (sym e)
 
 counted_both : (kind : FrameFate → Bool) (count : ℕ) (xs ys : List FrameFate)
@@ -48,11 +52,13 @@ falls_both : (last : ℕ) (xs ys : List ℕ)
 falls_both last [] ys = omega arith
 falls_both last (x ∷ xs) ys = let h = falls_both x xs ys in omega (arith, h)
 
-last_both : (last : ℕ) (xs ys : List ℕ) → last_after last (xs ++ ys) ≡ last_after (last_after last xs) ys
+last_both : (last : ℕ) (xs ys : List ℕ) → last_after last (xs ++ ys) ≡ last_after
+    (last_after last xs) ys
 last_both last [] ys = refl
 last_both last (x ∷ xs) ys = last_both x xs ys
 
-zip_both : {A B : Type 0} (R : A → B → Type 0) (xs ys : List A) (us vs : List B) → AllZip R xs us → AllZip R ys vs
+zip_both : {A B : Type 0} (R : A → B → Type 0) (xs ys : List A) (us vs : List B)
+    → AllZip R xs us → AllZip R ys vs
     → AllZip R (xs ++ ys) (us ++ vs)
 zip_both R [] ys [] vs h k = k
 zip_both R [] ys (u ∷ us) vs h k = absurd h
@@ -62,29 +68,42 @@ zip_both R (x ∷ xs) ys (u ∷ us) vs h k = (h.0, zip_both R xs ys us vs h.1 k)
 times_both : (fs gs : List FrameContent) → times_of (fs ++ gs) ≡ times_of fs ++ times_of gs
 times_both fs gs = flat_map-append times_in fs gs
 
-pub counts_none : (lines : List CapturedLine) (progress : Progress) → CountsPieces lines progress [] progress
-counts_none lines progress = record { fates = []; are = tt; position = refl; last_time = refl; passed = refl }
+pub counts_none : (lines : List CapturedLine) (progress : Progress)
+    → CountsPieces lines progress [] progress
+counts_none lines progress = record {
+  fates = [];
+  are = tt;
+  position = refl;
+  last_time = refl;
+  passed = refl;
+}
 
 -- the falls of pieces after pieces
-falls_of : {lines : List CapturedLine} (a b : Progress) (ps qs : List PieceContent) → CountsPieces lines a ps b
+falls_of : {lines : List CapturedLine} (a b : Progress) (ps qs : List PieceContent)
+    → CountsPieces lines a ps b
     → times_of (frames_of (ps ++ qs)) ≡ times_of (frames_of ps) ++ times_of (frames_of qs)
-    → falls_after a.last_time (times_of (frames_of ps)) + falls_after b.last_time (times_of (frames_of qs))
+    → falls_after a.last_time (times_of (frames_of ps)) + falls_after b.last_time
+    (times_of (frames_of qs))
     ≡ falls_after a.last_time (times_of (frames_of (ps ++ qs)))
 falls_of a b ps qs x times =
-    ap (λ n. falls_after a.last_time (times_of (frames_of ps)) + falls_after n (times_of (frames_of qs))) x.last_time
+    ap (λ n. falls_after a.last_time (times_of (frames_of ps)) + falls_after n
+    (times_of (frames_of qs))) x.last_time
     ∙ sym (falls_both a.last_time (times_of (frames_of ps)) (times_of (frames_of qs)))
     ∙ ap (falls_after a.last_time) (sym times)
 
 pub counts_then : (lines : List CapturedLine) (a b c : Progress) (ps qs : List PieceContent)
     → CountsPieces lines a ps b → CountsPieces lines b qs c → CountsPieces lines a (ps ++ qs) c
 counts_then lines a b c ps qs x y =
-    let frames : frames_of (ps ++ qs) ≡ frames_of ps ++ frames_of qs = flat_map-append frames_in ps qs in
-    let times : times_of (frames_of (ps ++ qs)) ≡ times_of (frames_of ps) ++ times_of (frames_of qs) =
+    let frames : frames_of (ps ++ qs) ≡ frames_of ps
+    ++ frames_of qs = flat_map-append frames_in ps qs in
+    let times : times_of (frames_of (ps ++ qs)) ≡ times_of (frames_of ps)
+    ++ times_of (frames_of qs) =
     ap times_of frames ∙ times_both (frames_of ps) (frames_of qs) in
     let Z : List FrameContent → Type 0 = λ fs. AllZip (IsFate lines) fs (x.fates ++ y.fates) in
     record {
       fates = x.fates ++ y.fates;
-      are = subst Z (sym frames) (zip_both (IsFate lines) (frames_of ps) (frames_of qs) x.fates y.fates x.are y.are);
+      are = subst Z (sym frames) (zip_both (IsFate lines) (frames_of ps) (frames_of qs)
+          x.fates y.fates x.are y.are);
       position = y.position ∙ ap (λ n. count_after n (sum_by (λ piece. piece.len) qs)) x.position
           ∙ raised_both a.position (sum_by (λ piece. piece.len) ps) (sum_by (λ piece. piece.len) qs)
           (sum_by (λ piece. piece.len) (ps ++ qs)) (sum_by-append (λ piece. piece.len) ps qs);
@@ -92,8 +111,10 @@ counts_then lines a b c ps qs x y =
           ∙ sym (last_both a.last_time (times_of (frames_of ps)) (times_of (frames_of qs)))
           ∙ ap (last_after a.last_time) (sym times);
       passed = y.passed
-          ∙ ap (λ (p : PassedOver). passed_after p y.fates (falls_after b.last_time (times_of (frames_of qs)))) x.passed
-          ∙ passed_twice a.passed x.fates y.fates (falls_after a.last_time (times_of (frames_of ps)))
+          ∙ ap (λ (p : PassedOver). passed_after p y.fates
+          (falls_after b.last_time (times_of (frames_of qs)))) x.passed
+          ∙ passed_twice a.passed x.fates y.fates
+          (falls_after a.last_time (times_of (frames_of ps)))
           (falls_after b.last_time (times_of (frames_of qs)))
           ∙ ap (λ n. passed_after a.passed (x.fates ++ y.fates) n) (falls_of a b ps qs x times);
     }

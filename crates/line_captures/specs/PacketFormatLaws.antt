@@ -13,7 +13,8 @@ use Rattle.line_captures.specs.PacketFormats.{PacketState, AreTimed, ReadsPacket
 pieces_at : (a : Context) (x y r s : List ℕ) (ps : List PieceContent) (c : Context)
     → x ≡ y → r ≡ s → ArePieces a x ps c r → ArePieces a y ps c s
 pieces_at a x y r s ps c d e h =
-    subst (λ (z : List ℕ). ArePieces a y ps c z) e (subst (λ (z : List ℕ). ArePieces a z ps c r) d h)
+    subst (λ (z : List ℕ). ArePieces a y ps c z) e
+    (subst (λ (z : List ℕ). ArePieces a z ps c r) d h)
 
 -- pieces, and then more of what was left
 pieces_append : (a b c : Context) (bytes mid rest : List ℕ) (ps qs : List PieceContent)

@@ -1,9 +1,9 @@
 //! Packet captures (pcap or pcapng) as a format of records: those of the datagrams that a capture
 //! has for some lines, each at the time of its frame.
 //!
-//! A [`PacketFormat`] is a format of `feed_text`: a replay reads its records one by one, and nothing
-//! is copied or allocated. A [`CapturedLine`] is an address and port with the venue and the line
-//! whose datagrams go there.
+//! A [`PacketFormat`] is a format of `feed_text`: a replay reads its records one by one, and
+//! nothing is copied or allocated. A [`CapturedLine`] is an address and port with the venue and the
+//! line whose datagrams go there.
 //!
 //! Contract: what it read are whole pieces, and their records are those of their frames, in file
 //! order, each frame's datagram for the first line that takes it, at the frame's own time, and

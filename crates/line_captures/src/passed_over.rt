@@ -4,7 +4,8 @@ ghost use Rattle.line_captures.specs.Counts.{to_line, elsewhere, no_datagram, pa
 
 use packet_capture::FrameFault;
 
-/// How many frames of a capture are of a kind. A count stays at its largest number once it is there.
+/// How many frames of a capture are of a kind. A count stays at its largest number once it is
+/// there.
 #[derive(Clone, Copy, Debug, Default, PartialEq, Eq)]
 pub struct PassedOver {
     /// Fragments of datagrams.

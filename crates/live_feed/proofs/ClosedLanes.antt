@@ -35,13 +35,16 @@ end_short (Some e) m = by_test (e == m)
     by_test false = omega arith
 
 -- the items of the present part are at most those up to the front, and End
-part_length : (packets : List Input) → opens_of packets + length (part_of packets) ≤ front_of packets + 2
+part_length : (packets : List Input)
+    → opens_of packets + length (part_of packets) ≤ front_of packets + 2
 part_length packets =
     let n = front_of packets in
     let from = opens_of packets in
     let many = n + 1 - from in
-    let both = length-append (map (item_numbered packets) (range_with_len from many)) (end_at (end_of packets) (n + 1)) in
-    let first = length-map (range_with_len from many) (item_numbered packets) ∙ length-range_with_len from many in
+    let both = length-append (map (item_numbered packets) (range_with_len from many))
+    (end_at (end_of packets) (n + 1)) in
+    let first = length-map (range_with_len from many) (item_numbered packets)
+    ∙ length-range_with_len from many in
     let last = end_short (end_of packets) (n + 1) in
     let most = opens_most packets n (front_is packets) in
     omega arith
@@ -62,11 +65,13 @@ fewer s t packets x f g e =
     let front = f.front in
     omega arith
 
-pub next_drop : {X : Type 0} (xs : List X) (old new : ℕ) (x : X) → Some x ≡ slice_get xs old → new ≡ old + 1
+pub next_drop : {X : Type 0} (xs : List X) (old new : ℕ) (x : X)
+    → Some x ≡ slice_get xs old → new ≡ old + 1
     → drop old xs ≡ x ∷ drop new xs
 next_drop [] old new x e is = absurd cc
 next_drop (y ∷ ys) zero zero x e is = absurd (omega arith)
-next_drop (y ∷ ys) zero (suc m) x e is = let none : m ≡ 0 = omega arith in ap (λ (k : ℕ). y ∷ drop k ys) (sym none)
+next_drop (y ∷ ys) zero (suc m) x e is = let none : m ≡ 0 = omega arith
+    in ap (λ (k : ℕ). y ∷ drop k ys) (sym none)
     ∙ (let same : y ≡ x = cc in ap (λ (z : _). z ∷ drop m ys) same)
 next_drop (y ∷ ys) (suc n) zero x e is = absurd (omega arith)
 next_drop (y ∷ ys) (suc n) (suc m) x e is = next_drop ys n m x e (omega arith)
@@ -86,7 +91,8 @@ none_left [] (suc n) e = refl
 none_left (y ∷ ys) zero e = absurd cc
 none_left (y ∷ ys) (suc n) e = none_left ys n e
 
-pub ready_all : (n : ℕ) (packets : List Input) (room all : List Numbered) → None ≡ slice_get (stream_of packets) n
+pub ready_all : (n : ℕ) (packets : List Input) (room all : List Numbered)
+    → None ≡ slice_get (stream_of packets) n
     → room ++ drop n (stream_of packets) ≡ all → room ≡ all
 ready_all n packets room all e same = sym (append-nil room)
     ∙ ap (λ (l : List Numbered). room ++ l) (sym (none_left (stream_of packets) n e)) ∙ same
@@ -108,28 +114,33 @@ module _ (v : ℕ) (entries : List Entry) (place : ℕ) where
       let rest = items_in (drop (place + 1) entries) v in
       ap (λ (l : List Numbered). l ++ rest) grown
       ∙ append_assoc room (item_by v x) rest
-      ∙ ap (λ (l : List Entry). room ++ items_in l v) (sym (next_drop entries place (place + 1) x (sym at) refl))
+      ∙ ap (λ (l : List Entry). room ++ items_in l v)
+      (sym (next_drop entries place (place + 1) x (sym at) refl))
       ∙ same
 
   -- all were looked at
-  pub items_all : (room all : List Numbered) → length entries ≤ place → room ++ items_in (drop place entries) v ≡ all
+  pub items_all : (room all : List Numbered) → length entries ≤ place → room
+      ++ items_in (drop place entries) v ≡ all
       → room ≡ all
   items_all room all past same = sym (append-nil room)
       ∙ ap (λ (l : List Entry). room ++ items_in l v) (sym (drop_past entries place past)) ∙ same
 
   -- one entry was counted
-  pub count_more : (x : Entry) (count one all : ℕ) → slice_get entries place ≡ Some x → one ≡ length (item_by v x)
+  pub count_more : (x : Entry) (count one all : ℕ) → slice_get entries place ≡ Some x
+      → one ≡ length (item_by v x)
       → count + length (items_in (drop place entries) v) ≡ all
       → (count + one) + length (items_in (drop (place + 1) entries) v) ≡ all
   count_more x count one all at is same =
       let rest = items_in (drop (place + 1) entries) v in
       let here : length (items_in (drop place entries) v) ≡ length (item_by v x ++ rest) =
-      ap (λ (l : List Entry). length (items_in l v)) (next_drop entries place (place + 1) x (sym at) refl) in
+      ap (λ (l : List Entry). length (items_in l v))
+      (next_drop entries place (place + 1) x (sym at) refl) in
       let both = length-append (item_by v x) rest in
       omega arith
 
   -- all were counted
-  pub count_all : (count all : ℕ) → length entries ≤ place → count + length (items_in (drop place entries) v) ≡ all
+  pub count_all : (count all : ℕ) → length entries ≤ place
+      → count + length (items_in (drop place entries) v) ≡ all
       → count ≡ all
   count_all count all past same =
       let none : length (items_in (drop place entries) v) ≡ 0 =
@@ -137,12 +148,15 @@ module _ (v : ℕ) (entries : List Entry) (place : ℕ) where
       omega arith
 
   -- there is room for the next item
-  pub room_more : (x : Entry) (room all : List Numbered) (most : ℕ) → slice_get entries place ≡ Some x
-      → room ++ items_in (drop place entries) v ≡ all → length all ≤ most → length room + length (item_by v x) ≤ most
+  pub room_more : (x : Entry) (room all : List Numbered) (most : ℕ)
+      → slice_get entries place ≡ Some x
+      → room ++ items_in (drop place entries) v ≡ all → length all ≤ most
+      → length room + length (item_by v x) ≤ most
   room_more x room all most at same few =
       let rest = items_in (drop (place + 1) entries) v in
       let here : length (items_in (drop place entries) v) ≡ length (item_by v x ++ rest) =
-      ap (λ (l : List Entry). length (items_in l v)) (next_drop entries place (place + 1) x (sym at) refl) in
+      ap (λ (l : List Entry). length (items_in l v))
+      (next_drop entries place (place + 1) x (sym at) refl) in
       let both = length-append (item_by v x) rest in
       let whole = length-append room (items_in (drop place entries) v) in
       let long = ap length same in
@@ -150,11 +164,15 @@ module _ (v : ℕ) (entries : List Entry) (place : ℕ) where
 
 -- ---- a closed lane
 
-pub settled : {S : Type 0} (premise : Genuine S) (lanes : FeedLanes) (may_send : ℕ → List Numbered → Type 0)
-    (c : CellState) (k : VenueLockInvariant premise lanes c) (received inside ready : List Numbered) (won : PerLine ℕ)
+pub settled : {S : Type 0} (premise : Genuine S) (lanes : FeedLanes) (may_send : ℕ
+    → List Numbered → Type 0)
+    (c : CellState) (k : VenueLockInvariant premise lanes c) (received inside ready : List Numbered)
+    (won : PerLine ℕ)
     → Keeps may_send c.lane.tag c.lane.capacity c.lane.items received inside
-    → ready ≡ drop (place_of k.history.present.packets c.arbiter.sent) (stream_of k.history.present.packets) → won ≡ c.arbiter.wins
-    → IsSettled premise c.arbiter.venue lanes.setting.window c.lane.items received inside ready won c.brought
+    → ready ≡ drop (place_of k.history.present.packets c.arbiter.sent)
+    (stream_of k.history.present.packets) → won ≡ c.arbiter.wins
+    → IsSettled premise c.arbiter.venue lanes.setting.window c.lane.items received
+    inside ready won c.brought
 settled premise lanes may_send c k received inside ready won keeps rest same =
     let h = k.history in
     let f = k.fits in
@@ -163,7 +181,8 @@ settled premise lanes may_send c k received inside ready won keeps rest same =
     record {
       sent_is = sym keeps.whole;
       history = h;
-      given = subst (λ (n : ℕ). AreGivenFrom premise c.arbiter.venue n 1 h.earlier h.present) k.window k.given;
+      given = subst (λ (n : ℕ). AreGivenFrom premise c.arbiter.venue n 1 h.earlier h.present)
+          k.window k.given;
       whole =
           ap (λ (l : List Numbered). l ++ ready) f.sent
           ∙ ap (λ (l : List Numbered). (items_of h.earlier ++ take place stream) ++ l) rest

@@ -38,19 +38,22 @@ module _ (wants : Notice → Bool) (xs : List Notice) (place : ℕ) where
       ∙ same
 
   -- all were looked at
-  pub wanted_all : (room all : List Notice) → length xs ≤ place → room ++ filter wants (drop place xs) ≡ all
+  pub wanted_all : (room all : List Notice) → length xs ≤ place → room
+      ++ filter wants (drop place xs) ≡ all
       → room ≡ all
   wanted_all room all past same = sym (append-nil room)
       ∙ ap (λ (l : List Notice). room ++ filter wants l) (sym (drop_past xs place past)) ∙ same
 
-pub served : (lanes : FeedLanes) (may_send : ℕ → List Notice → Type 0) (journal : JournalState) (id : ℕ)
+pub served : (lanes : FeedLanes) (may_send : ℕ → List Notice → Type 0)
+    (journal : JournalState) (id : ℕ)
     (sender : LaneEnd Notice) (terms : Terms) (unseen : List Notice) (log : List Logged)
     (received inside unoffered : List Notice)
     → IsOffered lanes journal id sender → terms_at journal id ≡ Some terms
     → IsUnseen journal id unseen → map (λ (line : Logged). line.notice) log ≡ received
     → Keeps may_send sender.tag sender.capacity sender.items received inside
     → unoffered ≡ filter (meets terms) unseen → IsServed journal id log inside unoffered
-served lanes may_send journal id sender terms unseen log received inside unoffered offered terms_is looked notices keeps
+served lanes may_send journal id sender terms unseen log received inside unoffered offered
+    terms_is looked notices keeps
     rest =
     let cursor = looked.cursor in
     let at = looked.at in
@@ -67,14 +70,18 @@ served lanes may_send journal id sender terms unseen log received inside unoffer
           ap (λ (l : List Notice). l ++ (inside ++ unoffered)) notices
           ∙ sym (append_assoc received inside unoffered)
           ∙ ap (λ (l : List Notice). l ++ unoffered) (sym keeps.whole ∙ sent)
-          ∙ ap (λ (l : List Notice). filter (meets terms) (take seen xs) ++ l) (rest ∙ ap (filter (meets terms)) looked.is)
+          ∙ ap (λ (l : List Notice). filter (meets terms) (take seen xs) ++ l) (rest
+          ∙ ap (filter (meets terms)) looked.is)
           ∙ sym (filter-append (meets terms) (take seen xs) (drop seen xs))
           ∙ ap (filter (meets terms)) (take-append-drop seen xs);
     }
 
 -- what wasn't looked at is as long as it is
-pub same_unseen : (journal : JournalState) (id : ℕ) (one other : List Notice) → IsUnseen journal id one
+pub same_unseen : (journal : JournalState) (id : ℕ) (one other : List Notice)
+    → IsUnseen journal id one
     → IsUnseen journal id other → length other ≡ length one
 same_unseen journal id one other h k =
-    let same : k.cursor ≡ h.cursor = one_there (slice_get journal.cursors id) k.cursor h.cursor k.at h.at in
-    ap length k.is ∙ ap (λ (c : Cursor). length (drop c.seen (changes journal))) same ∙ sym (ap length h.is)
+    let same : k.cursor ≡ h.cursor = one_there (slice_get journal.cursors id)
+    k.cursor h.cursor k.at h.at in
+    ap length k.is ∙ ap (λ (c : Cursor). length (drop c.seen (changes journal))) same
+    ∙ sym (ap length h.is)

@@ -24,11 +24,13 @@ get_map f (z ∷ xs) (suc k) x e = get_map f xs k x e
 
 module _ (starts : List StartState) (receivers : List (LaneEnd Numbered)) (journal : JournalState)
     (spare : List SpareLane) (setting : FeedSetting) (lanes : FeedLanes)
-    (h : IsClosed setting starts receivers journal spare) (e : lanes_of receivers spare setting ≡ lanes) where
+    (h : IsClosed setting starts receivers journal spare)
+    (e : lanes_of receivers spare setting ≡ lanes) where
   setting_is : setting ≡ lanes.setting
   setting_is = ap (λ (l : FeedLanes). l.setting) e
 
-  lane_at : (k : ℕ) (r : LaneEnd Numbered) → slice_get receivers k ≡ Some r → slice_get lanes.venues k ≡ Some r.lane
+  lane_at : (k : ℕ) (r : LaneEnd Numbered) → slice_get receivers k ≡ Some r
+      → slice_get lanes.venues k ≡ Some r.lane
   lane_at k r at = ap (λ (l : FeedLanes). slice_get l.venues k) (sym e)
       ∙ get_map (λ (x : LaneEnd Numbered). x.lane) receivers k r at
 
@@ -59,7 +61,8 @@ module _ (starts : List StartState) (receivers : List (LaneEnd Numbered)) (journ
     kept = h.kept ∙ ap (λ (s : FeedSetting). s.kept) setting_is;
     subscribers = sym (ap length h.cursors);
     consumed = λ v r at.
-        let none : items_in journal.entries v ≡ [] = ap (λ (es : List Entry). items_in es v) h.entries in
+        let none : items_in journal.entries v ≡ [] =
+        ap (λ (es : List Entry). items_in es v) h.entries in
         let new = h.begun.new v r at in
         record {
           tag = new.0;
@@ -74,7 +77,8 @@ module _ (starts : List StartState) (receivers : List (LaneEnd Numbered)) (journ
         let none : k ≡ length journal.cursors + k = (let count = no_cursors in omega arith) in
         record {
           tag = u.tag ∙ none;
-          lane = ap (slice_get lanes.subscribers) (sym none) ∙ ap (λ (l : FeedLanes). slice_get l.subscribers k) (sym e)
+          lane = ap (slice_get lanes.subscribers) (sym none)
+              ∙ ap (λ (l : FeedLanes). slice_get l.subscribers k) (sym e)
               ∙ get_map (λ (s : SpareLane). s.sender.lane) spare k x at;
           capacity = u.capacity_is ∙ ap (λ (s : FeedSetting). s.lane) setting_is;
           items = u.items;

@@ -3,8 +3,10 @@ use Rattle.feed_types.specs.declared.genuine.Genuine.{Ghosts as Genuine}
 use Rattle.feed_steps.specs.Lanes.{FeedLanes}
 use Rattle.hub_lanes.specs.Hubs.{HubState, HubLockInvariant, UnderHubLock}
 
-pub under_hub_lock : {S : Type 0} (premise : Genuine S) (lanes : FeedLanes) (section : HubState → HubState → Type 0)
-    (old new : HubState) → HubLockInvariant premise lanes old → HubLockInvariant premise lanes new → section old new
+pub under_hub_lock : {S : Type 0} (premise : Genuine S) (lanes : FeedLanes)
+    (section : HubState → HubState → Type 0)
+    (old new : HubState) → HubLockInvariant premise lanes old → HubLockInvariant premise lanes new
+    → section old new
     → UnderHubLock premise lanes section
 under_hub_lock premise lanes section old new kept keeps leads = record {
   old = old;

@@ -15,19 +15,24 @@ use Rattle.venue_lines.specs.laws.Given.{streams_sequence}
 use Rattle.live_feed.specs.subscriber.Logs.{SubscriberLogState}
 use Rattle.live_feed.specs.settle.Settlements.{IsSettlement, SettlementState, VenueEndState}
 
-module _ {S : Type 0} (premise : Genuine S) (of_sessions : AreOfSessions premise) (lanes : FeedLanes) where
-  pub settled_of_sessions : (seats : List SeatState) (logs : List SubscriberLogState) (s : SettlementState) (venue : ℕ)
+module _ {S : Type 0} (premise : Genuine S) (of_sessions : AreOfSessions premise)
+    (lanes : FeedLanes) where
+  pub settled_of_sessions : (seats : List SeatState) (logs : List SubscriberLogState)
+      (s : SettlementState) (venue : ℕ)
       (v : VenueEndState) (all : List Session) → IsSettlement premise lanes seats logs s
       → slice_get s.venues venue ≡ Some v
-      → BringExactly premise venue all → SkipsNothing (items_in s.journal.entries venue ++ (v.in_lane ++ v.ready))
+      → BringExactly premise venue all → SkipsNothing (items_in s.journal.entries venue
+      ++ (v.in_lane ++ v.ready))
       → IsPrefix (items_in s.journal.entries venue ++ (v.in_lane ++ v.ready)) (whole_sessions all)
   settled_of_sessions seats logs s venue v all settlement at names none =
       let settled = (settlement.venues venue v at).settled in
       let consumed = items_in s.journal.entries venue in
       let is : consumed ++ (v.in_lane ++ v.ready) ≡ streams_of settled.history =
-      sym (append_assoc consumed v.in_lane v.ready) ∙ ap (λ (l : List Numbered). l ++ v.ready) settled.sent_is
+      sym (append_assoc consumed v.in_lane v.ready)
+      ∙ ap (λ (l : List Numbered). l ++ v.ready) settled.sent_is
       ∙ settled.whole in
-      let sequence = streams_sequence premise venue lanes.setting.window settled.history settled.given in
+      let sequence = streams_sequence premise venue lanes.setting.window
+      settled.history settled.given in
       subst (λ (l : List Numbered). IsPrefix l (whole_sessions all)) (sym is)
       (of_sessions venue all (streams_of settled.history) names sequence
       (subst (λ (l : List Numbered). SkipsNothing l) is none))

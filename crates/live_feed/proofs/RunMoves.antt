@@ -56,7 +56,8 @@ pub taken_more : {S : Type 0} (premise : Genuine S) (lanes : FeedLanes)
 taken_more premise lanes brought bytes answer first old new so_far one =
     let t : Taking = record { bytes = bytes; answer = answer; seat = new } in record {
       takings = so_far.takings ++ t ∷ [];
-      bytes = map-append (λ u. u.bytes) so_far.takings (t ∷ []) ∙ ap (λ bs. bs ++ bytes ∷ []) so_far.bytes;
+      bytes = map-append (λ u. u.bytes) so_far.takings (t ∷ [])
+          ∙ ap (λ bs. bs ++ bytes ∷ []) so_far.bytes;
       taken = taking_more premise lanes so_far.takings first old t so_far.taken one;
     }
 
@@ -80,7 +81,8 @@ pub line_ended : {G N S : Type 0} (takes : SeatState → List (List ℕ) → Sea
     (λ fault. failures last_source ≡ failures_after (failures source) fault)
     → LineHasEnded {G = G} {N = N} takes brings failures seat source
     (record { seat = last_seat; source = last_source; datagrams = datagrams; fault = fault })
-line_ended takes brings failures more seat last_seat source between last_source brought datagrams fault
+line_ended takes brings failures more seat last_seat source between last_source
+    brought datagrams fault
     venue line read taken later nothing counted = record {
       venue = venue;
       line = line;

@@ -19,7 +19,8 @@ use Rattle.live_feed.specs.settle.Closings.{IsClosedFeed}
 use Rattle.feed_steps.specs.laws.Lists.{found_within}
 use Rattle.live_feed.proofs.Sides.{zipped_at}
 
-module _ {S : Type 0} (premise : Genuine S) (lanes : FeedLanes) (seats : List SeatState) (cells : List CellState)
+module _ {S : Type 0} (premise : Genuine S) (lanes : FeedLanes) (seats : List SeatState)
+    (cells : List CellState)
     (hub : HubState) (logs : List SubscriberLogState) (s : SettlementState)
     (f : IsClosedFeed premise lanes cells hub logs s) (agree : AllAgree seats cells)
     (order : AreInOrder logs) where
@@ -38,11 +39,14 @@ module _ {S : Type 0} (premise : Genuine S) (lanes : FeedLanes) (seats : List Se
         kept = closed.kept;
         venue_is = same.venue_is;
         settled = subst (λ (n : ℕ). IsSettled premise n lanes.setting.window cell.lane.items
-            (items_in s.journal.entries n) v.in_lane v.ready v.wins v.brought) same.venue_is closed.settled;
-        consumed = closed.consumed ∙ ap (items_in (kept_of s.journal.kept s.journal.entries)) same.venue_is;
+            (items_in s.journal.entries n) v.in_lane v.ready v.wins v.brought)
+            same.venue_is closed.settled;
+        consumed = closed.consumed
+            ∙ ap (items_in (kept_of s.journal.kept s.journal.entries)) same.venue_is;
         wins = λ line. ap (on_line line) closed.wins ∙ (same.on line).wins
             ∙ (λ i. (counts_of (brought_by_seats (same.venue_is i) line seats)).wins);
-        accepted = λ line. ap (λ (x : PerLine Brought). (counts_of (on_line line x)).accepted) closed.brought ∙ (same.on line).accepted
+        accepted = λ line. ap (λ (x : PerLine Brought). (counts_of (on_line line x)).accepted)
+            closed.brought ∙ (same.on line).accepted
             ∙ (λ i. (counts_of (brought_by_seats (same.venue_is i) line seats)).accepted);
       }
 
@@ -50,7 +54,8 @@ module _ {S : Type 0} (premise : Genuine S) (lanes : FeedLanes) (seats : List Se
       → IsSettlement premise lanes seats logs s
   settlement venues subscribers =
       let long = AllZip-long (IsClosedVenue premise lanes s.journal) cells s.venues f.venues in
-      let S = λ (t : SubscriberLogState) (x : SubscriberEndState). ShowsSubscriber s.journal t.id t x in
+      let S = λ (t : SubscriberLogState) (x : SubscriberEndState). ShowsSubscriber s.journal t.id t
+      x in
       let all = AllZip-long S logs s.subscribers f.subscribers in
       record {
         symbols = ap (λ (j : JournalState). j.symbols) f.journal ∙ f.kept.symbols;
@@ -62,8 +67,10 @@ module _ {S : Type 0} (premise : Genuine S) (lanes : FeedLanes) (seats : List Se
               ∙ sym f.kept.count,
         );
         venues = shows;
-        subscriber_count = all ∙ subscribers ∙ ap (λ (j : JournalState). length j.cursors) (sym f.journal);
+        subscriber_count = all ∙ subscribers
+            ∙ ap (λ (j : JournalState). length j.cursors) (sym f.journal);
         all = all;
-        subscribers = λ id t x left right. subst (λ (n : ℕ). ShowsSubscriber s.journal n t x) (order id t left)
+        subscribers = λ id t x left right. subst (λ (n : ℕ). ShowsSubscriber s.journal n t x)
+            (order id t left)
             (zipped_at S logs s.subscribers id t x f.subscribers left right);
       }

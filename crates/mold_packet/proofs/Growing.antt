@@ -13,7 +13,9 @@ blocks_to messages = flat_map block (lent_bytes messages)
 abbrev pub nothing : Bor (List ℕ)
 nothing = record { ref_ptr = (0, 0); now = [] }
 
-pub blocks_more : (messages : List (Bor (List ℕ))) (i : ℕ) → i < length messages → blocks_to (take (i + 1) messages) ≡ blocks_to (take i messages) ++ block (get_or messages i nothing).now
+pub blocks_more : (messages : List (Bor (List ℕ))) (i : ℕ) → i < length messages
+    → blocks_to (take (i + 1) messages) ≡ blocks_to (take i messages)
+    ++ block (get_or messages i nothing).now
 blocks_more messages i h =
     let last : Bor (List ℕ) = get_or messages i nothing in
     ap blocks_to (take_more messages i nothing h)
@@ -21,17 +23,24 @@ blocks_more messages i h =
     ∙ flat_map-append block (lent_bytes (take i messages)) (last.now ∷ [])
     ∙ ap (λ (x : List ℕ). blocks_to (take i messages) ++ x) (append-nil (block last.now))
 
-pub message_at : (messages : List (Bor (List ℕ))) (i : ℕ) → AllByRecursion IsMessage (lent_bytes messages) → i < length messages → IsMessage (get_or messages i nothing).now
+pub message_at : (messages : List (Bor (List ℕ))) (i : ℕ)
+    → AllByRecursion IsMessage (lent_bytes messages) → i < length messages
+    → IsMessage (get_or messages i nothing).now
 message_at [] i each h = omega arith
 message_at (m ∷ ms) zero each h = each.0
 message_at (m ∷ ms) (suc i) each h = message_at ms i each.1 (omega arith)
 
-pub length-blocks_more : (messages : List (Bor (List ℕ))) (i : ℕ) → i < length messages → length (blocks_to (take (i + 1) messages)) ≡ length (blocks_to (take i messages)) + (2 + length (get_or messages i nothing).now)
+pub length-blocks_more : (messages : List (Bor (List ℕ))) (i : ℕ) → i < length messages
+    → length (blocks_to (take (i + 1) messages)) ≡ length
+    (blocks_to (take i messages)) + (2 + length (get_or messages i nothing).now)
 length-blocks_more messages i h =
     let last : List ℕ = (get_or messages i nothing).now in
-    ap (λ (x : List ℕ). length x) (blocks_more messages i h) ∙ omega (arith, length-append (blocks_to (take i messages)) (block last))
+    ap (λ (x : List ℕ). length x) (blocks_more messages i h)
+    ∙ omega (arith, length-append (blocks_to (take i messages)) (block last))
 
-pub blocks_within : (messages : List (Bor (List ℕ))) (i : ℕ) → i < length messages → length (blocks_to (take i messages)) + (2 + length (get_or messages i nothing).now) ≤ length (blocks_to messages)
+pub blocks_within : (messages : List (Bor (List ℕ))) (i : ℕ) → i < length messages
+    → length (blocks_to (take i messages)) + (2 + length (get_or messages i nothing).now) ≤ length
+    (blocks_to messages)
 blocks_within messages i h =
     let front : List (Bor (List ℕ)) = take (i + 1) messages in
     let back : List (Bor (List ℕ)) = drop (i + 1) messages in
@@ -39,4 +48,10 @@ blocks_within messages i h =
     ap blocks_to (sym (take-append-drop (i + 1) messages))
     ∙ ap (flat_map block) (map-append (λ (m : Bor (List ℕ)). m.now) front back)
     ∙ flat_map-append block (lent_bytes front) (lent_bytes back) in
-    omega (arith, length-blocks_more messages i h, ap (λ (x : List ℕ). length x) all, length-append (blocks_to front) (blocks_to back))
+    omega (
+      arith,
+      length-blocks_more messages i h,
+      ap (λ (x : List ℕ). length x) all,
+      length-append
+          (blocks_to front) (blocks_to back),
+    )

@@ -8,24 +8,36 @@ use Rattle.mold_packet.specs.Header.{header}
 use Rattle.mold_packet.specs.Request.{SpellsRequest, HasRequestFault}
 use Rattle.mold_packet.specs.laws.HeaderFields.{Parts, parts, length-header}
 
-parts_of : (bytes : List ℕ) (r : Request) → SpellsRequest bytes r → Parts bytes r.session r.number r.count []
-parts_of bytes r s = parts bytes r.session r.number r.count [] s.session s.small s.few (s.spelled ∙ sym (append-nil (header r.session r.number r.count)))
+parts_of : (bytes : List ℕ) (r : Request) → SpellsRequest bytes r
+    → Parts bytes r.session r.number r.count []
+parts_of bytes r s = parts bytes r.session r.number r.count [] s.session s.small s.few (s.spelled
+    ∙ sym (append-nil (header r.session r.number r.count)))
 
-pub same_request : (bytes : List ℕ) (r s : Request) → SpellsRequest bytes r → SpellsRequest bytes s → r ≡ s
+pub same_request : (bytes : List ℕ) (r s : Request) → SpellsRequest bytes r
+    → SpellsRequest bytes s → r ≡ s
 same_request bytes r s h k =
     let a = parts_of bytes r h in
     let b = parts_of bytes s k in
-    λ i. record { session = (sym a.session_is ∙ b.session_is) i; number = (sym a.number_is ∙ b.number_is) i; count = (sym a.count_is ∙ b.count_is) i }
+    λ i. record {
+      session = (sym a.session_is ∙ b.session_is) i;
+      number = (sym a.number_is
+          ∙ b.number_is) i;
+      count = (sym a.count_is ∙ b.count_is) i;
+    }
 
-pub no_request_fault : (bytes : List ℕ) (r : Request) (fault : PacketFault) → SpellsRequest bytes r → 1 ≤ r.number → HasRequestFault bytes fault → ⊥
-no_request_fault bytes r BadRequestLength s one h = h (ap (λ (x : List ℕ). length x) s.spelled ∙ length-header r.session r.number r.count s.session)
-no_request_fault bytes r ZeroSequence s one h = let number = (parts_of bytes r s).number_is in let none = h.1 in omega arith
+pub no_request_fault : (bytes : List ℕ) (r : Request) (fault : PacketFault) → SpellsRequest bytes r
+    → 1 ≤ r.number → HasRequestFault bytes fault → ⊥
+no_request_fault bytes r BadRequestLength s one h = h (ap (λ (x : List ℕ). length x) s.spelled
+    ∙ length-header r.session r.number r.count s.session)
+no_request_fault bytes r ZeroSequence s one h = let number = (parts_of bytes r s).number_is
+    in let none = h.1 in omega arith
 no_request_fault bytes r ShortHeader s one h = h
 no_request_fault bytes r TruncatedBlock s one h = h
 no_request_fault bytes r SequenceOverflow s one h = h
 no_request_fault bytes r BufferTooSmall s one h = h
 
-pub same_request_fault : (bytes : List ℕ) (f g : PacketFault) → HasRequestFault bytes f → HasRequestFault bytes g → f ≡ g
+pub same_request_fault : (bytes : List ℕ) (f g : PacketFault) → HasRequestFault bytes f
+    → HasRequestFault bytes g → f ≡ g
 same_request_fault bytes BadRequestLength BadRequestLength h k = refl
 same_request_fault bytes BadRequestLength ZeroSequence h k = absurd (h k.0)
 same_request_fault bytes ZeroSequence BadRequestLength h k = absurd (k h.0)

@@ -21,44 +21,54 @@ walk_read f (r ∷ rs) zero d h = refl
 walk_read f (r ∷ rs) (suc i) d h = walk_read f rs i d (omega (arith, h))
 
 walk_on : (f : Row → Row) (rs : List Row) (i : ℕ) (d : Row) → i < length rs
-    → set (map f (take i rs) ++ drop i rs) i (f (get_or rs i d)) ≡ map f (take (suc i) rs) ++ drop (suc i) rs
+    → set (map f (take i rs) ++ drop i rs) i (f (get_or rs i d)) ≡ map f (take (suc i) rs)
+    ++ drop (suc i) rs
 walk_on f [] i d h = absurd (omega (arith, h))
 walk_on f (r ∷ rs) zero d h = refl
 walk_on f (r ∷ rs) (suc i) d h = ap (λ t. f r ∷ t) (walk_on f rs i d (omega (arith, h)))
 
 walk_gives : (g : Row → Option Change) (rs : List Row) (i : ℕ) (d : Row) → i < length rs
-    → filter_map g (take (suc i) rs) ≡ filter_map g (take i rs) ++ option_to_list (g (get_or rs i d))
+    → filter_map g (take (suc i) rs) ≡ filter_map g (take i rs)
+    ++ option_to_list (g (get_or rs i d))
 walk_gives g [] i d h = absurd (omega (arith, h))
 walk_gives g (r ∷ rs) zero d h = option_list (g r) [] ∙ alone (option_to_list (g r))
 walk_gives g (r ∷ rs) (suc i) d h =
     ap (cons_option (g r)) (walk_gives g rs i d (omega (arith, h)))
     ∙ option_list (g r) (filter_map g (take i rs) ++ option_to_list (g (get_or rs i d)))
-    ∙ sym (append_assoc (option_to_list (g r)) (filter_map g (take i rs)) (option_to_list (g (get_or rs i d))))
-    ∙ ap (λ t. t ++ option_to_list (g (get_or rs i d))) (sym (option_list (g r) (filter_map g (take i rs))))
+    ∙ sym (append_assoc (option_to_list (g r)) (filter_map g (take i rs))
+    (option_to_list (g (get_or rs i d))))
+    ∙ ap (λ t. t ++ option_to_list (g (get_or rs i d)))
+    (sym (option_list (g r) (filter_map g (take i rs))))
 
 -- the first rows are stepped and have told their changes, the others are as before
-pub record HasWalked (step : Step) (i : ℕ) (old rows : List Row) (before items : List Change) : Type 0 where
+pub record HasWalked (step : Step) (i : ℕ) (old rows : List Row) (before items : List Change) : Type
+    0 where
   pub stepped : rows ≡ map (row_stepped step) (take i old) ++ drop i old
   pub told : items ≡ before ++ filter_map (row_told step) (take i old)
 
 -- what a step over a row leaves and tells
-pub record HasStepped (step : Step) (row next : Row) (moved : Bool) (items after : List Change) : Type 0 where
+pub record HasStepped (step : Step) (row next : Row) (moved : Bool)
+    (items after : List Change) : Type 0 where
   pub stepped : next ≡ row_stepped step row
   pub differs : moved ≡ not (is_same_national (national_at row) (national_at next))
   pub told : after ≡ items ++ option_to_list (told_where moved step.position next)
 
-tells : (step : Step) (row next : Row) (moved : Bool) (items after : List Change) → HasStepped step row next moved items after
+tells : (step : Step) (row next : Row) (moved : Bool) (items after : List Change)
+    → HasStepped step row next moved items after
     → after ≡ items ++ option_to_list (row_told step row)
 tells step row next moved items after h =
     h.told ∙ ap (λ o. items ++ option_to_list o)
-    (told_is step.venues.now.helped step.age step.position step.entry.now row next moved h.stepped h.differs)
+    (told_is step.venues.now.helped step.age step.position step.entry.now row next
+    moved h.stepped h.differs)
 
-at_place : (step : Step) (i : ℕ) (old rows : List Row) (before items : List Change) (d : Row) → i < length old
+at_place : (step : Step) (i : ℕ) (old rows : List Row) (before items : List Change) (d : Row)
+    → i < length old
     → HasWalked step i old rows before items → get_or rows i d ≡ get_or old i d
 at_place step i old rows before items d l h = ap (λ (t : List Row). get_or t i d) h.stepped
     ∙ walk_read (row_stepped step) old i d l
 
-pub walked_on : (step : Step) (i : ℕ) (old rows : List Row) (before items after : List Change) (d next : Row)
+pub walked_on : (step : Step) (i : ℕ) (old rows : List Row) (before items after : List Change)
+    (d next : Row)
     (moved : Bool) → i < length old → HasWalked step i old rows before items
     → HasStepped step (get_or rows i d) next moved items after
     → HasWalked step (i + 1) old (set rows i next) before after
@@ -82,9 +92,12 @@ walked_on step i old rows before items after d next moved l h one =
     }
 
 -- a symbol that was found, and whose row alone was stepped
-pub found_applies : (step : Step) (s : List ℕ) (old : List Row) (keys : List ℕ) (i : ℕ) (before after : List Change)
-    (d next : Row) (moved : Bool) → symbol_in step.entry.now ≡ Some s → IsTable (symbols_in_rows old) keys
-    → position (bytes_eq s) (symbols_in_rows old) ≡ Some i → HasStepped step (get_or old i d) next moved before after
+pub found_applies : (step : Step) (s : List ℕ) (old : List Row) (keys : List ℕ) (i : ℕ)
+    (before after : List Change)
+    (d next : Row) (moved : Bool) → symbol_in step.entry.now ≡ Some s
+    → IsTable (symbols_in_rows old) keys
+    → position (bytes_eq s) (symbols_in_rows old) ≡ Some i
+    → HasStepped step (get_or old i d) next moved before after
     → AppliesStep step old (set old i next) before after
 found_applies step s old keys i before after d next moved of table at one =
     let k = found_steps step.venues.now.helped step.age step.position step.entry.now s old i d of
@@ -111,6 +124,8 @@ missed_applies step s old before of at = still_applies step old before
     (missed_steps step.venues.now.helped step.age step.position step.entry.now s old of at)
 
 -- the row of the symbol that was found
-pub found_own : (s : List ℕ) (old : List Row) (i : ℕ) (d : Row) → position (bytes_eq s) (symbols_in_rows old) ≡ Some i
+pub found_own : (s : List ℕ) (old : List Row) (i : ℕ) (d : Row)
+    → position (bytes_eq s) (symbols_in_rows old) ≡ Some i
     → bytes_eq s (get_or old i d).symbol ≡ true
-found_own s old i d at = (bytes_decides s (get_or old i d).symbol).1 (sym (found_symbol old s i d at).1)
+found_own s old i d at = (bytes_decides s (get_or old i d).symbol).1
+    (sym (found_symbol old s i d at).1)

@@ -8,18 +8,22 @@ use Rattle.nbbo_book.specs.Nationals.{beats, is_better}
 
 -- the first difference is in the price, the size or the age; P says that the price is better
 abbrev Precedes : Type 0 → (ℕ → ℕ) → Best → Best → Type 0
-Precedes P f x y = P ⊎ ((x.price ≡ y.price) × ((y.size < x.size) ⊎ ((x.size ≡ y.size) × (f x.venue < f y.venue))))
+Precedes P f x y = P
+    ⊎ ((x.price ≡ y.price) × ((y.size < x.size) ⊎ ((x.size ≡ y.size) × (f x.venue < f y.venue))))
 
-bid_precedes : (f : ℕ → ℕ) (x y : Best) → beats Bid f x y ≡ true → Precedes (y.price < x.price) f x y
+bid_precedes : (f : ℕ → ℕ) (x y : Best) → beats Bid f x y ≡ true
+    → Precedes (y.price < x.price) f x y
 bid_precedes f x y p = grind (arith, p)
 
-offer_precedes : (f : ℕ → ℕ) (x y : Best) → beats Offer f x y ≡ true → Precedes (x.price < y.price) f x y
+offer_precedes : (f : ℕ → ℕ) (x y : Best) → beats Offer f x y ≡ true
+    → Precedes (x.price < y.price) f x y
 offer_precedes f x y p = grind (arith, p)
 
 bid_beats : (f : ℕ → ℕ) (x y : Best) → Precedes (y.price < x.price) f x y → beats Bid f x y ≡ true
 bid_beats f x y p = grind (arith, p)
 
-offer_beats : (f : ℕ → ℕ) (x y : Best) → Precedes (x.price < y.price) f x y → beats Offer f x y ≡ true
+offer_beats : (f : ℕ → ℕ) (x y : Best) → Precedes (x.price < y.price) f x y
+    → beats Offer f x y ≡ true
 offer_beats f x y p = grind (arith, p)
 
 -- prices that are ordered one way, whichever it is
@@ -49,31 +53,39 @@ chain IsBefore then_before f x y z p q = elim p [
   ]
 ]
 
-pub beats_chain : (b : Side) (f : ℕ → ℕ) (x y z : Best) → beats b f x y ≡ true → beats b f y z ≡ true
+pub beats_chain : (b : Side) (f : ℕ → ℕ) (x y z : Best)
+    → beats b f x y ≡ true → beats b f y z ≡ true
     → beats b f x z ≡ true
 beats_chain Bid f x y z p q =
     bid_beats f x z
-    (chain (λ a b. b < a) (λ a b c h k. omega (arith, h, k)) f x y z (bid_precedes f x y p) (bid_precedes f y z q))
+    (chain (λ a b. b < a) (λ a b c h k. omega (arith, h, k)) f x y z (bid_precedes f x y p)
+    (bid_precedes f y z q))
 beats_chain Offer f x y z p q =
     offer_beats f x z
-    (chain (λ a b. a < b) (λ a b c h k. omega (arith, h, k)) f x y z (offer_precedes f x y p) (offer_precedes f y z q))
+    (chain (λ a b. a < b) (λ a b c h k. omega (arith, h, k)) f x y z (offer_precedes f x y p)
+    (offer_precedes f y z q))
 
-pub beats_one_way : (b : Side) (f : ℕ → ℕ) (x y : Best) → beats b f x y ≡ true → beats b f y x ≡ true → ⊥
+pub beats_one_way : (b : Side) (f : ℕ → ℕ) (x y : Best) → beats b f x y ≡ true
+    → beats b f y x ≡ true → ⊥
 beats_one_way Bid f x y p q = grind (arith, p, q)
 beats_one_way Offer f x y p q = grind (arith, p, q)
 
 -- two sides of different ages: one of them ranks first
-pub beats_either : (b : Side) (f : ℕ → ℕ) (x y : Best) → (f x.venue ≡ f y.venue → ⊥) → beats b f x y ≡ false
+pub beats_either : (b : Side) (f : ℕ → ℕ) (x y : Best) → (f x.venue ≡ f y.venue → ⊥)
+    → beats b f x y ≡ false
     → beats b f y x ≡ true
 beats_either Bid f x y h p = grind (arith, h, p)
 beats_either Offer f x y h p = grind (arith, h, p)
 
 -- ages count at the two venues alone
-pub beats_same : (b : Side) (f g : ℕ → ℕ) (x y : Best) → f x.venue ≡ g x.venue → f y.venue ≡ g y.venue
+pub beats_same : (b : Side) (f g : ℕ → ℕ) (x y : Best) → f x.venue ≡ g x.venue
+    → f y.venue ≡ g y.venue
     → beats b f x y ≡ beats b g x y
 beats_same b f g x y p q =
-    ap (λ t. is_better b x y || ((nat_eq x.price y.price && nat_eq x.size y.size) && nat_lt t (f y.venue))) p
-    ∙ ap (λ t. is_better b x y || ((nat_eq x.price y.price && nat_eq x.size y.size) && nat_lt (g x.venue) t)) q
+    ap (λ t. is_better b x y || ((nat_eq x.price y.price && nat_eq x.size y.size)
+    && nat_lt t (f y.venue))) p
+    ∙ ap (λ t. is_better b x y || ((nat_eq x.price y.price && nat_eq x.size y.size)
+    && nat_lt (g x.venue) t)) q
 
 no_older : (a b : Bool) → (a || (b && false)) ≡ a
 no_older true b = refl

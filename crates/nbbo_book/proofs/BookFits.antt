@@ -35,76 +35,95 @@ contents_after e k = record {
 
 abbrev pub book_after : ℕ → Entry → BookState → BookState
 book_after last e b =
-    let k : BookContents = contents_after e b.contents in book_state_of k.rows b.venues last k.applied k.helped
+    let k : BookContents = contents_after e b.contents
+    in book_state_of k.rows b.venues last k.applied k.helped
 
 helped_long : (e : Entry) (helped : List Bool) → length (helped_after e helped) ≡ length helped
 helped_long (Consumed v x) helped = refl
 helped_long (SelfHelp v on) helped = long_set helped v on
 
-pub after_is : (keys : List ℕ) (b : BookState) (e : Entry) (last : ℕ) → venue_of e < b.venues → b.last < last
+pub after_is : (keys : List ℕ) (b : BookState) (e : Entry) (last : ℕ)
+    → venue_of e < b.venues → b.last < last
     → IsBook keys b → IsBook keys (book_after last e b)
 after_is keys b e last below rising h =
     let k : BookContents = b.contents in
     record {
       symbols = refl;
       table = subst (λ (ss : List (List ℕ)). IsTable ss keys)
-          (h.symbols ∙ sym (rows_keep_symbols (helped_after e k.helped) (k.applied + 1) e k.rows)) h.table;
+          (h.symbols ∙ sym (rows_keep_symbols (helped_after e k.helped) (k.applied + 1) e k.rows))
+          h.table;
       venues = h.venues;
       applied = (let a = h.applied in omega (arith, a, rising));
       count = helped_long e k.helped ∙ h.count;
-      rows = (let few = h.venues in rows_are k.helped (k.applied + 1) e k.rows (omega (arith, below, few)) h.rows);
+      rows = (let few = h.venues in rows_are k.helped (k.applied + 1) e k.rows
+          (omega (arith, below, few)) h.rows);
     }
 
-contents_fit : (k : BookContents) (e : Entry) (es : List Entry) → venue_of e < 16 → length k.helped ≡ 16 → HasRows k
+contents_fit : (k : BookContents) (e : Entry) (es : List Entry) → venue_of e < 16
+    → length k.helped ≡ 16 → HasRows k
     → ContentsFit es k → ContentsFit (es ++ e ∷ []) (contents_after e k)
 contents_fit k e es under count rows fits =
     let young : k.applied + 1 ≡ suc (length es) = (let a = fits.applied in omega (arith, a)) in
     record {
       applied = young ∙ (let l = length-append es (e ∷ []) in omega (arith, l));
       helped = helped_fits es e k.helped count under fits.helped;
-      rows = rows_fit es e (helped_after e k.helped) k.helped (k.applied + 1) (k.applied + 1) k.rows under young rows
+      rows = rows_fit es e (helped_after e k.helped) k.helped (k.applied + 1) (k.applied + 1)
+          k.rows under young rows
           fits.rows;
     }
 
-pub after_fits : (keys : List ℕ) (b : BookState) (e : Entry) (last : ℕ) (es : List Entry) → venue_of e < b.venues
+pub after_fits : (keys : List ℕ) (b : BookState) (e : Entry) (last : ℕ) (es : List Entry)
+    → venue_of e < b.venues
     → IsBook keys b → FitsBook b es → FitsBook (book_after last e b) (es ++ e ∷ [])
 after_fits keys b e last es below h fits = record {
-  contents = contents_fit b.contents e es (let few = h.venues in omega (arith, below, few)) h.count h.rows
+  contents = contents_fit b.contents e es (let few = h.venues in omega (arith, below, few)) h.count
+      h.rows
       fits.contents;
 }
 
-pub after_changes : (keys : List ℕ) (b : BookState) (e : Entry) (p : ℕ) (es : List Entry) → venue_of e < b.venues
+pub after_changes : (keys : List ℕ) (b : BookState) (e : Entry) (p : ℕ) (es : List Entry)
+    → venue_of e < b.venues
     → IsBook keys b → FitsBook b es
-    → filter_map (row_change (helped_after e b.contents.helped) (b.contents.applied + 1) p e) b.contents.rows ≡
+    → filter_map (row_change (helped_after e b.contents.helped) (b.contents.applied + 1) p e)
+    b.contents.rows ≡
     changes_by b.symbols es p e
 after_changes keys b e p es below h fits =
     let k : BookContents = b.contents in
     let kept : ContentsFit es k = fits.contents in
-    changes_are es e p k.helped (k.applied + 1) k.rows (let few = h.venues in omega (arith, below, few)) h.count
+    changes_are es e p k.helped (k.applied + 1) k.rows (let few = h.venues
+    in omega (arith, below, few)) h.count
     (let a = kept.applied in omega (arith, a)) kept.helped h.rows kept.rows
     ∙ ap (λ ss. changes_by ss es p e) (sym h.symbols)
 
 pub after_symbols : (last : ℕ) (e : Entry) (b : BookState)
     → (book_after last e b).symbols ≡ symbols_in_rows b.contents.rows
 after_symbols last e b =
-    let k : BookContents = b.contents in rows_keep_symbols (helped_after e k.helped) (k.applied + 1) e k.rows
+    let k : BookContents = b.contents in rows_keep_symbols (helped_after e k.helped)
+    (k.applied + 1) e k.rows
 
 -- the parts that a step leaves make the book after it
-pub next_book : {Z : Type 0} (b : BookState) (e : Entry) (last venues : ℕ) (v : Vec Row Z) (rows old : List Row)
-    (helped : List Bool) → length rows ≡ v.len → rows ≡ map (row_after helped (b.contents.applied + 1) e) old
+pub next_book : {Z : Type 0} (b : BookState) (e : Entry) (last venues : ℕ)
+    (v : Vec Row Z) (rows old : List Row)
+    (helped : List Bool) → length rows ≡ v.len
+    → rows ≡ map (row_after helped (b.contents.applied + 1) e) old
     → old ≡ b.contents.rows → helped ≡ helped_after e b.contents.helped → venues ≡ b.venues
-    → book_state_of (with_items v rows).items venues last (b.contents.applied + 1) helped ≡ book_after last e b
+    → book_state_of (with_items v rows).items venues last (b.contents.applied + 1)
+    helped ≡ book_after last e b
 next_book b e last venues v rows old helped long mapped was flags count =
     let k : BookContents = b.contents in
     ap (λ (t : List Row). book_state_of t venues last (k.applied + 1) helped)
     (with_items_is v rows long ∙ mapped ∙ ap (map (row_after helped (k.applied + 1) e)) was)
-    ∙ ap (λ (t : List Bool). book_state_of (map (row_after t (k.applied + 1) e) k.rows) venues last (k.applied + 1) t)
+    ∙ ap (λ (t : List Bool). book_state_of (map (row_after t (k.applied + 1) e) k.rows) venues
+    last (k.applied + 1) t)
     flags
-    ∙ ap (λ (n : ℕ). book_state_of (contents_after e k).rows n last (k.applied + 1) (helped_after e k.helped)) count
+    ∙ ap (λ (n : ℕ). book_state_of (contents_after e k).rows n last (k.applied + 1)
+    (helped_after e k.helped)) count
 
 -- the row at the place that a symbol was found
-national_found : (k : BookContents) (es : List Entry) (s : List ℕ) (i : ℕ) (d : Row) → HasRows k → ContentsFit es k
-    → position (bytes_eq s) (symbols_in_rows k.rows) ≡ Some i → national_at (get_or k.rows i d) ≡ national_of es s
+national_found : (k : BookContents) (es : List Entry) (s : List ℕ) (i : ℕ) (d : Row)
+    → HasRows k → ContentsFit es k
+    → position (bytes_eq s) (symbols_in_rows k.rows) ≡ Some i
+    → national_at (get_or k.rows i d) ≡ national_of es s
 national_found k es s i d rows fits at =
     let found = found_symbol k.rows s i d at in
     national_is es k.helped (k.applied + 1) (get_or k.rows i d) fits.helped
@@ -113,18 +132,22 @@ national_found k es s i d rows fits at =
     ∙ ap (national_of es) found.1
 
 row_ranking : (es : List Entry) (side : Side) (helped : List Bool) (n : ℕ) (r : Row)
-    → ((w : ℕ) → w < 16 → slice_index_or helped w false ≡ is_self_helped es w) → IsRow helped n r → RowFits es r
+    → ((w : ℕ) → w < 16 → slice_index_or helped w false ≡ is_self_helped es w)
+    → IsRow helped n r → RowFits es r
     → IsRanking es r.symbol side (side_at side r).ranks
 row_ranking es Bid helped n r flags h fits =
     ranking_is es r.symbol Bid r.bids.ranks
-    (side_ranking es r.symbol Bid (may_at helped r.halted) n (side_at Bid r) (may_is es helped r flags fits)
+    (side_ranking es r.symbol Bid (may_at helped r.halted) n (side_at Bid r)
+    (may_is es helped r flags fits)
     fits.bids h.bids)
 row_ranking es Offer helped n r flags h fits =
     ranking_is es r.symbol Offer r.offers.ranks
-    (side_ranking es r.symbol Offer (may_at helped r.halted) n (side_at Offer r) (may_is es helped r flags fits)
+    (side_ranking es r.symbol Offer (may_at helped r.halted) n (side_at Offer r)
+    (may_is es helped r flags fits)
     fits.offers h.offers)
 
-ranking_found : (k : BookContents) (es : List Entry) (s : List ℕ) (side : Side) (i : ℕ) (d : Row) → HasRows k
+ranking_found : (k : BookContents) (es : List Entry) (s : List ℕ) (side : Side) (i : ℕ) (d : Row)
+    → HasRows k
     → ContentsFit es k → position (bytes_eq s) (symbols_in_rows k.rows) ≡ Some i
     → IsRanking es s side (side_at side (get_or k.rows i d)).ranks
 ranking_found k es s side i d rows fits at =
@@ -136,7 +159,8 @@ ranking_found k es s side i d rows fits at =
     (all_rows_at (RowFits es) k.rows i d found.0 fits.rows))
 
 -- what a book keeps of the symbol that was found there
-pub found_shows : (k : BookContents) (es : List Entry) (s : List ℕ) (i : ℕ) (d : Row) → HasRows k → ContentsFit es k
+pub found_shows : (k : BookContents) (es : List Entry) (s : List ℕ) (i : ℕ) (d : Row)
+    → HasRows k → ContentsFit es k
     → position (bytes_eq s) (symbols_in_rows k.rows) ≡ Some i → ShowsSymbol es s (get_or k.rows i d)
 found_shows k es s i d rows fits at = record {
   national = national_found k es s i d rows fits at;
@@ -158,21 +182,25 @@ nothing_stands v = all_alike 16 v unknown
 empty_side_is : (b : Side) (may : ℕ → Bool) → IsSide b may 1 empty_side
 empty_side_is b may = record {
   count = refl;
-  past = λ v l. subst (λ (t : ℕ). t < 1) (sym (ap (λ (t : VenueSide). t.age) (nothing_stands v))) (omega arith);
+  past = λ v l. subst (λ (t : ℕ). t < 1) (sym (ap (λ (t : VenueSide). t.age) (nothing_stands v)))
+      (omega arith);
   apart = λ v w l m n there too same.
-      (let no : false ≡ true = sym (ap (λ (t : VenueSide). is_some t.quote) (nothing_stands v)) ∙ there in cc);
+      (let no : false ≡ true = sym (ap (λ (t : VenueSide). is_some t.quote) (nothing_stands v))
+      ∙ there in cc);
   ranked = record {
     members = λ x. (
       λ i. absurd i,
       λ k. (let no : None ≡ Some x =
-          sym (ap (λ (t : VenueSide). ranked_by (may x.venue) x.venue t.quote) (nothing_stands x.venue)
+          sym (ap (λ (t : VenueSide). ranked_by (may x.venue) x.venue t.quote)
+          (nothing_stands x.venue)
           ∙ ranked_nothing (may x.venue) x.venue) ∙ k.1 in cc),
     );
     order = tt;
   };
 }
 
-empty_rows_are : (helped : List Bool) (ss : List (List ℕ)) → AllByRecursion (IsRow helped 1) (map empty_row ss)
+empty_rows_are : (helped : List Bool) (ss : List (List ℕ))
+    → AllByRecursion (IsRow helped 1) (map empty_row ss)
 empty_rows_are helped [] = tt
 empty_rows_are helped (s ∷ ss) = (
   record {
@@ -187,8 +215,12 @@ empty_rows_are helped (s ∷ ss) = (
 empty_rows_fit : (ss : List (List ℕ)) → AllByRecursion (RowFits []) (map empty_row ss)
 empty_rows_fit [] = tt
 empty_rows_fit (s ∷ ss) = (
-  record
-      { bids = λ v l. nothing_stands v; offers = λ v l. nothing_stands v; halted = λ v l. all_alike 16 v false },
+  record {
+    bids = λ v l. nothing_stands v;
+    offers = λ v l. nothing_stands v;
+    halted =
+        λ v l. all_alike 16 v false;
+  },
   empty_rows_fit ss,
 )
 
@@ -196,7 +228,8 @@ pub rows_more : (ss : List (List ℕ)) (i : ℕ) (s d : List ℕ) → i < length
     → map empty_row (take i ss) ++ empty_row s ∷ [] ≡ map empty_row (take (suc i) ss)
 rows_more [] i s d l e = absurd (omega (arith, l))
 rows_more (t ∷ ss) zero s d l e = ap (λ u. empty_row u ∷ []) e
-rows_more (t ∷ ss) (suc i) s d l e = ap (λ u. empty_row t ∷ u) (rows_more ss i s d (omega (arith, l)) e)
+rows_more (t ∷ ss) (suc i) s d l e = ap (λ u. empty_row t ∷ u)
+    (rows_more ss i s d (omega (arith, l)) e)
 
 pub empty_symbols : (ss : List (List ℕ)) → symbols_in_rows (map empty_row ss) ≡ ss
 empty_symbols [] = refl
@@ -221,5 +254,9 @@ pub empty_fits : (ss : List (List ℕ)) (venues : ℕ) (rows : List Row) → row
     → FitsBook (empty_book venues rows) []
 empty_fits ss venues rows is =
     subst (λ (t : List Row). FitsBook (empty_book venues t) []) (sym is) (record {
-      contents = record { applied = refl; helped = λ v l. all_alike 16 v false; rows = empty_rows_fit ss };
+      contents = record {
+        applied = refl;
+        helped = λ v l. all_alike 16 v false;
+        rows = empty_rows_fit ss;
+      };
     })

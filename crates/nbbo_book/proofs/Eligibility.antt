@@ -22,7 +22,8 @@ record Ranked (m : Bool) (o : Option SideQuote) (x : Best) : Type 0 where
   price : quote.price ≡ x.price
   size : quote.size ≡ x.size
 
-ranked_with : (m : Bool) (v : ℕ) (o : Option SideQuote) (x : Best) → ranked_by m v o ≡ Some x → Ranked m o x
+ranked_with : (m : Bool) (v : ℕ) (o : Option SideQuote) (x : Best)
+    → ranked_by m v o ≡ Some x → Ranked m o x
 ranked_with false v o x e = cc
 ranked_with true v None x e = cc
 ranked_with true v (Some quote) x e =
@@ -66,8 +67,11 @@ eligible_told es s b x below e =
     and_right r.quote.automated (nat_lt 0 r.quote.price && nat_lt 0 r.quote.size) r.is_protected in
     record {
       venue = below;
-      automated = r.is ∙ ap Some (ap (λ t. record { price = t; size = r.quote.size; automated = r.quote.automated })
-          r.price ∙ ap (λ t. record { price = x.price; size = t; automated = r.quote.automated }) r.size
+      automated = r.is
+          ∙ ap Some
+          (ap (λ t. record { price = t; size = r.quote.size; automated = r.quote.automated })
+          r.price ∙ ap (λ t. record { price = x.price; size = t; automated = r.quote.automated })
+          r.size
           ∙ ap (λ t. record { price = x.price; size = x.size; automated = t }) flag);
       priced = subst (λ (n : ℕ). 0 < n) r.price
           (lt_of 0 r.quote.price (and_left (nat_lt 0 r.quote.price) (nat_lt 0 r.quote.size) sums));
@@ -86,11 +90,14 @@ eligible_is es s b x h =
     ∙ ap (λ t. ranked_by (t && not (is_halted es x.venue s)) x.venue
     (Some (record { price = x.price; size = x.size; automated = true })))
     (is_not (is_self_helped es x.venue) h.no_self_help)
-    ∙ ap (λ t. ranked_by t x.venue (Some (record { price = x.price; size = x.size; automated = true })))
+    ∙ ap (λ t. ranked_by t x.venue
+    (Some (record { price = x.price; size = x.size; automated = true })))
     (is_not (is_halted es x.venue s) h.no_halt)
-    ∙ ap (λ t. cond (t && nat_lt 0 x.size) (Some (record { venue = x.venue; price = x.price; size = x.size })) None)
+    ∙ ap (λ t. cond (t && nat_lt 0 x.size)
+    (Some (record { venue = x.venue; price = x.price; size = x.size })) None)
     (lt_is 0 x.price h.priced)
-    ∙ ap (λ t. cond t (Some (record { venue = x.venue; price = x.price; size = x.size })) None) (lt_is 0 x.size h.sized)
+    ∙ ap (λ t. cond t (Some (record { venue = x.venue; price = x.price; size = x.size })) None)
+    (lt_is 0 x.size h.sized)
 
 contains_in : (xs : List Best) (x : Best) (k : ℕ) → k < length xs → get_or xs k x ≡ x → IsIn xs x
 contains_in [] x k l e = absurd (omega (arith, l))
@@ -104,25 +111,30 @@ in_contains (y ∷ ys) x i = elim i [
   | inr k ↦ (let c = in_contains ys x k in (suc c.0, omega (arith, c.1), c.2))
 ]
 
-best_at : (P : Best → Type 0) (xs : List Best) (k : ℕ) (d : Best) → k < length xs → AllByRecursion P xs
+best_at : (P : Best → Type 0) (xs : List Best) (k : ℕ) (d : Best)
+    → k < length xs → AllByRecursion P xs
     → P (get_or xs k d)
 best_at P [] k d l h = absurd (omega (arith, l))
 best_at P (x ∷ xs) zero d l h = h.0
 best_at P (x ∷ xs) (suc k) d l h = best_at P xs k d (omega (arith, l)) h.1
 
-in_pairs : (b : Side) (f : ℕ → ℕ) (xs : List Best) → InRank b f xs → (i j : ℕ) (d : Best) → i < j → j < length xs
+in_pairs : (b : Side) (f : ℕ → ℕ) (xs : List Best) → InRank b f xs → (i j : ℕ) (d : Best)
+    → i < j → j < length xs
     → beats b f (get_or xs i d) (get_or xs j d) ≡ true
 in_pairs b f [] h i j d l m = absurd (omega (arith, m))
 in_pairs b f (x ∷ xs) h i zero d l m = absurd (omega (arith, l))
-in_pairs b f (x ∷ xs) h zero (suc j) d l m = best_at (λ y. beats b f x y ≡ true) xs j d (omega (arith, m)) h.0
-in_pairs b f (x ∷ xs) h (suc i) (suc j) d l m = in_pairs b f xs h.1 i j d (omega (arith, l)) (omega (arith, m))
+in_pairs b f (x ∷ xs) h zero (suc j) d l m = best_at (λ y. beats b f x y ≡ true) xs j
+    d (omega (arith, m)) h.0
+in_pairs b f (x ∷ xs) h (suc i) (suc j) d l m = in_pairs b f xs h.1 i j d
+    (omega (arith, l)) (omega (arith, m))
 
 -- ranks of the eligible sides by their ages are a ranking
 pub ranking_is : (es : List Entry) (s : List ℕ) (b : Side) (xs : List Best)
     → IsRankingOf b (eligible_of es s b) (λ v. age_of es v s b) xs → IsRanking es s b xs
 ranking_is es s b xs h = record {
   members = λ x. (
-    (λ c. (let k = (h.members x).0 (contains_in xs x c.0 c.1 c.2) in eligible_told es s b x k.0 k.1)),
+    (λ c. (let k = (h.members x).0 (contains_in xs x c.0 c.1 c.2)
+        in eligible_told es s b x k.0 k.1)),
     (λ e. in_contains xs x ((h.members x).1 (e.venue, eligible_is es s b x e))),
   );
   order = λ i j d l m. in_pairs b (λ v. age_of es v s b) xs h.order i j d l m;

@@ -24,7 +24,8 @@ last_said-put says [] e = sym (later_none (says e))
 last_said-put says (x ∷ es) e = ap (later (says x)) (last_said-put says es e)
     ∙ later_assoc (says x) (last_said says es) (says e)
 
-unwrap_later : {T : Type 0} (a b : Option T) (d : T) → unwrap_or (later a b) d ≡ unwrap_or b (unwrap_or a d)
+unwrap_later : {T : Type 0} (a b : Option T) (d : T)
+    → unwrap_or (later a b) d ≡ unwrap_or b (unwrap_or a d)
 unwrap_later a None d = refl
 unwrap_later a (Some x) d = refl
 
@@ -61,7 +62,8 @@ pub and_right : (a b : Bool) → (a && b) ≡ true → b ≡ true
 and_right true b h = h
 and_right false b h = cc
 
-quote_same : (x y : SideQuote) → x.price ≡ y.price → x.size ≡ y.size → x.automated ≡ y.automated → x ≡ y
+quote_same : (x y : SideQuote) → x.price ≡ y.price → x.size ≡ y.size
+    → x.automated ≡ y.automated → x ≡ y
 quote_same x y p q r = ap (λ t. record { price = t; size = x.size; automated = x.automated }) p
     ∙ ap (λ t. record { price = y.price; size = t; automated = x.automated }) q
     ∙ ap (λ t. record { price = y.price; size = y.size; automated = t }) r
@@ -71,15 +73,18 @@ same_side_sound None None h = refl
 same_side_sound None (Some y) h = cc
 same_side_sound (Some x) None h = cc
 same_side_sound (Some x) (Some y) h =
-    let rest = and_right (nat_eq x.price y.price) ((nat_eq x.size y.size) && is_same_flag x.automated y.automated) h in
+    let rest = and_right (nat_eq x.price y.price) ((nat_eq x.size y.size)
+    && is_same_flag x.automated y.automated) h in
     ap Some (quote_same x y (nat_same x.price y.price (and_left (nat_eq x.price y.price) _ h))
-    (nat_same x.size y.size (and_left (nat_eq x.size y.size) (is_same_flag x.automated y.automated) rest))
+    (nat_same x.size y.size (and_left (nat_eq x.size y.size) (is_same_flag x.automated y.automated)
+    rest))
     (same_flag_sound x.automated y.automated
     (and_right (nat_eq x.size y.size) (is_same_flag x.automated y.automated) rest)))
 
 pub same_side_refl : (x : Option SideQuote) → is_same_side x x ≡ true
 same_side_refl None = refl
-same_side_refl (Some x) = ap (λ t. t && ((nat_eq x.size x.size) && is_same_flag x.automated x.automated))
+same_side_refl (Some x) =
+    ap (λ t. t && ((nat_eq x.size x.size) && is_same_flag x.automated x.automated))
     (nat_refl x.price) ∙ ap (λ t. t && is_same_flag x.automated x.automated) (nat_refl x.size)
     ∙ same_flag_refl x.automated
 
@@ -88,11 +93,14 @@ since-≤ f x zero = omega arith
 since-≤ f x (suc n) = elim (is_same_side (f n) x) as (λ b. cond b (since f x n) (suc n) ≤ suc n)
     [ true ↦ omega (arith, since-≤ f x n) | false ↦ omega arith ]
 
-since-same : (f g : ℕ → Option SideQuote) (x : Option SideQuote) (n : ℕ) → ((k : ℕ) → k < n → f k ≡ g k)
+since-same : (f g : ℕ → Option SideQuote) (x : Option SideQuote) (n : ℕ)
+    → ((k : ℕ) → k < n → f k ≡ g k)
     → since f x n ≡ since g x n
 since-same f g x zero h = refl
-since-same f g x (suc n) h = ap (λ t. cond (is_same_side t x) (since f x n) (suc n)) (h n (omega arith))
-    ∙ ap (λ t. cond (is_same_side (g n) x) t (suc n)) (since-same f g x n (λ k b. h k (omega (arith, b))))
+since-same f g x (suc n) h = ap (λ t. cond (is_same_side t x) (since f x n) (suc n))
+    (h n (omega arith))
+    ∙ ap (λ t. cond (is_same_side (g n) x) t (suc n))
+    (since-same f g x n (λ k b. h k (omega (arith, b))))
 
 pub age-≤ : (es : List Entry) (v : ℕ) (s : List ℕ) (b : Side) → age_of es v s b ≤ length es
 age-≤ es v s b = since-≤ (λ n. side_of (take n es) v s b) (side_of es v s b) (length es)
@@ -102,8 +110,10 @@ prefix_same : (es : List Entry) (e : Entry) (v : ℕ) (s : List ℕ) (b : Side) 
 prefix_same es e v s b k h = ap (λ t. side_of t v s b) (take-append-le k es (e ∷ []) h)
 
 age_step : (es : List Entry) (e : Entry) (v : ℕ) (s : List ℕ) (b : Side)
-    → age_of (es ++ e ∷ []) v s b ≡ cond (is_same_side (side_of es v s b) (side_of (es ++ e ∷ []) v s b))
-    (since (λ n. side_of (take n es) v s b) (side_of (es ++ e ∷ []) v s b) (length es)) (suc (length es))
+    → age_of (es ++ e ∷ []) v s b ≡ cond (is_same_side (side_of es v s b)
+    (side_of (es ++ e ∷ []) v s b))
+    (since (λ n. side_of (take n es) v s b) (side_of (es ++ e ∷ []) v s b) (length es))
+    (suc (length es))
 age_step es e v s b =
     let new = side_of (es ++ e ∷ []) v s b in
     let f : ℕ → Option SideQuote = λ n. side_of (take n (es ++ e ∷ [])) v s b in
@@ -117,15 +127,19 @@ age_step es e v s b =
 
 -- a side that stays as it is keeps its age
 pub age-kept : (es : List Entry) (e : Entry) (v : ℕ) (s : List ℕ) (b : Side)
-    → side_of (es ++ e ∷ []) v s b ≡ side_of es v s b → age_of (es ++ e ∷ []) v s b ≡ age_of es v s b
+    → side_of (es ++ e ∷ []) v s b ≡ side_of es v s b
+    → age_of (es ++ e ∷ []) v s b ≡ age_of es v s b
 age-kept es e v s b h = age_step es e v s b
-    ∙ ap (λ t. cond (is_same_side (side_of es v s b) t) (since (λ n. side_of (take n es) v s b) t (length es))
-    (suc (length es))) h ∙ ap (λ t. cond t (age_of es v s b) (suc (length es))) (same_side_refl (side_of es v s b))
+    ∙ ap (λ t. cond (is_same_side (side_of es v s b) t)
+    (since (λ n. side_of (take n es) v s b) t (length es))
+    (suc (length es))) h ∙ ap (λ t. cond t (age_of es v s b) (suc (length es)))
+    (same_side_refl (side_of es v s b))
 
 -- a side that changes is as old as the entry
 pub age-new : (es : List Entry) (e : Entry) (v : ℕ) (s : List ℕ) (b : Side)
     → is_same_side (side_of es v s b) (side_of (es ++ e ∷ []) v s b) ≡ false
     → age_of (es ++ e ∷ []) v s b ≡ suc (length es)
 age-new es e v s b h = age_step es e v s b
-    ∙ ap (λ t. cond t (since (λ n. side_of (take n es) v s b) (side_of (es ++ e ∷ []) v s b) (length es))
+    ∙ ap (λ t. cond t (since (λ n. side_of (take n es) v s b) (side_of (es ++ e ∷ []) v s b)
+    (length es))
     (suc (length es))) h

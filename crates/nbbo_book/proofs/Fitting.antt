@@ -42,7 +42,8 @@ abbrev venue_side_of : List Entry → ℕ → List ℕ → Side → VenueSide
 venue_side_of es v s b = record { quote = side_of es v s b; age = age_of es v s b }
 
 stands_same : (es : List Entry) (e : Entry) (v : ℕ) (s : List ℕ) (b : Side)
-    → side_of (es ++ e ∷ []) v s b ≡ side_of es v s b → venue_side_of (es ++ e ∷ []) v s b ≡ venue_side_of es v s b
+    → side_of (es ++ e ∷ []) v s b ≡ side_of es v s b
+    → venue_side_of (es ++ e ∷ []) v s b ≡ venue_side_of es v s b
 stands_same es e v s b h = ap (λ t. record { quote = t; age = age_of (es ++ e ∷ []) v s b }) h
     ∙ ap (λ t. record { quote = side_of es v s b; age = t }) (age-kept es e v s b h)
 
@@ -53,9 +54,11 @@ pub fits_stay : (es : List Entry) (e : Entry) (s : List ℕ) (b : Side) (ss : Li
 fits_stay es e s b ss same h = λ w l. h w l ∙ sym (stands_same es e w s b (same w l))
 
 -- where one venue's side is said
-fits_quoted : (es : List Entry) (e : Entry) (v : ℕ) (o : Option SideQuote) (s : List ℕ) (b : Side) (k : BookSide)
+fits_quoted : (es : List Entry) (e : Entry) (v : ℕ) (o : Option SideQuote) (s : List ℕ)
+    (b : Side) (k : BookSide)
     (n : ℕ) (may : Bool) → v < 16 → length k.venue_sides ≡ 16 → n ≡ suc (length es)
-    → ((w : ℕ) → side_said w s b e ≡ cond (nat_eq v w) (Some o) None) → SideFits es s b k.venue_sides
+    → ((w : ℕ) → side_said w s b e ≡ cond (nat_eq v w) (Some o) None)
+    → SideFits es s b k.venue_sides
     → SideFits (es ++ e ∷ []) s b (side_quoted b v o n may k).venue_sides
 fits_quoted es e v o s b k n may below long young says h =
     let ss : List VenueSide = k.venue_sides in
@@ -64,17 +67,20 @@ fits_quoted es e v o s b k n may below long young says h =
     λ w d. unsaid es e w s b (says w ∙ ap (λ t. cond t (Some o) None) (nat_other w v d)) in
     let now : side_of (es ++ e ∷ []) v s b ≡ o =
     told es e v s b o (says v ∙ ap (λ t. cond t (Some o) None) (nat_refl v)) in
-    let was : (venue_side_at ss v).quote ≡ side_of es v s b = ap (λ (t : VenueSide). t.quote) (h v below) in
+    let was : (venue_side_at ss v).quote ≡ side_of es v s b =
+    ap (λ (t : VenueSide). t.quote) (h v below) in
     let st : VenueSide = record { quote = o; age = n } in
     let R : Bool → Type 0 = λ t. is_same_side (venue_side_at ss v).quote o ≡ t
     → SideFits (es ++ e ∷ []) s b (cond t k (side_set b v st may k)).venue_sides in
     (elim (is_same_side (venue_side_at ss v).quote o) as R [
-      | true ↦ λ q. fits_stay es e s b ss (λ w l. nat_split w v (side_of (es ++ e ∷ []) w s b ≡ side_of es w s b)
+      | true ↦ λ q. fits_stay es e s b ss
+          (λ w l. nat_split w v (side_of (es ++ e ∷ []) w s b ≡ side_of es w s b)
           (λ same. ap (λ (u : ℕ). side_of (es ++ e ∷ []) u s b) same ∙ now
           ∙ sym (same_side_sound (venue_side_at ss v).quote o q) ∙ was
           ∙ ap (λ (u : ℕ). side_of es u s b) (sym same))
           (away w)) h
-      | false ↦ λ q. λ w l. nat_split w v (venue_side_at (set ss v st) w ≡ venue_side_of (es ++ e ∷ []) w s b)
+      | false ↦ λ q. λ w l. nat_split w v (venue_side_at (set ss v st)
+          w ≡ venue_side_of (es ++ e ∷ []) w s b)
           (λ same.
           let differs : is_same_side (side_of es v s b) (side_of (es ++ e ∷ []) v s b) ≡ false =
           ap (λ t. is_same_side t (side_of (es ++ e ∷ []) v s b)) (sym was)
@@ -84,7 +90,8 @@ fits_quoted es e v o s b k n may below long young says h =
           ∙ ap (λ t. record { quote = t; age = n }) (sym now)
           ∙ ap (λ t. record { quote = side_of (es ++ e ∷ []) v s b; age = t })
           (young ∙ sym (age-new es e v s b differs)) in
-          subst (λ (u : ℕ). venue_side_at (set ss v st) u ≡ venue_side_of (es ++ e ∷ []) u s b) (sym same) there)
+          subst (λ (u : ℕ). venue_side_at (set ss v st) u ≡ venue_side_of (es ++ e ∷ []) u s b)
+          (sym same) there)
           (λ d. venue_side_off ss v w st d ∙ h w l ∙ sym (stands_same es e w s b (away w d)))
     ]) refl
 
@@ -92,17 +99,20 @@ fits_quoted es e v o s b k n may below long young says h =
 abbrev HaltsFit : List Entry → List ℕ → List Bool → Type 0
 HaltsFit es s xs = (w : ℕ) → w < 16 → get_or xs w false ≡ is_halted es w s
 
-halts_stay : (es : List Entry) (e : Entry) (s : List ℕ) (xs : List Bool) → ((w : ℕ) → halt_said w s e ≡ None)
+halts_stay : (es : List Entry) (e : Entry) (s : List ℕ) (xs : List Bool)
+    → ((w : ℕ) → halt_said w s e ≡ None)
     → HaltsFit es s xs → HaltsFit (es ++ e ∷ []) s xs
 halts_stay es e s xs says h = λ w l. h w l
     ∙ sym (halted-put es e w s ∙ ap (λ o. unwrap_or o (is_halted es w s)) (says w))
 
-halts_set : (es : List Entry) (e : Entry) (v : ℕ) (x : Bool) (s : List ℕ) (xs : List Bool) → v < 16 → length xs ≡ 16
+halts_set : (es : List Entry) (e : Entry) (v : ℕ) (x : Bool) (s : List ℕ) (xs : List Bool)
+    → v < 16 → length xs ≡ 16
     → ((w : ℕ) → halt_said w s e ≡ cond (nat_eq v w) (Some x) None) → HaltsFit es s xs
     → HaltsFit (es ++ e ∷ []) s (set xs v x)
 halts_set es e v x s xs below long says h =
     λ w l. nat_split w v (get_or (set xs v x) w false ≡ is_halted (es ++ e ∷ []) w s)
-    (λ same. subst (λ (u : ℕ). get_or (set xs v x) u false ≡ is_halted (es ++ e ∷ []) u s) (sym same)
+    (λ same. subst (λ (u : ℕ). get_or (set xs v x) u false ≡ is_halted (es ++ e ∷ []) u s)
+    (sym same)
     (set_at xs v x false (omega (arith, below, long))
     ∙ sym (halted-put es e v s ∙ ap (λ o. unwrap_or o (is_halted es v s))
     (says v ∙ ap (λ t. cond t (Some x) None) (nat_refl v)))))
@@ -110,30 +120,37 @@ halts_set es e v x s xs below long says h =
     ∙ sym (halted-put es e w s ∙ ap (λ o. unwrap_or o (is_halted es w s))
     (says w ∙ ap (λ t. cond t (Some x) None) (nat_other w v d))))
 
-row_waits : (es : List Entry) (e : Entry) (r : Row) → ((w : ℕ) (b : Side) → side_said w r.symbol b e ≡ None)
+row_waits : (es : List Entry) (e : Entry) (r : Row)
+    → ((w : ℕ) (b : Side) → side_said w r.symbol b e ≡ None)
     → ((w : ℕ) → halt_said w r.symbol e ≡ None) → RowFits es r → RowFits (es ++ e ∷ []) r
 row_waits es e r sides halts h = record {
-  bids = fits_stay es e r.symbol Bid r.bids.venue_sides (λ w l. unsaid es e w r.symbol Bid (sides w Bid)) h.bids;
-  offers = fits_stay es e r.symbol Offer r.offers.venue_sides (λ w l. unsaid es e w r.symbol Offer (sides w Offer))
+  bids = fits_stay es e r.symbol Bid r.bids.venue_sides (λ w l. unsaid es e w r.symbol
+      Bid (sides w Bid)) h.bids;
+  offers = fits_stay es e r.symbol Offer r.offers.venue_sides
+      (λ w l. unsaid es e w r.symbol Offer (sides w Offer))
       h.offers;
   halted = halts_stay es e r.symbol r.halted halts h.halted;
 }
 
-item_fits : (es : List Entry) (v number n m : ℕ) (i : Item) (helped flags : List Bool) (r : Row) → v < 16
+item_fits : (es : List Entry) (v number n m : ℕ) (i : Item) (helped flags : List Bool) (r : Row)
+    → v < 16
     → n ≡ suc (length es) → IsRow flags m r → RowFits es r
-    → RowFits (es ++ Consumed v (record { number = number; item = i }) ∷ []) (row_after_item helped n v i r)
+    → RowFits (es ++ Consumed v (record { number = number; item = i }) ∷ [])
+    (row_after_item helped n v i r)
 item_fits es v number n m (item.Quote q) helped flags r below young is h =
     let e : Entry = Consumed v (record { number = number; item = item.Quote q }) in
     let R : Bool → Type 0 = λ t. bytes_eq q.symbol r.symbol ≡ t
     → RowFits (es ++ e ∷ []) (cond t (row_quoted helped v q n r) r) in
     (elim (bytes_eq q.symbol r.symbol) as R [
       | true ↦ λ k. record {
-        bids = fits_quoted es e v (Some (quoted_by q Bid)) r.symbol Bid (side_at Bid r) n (may_at helped r.halted v)
+        bids = fits_quoted es e v (Some (quoted_by q Bid)) r.symbol Bid (side_at Bid r) n
+            (may_at helped r.halted v)
             below is.bids.count young (λ w. ap
             (λ t. cond (nat_eq v w) (cond t (Some (Some (quoted_by q Bid))) None) None) k) h.bids;
         offers = fits_quoted es e v (Some (quoted_by q Offer)) r.symbol Offer (side_at Offer r) n
             (may_at helped r.halted v) below is.offers.count young
-            (λ w. ap (λ t. cond (nat_eq v w) (cond t (Some (Some (quoted_by q Offer))) None) None) k) h.offers;
+            (λ w. ap (λ t. cond (nat_eq v w) (cond t (Some (Some (quoted_by q Offer))) None) None)
+            k) h.offers;
         halted = halts_stay es e r.symbol r.halted (λ w. cond_same (nat_eq v w) None) h.halted;
       }
       | false ↦ λ k. row_waits es e r
@@ -154,31 +171,39 @@ item_fits es v number n m (item.Halt s x) helped flags r below young is h =
             (λ w. ap (λ t. cond (nat_eq v w) (cond t (Some x) None) None) k) h.halted;
       }
       | false ↦ λ k. row_waits es e r (λ w b. cond_same (nat_eq v w) None)
-          (λ w. ap (λ t. cond (nat_eq v w) (cond t (Some x) None) None) k ∙ cond_same (nat_eq v w) None) h
+          (λ w. ap (λ t. cond (nat_eq v w) (cond t (Some x) None) None) k
+          ∙ cond_same (nat_eq v w) None) h
     ]) refl
 item_fits es v number n m item.Other helped flags r below young is h =
-    row_waits es (Consumed v (record { number = number; item = item.Other })) r (λ w b. cond_same (nat_eq v w) None)
+    row_waits es (Consumed v (record { number = number; item = item.Other })) r
+    (λ w b. cond_same (nat_eq v w) None)
     (λ w. cond_same (nat_eq v w) None) h
 item_fits es v number n m item.End helped flags r below young is h =
     let e : Entry = Consumed v (record { number = number; item = item.End }) in
     record {
-      bids = fits_quoted es e v None r.symbol Bid (side_at Bid r) n false below is.bids.count young (λ w. refl) h.bids;
-      offers = fits_quoted es e v None r.symbol Offer (side_at Offer r) n false below is.offers.count young
+      bids = fits_quoted es e v None r.symbol Bid (side_at Bid r) n false below is.bids.count
+          young (λ w. refl) h.bids;
+      offers = fits_quoted es e v None r.symbol Offer (side_at Offer r) n false
+          below is.offers.count young
           (λ w. refl) h.offers;
       halted = halts_set es e v false r.symbol r.halted below is.count (λ w. refl) h.halted;
     }
 item_fits es v number n m item.Skipped helped flags r below young is h =
     let e : Entry = Consumed v (record { number = number; item = item.Skipped }) in
     record {
-      bids = fits_quoted es e v None r.symbol Bid (side_at Bid r) n false below is.bids.count young (λ w. refl) h.bids;
-      offers = fits_quoted es e v None r.symbol Offer (side_at Offer r) n false below is.offers.count young
+      bids = fits_quoted es e v None r.symbol Bid (side_at Bid r) n false below is.bids.count
+          young (λ w. refl) h.bids;
+      offers = fits_quoted es e v None r.symbol Offer (side_at Offer r) n false
+          below is.offers.count young
           (λ w. refl) h.offers;
       halted = halts_set es e v false r.symbol r.halted below is.count (λ w. refl) h.halted;
     }
 
 -- a symbol, after one more entry
-pub row_fits : (es : List Entry) (e : Entry) (n m : ℕ) (helped flags : List Bool) (r : Row) → venue_of e < 16
-    → n ≡ suc (length es) → IsRow flags m r → RowFits es r → RowFits (es ++ e ∷ []) (row_after helped n e r)
+pub row_fits : (es : List Entry) (e : Entry) (n m : ℕ) (helped flags : List Bool) (r : Row)
+    → venue_of e < 16
+    → n ≡ suc (length es) → IsRow flags m r → RowFits es r
+    → RowFits (es ++ e ∷ []) (row_after helped n e r)
 row_fits es (Consumed v x) n m helped flags r below young is h =
     item_fits es v x.number n m x.item helped flags r below young is h
 row_fits es (SelfHelp v on) n m helped flags r below young is h = record {
@@ -190,13 +215,15 @@ row_fits es (SelfHelp v on) n m helped flags r below young is h = record {
 }
 
 -- the venues' self-help, after one more entry
-pub helped_fits : (es : List Entry) (e : Entry) (helped : List Bool) → length helped ≡ 16 → venue_of e < 16
+pub helped_fits : (es : List Entry) (e : Entry) (helped : List Bool)
+    → length helped ≡ 16 → venue_of e < 16
     → ((w : ℕ) → w < 16 → get_or helped w false ≡ is_self_helped es w) → (w : ℕ) → w < 16
     → get_or (helped_after e helped) w false ≡ is_self_helped (es ++ e ∷ []) w
 helped_fits es (Consumed v x) helped long below h w l = h w l ∙ sym (helped-put es (Consumed v x) w)
 helped_fits es (SelfHelp v on) helped long below h w l =
     nat_split w v (get_or (set helped v on) w false ≡ is_self_helped (es ++ SelfHelp v on ∷ []) w)
-    (λ same. subst (λ (u : ℕ). get_or (set helped v on) u false ≡ is_self_helped (es ++ SelfHelp v on ∷ []) u)
+    (λ same. subst (λ (u : ℕ). get_or (set helped v on) u false ≡ is_self_helped (es
+    ++ SelfHelp v on ∷ []) u)
     (sym same)
     (set_at helped v on false (omega (arith, below, long))
     ∙ sym (helped-put es (SelfHelp v on) v

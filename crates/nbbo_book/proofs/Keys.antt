@@ -25,7 +25,8 @@ key_tells s t h k =
           let Q : Bool → Type 0 = λ b. nat_eq (key_of s) (key_of t) ≡ b → b ≡ false in
           (elim (nat_eq (key_of s) (key_of t)) as Q [
             | true ↦ λ m. (let no : true ≡ false =
-                sym ((bytes_decides s t).1 (one_key s t h k (eqb-true (key_of s) (key_of t) m))) ∙ e in no)
+                sym ((bytes_decides s t).1 (one_key s t h k (eqb-true (key_of s) (key_of t) m))) ∙ e
+                in no)
             | false ↦ λ m. refl
           ]) refl
     ]) refl
@@ -35,7 +36,8 @@ long_keys [] = refl
 long_keys (s ∷ ss) = ap suc (long_keys ss)
 
 first_key : (s : List ℕ) (ss : List (List ℕ)) → HasKey s → AllByRecursion HasKey ss
-    → prefix_len (λ k. not (nat_eq (key_of s) k)) (map key_of ss) ≡ prefix_len (λ t. not (bytes_eq s t)) ss
+    → prefix_len (λ k. not (nat_eq (key_of s) k)) (map key_of ss) ≡ prefix_len
+    (λ t. not (bytes_eq s t)) ss
 first_key s [] h all = refl
 first_key s (t ∷ ss) h all =
     ap (λ b. cond (not b) (1 + prefix_len (λ k. not (nat_eq (key_of s) k)) (map key_of ss)) 0)
@@ -56,25 +58,29 @@ apart_keys : (s : List ℕ) (ss : List (List ℕ)) → HasKey s → AllByRecursi
 apart_keys s [] h all a = tt
 apart_keys s (t ∷ ss) h all a = (sym (key_tells s t h all.0) ∙ a.0, apart_keys s ss h all.1 a.1)
 
-pub distinct_symbols : (ss : List (List ℕ)) → AllByRecursion HasKey ss → IsDistinct nat_eq (map key_of ss)
+pub distinct_symbols : (ss : List (List ℕ)) → AllByRecursion HasKey ss
+    → IsDistinct nat_eq (map key_of ss)
     → IsDistinct bytes_eq ss
 unfolding IsDistinct
 distinct_symbols [] all d = tt
 distinct_symbols (s ∷ ss) all d = (apart_keys s ss all.0 all.1 d.0, distinct_symbols ss all.1 d.1)
 
-all_get : (P : List ℕ → Type 0) (xs : List (List ℕ)) (i : ℕ) (d : List ℕ) → i < length xs → AllByRecursion P xs
+all_get : (P : List ℕ → Type 0) (xs : List (List ℕ)) (i : ℕ) (d : List ℕ)
+    → i < length xs → AllByRecursion P xs
     → P (get_or xs i d)
 all_get P [] i d l h = absurd (omega (arith, l))
 all_get P (x ∷ xs) zero d l h = h.0
 all_get P (x ∷ xs) (suc i) d l h = all_get P xs i d (omega (arith, l)) h.1
 
 -- the symbol at a place is none of those after it, and none of those before
-pub apart_at : (ss : List (List ℕ)) (i j : ℕ) (d : List ℕ) → IsDistinct bytes_eq ss → i < length ss → j < length ss
+pub apart_at : (ss : List (List ℕ)) (i j : ℕ) (d : List ℕ) → IsDistinct bytes_eq ss
+    → i < length ss → j < length ss
     → (i ≡ j → ⊥) → bytes_eq (get_or ss i d) (get_or ss j d) ≡ false
 unfolding IsDistinct
 apart_at [] i j d h li lj n = absurd (omega (arith, li))
 apart_at (s ∷ ss) zero zero d h li lj n = absurd (n refl)
-apart_at (s ∷ ss) zero (suc j) d h li lj n = all_get (λ t. bytes_eq s t ≡ false) ss j d (omega (arith, lj)) h.0
+apart_at (s ∷ ss) zero (suc j) d h li lj n = all_get (λ t. bytes_eq s t ≡ false) ss j d
+    (omega (arith, lj)) h.0
 apart_at (s ∷ ss) (suc i) zero d h li lj n = nat_list_eq_equiv.symm (get_or ss i d) s
     ∙ all_get (λ t. bytes_eq s t ≡ false) ss i d (omega (arith, li)) h.0
 apart_at (s ∷ ss) (suc i) (suc j) d h li lj n =
@@ -84,11 +90,13 @@ or_true : (a : Bool) → (a || true) ≡ true
 or_true true = refl
 or_true false = refl
 
-any_at : (p : List ℕ → Bool) (ss : List (List ℕ)) (i : ℕ) (d : List ℕ) → i < length ss → p (get_or ss i d) ≡ true
+any_at : (p : List ℕ → Bool) (ss : List (List ℕ)) (i : ℕ) (d : List ℕ) → i < length ss
+    → p (get_or ss i d) ≡ true
     → list_any p ss ≡ true
 any_at p [] i d l h = absurd (omega (arith, l))
 any_at p (s ∷ ss) zero d l h = ap (λ b. b || list_any p ss) h
-any_at p (s ∷ ss) (suc i) d l h = ap (λ b. p s || b) (any_at p ss i d (omega (arith, l)) h) ∙ or_true (p s)
+any_at p (s ∷ ss) (suc i) d l h = ap (λ b. p s || b) (any_at p ss i d (omega (arith, l)) h)
+    ∙ or_true (p s)
 
 -- found exactly where it is configured
 pub found_configured : (s : List ℕ) (ss : List (List ℕ)) (i : ℕ) → position (bytes_eq s) ss ≡ Some i
@@ -102,16 +110,22 @@ first_within p [] h = cc
 first_within p (s ∷ ss) h =
     let R : Bool → Type 0 = λ b. (b || list_any p ss) ≡ true
     → cond (not b) (1 + prefix_len (λ t. not (p t)) ss) 0 < suc (length ss) in
-    (elim (p s) as R [ true ↦ λ e. omega arith | false ↦ λ e. (let k = first_within p ss e in omega (arith, k)) ]) h
+    (elim (p s) as R [
+      | true ↦ λ e. omega arith
+      | false ↦ λ e. (let k = first_within p ss e
+          in omega (arith, k))
+    ]) h
 
 lt_true : (a b : ℕ) → a < b → nat_lt a b ≡ true
 lt_true a b h = grind (arith, h)
 
-first_is : (s : List ℕ) (ss : List (List ℕ)) (i : ℕ) (d : List ℕ) → IsDistinct bytes_eq ss → i < length ss
+first_is : (s : List ℕ) (ss : List (List ℕ)) (i : ℕ) (d : List ℕ)
+    → IsDistinct bytes_eq ss → i < length ss
     → bytes_eq s (get_or ss i d) ≡ true → prefix_len (λ t. not (bytes_eq s t)) ss ≡ i
 unfolding IsDistinct
 first_is s [] i d h l e = absurd (omega (arith, l))
-first_is s (t ∷ ts) zero d h l e = ap (λ b. cond (not b) (1 + prefix_len (λ x. not (bytes_eq s x)) ts) 0) e
+first_is s (t ∷ ts) zero d h l e =
+    ap (λ b. cond (not b) (1 + prefix_len (λ x. not (bytes_eq s x)) ts) 0) e
 first_is s (t ∷ ts) (suc i) d h l e =
     let other : bytes_eq s t ≡ false =
     ap (λ x. bytes_eq x t) ((bytes_decides s (get_or ts i d)).0 e)
@@ -123,13 +137,15 @@ first_is s (t ∷ ts) (suc i) d h l e =
     ∙ one_more
 
 -- a symbol's place is where it is, where each is there once
-pub place_is : (s : List ℕ) (ss : List (List ℕ)) (i : ℕ) (d : List ℕ) → IsDistinct bytes_eq ss → i < length ss
+pub place_is : (s : List ℕ) (ss : List (List ℕ)) (i : ℕ) (d : List ℕ)
+    → IsDistinct bytes_eq ss → i < length ss
     → bytes_eq s (get_or ss i d) ≡ true → position (bytes_eq s) ss ≡ Some i
 place_is s ss i d h l e =
     ap (λ n. cond (nat_lt n (length ss)) (Some n) None) (first_is s ss i d h l e)
     ∙ ap (λ b. cond b (Some i) None) (lt_true i (length ss) l)
 
-pub missed_configured : (s : List ℕ) (ss : List (List ℕ)) → position (bytes_eq s) ss ≡ None → is_configured ss s ≡ false
+pub missed_configured : (s : List ℕ) (ss : List (List ℕ)) → position (bytes_eq s) ss ≡ None
+    → is_configured ss s ≡ false
 missed_configured s ss e =
     let R : Bool → Type 0 = λ b. list_any (bytes_eq s) ss ≡ b → b ≡ false in
     (elim (list_any (bytes_eq s) ss) as R [
@@ -159,7 +175,8 @@ not_false false h = sym h
 any_key : (s : List ℕ) (ss : List (List ℕ)) → HasKey s → AllByRecursion HasKey ss
     → list_any (nat_eq (key_of s)) (map key_of ss) ≡ list_any (bytes_eq s) ss
 any_key s [] h all = refl
-any_key s (t ∷ ss) h all = ap (λ b. b || list_any (nat_eq (key_of s)) (map key_of ss)) (key_tells s t h all.0)
+any_key s (t ∷ ss) h all = ap (λ b. b || list_any (nat_eq (key_of s)) (map key_of ss))
+    (key_tells s t h all.0)
     ∙ ap (λ b. bytes_eq s t || b) (any_key s ss h all.1)
 
 never_twice : (xs : List (List ℕ)) (i : ℕ) (d : List ℕ) → i < length xs
@@ -171,17 +188,21 @@ never_twice (x ∷ xs) (suc i) d l t h =
     let m : i < length xs = omega (arith, l) in
     let apart : bytes_eq (get_or xs i d) x ≡ false = nat_list_eq_equiv.symm (get_or xs i d) x
     ∙ all_get (λ y. bytes_eq x y ≡ false) xs i d m h.0 in
-    never_twice xs i d m (sym (ap (λ b. b || list_any (bytes_eq (get_or xs i d)) (take i xs)) apart) ∙ t) h.1
+    never_twice xs i d m (sym (ap (λ b. b || list_any (bytes_eq (get_or xs i d)) (take i xs)) apart)
+    ∙ t) h.1
 
 -- one symbol is there twice, where its key is among those before
-pub twice_here : (ss : List (List ℕ)) (i : ℕ) (s : List ℕ) (keys : List ℕ) (added : Bool) → i < length ss
-    → s ≡ get_or ss i s → HasKey s → AllByRecursion HasKey (take i ss) → keys ≡ map key_of (take i ss)
+pub twice_here : (ss : List (List ℕ)) (i : ℕ) (s : List ℕ) (keys : List ℕ) (added : Bool)
+    → i < length ss
+    → s ≡ get_or ss i s → HasKey s → AllByRecursion HasKey (take i ss)
+    → keys ≡ map key_of (take i ss)
     → added ≡ not (list_any (nat_eq (key_of s)) keys) → added ≡ false → IsDistinct bytes_eq ss → ⊥
 twice_here ss i s keys added l at h all now says refused distinct =
     let there : list_any (nat_eq (key_of s)) (map key_of (take i ss)) ≡ true =
     sym (ap (list_any (nat_eq (key_of s))) now)
     ∙ not_false (list_any (nat_eq (key_of s)) keys) (sym says ∙ refused) in
-    never_twice ss i s l (sym (ap (λ t. list_any (bytes_eq t) (take i ss)) at) ∙ sym (any_key s (take i ss) h all)
+    never_twice ss i s l (sym (ap (λ t. list_any (bytes_eq t) (take i ss)) at)
+    ∙ sym (any_key s (take i ss) h all)
     ∙ there) distinct
 
 pub take_whole : (ss : List (List ℕ)) → take (length ss) ss ≡ ss
@@ -190,4 +211,5 @@ take_whole (s ∷ ss) = ap (λ t. s ∷ t) (take_whole ss)
 
 -- no symbol is there twice, as no key is
 pub symbols_apart : (ss : List (List ℕ)) (keys : List ℕ) → IsTable ss keys → IsDistinct bytes_eq ss
-symbols_apart ss keys h = distinct_symbols ss h.told (subst (λ (t : List ℕ). IsDistinct nat_eq t) h.in_order h.distinct)
+symbols_apart ss keys h = distinct_symbols ss h.told
+    (subst (λ (t : List ℕ). IsDistinct nat_eq t) h.in_order h.distinct)

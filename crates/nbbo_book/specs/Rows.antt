@@ -108,9 +108,10 @@ abbrev pub row_told : Step → Row → Option Change
 row_told step = row_change step.venues.now.helped step.age step.position step.entry.now
 
 -- every symbol is as after the step, and their changes come after those that were there
-pub record AppliesStep (step : Step) (old new : List Row) (before after : List Change) : Type 0 where
-  pub rows : new ≡ map (row_stepped step) old
-  pub items : after ≡ before ++ filter_map (row_told step) old
+pub record AppliesStep (step : Step) (old new : List Row) (before after : List Change) : Type 0
+  where
+    pub rows : new ≡ map (row_stepped step) old
+    pub items : after ≡ before ++ filter_map (row_told step) old
 
 -- the symbol's national best as a change, where it has changed
 abbrev pub told_where : Bool → ℕ → Row → Option Change

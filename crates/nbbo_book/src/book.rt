@@ -42,7 +42,8 @@ impl Model for Book {
 
     ghost Value = { BookState };
 
-    ghost view = { λ b. book_state_of b.rows.items b.venues.count b.last b.applied b.venues.helped };
+    ghost view = { λ b. book_state_of b.rows.items b.venues.count b.last
+        b.applied b.venues.helped };
 
     ghost invariant = { λ b. IsBook b.table.symbols.keys
         (book_state_of b.rows.items b.venues.count b.last b.applied b.venues.helped) };

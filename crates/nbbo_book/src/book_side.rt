@@ -50,7 +50,8 @@ impl BookSide {
     #[inline(always)]
     fn update_ranks(&mut self, side: Side, quoter: &Quoter, cause: Cause) -> bool
         requires { CanRank side quoter.now.venue cause self.old }
-        ensures side { self.new ≡ side_rechecked side quoter.now.venue quoter.now.may_rank self.old }
+        ensures side { self.new ≡ side_rechecked side quoter.now.venue
+            quoter.now.may_rank self.old }
         ensures moved { result
             ≡ not (is_same_best (best_of_ranks self.old.ranks) (best_of_ranks self.new.ranks)) }
     {
@@ -105,7 +106,8 @@ impl BookSide {
     #[inline(always)]
     pub fn recheck_eligibility(&mut self, side: Side, quoter: &Quoter) -> bool
         requires { IsRanked side self.old }
-        ensures side { self.new ≡ side_rechecked side quoter.now.venue quoter.now.may_rank self.old }
+        ensures side { self.new ≡ side_rechecked side quoter.now.venue
+            quoter.now.may_rank self.old }
         ensures moved { result
             ≡ not (is_same_best (best_of_ranks self.old.ranks) (best_of_ranks self.new.ranks)) }
     {

@@ -89,8 +89,8 @@ fn beats(side: Side, venue_sides: &[VenueSide; MAX_VENUES], x: &Best, y: &Best) 
     x_age < y_age
 }
 
-/// Returns whether `x`, the side that is ranked anew, ranks before `y`. The newest of all does so by its
-/// price or its size alone, and no age is read.
+/// Returns whether `x`, the side that is ranked anew, ranks before `y`. The newest of all does so
+/// by its price or its size alone, and no age is read.
 #[inline(always)]
 fn is_ahead(order: &Order<'_>, x: &Best, y: &Best) -> bool
     ensures { result ≡ is_ahead_side order.now x.now y.now }
@@ -267,7 +267,8 @@ impl Ranks {
         requires ready { CanUpdate order.now x.venue (Some x) self.old }
         requires absent { without x.venue self.old ≡ self.old }
         ensures ranks { self.new ≡ with_rank order.now.side (ages_in order.now) x self.old }
-        ensures moved { result ≡ not (is_same_best (best_of_ranks self.old) (best_of_ranks self.new)) }
+        ensures moved { result ≡ not (is_same_best (best_of_ranks self.old)
+            (best_of_ranks self.new)) }
     {
         let from = self.best_first.len();
         self.best_first.push(x);
@@ -291,7 +292,8 @@ impl Ranks {
     fn take_out(&mut self, venue: VenueId) -> bool
         requires { HasNone venue (without venue self.old) }
         ensures ranks { self.new ≡ without venue self.old }
-        ensures moved { result ≡ not (is_same_best (best_of_ranks self.old) (best_of_ranks self.new)) }
+        ensures moved { result ≡ not (is_same_best (best_of_ranks self.old)
+            (best_of_ranks self.new)) }
     {
         match place_of(self.best_first.as_slice(), &self.places, venue) {
             Some(at) => {
@@ -310,7 +312,8 @@ impl Ranks {
         requires { CanUpdate order.now venue best self.old }
         ensures ranks { self.new
             ≡ placed order.now.side (ages_in order.now) best (without venue self.old) }
-        ensures moved { result ≡ not (is_same_best (best_of_ranks self.old) (best_of_ranks self.new)) }
+        ensures moved { result ≡ not (is_same_best (best_of_ranks self.old)
+            (best_of_ranks self.new)) }
     {
         let Some(x) = best else {
             return self.take_out(venue);

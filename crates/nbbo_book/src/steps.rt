@@ -25,7 +25,8 @@ pub struct Step<'a> {
     pub position: u64,
 }
 
-/// Appends the symbol's change to `out`, which has room for it, where its national best has changed.
+/// Appends the symbol's change to `out`, which has room for it, where its national best has
+/// changed.
 #[inline(always)]
 fn append_change(has_changed: bool, position: u64, row: &Row, out: &mut Vec<Change>)
     requires room { vec_len out.old < vec_capacity out.old }

@@ -1,23 +1,25 @@
 //! The program `nbbo`.
 //!
 //! `nbbo replay --sessions LIST [--window N] [--journal N] [--join] [--skip-gaps] [--gaps]
-//! [--best-only [--format FORMAT]] [SYMBOL]...` reads a capture from standard input and writes its lines to standard output, or the
-//! best ones alone. `feed_text` says, and proves, what a capture is and what its lines are.
+//! [--best-only [--format FORMAT]] [SYMBOL]...` reads a capture from standard input and writes its
+//! lines to standard output, or the best ones alone. `feed_text` says, and proves, what a capture
+//! is and what its lines are.
 //!
 //! `nbbo stats --sessions LIST [--lines LIST] [--window N] [--join] [--skip-gaps] [--format FORMAT]
 //! [SYMBOL]...` replays a capture and prints the statistics of its events (`replay_reports`).
 //!
 //! At the end of a replay standard error says what venues lack (`nbbo_runs`).
 //!
-//! `nbbo listen --sessions LIST --lines LIST [--request ADDR] [--join] [--skip-after MS] [--window N] [--journal N]
-//! [--datagrams N] [--end WHICH] [--buffer BYTES] [--follow [--kept N]] [SYMBOL]...` receives the lines of live venues by UDP, runs them as a live feed
-//! (`live_feed`), and prints what they came to once all have ended, or as it comes.
+//! `nbbo listen --sessions LIST --lines LIST [--request ADDR] [--join] [--skip-after MS] [--window
+//! N] [--journal N] [--datagrams N] [--end WHICH] [--buffer BYTES] [--follow [--kept N]]
+//! [SYMBOL]...` receives the lines of live venues by UDP, runs them as a live feed (`live_feed`),
+//! and prints what they came to once all have ended, or as it comes.
 //!
-//! The contract is that of `nbbo_runs::run`: of any words, over any input, output and standard error,
-//! it says what is read, what is written where, and the status, or that the words ask to listen.
-//! Outside of it stand, in this file, the opening of the three streams and of the sockets, the words
-//! as the system gives them, what a terminal is told beside it, and the exit; and listening itself
-//! (`udp_listening`), which tests show.
+//! The contract is that of `nbbo_runs::run`: of any words, over any input, output and standard
+//! error, it says what is read, what is written where, and the status, or that the words ask to
+//! listen. Outside of it stand, in this file, the opening of the three streams and of the sockets,
+//! the words as the system gives them, what a terminal is told beside it, and the exit; and
+//! listening itself (`udp_listening`), which tests show.
 //!
 //! Begin with `nbbo_runs`. `command_words` has what the words ask for, `udp_listening` live lines.
 #![tactic(auto)]
@@ -103,8 +105,8 @@ fn run_streams<H: Threads + Wait + Sync, C: Ledger, R: Ledger, W: Ledger, E: Led
     status
 }
 
-/// Does what the words of the command line ask for, but for listening. Where standard error is a terminal it is also
-/// told what was probably meant.
+/// Does what the words of the command line ask for, but for listening. Where standard error is a
+/// terminal it is also told what was probably meant.
 fn run_words<R: CaptureIn + Drop, W: TextOut, E: TextOut>(
     rt: &HostRuntime,
     input: KeptStart<R>,

@@ -22,7 +22,8 @@ is_packets start =
 abbrev pub format_hint : ℕ → List ℕ
 format_hint start =
     if is_packets start
-    then codes "nbbo: the input is a packet capture (pcap or pcapng); --lines LIST says which of its datagrams to replay\n"
+    then codes
+    "nbbo: the input is a packet capture (pcap or pcapng); --lines LIST says which of its datagrams to replay\n"
     else (if start / 65536 == 8075
     then codes "nbbo: the input is in gzip; to unpack it write 'zcat FILE | nbbo replay ..'\n"
     else [])

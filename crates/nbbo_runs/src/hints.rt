@@ -9,7 +9,8 @@ use std::fs::{self, File, Files};
 const AT_TERMINAL: &str =
     "nbbo: reading a capture from the terminal ('nbbo replay --help' tells more)\n";
 
-/// What packet captures begin with: pcap in either order of bytes, with microseconds and with nanoseconds, and pcapng.
+/// What packet captures begin with: pcap in either order of bytes, with microseconds and with
+/// nanoseconds, and pcapng.
 const PCAP: u32 = 0xd4c3_b2a1;
 
 const PCAP_BIG: u32 = 0xa1b2_c3d4;
@@ -41,8 +42,8 @@ fn is_packets(start: u32) -> bool
         || start == PCAPNG
 }
 
-/// The line for an input that is no capture of this project's own, by the number of its first four bytes; empty where
-/// it may be one.
+/// The line for an input that is no capture of this project's own, by the number of its first four
+/// bytes; empty where it may be one.
 pub fn format_hint(start: u32) -> &'static str
     ensures { result.now ≡ format_hint start }
 {
@@ -97,8 +98,8 @@ fn takes_symbols(command: &str) -> bool {
     command == "replay" || command == "stats"
 }
 
-/// Writes a line for the first word that names a file where a symbol is expected, if there is one: of the words of
-/// `nbbo replay` or `nbbo stats`, the program's name and the command first.
+/// Writes a line for the first word that names a file where a symbol is expected, if there is one:
+/// of the words of `nbbo replay` or `nbbo stats`, the program's name and the command first.
 pub fn hint_at_file<F: Files, E: TextOut>(files: &F, words: &[String], errors: &mut E) {
     for place in 2..words.len() {
         let word = words[place].as_str();

@@ -4,7 +4,8 @@ ghost use Rattle.nbbo_runs.specs.Starts.{noted_start, start_of};
 
 use feed_text::{CaptureIn, ReadStop};
 
-/// Returns the number of the first four bytes, the first of them the highest; 0 where there are fewer.
+/// Returns the number of the first four bytes, the first of them the highest; 0 where there are
+/// fewer.
 fn word_of(bytes: &[u8]) -> u32
     ensures { result ≡ start_of bytes.now }
 {
@@ -39,8 +40,8 @@ impl<R> KeptStart<R> {
         }
     }
 
-    /// Returns the start that is noted: the number of the first four bytes that the first call gave, the first of them
-    /// the highest; 0 where there were fewer, or none were read.
+    /// Returns the start that is noted: the number of the first four bytes that the first call
+    /// gave, the first of them the highest; 0 where there were fewer, or none were read.
     pub fn start(&self) -> u32
         ensures { result ≡ unwrap_or self.now.first 0 }
     {

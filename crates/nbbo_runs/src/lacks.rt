@@ -37,8 +37,9 @@ fn is_part(output: RunOutput) -> bool
     }
 }
 
-/// Whether a run tells what venues lack: of a packet capture always, of a capture of the project's own format at a
-/// terminal, and where an option is given that asks for more or less than its lines.
+/// Whether a run tells what venues lack: of a packet capture always, of a capture of the project's
+/// own format at a terminal, and where an option is given that asks for more or less than its
+/// lines.
 pub fn tells_lacks(settings: &RunSettings, terminals: Terminals) -> bool
     ensures { result ≡ tells_lacks settings.now terminals }
 {

@@ -1,15 +1,16 @@
 //! The runs of the program `nbbo` over any input, output and standard error, but for listening.
 //!
-//! Contract: of any words, [`run`] says what is read, what is written where, and the status, or that
-//! the words ask to listen (`specs/Runs.antt`). A run is one over any format of captures, and prints
-//! lines, rows of best lines or statistics (`specs/Printing.antt`); at its end standard error says
-//! what venues lack (`specs/Lacks.antt`), and what is to be said of the capture and of the outcome
-//! (`specs/CaptureTexts.antt`, `specs/Ending.antt`).
+//! Contract: of any words, [`run`] says what is read, what is written where, and the status, or
+//! that the words ask to listen (`specs/Runs.antt`). A run is one over any format of captures, and
+//! prints lines, rows of best lines or statistics (`specs/Printing.antt`); at its end standard
+//! error says what venues lack (`specs/Lacks.antt`), and what is to be said of the capture and of
+//! the outcome (`specs/CaptureTexts.antt`, `specs/Ending.antt`).
 //!
 //! Outside of it stand what a terminal is told beside it (`hints.rt`), and the program, which opens
 //! the streams and listens (`nbbo_main`).
 //!
-//! Begin with `program_run.rt`, then `runs.rt` and `printing.rt`; `ending.rt` has the texts of faults.
+//! Begin with `program_run.rt`, then `runs.rt` and `printing.rt`; `ending.rt` has the texts of
+//! faults.
 #![tactic(auto)]
 
 mod capture_report;

@@ -6,7 +6,8 @@ use feed_text::{TextOut, WriteStop};
 /// The line of a run that has ended since its journal was full.
 const JOURNAL_FULL: &[u8] = b"nbbo: journal full\n";
 
-/// A writer that hands all on to another one, and notes whether the line of a full journal was among it.
+/// A writer that hands all on to another one, and notes whether the line of a full journal was
+/// among it.
 #[derive(Drop)]
 pub struct NotedErrors<E> {
     inner: E,

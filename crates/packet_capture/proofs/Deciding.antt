@@ -23,14 +23,22 @@ udp_or_not segment = elim (cases_lt (length segment) 8) [
   ]
 ]
 
-pub ip_or_not : (version : IpVersion) (packet : List ℕ) → least_len version ≤ length packet → IsIp version packet ⊎ (IsIp version packet → ⊥)
-ip_or_not version packet there = elim (cases_eq (slice_index packet 0 / 16) (version_number version)) [
-  | inr other ↦ inr (λ h. other h.number)
-  | inl number ↦ elim (cases_lt (header_len version packet) (least_len version)) [
-    | inl few ↦ inr (λ h. let a = h.least in omega arith)
-    | inr least ↦ elim (cases_lt (packet_len version packet) (header_len version packet)) [
-      | inl cut ↦ inr (λ h. let a = h.within in omega arith)
-      | inr within ↦ inl (record { there = there; number = number; least = least; within = within })
+pub ip_or_not : (version : IpVersion) (packet : List ℕ) → least_len version ≤ length packet
+    → IsIp version packet ⊎ (IsIp version packet → ⊥)
+ip_or_not version packet there = elim (cases_eq (slice_index packet 0 / 16)
+    (version_number version)) [
+      | inr other ↦ inr (λ h. other h.number)
+      | inl number ↦ elim (cases_lt (header_len version packet) (least_len version)) [
+        | inl few ↦ inr (λ h. let a = h.least in omega arith)
+        | inr least ↦ elim (cases_lt (packet_len version packet) (header_len version packet)) [
+          | inl cut ↦ inr (λ h. let a = h.within in omega arith)
+          | inr within ↦ inl (record {
+            there = there;
+            number = number;
+            least =
+                least;
+            within = within;
+          })
+        ]
+      ]
     ]
-  ]
-]

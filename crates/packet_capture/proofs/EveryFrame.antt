@@ -13,7 +13,8 @@ use Rattle.packet_capture.specs.Datagrams.{DatagramContent, HasPacket, HasUdp, C
 use Rattle.packet_capture.specs.FrameFaults.{HasLinkFault, HasPacketFault, HasFrameFault}
 use Rattle.packet_capture.proofs.Deciding.{option_cases, udp_or_not, ip_or_not}
 
-link_or_not : (n : ℕ) → ((link : LinkType) × (n ≡ number_of link)) ⊎ ((link : LinkType) → n ≡ number_of link → ⊥)
+link_or_not : (n : ℕ) → ((link : LinkType) × (n ≡ number_of link))
+    ⊎ ((link : LinkType) → n ≡ number_of link → ⊥)
 link_or_not n = elim (cases_eq n 0) [
   | inl e ↦ inl (Null, e)
   | inr a ↦
@@ -35,7 +36,10 @@ link_or_not n = elim (cases_eq n 0) [
                                     elim (cases_eq n 229) [
                                       | inl e ↦ inl (Ipv6, e)
                                       | inr h ↦
-                                          elim (cases_eq n 276) [ inl e ↦ inl (LinuxCooked2, e) | inr k ↦ inr (other n a b c d f g h k) ]
+                                          elim (cases_eq n 276) [
+                                            | inl e ↦ inl (LinuxCooked2, e)
+                                            | inr k ↦ inr (other n a b c d f g h k)
+                                          ]
                                     ]
                               ]
                         ]
@@ -44,7 +48,8 @@ link_or_not n = elim (cases_eq n 0) [
       ]
 ]
   where
-    other : (n : ℕ) → (n ≡ 0 → ⊥) → (n ≡ 1 → ⊥) → (n ≡ 101 → ⊥) → (n ≡ 108 → ⊥) → (n ≡ 113 → ⊥) → (n ≡ 228 → ⊥) → (n ≡ 229 → ⊥) → (n ≡ 276 → ⊥) → (link : LinkType) → n ≡ number_of link → ⊥
+    other : (n : ℕ) → (n ≡ 0 → ⊥) → (n ≡ 1 → ⊥) → (n ≡ 101 → ⊥) → (n ≡ 108 → ⊥) → (n ≡ 113 → ⊥)
+        → (n ≡ 228 → ⊥) → (n ≡ 229 → ⊥) → (n ≡ 276 → ⊥) → (link : LinkType) → n ≡ number_of link → ⊥
     other n a b c d f g h k Null = a
     other n a b c d f g h k Ethernet = b
     other n a b c d f g h k Raw = c
@@ -54,7 +59,8 @@ link_or_not n = elim (cases_eq n 0) [
     other n a b c d f g h k Ipv6 = h
     other n a b c d f g h k LinuxCooked2 = k
 
-packet_or_fault : (link : LinkType) (frame : List ℕ) → ((v : IpVersion) × HasPacket link frame v) ⊎ ((f : FrameFault) × HasLinkFault link frame f)
+packet_or_fault : (link : LinkType) (frame : List ℕ) → ((v : IpVersion) × HasPacket link frame v)
+    ⊎ ((f : FrameFault) × HasLinkFault link frame f)
 packet_or_fault link frame = elim (cases_lt (length frame) (link_len link frame)) [
   | inl short ↦ inr (ShortFrame, inl (short, refl))
   | inr there ↦ elim (option_cases (version_in link frame)) [
@@ -81,14 +87,27 @@ udp_or_fault v p = elim (cases_lt (length p) (least_len v)) [
   ]
 ]
 
-pub carries_or_fault : (n : ℕ) (frame : List ℕ) → ((d : DatagramContent) × CarriesDatagram n frame d) ⊎ ((f : FrameFault) × HasFrameFault n frame f)
+pub carries_or_fault : (n : ℕ) (frame : List ℕ)
+    → ((d : DatagramContent) × CarriesDatagram n frame d)
+    ⊎ ((f : FrameFault) × HasFrameFault n frame f)
 carries_or_fault n frame = elim (link_or_not n) [
   | inr unknown ↦ inr (UnknownLink, inl (refl, unknown))
   | inl (link, number) ↦ elim (packet_or_fault link frame) [
     | inr fault ↦ inr (fault.0, inr (link, number, inl fault.1))
     | inl (v, packet) ↦ elim (udp_or_fault v (packet_in link frame)) [
       | inr fault ↦ inr (fault.0, inr (link, number, inr (v, packet, fault.1)))
-      | inl udp ↦ inl (datagram_in v (packet_in link frame), record { link = link; number_is = number; version = v; packet = packet; udp = udp; is = refl })
+      | inl udp ↦ inl (
+        datagram_in v (packet_in link frame),
+        record {
+          link = link;
+          number_is =
+              number;
+          version = v;
+          packet = packet;
+          udp = udp;
+          is = refl;
+        },
+      )
     ]
   ]
 ]

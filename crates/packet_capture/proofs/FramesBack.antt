@@ -36,10 +36,12 @@ port_back : (d : WrittenDatagram) → u16_in Big (udp_bytes d) 2 ≡ d.port
 unfolding u16_in
 port_back d = two_back d.port
 
-bytes_back : (d : WrittenDatagram) → bytes_at (udp_bytes d) 8 (u16_in Big (udp_bytes d) 4 - 8) ≡ d.bytes
+bytes_back : (d : WrittenDatagram)
+    → bytes_at (udp_bytes d) 8 (u16_in Big (udp_bytes d) 4 - 8) ≡ d.bytes
 unfolding u16_in
 bytes_back d =
-    let len : (8 + length d.bytes) / 256 * 256 + (8 + length d.bytes) % 256 - 8 ≡ length d.bytes = omega arith in
+    let len : (8 + length d.bytes) / 256 * 256 + (8 + length d.bytes) % 256 - 8 ≡ length
+    d.bytes = omega arith in
     front_all d.bytes _ len
   where
     front_all : (xs : List ℕ) (n : ℕ) → n ≡ length xs → take n xs ≡ xs
@@ -49,17 +51,30 @@ bytes_back d =
     front_all (x ∷ xs) (suc n) e = ap (λ (ys : List ℕ). x ∷ ys) (front_all xs n (omega arith))
 
 -- what a packet that was written reads as
-record ReadsAs (version : IpVersion) (packet : List ℕ) (address : Address) (d : WrittenDatagram) : Type 0 where
+record ReadsAs (version : IpVersion) (packet : List ℕ) (address : Address)
+    (d : WrittenDatagram) : Type 0 where
   udp : HasUdp version packet
   is : datagram_in version packet ≡ record { address = address; port = d.port; bytes = d.bytes }
 
-reads_as : (version : IpVersion) (packet : List ℕ) (address : Address) (d : WrittenDatagram) → 8 + length d.bytes < 65536 → IsIp version packet → obstacle_in version packet ≡ None → packet_len version packet ≤ length packet → segment_in version packet ≡ udp_bytes d → destination_in version packet ≡ address → ReadsAs version packet address d
+reads_as : (version : IpVersion) (packet : List ℕ) (address : Address) (d : WrittenDatagram)
+    → 8 + length d.bytes < 65536 → IsIp version packet → obstacle_in version packet ≡ None
+    → packet_len version packet ≤ length packet → segment_in version packet ≡ udp_bytes d
+    → destination_in version packet ≡ address → ReadsAs version packet address d
 reads_as version packet address d fits ip clear whole segment destination =
     let P : List ℕ → Type 0 = λ x. IsUdp x in
-    let port : u16_in Big (segment_in version packet) 2 ≡ d.port = ap (λ (x : List ℕ). u16_in Big x 2) segment ∙ port_back d in
-    let bytes : bytes_at (segment_in version packet) 8 (u16_in Big (segment_in version packet) 4 - 8) ≡ d.bytes = ap (λ (x : List ℕ). bytes_at x 8 (u16_in Big x 4 - 8)) segment ∙ bytes_back d in
+    let port : u16_in Big (segment_in version packet) 2 ≡ d.port =
+    ap (λ (x : List ℕ). u16_in Big x 2) segment ∙ port_back d in
+    let bytes : bytes_at (segment_in version packet) 8 (u16_in Big (segment_in version packet)
+    4 - 8) ≡ d.bytes = ap (λ (x : List ℕ). bytes_at x 8 (u16_in Big x 4 - 8)) segment
+    ∙ bytes_back d in
     record {
-      udp = record { ip = ip; clear = clear; whole = whole; udp = subst P (sym segment) (is_udp d fits) };
+      udp = record {
+        ip = ip;
+        clear = clear;
+        whole = whole;
+        udp =
+            subst P (sym segment) (is_udp d fits);
+      };
       is = λ i. record { address = destination i; port = port i; bytes = bytes i };
     }
 
@@ -70,42 +85,62 @@ length-udp d = omega arith
 four_rest : WrittenIpv4 → WrittenDatagram → List ℕ → List ℕ
 four_rest p d filling = p.source ++ (p.destination ++ (p.options ++ (udp_bytes d ++ filling)))
 
-four_is : (p : WrittenIpv4) (d : WrittenDatagram) (filling : List ℕ) → drop 12 (ipv4_bytes p d ++ filling) ≡ four_rest p d filling
+four_is : (p : WrittenIpv4) (d : WrittenDatagram) (filling : List ℕ)
+    → drop 12 (ipv4_bytes p d ++ filling) ≡ four_rest p d filling
 unfolding four_rest
 four_is p d filling =
     append_assoc p.source (p.destination ++ (p.options ++ udp_bytes d)) filling
-    ∙ ap (λ (x : List ℕ). p.source ++ x) (append_assoc p.destination (p.options ++ udp_bytes d) filling
+    ∙ ap (λ (x : List ℕ). p.source ++ x) (append_assoc p.destination (p.options
+    ++ udp_bytes d) filling
     ∙ ap (λ (x : List ℕ). p.destination ++ x) (append_assoc p.options (udp_bytes d) filling))
 
 drop_more : (n m : ℕ) (xs ys : List ℕ) → drop n xs ≡ ys → drop (n + m) xs ≡ drop m ys
 drop_more n m xs ys e = sym (drop-drop m n xs) ∙ ap (λ (x : List ℕ). drop m x) e
 
-four_segment : (p : WrittenIpv4) (d : WrittenDatagram) (filling : List ℕ) → IsWrittenIpv4 p d → drop (12 + (4 + (4 + (4 * p.words + 0)))) (ipv4_bytes p d ++ filling) ≡ udp_bytes d ++ filling
+four_segment : (p : WrittenIpv4) (d : WrittenDatagram) (filling : List ℕ) → IsWrittenIpv4 p d
+    → drop (12 + (4 + (4 + (4 * p.words + 0)))) (ipv4_bytes p d ++ filling) ≡ udp_bytes d ++ filling
 unfolding four_rest
 four_segment p d filling h =
-    drop_more 12 (4 + (4 + (4 * p.words + 0))) (ipv4_bytes p d ++ filling) (four_rest p d filling) (four_is p d filling)
-    ∙ skip p.source (p.destination ++ (p.options ++ (udp_bytes d ++ filling))) 4 (4 + (4 * p.words + 0)) h.source
+    drop_more 12 (4 + (4 + (4 * p.words + 0))) (ipv4_bytes p d ++ filling)
+    (four_rest p d filling) (four_is p d filling)
+    ∙ skip p.source (p.destination ++ (p.options ++ (udp_bytes d ++ filling))) 4
+    (4 + (4 * p.words + 0)) h.source
     ∙ skip p.destination (p.options ++ (udp_bytes d ++ filling)) 4 (4 * p.words + 0) h.destination
     ∙ skip p.options (udp_bytes d ++ filling) (4 * p.words) 0 h.options
 
-four_destination : (p : WrittenIpv4) (d : WrittenDatagram) (filling : List ℕ) → IsWrittenIpv4 p d → bytes_at (ipv4_bytes p d ++ filling) 16 4 ≡ p.destination
+four_destination : (p : WrittenIpv4) (d : WrittenDatagram) (filling : List ℕ) → IsWrittenIpv4 p d
+    → bytes_at (ipv4_bytes p d ++ filling) 16 4 ≡ p.destination
 unfolding four_rest
 four_destination p d filling h =
-    ap (λ (x : List ℕ). take 4 x) (drop_more 12 4 (ipv4_bytes p d ++ filling) (four_rest p d filling) (four_is p d filling)
+    ap (λ (x : List ℕ). take 4 x) (drop_more 12 4 (ipv4_bytes p d ++ filling)
+    (four_rest p d filling) (four_is p d filling)
     ∙ skip p.source (p.destination ++ (p.options ++ (udp_bytes d ++ filling))) 4 0 h.source)
     ∙ front p.destination (p.options ++ (udp_bytes d ++ filling)) 4 h.destination
 
-length-four : (p : WrittenIpv4) (d : WrittenDatagram) (filling : List ℕ) → IsWrittenIpv4 p d → length (ipv4_bytes p d ++ filling) ≡ 28 + 4 * p.words + length d.bytes + length filling
+length-four : (p : WrittenIpv4) (d : WrittenDatagram) (filling : List ℕ) → IsWrittenIpv4 p d
+    → length (ipv4_bytes p d ++ filling) ≡ 28 + 4 * p.words + length d.bytes + length filling
 length-four p d filling h =
     let a = h.source in let b = h.destination in let c = h.options in
-    omega (arith, length-append (ipv4_bytes p d) filling, length-append p.source (p.destination ++ (p.options ++ udp_bytes d)), length-append p.destination (p.options ++ udp_bytes d), length-append p.options (udp_bytes d), length-udp d)
+    omega (
+      arith,
+      length-append (ipv4_bytes p d) filling,
+      length-append p.source (p.destination
+          ++ (p.options ++ udp_bytes d)),
+      length-append p.destination (p.options ++ udp_bytes d),
+      length-append p.options (udp_bytes d),
+      length-udp d,
+    )
 
-four_clear : (p : WrittenIpv4) (d : WrittenDatagram) (filling : List ℕ) → (keep : Bool) → p.keep_whole ≡ keep → obstacle_in V4 (ipv4_bytes p d ++ filling) ≡ None
+four_clear : (p : WrittenIpv4) (d : WrittenDatagram) (filling : List ℕ) → (keep : Bool)
+    → p.keep_whole ≡ keep → obstacle_in V4 (ipv4_bytes p d ++ filling) ≡ None
 unfolding u16_in
-four_clear p d filling true e = ap (λ (b : Bool). if ((if b then 64 else 0) * 256 + 0) % 16384 == 0 then None else Some Fragment) e
-four_clear p d filling false e = ap (λ (b : Bool). if ((if b then 64 else 0) * 256 + 0) % 16384 == 0 then None else Some Fragment) e
+four_clear p d filling true e = ap (λ (b : Bool). if ((if b then 64 else 0) * 256 + 0) % 16384 == 0
+    then None else Some Fragment) e
+four_clear p d filling false e = ap (λ (b : Bool). if ((if b then 64 else 0) * 256 + 0) % 16384 == 0
+    then None else Some Fragment) e
 
-four_back : (p : WrittenIpv4) (d : WrittenDatagram) (filling : List ℕ) → IsWrittenIpv4 p d → ReadsAs V4 (ipv4_bytes p d ++ filling) (addresses.V4 p.destination) d
+four_back : (p : WrittenIpv4) (d : WrittenDatagram) (filling : List ℕ) → IsWrittenIpv4 p d
+    → ReadsAs V4 (ipv4_bytes p d ++ filling) (addresses.V4 p.destination) d
 unfolding u16_in
 four_back p d filling h =
     let packet : List ℕ = ipv4_bytes p d ++ filling in
@@ -113,11 +148,14 @@ four_back p d filling h =
     let fits = h.fits in
     let len = length-four p d filling h in
     let header : header_len V4 packet ≡ 20 + 4 * p.words = omega arith in
-    let whole : packet_len V4 packet ≡ 28 + 4 * p.words + length d.bytes = two_back (28 + 4 * p.words + length d.bytes) in
+    let whole : packet_len V4 packet ≡ 28 + 4 * p.words + length d.bytes =
+    two_back (28 + 4 * p.words + length d.bytes) in
     let number : (69 + p.words) / 16 ≡ 4 = omega arith in
     let start : header_len V4 packet ≡ 12 + (4 + (4 + (4 * p.words + 0))) = omega arith in
-    let rest : drop (header_len V4 packet) packet ≡ udp_bytes d ++ filling = ap (λ (n : ℕ). drop n packet) start ∙ four_segment p d filling h in
-    let count : packet_len V4 packet - header_len V4 packet ≡ length (udp_bytes d) = omega (arith, length-udp d) in
+    let rest : drop (header_len V4 packet) packet ≡ udp_bytes d
+    ++ filling = ap (λ (n : ℕ). drop n packet) start ∙ four_segment p d filling h in
+    let count : packet_len V4 packet - header_len V4 packet ≡ length (udp_bytes d) =
+    omega (arith, length-udp d) in
     reads_as V4 packet (addresses.V4 p.destination) d (omega arith)
     (record { there = omega arith; number = number; least = omega arith; within = omega arith })
     (four_clear p d filling p.keep_whole refl)
@@ -128,29 +166,43 @@ four_back p d filling h =
     (ap (λ (x : List ℕ). addresses.V4 x) (four_destination p d filling h))
 
 -- IPv6: what follows the first eight bytes
-six_is : (p : WrittenIpv6) (d : WrittenDatagram) (filling : List ℕ) → drop 8 (ipv6_bytes p d ++ filling) ≡ p.source ++ (p.destination ++ (udp_bytes d ++ filling))
+six_is : (p : WrittenIpv6) (d : WrittenDatagram) (filling : List ℕ)
+    → drop 8 (ipv6_bytes p d ++ filling) ≡ p.source ++ (p.destination ++ (udp_bytes d ++ filling))
 six_is p d filling =
     append_assoc p.source (p.destination ++ udp_bytes d) filling
     ∙ ap (λ (x : List ℕ). p.source ++ x) (append_assoc p.destination (udp_bytes d) filling)
 
-six_segment : (p : WrittenIpv6) (d : WrittenDatagram) (filling : List ℕ) → IsWrittenIpv6 p d → drop (8 + (16 + (16 + 0))) (ipv6_bytes p d ++ filling) ≡ udp_bytes d ++ filling
+six_segment : (p : WrittenIpv6) (d : WrittenDatagram) (filling : List ℕ) → IsWrittenIpv6 p d
+    → drop (8 + (16 + (16 + 0))) (ipv6_bytes p d ++ filling) ≡ udp_bytes d ++ filling
 six_segment p d filling h =
-    drop_more 8 (16 + (16 + 0)) (ipv6_bytes p d ++ filling) (p.source ++ (p.destination ++ (udp_bytes d ++ filling))) (six_is p d filling)
+    drop_more 8 (16 + (16 + 0)) (ipv6_bytes p d ++ filling) (p.source
+    ++ (p.destination ++ (udp_bytes d ++ filling))) (six_is p d filling)
     ∙ skip p.source (p.destination ++ (udp_bytes d ++ filling)) 16 (16 + 0) h.source
     ∙ skip p.destination (udp_bytes d ++ filling) 16 0 h.destination
 
-six_destination : (p : WrittenIpv6) (d : WrittenDatagram) (filling : List ℕ) → IsWrittenIpv6 p d → bytes_at (ipv6_bytes p d ++ filling) 24 16 ≡ p.destination
+six_destination : (p : WrittenIpv6) (d : WrittenDatagram) (filling : List ℕ) → IsWrittenIpv6 p d
+    → bytes_at (ipv6_bytes p d ++ filling) 24 16 ≡ p.destination
 six_destination p d filling h =
-    ap (λ (x : List ℕ). take 16 x) (drop_more 8 16 (ipv6_bytes p d ++ filling) (p.source ++ (p.destination ++ (udp_bytes d ++ filling))) (six_is p d filling)
+    ap (λ (x : List ℕ). take 16 x) (drop_more 8 16 (ipv6_bytes p d ++ filling) (p.source
+    ++ (p.destination ++ (udp_bytes d ++ filling))) (six_is p d filling)
     ∙ skip p.source (p.destination ++ (udp_bytes d ++ filling)) 16 0 h.source)
     ∙ front p.destination (udp_bytes d ++ filling) 16 h.destination
 
-length-six : (p : WrittenIpv6) (d : WrittenDatagram) (filling : List ℕ) → IsWrittenIpv6 p d → length (ipv6_bytes p d ++ filling) ≡ 48 + length d.bytes + length filling
+length-six : (p : WrittenIpv6) (d : WrittenDatagram) (filling : List ℕ) → IsWrittenIpv6 p d
+    → length (ipv6_bytes p d ++ filling) ≡ 48 + length d.bytes + length filling
 length-six p d filling h =
     let a = h.source in let b = h.destination in
-    omega (arith, length-append (ipv6_bytes p d) filling, length-append p.source (p.destination ++ udp_bytes d), length-append p.destination (udp_bytes d), length-udp d)
+    omega (
+      arith,
+      length-append (ipv6_bytes p d) filling,
+      length-append p.source (p.destination
+          ++ udp_bytes d),
+      length-append p.destination (udp_bytes d),
+      length-udp d,
+    )
 
-six_back : (p : WrittenIpv6) (d : WrittenDatagram) (filling : List ℕ) → IsWrittenIpv6 p d → ReadsAs V6 (ipv6_bytes p d ++ filling) (addresses.V6 p.destination) d
+six_back : (p : WrittenIpv6) (d : WrittenDatagram) (filling : List ℕ) → IsWrittenIpv6 p d
+    → ReadsAs V6 (ipv6_bytes p d ++ filling) (addresses.V6 p.destination) d
 unfolding u16_in
 six_back p d filling h =
     let packet : List ℕ = ipv6_bytes p d ++ filling in
@@ -170,13 +222,18 @@ six_back p d filling h =
     (ap (λ (x : List ℕ). addresses.V6 x) (six_destination p d filling h))
 
 -- Ethernet: a number after the addresses
-number_after : (xs ys : List ℕ) (n k : ℕ) → length xs ≡ n → u16_in Big (xs ++ ys) (n + k) ≡ u16_in Big ys k
+number_after : (xs ys : List ℕ) (n k : ℕ) → length xs ≡ n
+    → u16_in Big (xs ++ ys) (n + k) ≡ u16_in Big ys k
 unfolding u16_in
 number_after xs ys n k len =
-    let at : (j : ℕ) → slice_index (xs ++ ys) (n + j) ≡ slice_index ys j = λ j. ap (λ (m : ℕ). slice_index (xs ++ ys) (m + j)) (sym len) ∙ get_or-append-add xs ys j 0 in
+    let at : (j : ℕ) → slice_index (xs ++ ys) (n + j) ≡ slice_index ys j =
+    λ j. ap (λ (m : ℕ). slice_index (xs ++ ys) (m + j)) (sym len) ∙ get_or-append-add xs ys j 0
+    in
     let further : n + k + 1 ≡ n + (k + 1) = omega arith in
-    let next : slice_index (xs ++ ys) (n + k + 1) ≡ slice_index ys (k + 1) = ap (λ (m : ℕ). slice_index (xs ++ ys) m) further ∙ at (k + 1) in
-    ap (λ (x : ℕ). x * 256 + slice_index (xs ++ ys) (n + k + 1)) (at k) ∙ ap (λ (x : ℕ). slice_index ys k * 256 + x) next
+    let next : slice_index (xs ++ ys) (n + k + 1) ≡ slice_index ys (k + 1) =
+    ap (λ (m : ℕ). slice_index (xs ++ ys) m) further ∙ at (k + 1) in
+    ap (λ (x : ℕ). x * 256 + slice_index (xs ++ ys) (n + k + 1)) (at k)
+    ∙ ap (λ (x : ℕ). slice_index ys k * 256 + x) next
 
 -- the types that are no tags
 record IsType (type : ℕ) (version : IpVersion) : Type 0 where
@@ -186,29 +243,38 @@ record IsType (type : ℕ) (version : IpVersion) : Type 0 where
 
 -- what follows the addresses says
 record SaysType (rest : List ℕ) (count : ℕ) (type : ℕ) (packet : List ℕ) : Type 0 where
-  tags : (if is_tag (u16_in Big rest 0) then (if is_tag (u16_in Big rest 4) then 2 else 1) else 0) ≡ count
+  tags : (if is_tag (u16_in Big rest 0) then (if is_tag (u16_in Big rest 4) then 2 else 1) else
+      0) ≡ count
   type_is : u16_in Big rest (4 * count) ≡ type
   packet_is : drop (2 + 4 * count) rest ≡ packet
   long : 2 + 4 * count ≤ length rest
 
-tag_is : (service : Bool) → is_tag ((if service then 34984 else 33024) / 256 * 256 + (if service then 34984 else 33024) % 256) ≡ true
+tag_is : (service : Bool)
+    → is_tag ((if service then 34984 else 33024) / 256 * 256 + (if service then 34984
+    else 33024) % 256) ≡ true
 tag_is true = refl
 tag_is false = refl
 
-says_type : (tags : List Tag) (type : ℕ) (version : IpVersion) (packet : List ℕ) → length tags ≤ 2 → IsType type version → SaysType (flat_map tag_bytes tags ++ (u16_bytes Big type ++ packet)) (length tags) type packet
+says_type : (tags : List Tag) (type : ℕ) (version : IpVersion) (packet : List ℕ) → length tags ≤ 2
+    → IsType type version → SaysType (flat_map tag_bytes tags ++ (u16_bytes Big type ++ packet))
+    (length tags) type packet
 unfolding u16_in
 says_type [] type version packet few h =
-    let none : is_tag (type / 256 * 256 + type % 256) ≡ false = ap is_tag (two_back type) ∙ h.no_tag in
+    let none : is_tag (type / 256 * 256 + type % 256) ≡ false = ap is_tag (two_back type) ∙ h.no_tag
+    in
     record {
-      tags = ap (λ (b : Bool). if b then (if is_tag (u16_in Big (u16_bytes Big type ++ packet) 4) then 2 else 1) else 0) none;
+      tags = ap (λ (b : Bool). if b then (if is_tag (u16_in Big (u16_bytes Big type ++ packet) 4)
+          then 2 else 1) else 0) none;
       type_is = two_back type;
       packet_is = refl;
       long = omega arith;
     }
 says_type (a ∷ []) type version packet few h =
-    let none : is_tag (type / 256 * 256 + type % 256) ≡ false = ap is_tag (two_back type) ∙ h.no_tag in
+    let none : is_tag (type / 256 * 256 + type % 256) ≡ false = ap is_tag (two_back type) ∙ h.no_tag
+    in
     record {
-      tags = ap (λ (b : Bool). if b then (if is_tag (type / 256 * 256 + type % 256) then 2 else 1) else 0) (tag_is a.service)
+      tags = ap (λ (b : Bool). if b then (if is_tag (type / 256 * 256 + type % 256) then 2 else 1)
+          else 0) (tag_is a.service)
           ∙ ap (λ (b : Bool). if b then 2 else 1) none;
       type_is = two_back type;
       packet_is = refl;
@@ -217,7 +283,10 @@ says_type (a ∷ []) type version packet few h =
 says_type (a ∷ b ∷ []) type version packet few h =
     let second : Bool → ℕ = λ t. if t then 2 else 1 in
     record {
-      tags = ap (λ (t : Bool). if t then (if is_tag ((if b.service then 34984 else 33024) / 256 * 256 + (if b.service then 34984 else 33024) % 256) then 2 else 1) else 0) (tag_is a.service)
+      tags = ap
+          (λ (t : Bool). if t then
+          (if is_tag ((if b.service then 34984 else 33024) / 256 * 256 + (if b.service then 34984
+          else 33024) % 256) then 2 else 1) else 0) (tag_is a.service)
           ∙ ap second (tag_is b.service);
       type_is = two_back type;
       packet_is = refl;
@@ -225,8 +294,10 @@ says_type (a ∷ b ∷ []) type version packet few h =
     }
 says_type (a ∷ b ∷ c ∷ tags) type version packet few h = absurd (omega arith)
 
-ethernet_back : (heads : List ℕ) (tags : List Tag) (type : ℕ) (version : IpVersion) (packet : List ℕ) → IsWrittenEthernet heads tags → IsType type version
-    → let frame = heads ++ (flat_map tag_bytes tags ++ (u16_bytes Big type ++ packet)) in HasPacket Ethernet frame version × (packet_in Ethernet frame ≡ packet)
+ethernet_back : (heads : List ℕ) (tags : List Tag) (type : ℕ) (version : IpVersion)
+    (packet : List ℕ) → IsWrittenEthernet heads tags → IsType type version
+    → let frame = heads ++ (flat_map tag_bytes tags ++ (u16_bytes Big type ++ packet))
+    in HasPacket Ethernet frame version × (packet_in Ethernet frame ≡ packet)
 ethernet_back heads tags type version packet h t =
     let rest : List ℕ = flat_map tag_bytes tags ++ (u16_bytes Big type ++ packet) in
     let says = says_type tags type version packet h.few t in
@@ -237,17 +308,23 @@ ethernet_back heads tags type version packet h t =
     ap (λ (x : ℕ). if is_tag x then (if is_tag (u16_in Big frame 16) then 2 else 1) else 0) first
     ∙ ap (λ (x : ℕ). if is_tag (u16_in Big rest 0) then (if is_tag x then 2 else 1) else 0) second
     ∙ says.tags in
-    let len : length frame ≡ 12 + length rest = length-append heads rest ∙ ap (λ (n : ℕ). n + length rest) h.twelve in
+    let len : length frame ≡ 12 + length rest = length-append heads rest
+    ∙ ap (λ (n : ℕ). n + length rest) h.twelve in
     let long = says.long in
     let type_at : u16_in Big frame (12 + 4 * tags_of frame) ≡ type =
-    ap (λ (n : ℕ). u16_in Big frame (12 + 4 * n)) count ∙ number_after heads rest 12 (4 * length tags) h.twelve ∙ says.type_is in
+    ap (λ (n : ℕ). u16_in Big frame (12 + 4 * n)) count
+    ∙ number_after heads rest 12 (4 * length tags) h.twelve ∙ says.type_is in
     let where_packet : 14 + 4 * tags_of frame ≡ 12 + (2 + 4 * length tags) = omega arith in (
       record { there = omega arith; version_is = ap by_ether_type type_at ∙ t.version_is },
-      ap (λ (n : ℕ). drop n frame) where_packet ∙ skip heads rest 12 (2 + 4 * length tags) h.twelve ∙ says.packet_is,
+      ap (λ (n : ℕ). drop n frame) where_packet ∙ skip heads rest 12 (2 + 4 * length tags) h.twelve
+          ∙ says.packet_is,
     )
 
-carried : (heads : List ℕ) (tags : List Tag) (type : ℕ) (version : IpVersion) (packet : List ℕ) (address : Address) (d : WrittenDatagram) → IsWrittenEthernet heads tags → IsType type version → ReadsAs version packet address d
-    → CarriesDatagram 1 (heads ++ (flat_map tag_bytes tags ++ (u16_bytes Big type ++ packet))) (record { address = address; port = d.port; bytes = d.bytes })
+carried : (heads : List ℕ) (tags : List Tag) (type : ℕ) (version : IpVersion) (packet : List ℕ)
+    (address : Address) (d : WrittenDatagram) → IsWrittenEthernet heads tags → IsType type version
+    → ReadsAs version packet address d
+    → CarriesDatagram 1 (heads ++ (flat_map tag_bytes tags ++ (u16_bytes Big type ++ packet)))
+    (record { address = address; port = d.port; bytes = d.bytes })
 carried heads tags type version packet address d h t reads =
     let found = ethernet_back heads tags type version packet h t in
     let P : List ℕ → Type 0 = λ x. HasUdp version x in
@@ -260,8 +337,26 @@ carried heads tags type version packet address d h t reads =
       is = sym (ap (λ (x : List ℕ). datagram_in version x) found.1 ∙ reads.is);
     }
 
-pub ipv4_back : (heads : List ℕ) (tags : List Tag) (p : WrittenIpv4) (d : WrittenDatagram) (filling : List ℕ) → IsWrittenEthernet heads tags → IsWrittenIpv4 p d → CarriesDatagram 1 (ethernet_bytes heads tags 2048 (ipv4_bytes p d) filling) (record { address = addresses.V4 p.destination; port = d.port; bytes = d.bytes })
-ipv4_back heads tags p d filling h k = carried heads tags 2048 V4 (ipv4_bytes p d ++ filling) (addresses.V4 p.destination) d h (record { small = omega arith; no_tag = refl; version_is = refl }) (four_back p d filling k)
+pub ipv4_back : (heads : List ℕ) (tags : List Tag) (p : WrittenIpv4) (d : WrittenDatagram)
+    (filling : List ℕ) → IsWrittenEthernet heads tags → IsWrittenIpv4 p d
+    → CarriesDatagram 1 (ethernet_bytes heads tags 2048 (ipv4_bytes p d) filling)
+    (record { address = addresses.V4 p.destination; port = d.port; bytes = d.bytes })
+ipv4_back heads tags p d filling h k = carried heads tags 2048 V4 (ipv4_bytes p d ++ filling)
+    (addresses.V4 p.destination) d h (record {
+      small = omega arith;
+      no_tag = refl;
+      version_is =
+          refl;
+    }) (four_back p d filling k)
 
-pub ipv6_back : (heads : List ℕ) (tags : List Tag) (p : WrittenIpv6) (d : WrittenDatagram) (filling : List ℕ) → IsWrittenEthernet heads tags → IsWrittenIpv6 p d → CarriesDatagram 1 (ethernet_bytes heads tags 34525 (ipv6_bytes p d) filling) (record { address = addresses.V6 p.destination; port = d.port; bytes = d.bytes })
-ipv6_back heads tags p d filling h k = carried heads tags 34525 V6 (ipv6_bytes p d ++ filling) (addresses.V6 p.destination) d h (record { small = omega arith; no_tag = refl; version_is = refl }) (six_back p d filling k)
+pub ipv6_back : (heads : List ℕ) (tags : List Tag) (p : WrittenIpv6) (d : WrittenDatagram)
+    (filling : List ℕ) → IsWrittenEthernet heads tags → IsWrittenIpv6 p d
+    → CarriesDatagram 1 (ethernet_bytes heads tags 34525 (ipv6_bytes p d) filling)
+    (record { address = addresses.V6 p.destination; port = d.port; bytes = d.bytes })
+ipv6_back heads tags p d filling h k = carried heads tags 34525 V6 (ipv6_bytes p d ++ filling)
+    (addresses.V6 p.destination) d h (record {
+      small = omega arith;
+      no_tag = refl;
+      version_is =
+          refl;
+    }) (six_back p d filling k)

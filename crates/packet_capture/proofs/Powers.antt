@@ -23,5 +23,6 @@ less_than_one ticks n small large =
     let ten : 0 < 10 = omega arith in
     let above : 10 ^ 39 ≤ 10 ^ n = pow-le-pow_right ten large in
     let below : ticks * 1000000000 < 1 * 10 ^ n = omega arith in
-    let quotient : ticks * 1000000000 / 10 ^ n < 1 = div_below (ticks * 1000000000) (10 ^ n) 1 (tens_positive n) below in
+    let quotient : ticks * 1000000000 / 10 ^ n < 1 = div_below (ticks * 1000000000) (10 ^ n) 1
+    (tens_positive n) below in
     omega arith

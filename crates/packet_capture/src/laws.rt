@@ -26,7 +26,8 @@ pub fn one_datagram()
     ensures not_both { (link : ℕ) (frame : List ℕ) (d : DatagramContent) (f : FrameFault)
         → CarriesDatagram link frame d → HasFrameFault link frame f → ⊥ }
     ensures one { (link : ℕ) (frame : List ℕ)
-        → ((d : DatagramContent) × CarriesDatagram link frame d) ⊎ ((f : FrameFault) × HasFrameFault link frame f) }
+        → ((d : DatagramContent) × CarriesDatagram link frame d)
+        ⊎ ((f : FrameFault) × HasFrameFault link frame f) }
 {}
 
 /// Bytes begin with one piece and leave one context, or there is one reason why they don't: with

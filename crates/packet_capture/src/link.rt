@@ -104,7 +104,8 @@ fn by_first_byte(byte: u8) -> Option<IpVersion>
 #[inline(always)]
 fn tags_of(frame: &[u8]) -> Option<usize>
     ensures found { IfSome result (λ tags. tags ≡ tags_of frame.now) }
-    ensures whole { IfSome result (λ tags. link_len LinkType.Ethernet frame.now ≤ length frame.now) }
+    ensures whole { IfSome result (λ tags. link_len LinkType.Ethernet
+        frame.now ≤ length frame.now) }
     ensures cut { IfNone result (length frame.now < link_len LinkType.Ethernet frame.now) }
 {
     if frame.len() < 14 {

@@ -49,9 +49,11 @@ fn after_block<'a>(
     content: BlockContent<'a>,
 ) -> Result<Option<Frame<'a>>, CaptureFault>
     requires { length interfaces.old.items ≤ 256 }
-    ensures frame { IfOk result (λ f. frame_in_piece f ≡ frame_in_event (block_event_of content.entry)) }
+    ensures frame { IfOk result (λ f. frame_in_piece f ≡ frame_in_event
+        (block_event_of content.entry)) }
     ensures items { OnOk result
-        (interfaces.new.items ≡ interfaces_after interfaces.old.items (block_event_of content.entry)) }
+        (interfaces.new.items
+        ≡ interfaces_after interfaces.old.items (block_event_of content.entry)) }
     ensures few { OnOk result (length interfaces.new.items ≤ 256) }
     ensures full { IfErr result (IsOneTooMany interfaces.old.items (block_event_of content.entry)) }
     ensures kept { OnErr result (interfaces.new ≡ interfaces.old) }

@@ -21,16 +21,19 @@ use Rattle.replay_reports.specs.counts.Stats.{Counted, bid_led, counted_after, e
 
 -- ---- a packet of a line
 
-module _ (old : VenueStats) (line : LineId) (venue number count : ℕ) (answer : Result Outcome LineFault)
+module _ (old : VenueStats) (line : LineId) (venue number count : ℕ)
+    (answer : Result Outcome LineFault)
     (session : SessionStats) (gaps : GapStats) (l : LineStats) where
   abbrev Told : LineId → SinkEvent
   Told on = told_packet venue on number count answer
 
   abbrev Adds : (LineStats → SessionStats → GapStats → VenueStats) → LineStats → LineId → Type 0
-  Adds put was on = session ≡ session_after old.session (Told on) → gaps ≡ gaps_after old.gaps (Told on ∷ [])
+  Adds put was on = session ≡ session_after old.session (Told on)
+      → gaps ≡ gaps_after old.gaps (Told on ∷ [])
       → l ≡ line_after was (Told on ∷ []) → put l session gaps ≡ own_after old (Told on ∷ [])
 
-  three : (put : LineStats → SessionStats → GapStats → VenueStats) (m : LineStats) (s : SessionStats) (g : GapStats)
+  three : (put : LineStats → SessionStats → GapStats → VenueStats) (m : LineStats)
+      (s : SessionStats) (g : GapStats)
       → l ≡ m → session ≡ s → gaps ≡ g → put l session gaps ≡ put m s g
   three put m s g a b c =
       ap (λ (x : LineStats). put x session gaps) a ∙ ap (λ (x : SessionStats). put m x gaps) b
@@ -49,7 +52,8 @@ module _ (old : VenueStats) (line : LineId) (venue number count : ℕ) (answer :
   pub packet_recovery : line ≡ Recovery
       → Adds (λ x y z. record old { recovery = x; session = y; gaps = z }) old.recovery line
   packet_recovery at =
-      subst (Adds (λ x y z. record old { recovery = x; session = y; gaps = z }) old.recovery) (sym at)
+      subst (Adds (λ x y z. record old { recovery = x; session = y; gaps = z }) old.recovery)
+      (sym at)
       (λ s g a. three (λ x y z. record old { recovery = x; session = y; gaps = z }) _ _ _ a s g)
 
 -- ---- a datagram of a line that is no packet
@@ -69,7 +73,8 @@ module _ (old : VenueStats) (line : LineId) (venue : ℕ) (fault : PacketFault) 
       subst (Refuses (λ x. record old { b = x }) old.b) (sym at)
       (λ is. ap (λ (x : LineStats). record old { b = x }) is)
 
-  pub refused_recovery : line ≡ Recovery → Refuses (λ x. record old { recovery = x }) old.recovery line
+  pub refused_recovery : line ≡ Recovery
+      → Refuses (λ x. record old { recovery = x }) old.recovery line
   refused_recovery at =
       subst (Refuses (λ x. record old { recovery = x }) old.recovery) (sym at)
       (λ is. ap (λ (x : LineStats). record old { recovery = x }) is)
@@ -81,18 +86,23 @@ pub counted_by : (old new : Counted) (event : SinkEvent)
     → new.states ≡ states_after old.states (event ∷ []) → new ≡ counted_after old (event ∷ [])
 counted_by old new event venues states =
     ap (λ (x : List VenueStats). record { venues = x; states = new.states }) venues
-    ∙ ap (λ (x : StateStats). record { venues = each_venue (venue_after (event ∷ [])) 0 old.venues; states = x }) states
+    ∙ ap (λ (x : StateStats). record {
+      venues = each_venue (venue_after (event ∷ [])) 0 old.venues;
+      states = x;
+    }) states
 
 -- an event that is counted of one venue, where its form is known
 pub own_counted : (old new : Counted) (e k : Event) → e ≡ k
-    → each_venue (own_at (told_by k)) 0 old.venues ≡ each_venue (venue_after (told_by k ∷ [])) 0 old.venues
+    → each_venue (own_at (told_by k)) 0 old.venues ≡ each_venue (venue_after (told_by k ∷ [])) 0
+    old.venues
     → states_after old.states (told_by k ∷ []) ≡ old.states
     → new.venues ≡ each_venue (own_at (told_by e)) 0 old.venues → new.states ≡ old.states
     → new ≡ counted_after old (told_by e ∷ [])
 own_counted old new e k is same kept venues states =
     subst (λ (x : Event). new ≡ counted_after old (told_by x ∷ [])) (sym is)
     (counted_by old new (told_by k)
-    (subst (λ (x : Event). new.venues ≡ each_venue (own_at (told_by x)) 0 old.venues) is venues ∙ same)
+    (subst (λ (x : Event). new.venues ≡ each_venue (own_at (told_by x)) 0 old.venues) is venues
+    ∙ same)
     (states ∙ sym kept))
 
 -- ---- a change of a national best
@@ -109,7 +119,8 @@ best_led : (notice : Notice) (k : ℕ) (ss : List VenueStats)
 best_led notice k [] = refl
 best_led notice k (s ∷ ss) =
     let event = told_best notice in
-    let a : offer_led notice.national.offer k (bid_led notice.national.bid k s) ≡ venue_after (event ∷ []) k s =
+    let a : offer_led notice.national.offer k (bid_led notice.national.bid k s) ≡ venue_after (event
+    ∷ []) k s =
     ap (λ (n : ℕ). record s {
       bids = count_after s.bids n;
       offers = count_after s.offers (cond (leads_offer k event) 1 0);

@@ -70,15 +70,18 @@ pub plain_price : (p : ℕ) → p < 2 ^ 64 → IsPlain (price_text p)
 plain_price p fits =
     plain_more (decimal (p / 10000) ++ codes ".")
     (decimal (p / 1000 % 10)) (decimal (p / 100 % 10)) (decimal (p / 10 % 10)) (decimal (p % 10))
-    (plain_both (decimal (p / 10000)) (codes ".") (plain_decimal (p / 10000) (omega (arith, fits))) refl)
+    (plain_both (decimal (p / 10000)) (codes ".") (plain_decimal (p / 10000)
+    (omega (arith, fits))) refl)
     (plain_last (p / 1000)) (plain_last (p / 100)) (plain_last (p / 10)) (plain_last p)
 
 plain_nine : (n : ℕ) → IsPlain (nine_digits n)
 unfolding nine_digits
 plain_nine n =
     let d : ℕ → List ℕ = λ (power : ℕ). decimal (n / power % 10) in
-    let p : (power : ℕ) → IsPlain (decimal (n / power % 10)) = λ (power : ℕ). plain_last (n / power) in
-    plain_more (d 100000000 ++ d 10000000 ++ d 1000000 ++ d 100000 ++ d 10000) (d 1000) (d 100) (d 10) (d 1)
+    let p : (power : ℕ) → IsPlain (decimal (n / power % 10)) = λ (power : ℕ). plain_last (n / power)
+    in
+    plain_more (d 100000000 ++ d 10000000 ++ d 1000000 ++ d 100000 ++ d 10000)
+    (d 1000) (d 100) (d 10) (d 1)
     (plain_more (d 100000000) (d 10000000) (d 1000000) (d 100000) (d 10000)
     (p 100000000) (p 10000000) (p 1000000) (p 100000) (p 10000))
     (p 1000) (p 100) (p 10) (p 1)
@@ -151,9 +154,11 @@ three_joined : (v p s : List ℕ) → codes "," ++ v ++ codes "," ++ p ++ codes 
 three_joined v p s = simp append_assoc
 
 three_fields : (v p s : List ℕ) → IsPlain v → IsPlain p → IsPlain s
-    → fields_text default_writer (v ∷ p ∷ s ∷ []) ≡ codes "," ++ v ++ codes "," ++ p ++ codes "," ++ s
+    → fields_text default_writer (v ∷ p ∷ s ∷ []) ≡ codes "," ++ v ++ codes "," ++ p ++ codes ","
+    ++ s
 unfolding fields_text
-three_fields v p s a b c = rw (plain_field v a, plain_field p b, plain_field s c, append-nil s) (sym (three_joined v p s))
+three_fields v p s a b c = rw (plain_field v a, plain_field p b, plain_field s c, append-nil s)
+    (sym (three_joined v p s))
 
 side_text : (side : Option Best) → IfSome side IsSideOfWords
     → fields_text default_writer (side_fields side) ≡ codes "," ++ csv_side side
@@ -161,7 +166,8 @@ unfolding fields_text
 side_text None fits = refl
 side_text (Some b) fits =
     three_fields (decimal b.venue) (price_text b.price) (decimal b.size)
-    (plain_decimal b.venue fits.venue) (plain_price b.price fits.price) (plain_decimal b.size fits.size)
+    (plain_decimal b.venue fits.venue) (plain_price b.price fits.price)
+    (plain_decimal b.size fits.size)
 
 one_field : (x : List ℕ) → IsPlain x → fields_text default_writer (x ∷ []) ≡ codes "," ++ x
 unfolding fields_text
@@ -180,9 +186,11 @@ row_joined : (c e n p s b o w t : List ℕ)
 row_joined c e n p s b o w t = simp append_assoc
 
 -- a row of fields, each as it is written
-row_written : (n p s word : List ℕ) (b o t : List (List ℕ)) (name bid offer time : List ℕ) → IsPlain n → IsPlain p
+row_written : (n p s word : List ℕ) (b o t : List (List ℕ)) (name bid offer time : List ℕ)
+    → IsPlain n → IsPlain p
     → field_text default_writer s ≡ name → fields_text default_writer b ≡ codes "," ++ bid
-    → fields_text default_writer o ≡ codes "," ++ offer → IsPlain word → fields_text default_writer t ≡ time
+    → fields_text default_writer o ≡ codes "," ++ offer → IsPlain word
+    → fields_text default_writer t ≡ time
     → n ++ codes "," ++ p ++ codes "," ++ name ++ codes "," ++ bid ++ codes "," ++ offer
     ++ codes "," ++ word ++ time ++ codes "\n"
     ≡ row_text default_writer (n ∷ p ∷ s ∷ ((b ++ o) ++ (word ∷ t)))
@@ -204,9 +212,11 @@ pub row_is_written : (time : RowTime) (n : Notice) → HasWords time n
     → csv_row time n ≡ row_text default_writer (csv_fields time n)
 unfolding csv_row
 row_is_written time n fits =
-    row_written (decimal n.number) (decimal n.position) (name_of n.symbol) (state_text (state_of n.national))
+    row_written (decimal n.number) (decimal n.position) (name_of n.symbol)
+    (state_text (state_of n.national))
     (side_fields n.national.bid) (side_fields n.national.offer) (time_fields time)
-    (csv_text (name_of n.symbol)) (csv_side n.national.bid) (csv_side n.national.offer) (csv_time time)
+    (csv_text (name_of n.symbol)) (csv_side n.national.bid)
+    (csv_side n.national.offer) (csv_time time)
     (plain_decimal n.number fits.number) (plain_decimal n.position fits.position)
     (name_field (name_of n.symbol) (field_name n.symbol fits.symbol))
     (side_text n.national.bid fits.bid) (side_text n.national.offer fits.offer)
@@ -221,7 +231,8 @@ header_is_written true = refl
 pub reads_written : (text : List ℕ) (x y : List ℕ) (ys : List (List ℕ))
     → text ≡ row_text default_writer (x ∷ y ∷ ys) → ReadsBack text (x ∷ y ∷ ys)
 reads_written text x y ys e rest =
-    ap (λ (t : List ℕ). next_record default_config st.StartRecord [] [] (t ++ rest)) e ∙ read-write-many x y ys rest
+    ap (λ (t : List ℕ). next_record default_config st.StartRecord [] [] (t ++ rest)) e
+    ∙ read-write-many x y ys rest
 
 pub header_reads_back : (timed : Bool) → ReadsBack (header_of Csv timed) (csv_names timed)
 header_reads_back timed = reads_written (header_of Csv timed) _ _ _ (header_is_written timed)

@@ -30,18 +30,21 @@ passed_by_none window line m t n came less =
     (and_left (nat_lt n m) (m % window == n % window) (le-ltb n m less))
 
 -- one of another place passes none
-passed_elsewhere : (window : ℕ) (line : LineId) (m t n : ℕ) (came : List MessageOn) → (m % window ≡ n % window → ⊥)
+passed_elsewhere : (window : ℕ) (line : LineId) (m t n : ℕ) (came : List MessageOn)
+    → (m % window ≡ n % window → ⊥)
     → is_passed window n (message_on line m t ∷ came) ≡ is_passed window n came
 passed_elsewhere window line m t n came apart =
     ap (λ (b : Bool). b || is_passed window n came)
     (and_right (nat_lt n m) (m % window == n % window) (ne_eqb (m % window) (n % window) apart))
 
-passed_now : (window : ℕ) (line : LineId) (m t n : ℕ) (came : List MessageOn) → n < m → m % window ≡ n % window
+passed_now : (window : ℕ) (line : LineId) (m t n : ℕ) (came : List MessageOn) → n < m
+    → m % window ≡ n % window
     → is_passed window n (message_on line m t ∷ came) ≡ true
 passed_now window line m t n came less same =
     rw (lt-ltb n m less, eq-eqb (m % window) (n % window) same) refl
 
-passed_still : (window : ℕ) (line : LineId) (m t n : ℕ) (came : List MessageOn) → is_passed window n came ≡ true
+passed_still : (window : ℕ) (line : LineId) (m t n : ℕ) (came : List MessageOn)
+    → is_passed window n came ≡ true
     → is_passed window n (message_on line m t ∷ came) ≡ true
 passed_still window line m t n came before =
     or_right (nat_lt n m && m % window == n % window) (is_passed window n came) before
@@ -76,7 +79,8 @@ holds_still window line m t n came held other passed holds = record {
 }
 
 -- one of another place
-pub holds_elsewhere : (window : ℕ) (line : LineId) (m t n : ℕ) (came : List MessageOn) (held : FirstArrival)
+pub holds_elsewhere : (window : ℕ) (line : LineId) (m t n : ℕ)
+    (came : List MessageOn) (held : FirstArrival)
     → (m % window ≡ n % window → ⊥) → HoldsFirst window came n held
     → HoldsFirst window (message_on line m t ∷ came) n held
 holds_elsewhere window line m t n came held apart holds =
@@ -85,9 +89,11 @@ holds_elsewhere window line m t n came held apart holds =
 
 -- an earlier one of the same place
 holds_more : (window : ℕ) (line : LineId) (m t n : ℕ) (came : List MessageOn) (held : FirstArrival)
-    → m < held.number → HoldsFirst window came n held → HoldsFirst window (message_on line m t ∷ came) n held
+    → m < held.number → HoldsFirst window came n held
+    → HoldsFirst window (message_on line m t ∷ came) n held
 holds_more window line m t n came held less holds =
-    holds_still window line m t n came held (λ least same. absurd (omega (arith, less, least, same)))
+    holds_still window line m t n came held
+    (λ least same. absurd (omega (arith, less, least, same)))
     (λ least. passed_by_none window line m t n came (omega (arith, less, least))) holds
 
 -- ---- a later message
@@ -168,8 +174,10 @@ abbrev met_held : FirstArrival → LineId → FirstArrival
 met_held held line = record held { is_met = held.is_met || not (is_same_line held.line line) }
 
 -- it comes again on its own line
-first_again : (one two : LineId) (t : ℕ) (came : List MessageOn) (held : FirstArrival) → is_same_line one two ≡ false
-    → IsFirstOn one two came held → IsFirstOn one two (message_on one held.number t ∷ came) (met_held held one)
+first_again : (one two : LineId) (t : ℕ) (came : List MessageOn) (held : FirstArrival)
+    → is_same_line one two ≡ false
+    → IsFirstOn one two came held → IsFirstOn one two (message_on one held.number t
+    ∷ came) (met_held held one)
 first_again one two t came held apart is = record {
   line_is = is.line_is;
   first = first_kept (first_on one held.number came) _ held.time is.first;
@@ -180,17 +188,21 @@ first_again one two t came held apart is = record {
 }
 
 -- it comes on the other line
-first_met : (one two : LineId) (t : ℕ) (came : List MessageOn) (held : FirstArrival) → is_same_line one two ≡ false
-    → IsFirstOn one two came held → IsFirstOn one two (message_on two held.number t ∷ came) (met_held held two)
+first_met : (one two : LineId) (t : ℕ) (came : List MessageOn) (held : FirstArrival)
+    → is_same_line one two ≡ false
+    → IsFirstOn one two came held → IsFirstOn one two (message_on two held.number t
+    ∷ came) (met_held held two)
 first_met one two t came held apart is = record {
   line_is = is.line_is;
   first = first_kept (first_on one held.number came) _ held.time is.first;
   met = ap is_some (on_same two held.number t came) ∙ some_of_two (first_on two held.number came) t
       ∙ sym (ap (λ (b : Bool). held.is_met || not b)
-      (ap (λ (line : LineId). is_same_line line two) is.line_is ∙ apart) ∙ or_right held.is_met true refl);
+      (ap (λ (line : LineId). is_same_line line two) is.line_is ∙ apart)
+      ∙ or_right held.is_met true refl);
 }
 
-first_then : (line : LineId) (t : ℕ) (came : List MessageOn) (held : FirstArrival) → (line ≡ A) ⊎ (line ≡ B)
+first_then : (line : LineId) (t : ℕ) (came : List MessageOn) (held : FirstArrival)
+    → (line ≡ A) ⊎ (line ≡ B)
     → IsFirstOn A B came held ⊎ IsFirstOn B A came held
     → IsFirstOn A B (message_on line held.number t ∷ came) (met_held held line)
     ⊎ IsFirstOn B A (message_on line held.number t ∷ came) (met_held held line)
@@ -231,17 +243,22 @@ held_more held line m t less =
     cond-false (nat_lt held.number m) _ _ (le-ltb held.number m (omega (arith, less)))
     ∙ ap (λ (b : Bool). record held { is_met = b })
     (ap (λ (b : Bool). held.is_met || b)
-    (and_left (held.number == m) _ (ne_eqb held.number m (λ same. absurd (omega (arith, less, same)))))
+    (and_left (held.number == m) _
+    (ne_eqb held.number m (λ same. absurd (omega (arith, less, same)))))
     ∙ or_none held.is_met)
 
 held_again : (held : FirstArrival) (line : LineId) (t : ℕ)
     → held_after held (message_on line held.number t) ≡ met_held held line
 held_again held line t =
     cond-false (nat_lt held.number held.number) _ _ (le-ltb held.number held.number (omega arith))
-    ∙ ap (λ (b : Bool). record held { is_met = held.is_met || (b && not (is_same_line held.line line)) })
+    ∙ ap (λ (b : Bool). record held {
+      is_met = held.is_met
+          || (b && not (is_same_line held.line line));
+    })
     (eq-eqb held.number held.number refl)
 
-pub holds_here : (window : ℕ) (line : LineId) (m t n : ℕ) (came : List MessageOn) (held : FirstArrival)
+pub holds_here : (window : ℕ) (line : LineId) (m t n : ℕ)
+    (came : List MessageOn) (held : FirstArrival)
     → (line ≡ A) ⊎ (line ≡ B) → m % window ≡ n % window
     → HoldsFirst window came m held → HoldsFirst window came n held
     → HoldsFirst window (message_on line m t ∷ came) n (held_after held (message_on line m t))
@@ -249,11 +266,15 @@ holds_here window line m t n came held two place here holds =
     let Holds : FirstArrival → Type 0 = λ h. HoldsFirst window (message_on line m t ∷ came) n h in
     elim (cases_order held.number m) [
       | inl same ↦
-          subst (λ (k : ℕ). HoldsFirst window (message_on line k t ∷ came) n (held_after held (message_on line k t))) same
-          (subst (λ (h : FirstArrival). HoldsFirst window (message_on line held.number t ∷ came) n h)
+          subst (λ (k : ℕ). HoldsFirst window (message_on line k t ∷ came) n
+          (held_after held (message_on line k t))) same
+          (subst (λ (h : FirstArrival). HoldsFirst window (message_on line held.number t ∷ came) n
+          h)
           (sym (held_again held line t)) (holds_again window line t n came held two holds))
       | inr (inl less) ↦
-          subst Holds (sym (held_new held line m t less)) (holds_new window line m t n came held two place less here holds)
+          subst Holds (sym (held_new held line m t less)) (holds_new window line m t n came held
+          two place less here holds)
       | inr (inr more) ↦
-          subst Holds (sym (held_more held line m t more)) (holds_more window line m t n came held more holds)
+          subst Holds (sym (held_more held line m t more)) (holds_more window line m t
+          n came held more holds)
     ]

@@ -1,4 +1,5 @@
--- How long a second line takes, by what is held of first arrivals, and a list of leads after one message more.
+-- How long a second line takes, by what is held of first arrivals, and a list of leads after one
+-- message more.
 use Rattle.std.proofs.Common.{◌≡◌, ℕ, zero, suc, ◌+◌, ◌-◌, ◌*◌, ◌/◌, ◌%◌, ◌<◌, ◌⊎◌, inl, inr, ◌≤◌, max, Bool, true, false, List, [], ◌∷◌, ◌++◌, Option, Some, None, length, refl, sym, ap, subst, ◌∙◌, arith}
 use Rattle.std.specs.Prelude.{◌==◌, ◌&&◌, ◌||◌, not, is_some, slice_get, slice_set, if◌then◌else◌}
 use Rattle.std.proofs.Math.ListN.{length-set}
@@ -18,7 +19,8 @@ use Rattle.replay_reports.proofs.Leading.{holds_elsewhere, holds_here, same_line
 
 -- the leads are those of before, or one more
 abbrev Led : ℕ → LineId → LineId → MessageOn → List MessageOn → Option ℕ → Type 0
-Led window one two last came None = leads_of window one two (last ∷ came) ≡ leads_of window one two came
+Led window one two last came None = leads_of window one two (last ∷ came) ≡ leads_of window one two
+    came
 Led window one two last came (Some took) =
     leads_of window one two (last ∷ came) ≡ took ∷ leads_of window one two came
 
@@ -39,7 +41,8 @@ skips false xs ys none = refl
 skipped : (b : Bool) (xs ys : List ℕ) → b ≡ false → (if b then xs else []) ++ ys ≡ ys
 skipped b xs ys is = ap (λ (c : Bool). (if c then xs else []) ++ ys) is
 
-added : (b : Bool) (xs ys zs : List ℕ) → b ≡ true → xs ≡ zs → (if b then xs else []) ++ ys ≡ zs ++ ys
+added : (b : Bool) (xs ys zs : List ℕ) → b ≡ true → xs ≡ zs → (if b then xs else []) ++ ys ≡ zs
+    ++ ys
 added b xs ys zs is same =
     ap (λ (c : Bool). (if c then xs else []) ++ ys) is ∙ ap (λ (ws : List ℕ). ws ++ ys) same
 
@@ -54,19 +57,22 @@ lead_differs held line m t apart =
     cond-false (held.number == m && not (held.is_met || is_same_line held.line line)) _ _
     (and_left (held.number == m) _ (ne_eqb held.number m apart))
 
-led_new : (window : ℕ) (one two line : LineId) (m t : ℕ) (came : List MessageOn) → first_on one m came ≡ None
+led_new : (window : ℕ) (one two line : LineId) (m t : ℕ) (came : List MessageOn)
+    → first_on one m came ≡ None
     → Led window one two (message_on line m t) came None
 led_new window one two line m t came none =
     skips (is_same_line line two && not (is_passed window m came)) _ _
     (ap (λ (x : Option ℕ). lead_between x (first_on two m came) t) none)
 
-led_passed : (window : ℕ) (one two line : LineId) (m t : ℕ) (came : List MessageOn) → is_passed window m came ≡ true
+led_passed : (window : ℕ) (one two line : LineId) (m t : ℕ) (came : List MessageOn)
+    → is_passed window m came ≡ true
     → Led window one two (message_on line m t) came None
 led_passed window one two line m t came passed =
     skipped (is_same_line line two && not (is_passed window m came)) _ _
     (and_right (is_same_line line two) (not (is_passed window m came)) (ap not passed))
 
-led_apart : (window : ℕ) (one two line : LineId) (m t : ℕ) (came : List MessageOn) → is_same_line line two ≡ false
+led_apart : (window : ℕ) (one two line : LineId) (m t : ℕ) (came : List MessageOn)
+    → is_same_line line two ≡ false
     → Led window one two (message_on line m t) came None
 led_apart window one two line m t came apart =
     skipped (is_same_line line two && not (is_passed window m came)) _ _
@@ -77,12 +83,14 @@ held_on : (one two : LineId) (line : LineId) (came : List MessageOn) (held : Fir
 held_on one two line came held is = ap (λ (at : LineId). is_same_line at line) is.line_is
 
 -- the message that is held comes on its own line again
-lead_again : (one two : LineId) (t : ℕ) (came : List MessageOn) (held : FirstArrival) → IsFirstOn one two came held
+lead_again : (one two : LineId) (t : ℕ) (came : List MessageOn) (held : FirstArrival)
+    → IsFirstOn one two came held
     → lead_by held (message_on one held.number t) ≡ None
 lead_again one two t came held is =
     cond-false (held.number == held.number && not (held.is_met || is_same_line held.line one)) _ _
     (and_right (held.number == held.number) _
-    (ap not (or_right held.is_met (is_same_line held.line one) (held_on one two one came held is ∙ same_line one))))
+    (ap not (or_right held.is_met (is_same_line held.line one) (held_on one two one came held is
+    ∙ same_line one))))
 
 led_again : (window : ℕ) (one two : LineId) (t : ℕ) (came : List MessageOn) (held : FirstArrival)
     → IsFirstOn one two came held → Led window two one (message_on one held.number t) came None
@@ -92,20 +100,25 @@ led_again window one two t came held is =
     ∙ none_after (first_on two held.number came) held.time t)
 
 -- it comes on the other line
-led_met : (window : ℕ) (one two : LineId) (t : ℕ) (came : List MessageOn) (held : FirstArrival) (second : Option ℕ)
-    → is_same_line one two ≡ false → is_passed window held.number came ≡ false → IsFirstOn one two came held
+led_met : (window : ℕ) (one two : LineId) (t : ℕ) (came : List MessageOn)
+    (held : FirstArrival) (second : Option ℕ)
+    → is_same_line one two ≡ false → is_passed window held.number came ≡ false
+    → IsFirstOn one two came held
     → first_on two held.number came ≡ second
-    → Led window one two (message_on two held.number t) came (lead_by held (message_on two held.number t))
+    → Led window one two (message_on two held.number t) came
+    (lead_by held (message_on two held.number t))
 led_met window one two t came held None apart unpassed is none =
     let last = message_on two held.number t in
     let unmet : held.is_met ≡ false = sym is.met ∙ ap is_some none in
     let lead : lead_by held last ≡ Some (t - held.time) =
     cond-true (held.number == held.number && not (held.is_met || is_same_line held.line two)) _ _
     (and_from (held.number == held.number) _ (eq-eqb held.number held.number refl)
-    (ap (λ (b : Bool). not (b || is_same_line held.line two)) unmet ∙ ap not (held_on one two two came held is ∙ apart)))
+    (ap (λ (b : Bool). not (b || is_same_line held.line two)) unmet
+    ∙ ap not (held_on one two two came held is ∙ apart)))
     in
     subst (λ (l : Option ℕ). Led window one two last came l) (sym lead)
-    (added (is_same_line two two && not (is_passed window held.number came)) _ _ ((t - held.time) ∷ [])
+    (added (is_same_line two two && not (is_passed window held.number came)) _
+    _ ((t - held.time) ∷ [])
     (and_from (is_same_line two two) _ (same_line two) (ap not unpassed))
     (ap (λ (x : Option ℕ). lead_between x (first_on two held.number came) t) is.first
     ∙ ap (λ (y : Option ℕ). lead_between (Some held.time) y t) none))
@@ -122,40 +135,53 @@ led_met window one two t came held (Some second) apart unpassed is some =
     ∙ none_after (first_on one held.number came) second t))
 
 -- a lead of one of the lines, where the other has none
-of_a : (window : ℕ) (last : MessageOn) (came : List MessageOn) (held : FirstArrival) (lead : Option ℕ) → held.line ≡ A
-    → Led window A B last came lead → Led window B A last came None → AreLed window last came held lead
+of_a : (window : ℕ) (last : MessageOn) (came : List MessageOn) (held : FirstArrival)
+    (lead : Option ℕ) → held.line ≡ A
+    → Led window A B last came lead → Led window B A last came None
+    → AreLed window last came held lead
 of_a window last came held None line led other = (led, other)
 of_a window last came held (Some took) line led other = inl (line, led, other)
 
-of_b : (window : ℕ) (last : MessageOn) (came : List MessageOn) (held : FirstArrival) (lead : Option ℕ) → held.line ≡ B
-    → Led window B A last came lead → Led window A B last came None → AreLed window last came held lead
+of_b : (window : ℕ) (last : MessageOn) (came : List MessageOn) (held : FirstArrival)
+    (lead : Option ℕ) → held.line ≡ B
+    → Led window B A last came lead → Led window A B last came None
+    → AreLed window last came held lead
 of_b window last came held None line led other = (other, led)
 of_b window last came held (Some took) line led other = inr (line, led, other)
 
-led_held : (window : ℕ) (line : LineId) (t : ℕ) (came : List MessageOn) (held : FirstArrival) → (line ≡ A) ⊎ (line ≡ B)
+led_held : (window : ℕ) (line : LineId) (t : ℕ) (came : List MessageOn) (held : FirstArrival)
+    → (line ≡ A) ⊎ (line ≡ B)
     → is_passed window held.number came ≡ false → IsFirstOn A B came held ⊎ IsFirstOn B A came held
-    → AreLed window (message_on line held.number t) came held (lead_by held (message_on line held.number t))
+    → AreLed window (message_on line held.number t) came held
+    (lead_by held (message_on line held.number t))
 led_held window A t came held two unpassed (inl is) =
-    subst (λ (l : Option ℕ). AreLed window (message_on A held.number t) came held l) (sym (lead_again A B t came held is))
+    subst (λ (l : Option ℕ). AreLed window (message_on A held.number t) came held l)
+    (sym (lead_again A B t came held is))
     (led_apart window A B A held.number t came refl, led_again window A B t came held is)
 led_held window A t came held two unpassed (inr is) =
-    of_b window (message_on A held.number t) came held _ is.line_is (led_met window B A t came held _ refl unpassed is refl)
+    of_b window (message_on A held.number t) came held _ is.line_is (led_met window B A t came held
+    _ refl unpassed is refl)
     (led_apart window A B A held.number t came refl)
 led_held window B t came held two unpassed (inl is) =
-    of_a window (message_on B held.number t) came held _ is.line_is (led_met window A B t came held _ refl unpassed is refl)
+    of_a window (message_on B held.number t) came held _ is.line_is (led_met window A B t came held
+    _ refl unpassed is refl)
     (led_apart window B A B held.number t came refl)
 led_held window B t came held two unpassed (inr is) =
-    subst (λ (l : Option ℕ). AreLed window (message_on B held.number t) came held l) (sym (lead_again B A t came held is))
+    subst (λ (l : Option ℕ). AreLed window (message_on B held.number t) came held l)
+    (sym (lead_again B A t came held is))
     (led_again window B A t came held is, led_apart window B A B held.number t came refl)
-led_held window Recovery t came held two unpassed is = elim two [ inl e ↦ absurd cc | inr e ↦ absurd cc ]
+led_held window Recovery t came held two unpassed is =
+    elim two [ inl e ↦ absurd cc | inr e ↦ absurd cc ]
 
-pub led : (window : ℕ) (line : LineId) (m t : ℕ) (came : List MessageOn) (held : FirstArrival) → (line ≡ A) ⊎ (line ≡ B)
+pub led : (window : ℕ) (line : LineId) (m t : ℕ) (came : List MessageOn) (held : FirstArrival)
+    → (line ≡ A) ⊎ (line ≡ B)
     → HoldsFirst window came m held
     → AreLed window (message_on line m t) came held (lead_by held (message_on line m t))
 led window line m t came held two holds = elim (cases_order held.number m) [
   | inl same ↦
       let was = holds.at same in
-      subst (λ (k : ℕ). AreLed window (message_on line k t) came held (lead_by held (message_on line k t))) same
+      subst (λ (k : ℕ). AreLed window (message_on line k t) came held
+      (lead_by held (message_on line k t))) same
       (led_held window line t came held two
       (subst (λ (k : ℕ). is_passed window k came ≡ false) (sym same) was.1) was.0)
   | inr (inl less) ↦
@@ -172,7 +198,8 @@ led window line m t came held two holds = elim (cases_order held.number m) [
 
 -- ---- what is held at all places
 
-pub got_same : {X : Type 0} (xs : List X) (i : ℕ) (x y : X) → slice_get (slice_set xs i x) i ≡ Some y → x ≡ y
+pub got_same : {X : Type 0} (xs : List X) (i : ℕ) (x y : X)
+    → slice_get (slice_set xs i x) i ≡ Some y → x ≡ y
 got_same [] i x y is = absurd cc
 got_same (z ∷ zs) zero x y is = cc
 got_same (z ∷ zs) (suc i) x y is = got_same zs i x y is
@@ -185,11 +212,13 @@ got_other (z ∷ zs) zero (suc j) x apart = refl
 got_other (z ∷ zs) (suc i) zero x apart = refl
 got_other (z ∷ zs) (suc i) (suc j) x apart = got_other zs i j x (λ same. apart (ap suc same))
 
-pub noted : (window : ℕ) (line : LineId) (m t : ℕ) (came : List MessageOn) (before_a before_b : List ℕ)
+pub noted : (window : ℕ) (line : LineId) (m t : ℕ) (came : List MessageOn)
+    (before_a before_b : List ℕ)
     (old new : LineLeads) (held : FirstArrival)
     → (line ≡ A) ⊎ (line ≡ B) → 0 < m → AreLeadsOf window came before_a before_b old
     → slice_get old.arrivals.items (m % window) ≡ Some held
-    → new.arrivals.items ≡ slice_set old.arrivals.items (m % window) (held_after held (message_on line m t))
+    → new.arrivals.items ≡ slice_set old.arrivals.items (m % window)
+    (held_after held (message_on line m t))
     → AreCounted (leads_of window A B (message_on line m t ∷ came) ++ before_a) new.a
     → AreCounted (leads_of window B A (message_on line m t ∷ came) ++ before_b) new.b
     → AreLeadsOf window (message_on line m t ∷ came) before_a before_b new
@@ -197,21 +226,27 @@ noted window line m t came before_a before_b old new held two some leads there i
     let here = leads.each m held some there in
     record {
       some = leads.some;
-      size = ap length is ∙ length-set old.arrivals.items (m % window) (held_after held (message_on line m t)) ∙ leads.size;
+      size = ap length is ∙ length-set old.arrivals.items (m % window)
+          (held_after held (message_on line m t)) ∙ leads.size;
       each = λ n now more got. elim (cases_eq (n % window) (m % window)) [
         | inl same ↦
-            let at : slice_get (slice_set old.arrivals.items (m % window) (held_after held (message_on line m t))) (m % window)
+            let at : slice_get (slice_set old.arrivals.items (m % window)
+            (held_after held (message_on line m t))) (m % window)
             ≡ Some now =
-            ap (λ (k : ℕ). slice_get (slice_set old.arrivals.items (m % window) (held_after held (message_on line m t))) k)
-            (sym same) ∙ ap (λ (xs : List FirstArrival). slice_get xs (n % window)) (sym is) ∙ got in
+            ap (λ (k : ℕ). slice_get (slice_set old.arrivals.items (m % window)
+            (held_after held (message_on line m t))) k)
+            (sym same) ∙ ap (λ (xs : List FirstArrival). slice_get xs (n % window)) (sym is) ∙ got
+            in
             subst (λ (h : FirstArrival). HoldsFirst window (message_on line m t ∷ came) n h)
-            (got_same old.arrivals.items (m % window) (held_after held (message_on line m t)) now at)
+            (got_same old.arrivals.items (m % window) (held_after held (message_on line m t)) now
+            at)
             (holds_here window line m t n came held two (sym same) here
             (leads.each n held more (ap (λ (k : ℕ). slice_get old.arrivals.items k) same ∙ there)))
         | inr apart ↦
             holds_elsewhere window line m t n came now (λ same. apart (sym same))
             (leads.each n now more
-            (sym (got_other old.arrivals.items (m % window) (n % window) (held_after held (message_on line m t)) apart)
+            (sym (got_other old.arrivals.items (m % window) (n % window)
+            (held_after held (message_on line m t)) apart)
             ∙ ap (λ (xs : List FirstArrival). slice_get xs (n % window)) (sym is) ∙ got))
       ];
       a = a;
@@ -221,7 +256,8 @@ noted window line m t came before_a before_b old new held two some leads there i
 -- the lists of leads of both lines after one message more
 abbrev Counts : ℕ → List MessageOn → List ℕ → List ℕ → LineLeads → Type 0
 Counts window came before_a before_b leads =
-    AreCounted (leads_of window A B came ++ before_a) leads.a × AreCounted (leads_of window B A came ++ before_b) leads.b
+    AreCounted (leads_of window A B came ++ before_a) leads.a
+    × AreCounted (leads_of window B A came ++ before_b) leads.b
 
 counted_same : (window : ℕ) (last : MessageOn) (came : List MessageOn) (before_a before_b : List ℕ)
     (old new : LineLeads)
@@ -237,10 +273,12 @@ counted_same window last came before_a before_b old new same leads a b = (
 )
 
 module _ (window : ℕ) (line : LineId) (m t : ℕ) (came : List MessageOn) (before_a before_b : List ℕ)
-    (old new : LineLeads) (held : FirstArrival) (place : ℕ) (two : (line ≡ A) ⊎ (line ≡ B)) (some : 0 < m)
+    (old new : LineLeads) (held : FirstArrival) (place : ℕ) (two : (line ≡ A)
+    ⊎ (line ≡ B)) (some : 0 < m)
     (leads : AreLeadsOf window came before_a before_b old)
     (at : place ≡ m % window) (got : slice_get old.arrivals.items place ≡ Some held)
-    (is : new.arrivals.items ≡ slice_set old.arrivals.items place (held_after held (message_on line m t))) where
+    (is : new.arrivals.items ≡ slice_set old.arrivals.items place
+    (held_after held (message_on line m t))) where
   abbrev Last : MessageOn
   Last = message_on line m t
 
@@ -248,16 +286,19 @@ module _ (window : ℕ) (line : LineId) (m t : ℕ) (came : List MessageOn) (bef
   there = subst (λ (k : ℕ). slice_get old.arrivals.items k ≡ Some held) at got
 
   set_there : new.arrivals.items ≡ slice_set old.arrivals.items (m % window) (held_after held Last)
-  set_there = subst (λ (k : ℕ). new.arrivals.items ≡ slice_set old.arrivals.items k (held_after held Last)) at is
+  set_there = subst (λ (k : ℕ). new.arrivals.items ≡ slice_set old.arrivals.items k
+      (held_after held Last)) at is
 
   are_led : AreLed window Last came held (lead_by held Last)
   are_led = led window line m t came held two (leads.each m held some there)
 
-  pub noted_none : None ≡ lead_by held Last → new.a ≡ old.a → new.b ≡ old.b → AreLeadsOf window (Last ∷ came) before_a before_b new
+  pub noted_none : None ≡ lead_by held Last → new.a ≡ old.a → new.b ≡ old.b
+      → AreLeadsOf window (Last ∷ came) before_a before_b new
   noted_none none a b =
       let same = subst (λ (l : Option ℕ). AreLed window Last came held l) (sym none) are_led in
       let counts = counted_same window Last came before_a before_b old new same leads a b in
-      noted window line m t came before_a before_b old new held two some leads there set_there counts.0 counts.1
+      noted window line m t came before_a before_b old new held two some leads there
+      set_there counts.0 counts.1
 
   pub noted_a : (took : ℕ) → Some took ≡ lead_by held Last → (held.line ≡ B → ⊥)
       → ((ds : List ℕ) → AreCounted ds old.a → AreCounted (took ∷ ds) new.a) → new.b ≡ old.b
@@ -268,7 +309,8 @@ module _ (window : ℕ) (line : LineId) (m t : ℕ) (came : List MessageOn) (bef
             noted window line m t came before_a before_b old new held two some leads there set_there
             (subst (λ (ds : List ℕ). AreCounted (ds ++ before_a) new.a) (sym led_a.1)
             (a (leads_of window A B came ++ before_a) leads.a))
-            (subst (λ (d : Durations). AreCounted (leads_of window B A (Last ∷ came) ++ before_b) d) (sym b)
+            (subst (λ (d : Durations). AreCounted (leads_of window B A (Last ∷ came) ++ before_b) d)
+            (sym b)
             (subst (λ (ds : List ℕ). AreCounted (ds ++ before_b) old.b) (sym led_a.2) leads.b))
         | inr led_b ↦ absurd (other led_b.0)
       ]
@@ -281,14 +323,16 @@ module _ (window : ℕ) (line : LineId) (m t : ℕ) (came : List MessageOn) (bef
         | inl led_a ↦ let bad : A ≡ B = sym led_a.0 ∙ on_b in absurd cc
         | inr led_b ↦
             noted window line m t came before_a before_b old new held two some leads there set_there
-            (subst (λ (d : Durations). AreCounted (leads_of window A B (Last ∷ came) ++ before_a) d) (sym a)
+            (subst (λ (d : Durations). AreCounted (leads_of window A B (Last ∷ came) ++ before_a) d)
+            (sym a)
             (subst (λ (ds : List ℕ). AreCounted (ds ++ before_a) old.a) (sym led_b.2) leads.a))
             (subst (λ (ds : List ℕ). AreCounted (ds ++ before_b) new.b) (sym led_b.1)
             (b (leads_of window B A came ++ before_b) leads.b))
       ]
 
 -- messages on one of the two lines
-pub come_on_two : (line : LineId) (number count time : ℕ) (came : List MessageOn) → (line ≡ A) ⊎ (line ≡ B)
+pub come_on_two : (line : LineId) (number count time : ℕ) (came : List MessageOn)
+    → (line ≡ A) ⊎ (line ≡ B)
     → come_from line number count time came ≡ come_on line number count time came
 come_on_two A number count time came two = refl
 come_on_two B number count time came two = refl
@@ -306,10 +350,12 @@ next_mod n size place at =
     ap (λ (k : ℕ). k % size) whole ∙ add-mul-mod_self_left (n % size + 1) size (n / size)
     ∙ ap (λ (k : ℕ). (k + 1) % size) (sym at)
 
-pub next_within : (n size place : ℕ) → place ≡ n % size → place + 1 < size → place + 1 ≡ (n + 1) % size
+pub next_within : (n size place : ℕ) → place ≡ n % size → place + 1 < size
+    → place + 1 ≡ (n + 1) % size
 next_within n size place at within = sym (next_mod n size place at ∙ mod-eq_of_lt within)
 
-pub next_first : (n size place : ℕ) → 0 < size → place ≡ n % size → size ≤ place + 1 → 0 ≡ (n + 1) % size
+pub next_first : (n size place : ℕ) → 0 < size → place ≡ n % size
+    → size ≤ place + 1 → 0 ≡ (n + 1) % size
 next_first n size place some at past =
     let whole : place + 1 ≡ size = omega (arith, at, past, mod-lt n some) in
     sym (next_mod n size place at ∙ ap (λ (k : ℕ). k % size) whole ∙ mod_self size)

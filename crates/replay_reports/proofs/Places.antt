@@ -24,7 +24,8 @@ step_large place large = cond-false (nat_lt place 16) _ _ (le-ltb place 16 large
 pub step_some : (place : ℕ) → 0 < step_at place
 step_some place = elim (cases_lt place 16) [
   | inl small ↦ let step = step_small place small in omega (arith, step)
-  | inr large ↦ let step = step_large place large in let some = pow_pos (place / 16 - 1) in omega (arith, step, some)
+  | inr large ↦ let step = step_large place large in let some = pow_pos (place / 16 - 1)
+      in omega (arith, step, some)
 ]
 
 one_part : (part power : ℕ) → (16 + (part + 1)) * power ≡ (16 + part) * power + power
@@ -35,7 +36,8 @@ one_part part power =
     ap (λ (n : ℕ). n * power) same ∙ sum ∙ ap (λ (n : ℕ). (16 + part) * power + n) one
 
 last_part : (shift : ℕ) → (16 + 0) * 2 ^ (shift + 1) ≡ (16 + 15) * 2 ^ shift + 2 ^ shift
-last_part shift = let twice : 2 ^ (shift + 1) ≡ 2 ^ shift * 2 = pow-add 2 shift 1 in omega (arith, twice)
+last_part shift = let twice : 2 ^ (shift + 1) ≡ 2 ^ shift * 2 = pow-add 2 shift 1
+    in omega (arith, twice)
 
 next_large : (place : ℕ) → 16 ≤ place → first_at (place + 1) ≡ first_at place + step_at place
 next_large place large =
@@ -49,14 +51,16 @@ next_large place large =
           next ∙ ap (λ (n : ℕ). (16 + n) * 2 ^ ((place + 1) / 16 - 1)) part
           ∙ ap (λ (n : ℕ). (16 + (place % 16 + 1)) * 2 ^ (n - 1)) power
           ∙ one_part (place % 16) (2 ^ (place / 16 - 1))
-          ∙ sym (ap (λ (n : ℕ). n + step_at place) this ∙ ap (λ (n : ℕ). (16 + place % 16) * 2 ^ (place / 16 - 1) + n) step)
+          ∙ sym (ap (λ (n : ℕ). n + step_at place) this
+          ∙ ap (λ (n : ℕ). (16 + place % 16) * 2 ^ (place / 16 - 1) + n) step)
       | inr more ↦
           let power : (place + 1) / 16 - 1 ≡ (place / 16 - 1) + 1 = omega (arith, more, large) in
           let none : (place + 1) % 16 ≡ 0 = omega (arith, more) in
           let all : place % 16 ≡ 15 = omega (arith, more) in
           next ∙ ap (λ (n : ℕ). (16 + n) * 2 ^ ((place + 1) / 16 - 1)) none
           ∙ ap (λ (n : ℕ). (16 + 0) * 2 ^ n) power ∙ last_part (place / 16 - 1)
-          ∙ sym (ap (λ (n : ℕ). n + step_at place) (this ∙ ap (λ (n : ℕ). (16 + n) * 2 ^ (place / 16 - 1)) all)
+          ∙ sym (ap (λ (n : ℕ). n + step_at place) (this
+          ∙ ap (λ (n : ℕ). (16 + n) * 2 ^ (place / 16 - 1)) all)
           ∙ ap (λ (n : ℕ). (16 + 15) * 2 ^ (place / 16 - 1) + n) step)
     ]
 
@@ -78,7 +82,8 @@ next_first place = elim (cases_lt place 15) [
 ]
 
 first_rises : (place more : ℕ) → first_at place ≤ first_at (place + more)
-first_rises place zero = let same : place ≡ place + 0 = omega arith in subst (λ (k : ℕ). first_at place ≤ first_at k) same (omega arith)
+first_rises place zero = let same : place ≡ place + 0 = omega arith
+    in subst (λ (k : ℕ). first_at place ≤ first_at k) same (omega arith)
 first_rises place (suc more) =
     let before = first_rises place more in
     let next = next_first (place + more) in
@@ -90,21 +95,26 @@ apart : (place later : ℕ) → place < later → last_at place < first_at later
 apart place later less =
     let rises = first_rises (place + 1) (later - (place + 1)) in
     let is : (place + 1) + (later - (place + 1)) ≡ later = omega (arith, less) in
-    let least : first_at (place + 1) ≤ first_at later = subst (λ (k : ℕ). first_at (place + 1) ≤ first_at k) is rises in
+    let least : first_at (place + 1) ≤ first_at later =
+    subst (λ (k : ℕ). first_at (place + 1) ≤ first_at k) is rises in
     let next = next_first place in
     let some = step_some place in
     omega (arith, least, next, some)
 
 -- a duration has one place
-pub one_place : (duration place other : ℕ) → IsAt duration place → IsAt duration other → place ≡ other
+pub one_place : (duration place other : ℕ) → IsAt duration place
+    → IsAt duration other → place ≡ other
 one_place duration place other a b = elim (cases_order place other) [
   | inl same ↦ same
-  | inr (inl less) ↦ let far = apart place other less in absurd (omega (arith, far, a.last, b.first))
-  | inr (inr more) ↦ let far = apart other place more in absurd (omega (arith, far, b.last, a.first))
+  | inr (inl less) ↦ let far = apart place other less
+      in absurd (omega (arith, far, a.last, b.first))
+  | inr (inr more) ↦ let far = apart other place more
+      in absurd (omega (arith, far, b.last, a.first))
 ]
 
 -- what is past a place's first is at most one sixteenth shorter than its last
-pub last_near : (place duration : ℕ) → first_at place ≤ duration → last_at place ≤ duration + duration / 16
+pub last_near : (place duration : ℕ) → first_at place ≤ duration
+    → last_at place ≤ duration + duration / 16
 last_near place duration least = elim (cases_lt place 16) [
   | inl small ↦
       let this = first_small place small in
@@ -114,7 +124,8 @@ last_near place duration least = elim (cases_lt place 16) [
       let this = first_large place large in
       let step = step_large place large in
       let sum : (16 + place % 16) * 2 ^ (place / 16 - 1)
-      ≡ 16 * 2 ^ (place / 16 - 1) + place % 16 * 2 ^ (place / 16 - 1) = add-mul 16 (place % 16) (2 ^ (place / 16 - 1)) in
+      ≡ 16 * 2 ^ (place / 16 - 1) + place % 16 * 2 ^ (place / 16 - 1) = add-mul 16 (place % 16)
+      (2 ^ (place / 16 - 1)) in
       omega (arith, this, step, sum, least)
 ]
 
@@ -178,7 +189,8 @@ power_within shift small = elim (cases_eq shift 59) [
       omega (arith, power)
 ]
 
-pub last_made : (place shift product sum : ℕ) → 16 ≤ place → place < 976 → shift ≡ min (place / 16 - 1) 59
+pub last_made : (place shift product sum : ℕ) → 16 ≤ place → place < 976
+    → shift ≡ min (place / 16 - 1) 59
     → product ≡ min ((16 + place % 16) * (1 * 2 ^ shift % 2 ^ 64)) 18446744073709551615
     → sum ≡ min (product + (1 * 2 ^ shift % 2 ^ 64 - 1)) 18446744073709551615
     → sum ≡ last_at place
@@ -190,7 +202,8 @@ last_made place shift product sum large small shift_is product_is sum_is =
     let most = mul-le (16 + place % 16) (2 ^ shift) 31 (2 ^ shift) (omega arith) (omega arith) in
     let first : first_at place ≡ (16 + place % 16) * 2 ^ shift =
     first_large place large ∙ ap (λ (k : ℕ). (16 + place % 16) * 2 ^ k) (sym is) in
-    let step : step_at place ≡ 2 ^ shift = step_large place large ∙ ap (λ (k : ℕ). 2 ^ k) (sym is) in
+    let step : step_at place ≡ 2 ^ shift = step_large place large ∙ ap (λ (k : ℕ). 2 ^ k) (sym is)
+    in
     let product_at : product ≡ min ((16 + place % 16) * 2 ^ shift) 18446744073709551615 =
     product_is ∙ ap (λ (n : ℕ). min ((16 + place % 16) * n) 18446744073709551615) power in
     let sum_at : sum ≡ min (product + (2 ^ shift - 1)) 18446744073709551615 =

@@ -28,7 +28,8 @@ one_changed after k place [] d new others within is = absurd (omega (arith, with
 one_changed after k zero (s ∷ ss) d new others within is =
     let here : k + zero ≡ k = omega arith in
     let a : new ≡ after k s = is ∙ ap (λ (n : ℕ). after n s) here in
-    let b = all_same after (k + 1) ss (λ n t least most. others n t (λ e. absurd (omega (arith, e, least)))) in
+    let b = all_same after (k + 1) ss (λ n t least most. others n t
+    (λ e. absurd (omega (arith, e, least)))) in
     cc
 one_changed after k (suc place) (s ∷ ss) d new others within is =
     let next : k + suc place ≡ k + 1 + place = omega arith in

@@ -35,28 +35,35 @@ pub record IsElsewhere (n : ℕ) (e : TimedEvent) (events : List TimedEvent) : T
   pub accepted : is_accepted n e.event ≡ false
 
 before_same : (window : ℕ) (one two : LineId) (n : ℕ) (e : TimedEvent) (events : List TimedEvent)
-    → begins_session n e.event ≡ false → leads_before window one two n events ≡ leads_before window one two n (e ∷ events)
+    → begins_session n e.event ≡ false → leads_before window one two n events ≡ leads_before
+    window one two n (e ∷ events)
 before_same window one two n e events begins =
-    sym (ap (λ (b : Bool). cond b (leads_of window one two (came_at n events)) [] ++ leads_before window one two n events)
+    sym (ap (λ (b : Bool). cond b (leads_of window one two (came_at n events)) []
+    ++ leads_before window one two n events)
     begins)
 
 notes_same : (n : ℕ) (e : TimedEvent) (events : List TimedEvent) → is_accepted n e.event ≡ false
     → notes_told n events ≡ notes_told n (e ∷ events)
 notes_same n e events accepted =
-    sym (ap (λ (b : Bool). cond b (missing_at (clock_of e.time) (nat_lt 0 (missing_after n (e ∷ events))) ∷ []) []
+    sym (ap (λ (b : Bool). cond b (missing_at (clock_of e.time)
+    (nat_lt 0 (missing_after n (e ∷ events))) ∷ []) []
     ++ notes_told n events) accepted)
 
 untouched : (window n : ℕ) (e : TimedEvent) (events : List TimedEvent) (v : VenueTiming)
     → IsElsewhere n e events → IsVenueTimed window n events v → IsVenueTimed window n (e ∷ events) v
 untouched window n e events v away timed = record {
   leads =
-      subst (λ (came : List MessageOn). AreLeadsOf window came (leads_before window A B n (e ∷ events))
+      subst (λ (came : List MessageOn). AreLeadsOf window came
+      (leads_before window A B n (e ∷ events))
       (leads_before window B A n (e ∷ events)) v.leads) (sym away.came)
-      (subst (λ (a : List ℕ). AreLeadsOf window (came_at n events) a (leads_before window B A n (e ∷ events)) v.leads)
+      (subst (λ (a : List ℕ). AreLeadsOf window (came_at n events) a
+      (leads_before window B A n (e ∷ events)) v.leads)
       (before_same window A B n e events away.begins)
-      (subst (λ (b : List ℕ). AreLeadsOf window (came_at n events) (leads_before window A B n events) b v.leads)
+      (subst (λ (b : List ℕ). AreLeadsOf window (came_at n events)
+      (leads_before window A B n events) b v.leads)
       (before_same window B A n e events away.begins) timed.leads));
-  missing = subst (λ (notes : List MissingAt). AreSpellsOf notes v.missing) (notes_same n e events away.accepted)
+  missing = subst (λ (notes : List MissingAt). AreSpellsOf notes v.missing)
+      (notes_same n e events away.accepted)
       timed.missing;
 }
 
@@ -68,7 +75,8 @@ all_untouched window e events vs away timed = λ n v got.
     untouched window n e events v (away n (slice_get_within vs n v got)) (timed n v got)
 
 -- one venue changes, to which the event came
-pub one_touched : (window venue place : ℕ) (e : TimedEvent) (events : List TimedEvent) (vs : List VenueTiming)
+pub one_touched : (window venue place : ℕ) (e : TimedEvent) (events : List TimedEvent)
+    (vs : List VenueTiming)
     (old new : VenueTiming) → place ≡ venue → slice_get vs place ≡ Some old
     → ((n : ℕ) → (n ≡ venue → ⊥) → IsElsewhere n e events)
     → (IsVenueTimed window venue events old → IsVenueTimed window venue (e ∷ events) new)
@@ -101,7 +109,8 @@ module _ (venue : ℕ) (line : LineId) (number count : ℕ) where
   came_elsewhere n clock Ended came apart = refl
   came_elsewhere n clock Ahead came apart = refl
 
-  pub heard_elsewhere : (n : ℕ) (time : Option ℕ) (outcome : Outcome) (events : List TimedEvent) → (n ≡ venue → ⊥)
+  pub heard_elsewhere : (n : ℕ) (time : Option ℕ) (outcome : Outcome) (events : List TimedEvent)
+      → (n ≡ venue → ⊥)
       → IsElsewhere n (timed_event time (Heard venue outcome)) events
   heard_elsewhere n time outcome events apart =
       let not : (venue == n) ≡ false = ne_eqb venue n (λ e. apart (sym e)) in
@@ -112,17 +121,21 @@ module _ (venue : ℕ) (line : LineId) (number count : ℕ) where
       }
 
   came_here : (clock : ℕ) (outcome : Outcome) (came : List MessageOn)
-      → came_after 0 clock (Heard 0 outcome) came ≡ came_after venue clock (Heard venue outcome) came
+      → came_after 0 clock (Heard 0 outcome) came ≡ came_after venue clock
+      (Heard venue outcome) came
   came_here clock (Taken new repeated) came =
-      ap (λ (b : Bool). cond (b && has_numbers number count) (come_on line number count clock came) came)
+      ap (λ (b : Bool). cond (b && has_numbers number count) (come_on line number count clock came)
+      came)
       (sym (eq-eqb venue venue refl))
   came_here clock Heartbeat came = refl
   came_here clock Ended came = refl
   came_here clock Ahead came = refl
 
-  pub heard_here : (window clock : ℕ) (time : Option ℕ) (outcome : Outcome) (events : List TimedEvent)
+  pub heard_here : (window clock : ℕ) (time : Option ℕ) (outcome : Outcome)
+      (events : List TimedEvent)
       (old new : VenueTiming) (is_missing : Bool) → clock_of time ≡ clock
-      → nat_lt 0 (missing_after venue (timed_event time (Heard venue outcome) ∷ events)) ≡ is_missing
+      → nat_lt 0 (missing_after venue (timed_event time (Heard venue outcome)
+      ∷ events)) ≡ is_missing
       → ((window : ℕ) (came : List MessageOn) (a b : List ℕ) → AreLeadsOf window came a b old.leads
       → AreLeadsOf window (came_after 0 clock (Heard 0 outcome) came) a b new.leads)
       → ((notes : List MissingAt) → AreSpellsOf notes old.missing
@@ -131,16 +144,20 @@ module _ (venue : ℕ) (line : LineId) (number count : ℕ) where
       → IsVenueTimed window venue (timed_event time (Heard venue outcome) ∷ events) new
   heard_here window clock time outcome events old new is_missing at lacks leads missing timed =
       let e = timed_event time (Heard venue outcome) in
-      let came : came_after 0 clock (Heard 0 outcome) (came_at venue events) ≡ came_at venue (e ∷ events) =
+      let came : came_after 0 clock (Heard 0 outcome) (came_at venue events) ≡ came_at venue (e
+      ∷ events) =
       came_here clock outcome (came_at venue events)
       ∙ ap (λ (t : ℕ). came_after venue t (Heard venue outcome) (came_at venue events)) (sym at) in
-      let notes : missing_at clock is_missing ∷ notes_told venue events ≡ notes_told venue (e ∷ events) =
+      let notes : missing_at clock is_missing
+      ∷ notes_told venue events ≡ notes_told venue (e ∷ events) =
       ap (λ (t : ℕ). missing_at t is_missing ∷ notes_told venue events) (sym at)
       ∙ ap (λ (b : Bool). missing_at (clock_of time) b ∷ notes_told venue events) (sym lacks)
-      ∙ ap (λ (b : Bool). cond b (missing_at (clock_of time) (nat_lt 0 (missing_after venue (e ∷ events))) ∷ []) []
+      ∙ ap (λ (b : Bool). cond b (missing_at (clock_of time)
+      (nat_lt 0 (missing_after venue (e ∷ events))) ∷ []) []
       ++ notes_told venue events) (sym (eq-eqb venue venue refl)) in
       record {
-        leads = subst (λ (c : List MessageOn). AreLeadsOf window c (leads_before window A B venue events)
+        leads = subst (λ (c : List MessageOn). AreLeadsOf window c
+            (leads_before window A B venue events)
             (leads_before window B A venue events) new.leads) came
             (leads window (came_at venue events) (leads_before window A B venue events)
             (leads_before window B A venue events) timed.leads);
@@ -150,7 +167,8 @@ module _ (venue : ℕ) (line : LineId) (number count : ℕ) where
 
 -- ---- a next session
 
-pub renewed_elsewhere : (venue ordinal n : ℕ) (time : Option ℕ) (events : List TimedEvent) → (n ≡ venue → ⊥)
+pub renewed_elsewhere : (venue ordinal n : ℕ) (time : Option ℕ) (events : List TimedEvent)
+    → (n ≡ venue → ⊥)
     → IsElsewhere n (timed_event time (told_renewal venue (Ok ordinal))) events
 renewed_elsewhere venue ordinal n time events apart =
     let not : (venue == n) ≡ false = ne_eqb venue n (λ e. apart (sym e)) in
@@ -160,9 +178,11 @@ renewed_elsewhere venue ordinal n time events apart =
       accepted = refl;
     }
 
-pub renewed_here : (window venue ordinal : ℕ) (time : Option ℕ) (events : List TimedEvent) (old new : VenueTiming)
+pub renewed_here : (window venue ordinal : ℕ) (time : Option ℕ) (events : List TimedEvent)
+    (old new : VenueTiming)
     → ((window : ℕ) (came : List MessageOn) (a b : List ℕ) → AreLeadsOf window came a b old.leads
-    → AreLeadsOf window [] (leads_of window A B came ++ a) (leads_of window B A came ++ b) new.leads)
+    → AreLeadsOf window [] (leads_of window A B came ++ a) (leads_of window B A came ++ b)
+    new.leads)
     → new.missing ≡ old.missing → IsVenueTimed window venue events old
     → IsVenueTimed window venue (timed_event time (told_renewal venue (Ok ordinal)) ∷ events) new
 renewed_here window venue ordinal time events old new leads missing timed =
@@ -174,8 +194,10 @@ renewed_here window venue ordinal time events old new leads missing timed =
       leads =
           subst (λ (b : Bool). AreLeadsOf window (cond b [] came)
           (cond b (leads_of window A B came) [] ++ leads_before window A B venue events)
-          (cond b (leads_of window B A came) [] ++ leads_before window B A venue events) new.leads) so
-          (leads window came (leads_before window A B venue events) (leads_before window B A venue events) timed.leads);
+          (cond b (leads_of window B A came) [] ++ leads_before window B A venue events) new.leads)
+          so
+          (leads window came (leads_before window A B venue events)
+          (leads_before window B A venue events) timed.leads);
       missing = subst (λ m. AreSpellsOf (notes_told venue events) m) (sym missing) timed.missing;
     }
 
@@ -196,7 +218,8 @@ each_length after k (suc n) d = ap suc (each_length after (k + 1) n d)
 
 -- the counts after one event more
 pub counts_more : (n : ℕ) (old new : Counted) (e : TimedEvent) (events : List TimedEvent)
-    → old ≡ counted_after (nothing_counted n) (untimed (reverse events)) → new ≡ counted_after old (e.event ∷ [])
+    → old ≡ counted_after (nothing_counted n) (untimed (reverse events))
+    → new ≡ counted_after old (e.event ∷ [])
     → new ≡ counted_after (nothing_counted n) (untimed (reverse (e ∷ events)))
 counts_more n old new e events was more =
     more ∙ ap (λ (c : Counted). counted_after c (e.event ∷ [])) was
@@ -234,12 +257,14 @@ got_pushed (z ∷ xs) x y (suc n) is = elim (got_pushed xs x y n is) [
 
 -- ---- the sink takes one event more
 
-pub timed_more : (window : ℕ) (events : List TimedEvent) (e : TimedEvent) (old new : TimedStats) (is_missing : Bool)
+pub timed_more : (window : ℕ) (events : List TimedEvent) (e : TimedEvent)
+    (old new : TimedStats) (is_missing : Bool)
     → IsTimed window events old → new.stats ≡ counted_after old.stats (e.event ∷ [])
     → ((venue : ℕ) → venue < length new.stats.venues → is_accepted venue e.event ≡ true
     → is_missing ≡ nat_lt 0 (missing_in (slice_index_or new.stats.venues venue nothing_at)))
     → length new.times.venues.items ≡ length old.times.venues.items
-    → (IsLacking (length old.times.venues.items) is_missing e events → AreTimesOf window events old.times
+    → (IsLacking (length old.times.venues.items) is_missing e events
+    → AreTimesOf window events old.times
     → AreTimesOf window (e ∷ events) new.times)
     → IsTimed window (e ∷ events) new
 timed_more window events e old new is_missing timed counted lacks kept takes =
@@ -247,7 +272,8 @@ timed_more window events e old new is_missing timed counted lacks kept takes =
     let counts = counts_more n old.stats new.stats e events timed.counts counted in
     let venues = counted_length n new.stats (e ∷ events) counts in
     record {
-      counts = subst (λ (k : ℕ). new.stats ≡ counted_after (nothing_counted k) (untimed (reverse (e ∷ events))))
+      counts = subst (λ (k : ℕ). new.stats ≡ counted_after (nothing_counted k)
+          (untimed (reverse (e ∷ events))))
           (sym kept) counts;
       times = takes
           (λ venue within accepted.
@@ -264,24 +290,29 @@ pub record IsIdle (e : SinkEvent) : Type 0 where
   pub silent : (clock : ℕ) → messages_of clock e ≡ []
 
 -- an event that brings no packet leaves the rates
-pub rates_kept : (window : ℕ) (time : Option ℕ) (events : List TimedEvent) (e : SinkEvent) (old new : Times)
+pub rates_kept : (window : ℕ) (time : Option ℕ) (events : List TimedEvent)
+    (e : SinkEvent) (old new : Times)
     → ((clock : ℕ) → messages_of clock e ≡ []) → new.in_second ≡ old.in_second
     → new.in_millisecond ≡ old.in_millisecond
     → (AreVenuesTimed window events old.venues.items
     → AreVenuesTimed window (timed_event time e ∷ events) new.venues.items)
     → AreTimesOf window events old → AreTimesOf window (timed_event time e ∷ events) new
 rates_kept window time events e old new silent second millisecond venues timed =
-    let rate = λ (length : ℕ) (r s : PeakRate) (same : s ≡ r) (is : IsRateOf length (flat_map messages_told events) r).
-    subst (λ (x : PeakRate). IsRateOf length (flat_map messages_told (timed_event time e ∷ events)) x) (sym same)
+    let rate = λ (length : ℕ) (r s : PeakRate) (same : s ≡ r)
+    (is : IsRateOf length (flat_map messages_told events) r).
+    subst (λ (x : PeakRate). IsRateOf length (flat_map messages_told (timed_event time e ∷ events))
+    x) (sym same)
     (subst (λ (ms : List MessagesAt). IsRateOf length (ms ++ flat_map messages_told events) r)
     (sym (silent (clock_of time))) is) in
     record {
       second = rate 1000000000 old.in_second new.in_second second timed.second;
-      millisecond = rate 1000000 old.in_millisecond new.in_millisecond millisecond timed.millisecond;
+      millisecond = rate 1000000 old.in_millisecond new.in_millisecond
+          millisecond timed.millisecond;
       venues = venues timed.venues;
     }
 
-pub idle_timed : (window : ℕ) (time : Option ℕ) (events : List TimedEvent) (t : Times) (e k : Event) → e ≡ k
+pub idle_timed : (window : ℕ) (time : Option ℕ) (events : List TimedEvent) (t : Times) (e k : Event)
+    → e ≡ k
     → IsIdle (told_by k) → AreTimesOf window events t
     → AreTimesOf window (timed_event time (told_by e) ∷ events) t
 idle_timed window time events t e k is idle timed =
@@ -295,7 +326,8 @@ idle_timed window time events t e k is idle timed =
     })) timed)
 
 -- a rate after one packet more
-pub rate_more : (length : ℕ) (time : Option ℕ) (events : List TimedEvent) (e : SinkEvent) (clock count messages : ℕ)
+pub rate_more : (length : ℕ) (time : Option ℕ) (events : List TimedEvent) (e : SinkEvent)
+    (clock count messages : ℕ)
     (old new : PeakRate) → messages_of (clock_of time) e ≡ messages_at (clock_of time) count ∷ []
     → clock_of time ≡ clock → messages ≡ count
     → ((l time : ℕ) (came : List MessagesAt) → clock / length ≡ time / l → IsRateOf l came old
@@ -303,38 +335,56 @@ pub rate_more : (length : ℕ) (time : Option ℕ) (events : List TimedEvent) (e
     → IsRateOf length (flat_map messages_told events) old
     → IsRateOf length (flat_map messages_told (timed_event time e ∷ events)) new
 rate_more length time events e clock count messages old new brings at same more is =
-    subst (λ (ms : List MessagesAt). IsRateOf length (ms ++ flat_map messages_told events) new) (sym brings)
-    (subst (λ (m : ℕ). IsRateOf length (messages_at (clock_of time) m ∷ flat_map messages_told events) new) same
-    (more length (clock_of time) (flat_map messages_told events) (ap (λ (t : ℕ). t / length) (sym at)) is))
+    subst (λ (ms : List MessagesAt). IsRateOf length (ms ++ flat_map messages_told events) new)
+    (sym brings)
+    (subst (λ (m : ℕ). IsRateOf length (messages_at (clock_of time) m
+    ∷ flat_map messages_told events) new) same
+    (more length (clock_of time) (flat_map messages_told events)
+    (ap (λ (t : ℕ). t / length) (sym at)) is))
 
 -- ---- venues after a packet, or after a renewal, by its answer
 
-pub heard_answered : (window venue : ℕ) (line : LineId) (number count : ℕ) (time : Option ℕ) (events : List TimedEvent)
-    (is_missing : Bool) (old new : List VenueTiming) (answer : Result Outcome LineFault) (outcome : Outcome)
+pub heard_answered : (window venue : ℕ) (line : LineId) (number count : ℕ) (time : Option ℕ)
+    (events : List TimedEvent)
+    (is_missing : Bool) (old new : List VenueTiming) (answer : Result Outcome LineFault)
+    (outcome : Outcome)
     → answer ≡ Ok outcome
-    → IsLacking (length old) is_missing (timed_event time (told_packet venue line number count answer)) events
-    → (IsLacking (length old) is_missing (timed_event time (told_packet venue line number count (Ok outcome))) events
+    → IsLacking (length old) is_missing
+    (timed_event time (told_packet venue line number count answer)) events
+    → (IsLacking (length old) is_missing
+    (timed_event time (told_packet venue line number count (Ok outcome))) events
     → AreVenuesTimed window events old
-    → AreVenuesTimed window (timed_event time (told_packet venue line number count (Ok outcome)) ∷ events) new)
+    → AreVenuesTimed window (timed_event time (told_packet venue line number count (Ok outcome))
+    ∷ events) new)
     → AreVenuesTimed window events old
-    → AreVenuesTimed window (timed_event time (told_packet venue line number count answer) ∷ events) new
-heard_answered window venue line number count time events is_missing old new answer outcome is lacking more timed =
+    → AreVenuesTimed window (timed_event time (told_packet venue line number count answer) ∷ events)
+    new
+heard_answered window venue line number count time events is_missing old new answer outcome
+    is lacking more timed =
     subst (λ (a : Result Outcome LineFault).
-    AreVenuesTimed window (timed_event time (told_packet venue line number count a) ∷ events) new) (sym is)
+    AreVenuesTimed window (timed_event time (told_packet venue line number count a) ∷ events) new)
+    (sym is)
     (more (subst (λ (a : Result Outcome LineFault).
-    IsLacking (length old) is_missing (timed_event time (told_packet venue line number count a)) events) is lacking) timed)
+    IsLacking (length old) is_missing (timed_event time (told_packet venue line number count a))
+    events) is lacking) timed)
 
-pub refused_timed : (window venue : ℕ) (line : LineId) (number count : ℕ) (time : Option ℕ) (events : List TimedEvent)
-    (vs : List VenueTiming) (answer : Result Outcome LineFault) (fault : LineFault) → answer ≡ Err fault
+pub refused_timed : (window venue : ℕ) (line : LineId) (number count : ℕ) (time : Option ℕ)
+    (events : List TimedEvent)
+    (vs : List VenueTiming) (answer : Result Outcome LineFault) (fault : LineFault)
+    → answer ≡ Err fault
     → AreVenuesTimed window events vs
-    → AreVenuesTimed window (timed_event time (told_packet venue line number count answer) ∷ events) vs
+    → AreVenuesTimed window (timed_event time (told_packet venue line number count answer) ∷ events)
+    vs
 refused_timed window venue line number count time events vs answer fault is timed =
     subst (λ (a : Result Outcome LineFault).
-    AreVenuesTimed window (timed_event time (told_packet venue line number count a) ∷ events) vs) (sym is)
-    (all_untouched window (timed_event time (told_packet venue line number count (Err fault))) events vs
+    AreVenuesTimed window (timed_event time (told_packet venue line number count a) ∷ events) vs)
+    (sym is)
+    (all_untouched window (timed_event time (told_packet venue line number count (Err fault)))
+    events vs
     (λ n within. record { came = refl; begins = refl; accepted = refl }) timed)
 
-pub renewal_refused : (window venue : ℕ) (time : Option ℕ) (events : List TimedEvent) (vs : List VenueTiming)
+pub renewal_refused : (window venue : ℕ) (time : Option ℕ) (events : List TimedEvent)
+    (vs : List VenueTiming)
     (fault : RenewFault) → AreVenuesTimed window events vs
     → AreVenuesTimed window (timed_event time (told_renewal venue (Err fault)) ∷ events) vs
 renewal_refused window venue time events vs fault timed =

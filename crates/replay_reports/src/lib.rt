@@ -4,10 +4,10 @@
 //! A [`BestRows`] writes the row of each national best that changed, in its [`RowStyle`], after the
 //! format's header: text, comma-separated values or JSON lines. A row's time is that of its own
 //! event (`specs/rows/RowSinks.antt`). A [`Stats`] writes nothing: it counts events for each venue,
-//! each of its lines and the national bests (`specs/counts/Counts.antt`: a filter, then a count or a
-//! sum). A [`TimedStats`] also holds how a packet capture's lines run in time
-//! (`specs/times/Timing.antt`). Each is a [`StatsSink`], which has its statistics as a text: a table or
-//! JSON (`specs/Texts.antt`).
+//! each of its lines and the national bests (`specs/counts/Counts.antt`: a filter, then a count or
+//! a sum). A [`TimedStats`] also holds how a packet capture's lines run in time
+//! (`specs/times/Timing.antt`). Each is a [`StatsSink`], which has its statistics as a text: a
+//! table or JSON (`specs/Texts.antt`).
 //!
 //! Begin at `rows/row_sink.rt`, or at `counts/stats.rt`.
 #![tactic(auto)]

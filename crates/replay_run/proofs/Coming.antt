@@ -48,15 +48,33 @@ use Rattle.replay_run.proofs.Runs.{get_map, get_set_here, items_len, events_only
 
 abbrev one_message : List ℕ → ℕ → List ℕ → Content
 one_message name number m =
-    record { session = name; number = number; kind = kinds.Messages; messages = m ∷ []; ignored = 0 }
+    record {
+      session = name;
+      number = number;
+      kind = kinds.Messages;
+      messages = m ∷ [];
+      ignored = 0;
+    }
 
 abbrev end_packet : List ℕ → ℕ → Content
-end_packet name number = record { session = name; number = number; kind = kinds.End; messages = []; ignored = 0 }
+end_packet name number = record {
+  session = name;
+  number = number;
+  kind = kinds.End;
+  messages = [];
+  ignored = 0;
+}
 
 spells : (p : Content) → IsContent p → p.ignored ≡ 0 → Spells (spelling p) p []
-spells p content none = record { content = content; ignored = none; spelled = sym (append-nil (spelling p)) }
+spells p content none = record {
+  content = content;
+  ignored = none;
+  spelled =
+      sym (append-nil (spelling p));
+}
 
-message_content : (name : List ℕ) (k : ℕ) (m : List ℕ) → length name ≡ 10 → IsMessage m → k + 2 < 2 ^ 64
+message_content : (name : List ℕ) (k : ℕ) (m : List ℕ) → length name ≡ 10
+    → IsMessage m → k + 2 < 2 ^ 64
     → IsContent (one_message name (k + 1) m)
 message_content name k m ten fits small = record {
   session = ten;
@@ -67,7 +85,8 @@ message_content name k m ten fits small = record {
   each = (fits, tt);
 }
 
-end_content : (name : List ℕ) (k : ℕ) → length name ≡ 10 → k + 1 < 2 ^ 64 → IsContent (end_packet name (k + 1))
+end_content : (name : List ℕ) (k : ℕ) → length name ≡ 10 → k + 1 < 2 ^ 64
+    → IsContent (end_packet name (k + 1))
 end_content name k ten small = record {
   session = ten;
   from_one = omega arith;
@@ -78,7 +97,11 @@ end_content name k ten small = record {
 }
 
 abbrev message_arrival : List ℕ → ℕ → List ℕ → Arrival
-message_arrival name k m = record { line = A; packet = one_message name (k + 1) m; answer = Ok (Taken 1 0) }
+message_arrival name k m = record {
+  line = A;
+  packet = one_message name (k + 1) m;
+  answer = Ok (Taken 1 0);
+}
 
 abbrev end_arrival : List ℕ → ℕ → Arrival
 end_arrival name k = record { line = A; packet = end_packet name (k + 1); answer = Ok Ended }
@@ -110,7 +133,8 @@ all_push Q (y ∷ xs) x all one = (all.0, all_push Q xs x all.1 one)
 
 front_at : (s : Session) (window k : ℕ) (P : List Input) → IsUpTo s window k P → front_of P ≡ k
 front_at s window k P u =
-    front_unique P (front_of P) k (front_is P) (record { all = u.all; next = u.above (k + 1) (omega arith) })
+    front_unique P (front_of P) k (front_is P)
+    (record { all = u.all; next = u.above (k + 1) (omega arith) })
 
 -- nothing comes after the last message
 no_end_at : (s : Session) (window k : ℕ) (P : List Input) → IsUpTo s window k P
@@ -118,7 +142,8 @@ no_end_at : (s : Session) (window k : ℕ) (P : List Input) → IsUpTo s window 
 no_end_at s window k P u = ap (λ (o : Option ℕ). length (end_at o (front_of P + 1))) u.no_end
 
 -- the stream has `k` items
-stream_len : (s : Session) (window k : ℕ) (P : List Input) → IsUpTo s window k P → length (stream_of P) ≡ k
+stream_len : (s : Session) (window k : ℕ) (P : List Input) → IsUpTo s window k P
+    → length (stream_of P) ≡ k
 stream_len s window k P u =
     let front = front_at s window k P u in
     let none = no_end_at s window k P u in
@@ -127,33 +152,45 @@ stream_len s window k P u =
     ap (λ (xs : List Numbered). length xs) (one_part P u.no_skip) ∙ omega arith
 
 -- a message more
-module _ (s : Session) (window k : ℕ) (P : List Input) (u : IsUpTo s window k P) (wide : 1 ≤ window) (m : List ℕ)
-    (content : IsContent (one_message s.name (k + 1) m)) (at : slice_get s.items k ≡ Some (item_of m)) where
+module _ (s : Session) (window k : ℕ) (P : List Input) (u : IsUpTo s window k P)
+    (wide : 1 ≤ window) (m : List ℕ)
+    (content : IsContent (one_message s.name (k + 1) m))
+    (at : slice_get s.items k ≡ Some (item_of m)) where
   message_of : IsOfSession s (one_message s.name (k + 1) m)
-  message_of = record { name = refl; messages = messages; heartbeat = λ e. absurd cc; end = λ e. absurd cc }
+  message_of = record {
+    name = refl;
+    messages = messages;
+    heartbeat =
+        λ e. absurd cc;
+    end = λ e. absurd cc;
+  }
     where
       messages : (j : ℕ) → j < 1
           → slice_get s.items (k + 1 + j - 1) ≡ Some (message_item (one_message s.name (k + 1) m) j)
       messages zero h =
-          subst (λ (n : ℕ). slice_get s.items n ≡ Some (item_of m)) (let e : k ≡ k + 1 + 0 - 1 = omega arith in e) at
+          subst (λ (n : ℕ). slice_get s.items n ≡ Some (item_of m))
+          (let e : k ≡ k + 1 + 0 - 1 = omega arith in e) at
       messages (suc j) h = absurd (omega arith)
 
   is_new : 1 ≡ new_count P (one_message s.name (k + 1) m)
   is_new = rw (u.above (k + 1) (omega arith)) refl
 
-  answer : (sent : ℕ) → sent ≡ k → IsOutcome s.name window sent P (one_message s.name (k + 1) m) (Ok (Taken 1 0))
+  answer : (sent : ℕ) → sent ≡ k
+      → IsOutcome s.name window sent P (one_message s.name (k + 1) m) (Ok (Taken 1 0))
   answer sent e = inr (
     refl,
     (
       λ end is. absurd (let n : None ≡ Some end = sym u.no_end ∙ is in cc),
       omega arith,
-      λ j item h past is message. absurd (let n : None ≡ Some item = sym (u.above (k + 1 + j) (omega arith)) ∙ is in cc),
+      λ j item h past is message. absurd (let n : None ≡ Some item =
+          sym (u.above (k + 1 + j) (omega arith)) ∙ is in cc),
       is_new,
       refl,
     ),
   )
 
-  came_more : IsUpTo s window (k + 1) (P ++ arrival_of A (one_message s.name (k + 1) m) (Ok (Taken 1 0)) ∷ [])
+  came_more : IsUpTo s window (k + 1) (P
+      ++ arrival_of A (one_message s.name (k + 1) m) (Ok (Taken 1 0)) ∷ [])
   came_more = record {
     answered =
         answered_more s.name window P (Arrived (message_arrival s.name k m)) u.answered
@@ -163,15 +200,19 @@ module _ (s : Session) (window k : ℕ) (P : List Input) (u : IsUpTo s window k 
       | inl lt ↦
           (let is : k + 1 ≡ n = omega arith in
           let has : has_number (one_message s.name (k + 1) m) n ≡ true =
-          subst (λ (x : ℕ). has_number (one_message s.name (k + 1) m) x ≡ true) is (grind (arith, nat_tests)) in
+          subst (λ (x : ℕ). has_number (one_message s.name (k + 1) m) x ≡ true) is
+          (grind (arith, nat_tests)) in
           let before : carried P n ≡ None = u.above n lt in
-          subst (λ (o : Option Item). IsSome o) (sym (carried_more P (message_arrival s.name k m) n refl
+          subst (λ (o : Option Item). IsSome o)
+          (sym (carried_more P (message_arrival s.name k m) n refl
           ∙ ap (λ (o : Option Item). option_or o
           (if has_number (one_message s.name (k + 1) m) n then Some
           (item_at (one_message s.name (k + 1) m) n) else None)) before
-          ∙ ap (λ (b : Bool). option_or None (if b then Some (item_at (one_message s.name (k + 1) m) n) else None))
+          ∙ ap (λ (b : Bool). option_or None
+          (if b then Some (item_at (one_message s.name (k + 1) m) n) else None))
           has)) refl)
-      | inr le ↦ subst (λ (o : Option Item). IsSome o) (sym (carried_more P (message_arrival s.name k m) n refl))
+      | inr le ↦ subst (λ (o : Option Item). IsSome o)
+          (sym (carried_more P (message_arrival s.name k m) n refl))
           (IsSome-or (carried P n)
           (if has_number (one_message s.name (k + 1) m) n then Some
           (item_at (one_message s.name (k + 1) m) n) else None) (u.all n one le))
@@ -180,14 +221,16 @@ module _ (s : Session) (window k : ℕ) (P : List Input) (u : IsUpTo s window k 
         ∙ ap (λ (o : Option Item). option_or o
         (if has_number (one_message s.name (k + 1) m) n then Some
         (item_at (one_message s.name (k + 1) m) n) else None)) (u.above n (omega arith))
-        ∙ ap (λ (b : Bool). option_or None (if b then Some (item_at (one_message s.name (k + 1) m) n) else None))
+        ∙ ap (λ (b : Bool). option_or None
+        (if b then Some (item_at (one_message s.name (k + 1) m) n) else None))
         (not_in (one_message s.name (k + 1) m) n (omega arith));
     no_end = end_same P (message_arrival s.name k m) refl ∙ u.no_end;
     no_skip = all_push IsArrival P (Arrived (message_arrival s.name k m)) u.no_skip tt;
   }
 
 -- and the end
-module _ (s : Session) (window k : ℕ) (P : List Input) (u : IsUpTo s window k P) (all : k ≡ length s.items)
+module _ (s : Session) (window k : ℕ) (P : List Input) (u : IsUpTo s window k P)
+    (all : k ≡ length s.items)
     (content : IsContent (end_packet s.name (k + 1))) where
   end_of_session : IsOfSession s (end_packet s.name (k + 1))
   end_of_session = record {
@@ -209,7 +252,8 @@ module _ (s : Session) (window k : ℕ) (P : List Input) (u : IsUpTo s window k 
     ),
   )
 
-  to_end : stream_of (P ++ arrival_of A (end_packet s.name (k + 1)) (Ok Ended) ∷ []) ≡ whole_session s
+  to_end : stream_of (P ++ arrival_of A (end_packet s.name (k + 1)) (Ok Ended)
+      ∷ []) ≡ whole_session s
   to_end =
       let Q : List Input = P ++ Arrived (end_arrival s.name k) ∷ [] in
       let answered : AreAnswered s.name window Q =
@@ -219,7 +263,8 @@ module _ (s : Session) (window k : ℕ) (P : List Input) (u : IsUpTo s window k 
       all_push (IsInputOf s) P (Arrived (end_arrival s.name k)) u.only (λ is. end_of_session) in
       let g : GivesSession s Q = gives_session s window Q answered only in
       let front : front_of Q ≡ k = front_unique Q (front_of Q) k (front_is Q) (record {
-        all = λ m one most. subst (λ (o : Option Item). IsSome o) (sym (carried_same P (end_arrival s.name k) m refl))
+        all = λ m one most. subst (λ (o : Option Item). IsSome o)
+            (sym (carried_same P (end_arrival s.name k) m refl))
             (u.all m one most);
         next = carried_same P (end_arrival s.name k) (k + 1) refl ∙ u.above (k + 1) (omega arith);
       }) in
@@ -238,7 +283,8 @@ message_record place name k m = datagram_record place A (spelling (one_message n
 
 abbrev records_from : ℕ → List ℕ → ℕ → List (List ℕ) → List CaptureRecord
 records_from place name k [] = end_record place name k ∷ []
-records_from place name k (m ∷ ms) = message_record place name k m ∷ records_from place name (k + 1) ms
+records_from place name k (m ∷ ms) = message_record place name k m
+    ∷ records_from place name (k + 1) ms
 
 -- the session's items from this place on
 record AreFrom (s : Session) (k : ℕ) (ms : List (List ℕ)) : Type 0 where
@@ -247,7 +293,8 @@ record AreFrom (s : Session) (k : ℕ) (ms : List (List ℕ)) : Type 0 where
   each : AllByRecursion IsMessage ms
   small : k + length ms + 1 < 2 ^ 64
 
-from_next : (s : Session) (k : ℕ) (m : List ℕ) (ms : List (List ℕ)) → AreFrom s k (m ∷ ms) → AreFrom s (k + 1) ms
+from_next : (s : Session) (k : ℕ) (m : List ℕ) (ms : List (List ℕ))
+    → AreFrom s k (m ∷ ms) → AreFrom s (k + 1) ms
 from_next s k m ms f = record {
   at = λ j x is. subst (λ (n : ℕ). slice_get s.items n ≡ Some (item_of x))
       (let e : k + suc j ≡ k + 1 + j = omega arith in e) (f.at (suc j) x is);
@@ -259,19 +306,22 @@ from_next s k m ms f = record {
 first_at : (s : Session) (k : ℕ) (m : List ℕ) (ms : List (List ℕ)) → AreFrom s k (m ∷ ms)
     → slice_get s.items k ≡ Some (item_of m)
 first_at s k m ms f =
-    subst (λ (n : ℕ). slice_get s.items n ≡ Some (item_of m)) (let e : k + 0 ≡ k = omega arith in e) (f.at 0 m refl)
+    subst (λ (n : ℕ). slice_get s.items n ≡ Some (item_of m)) (let e : k + 0 ≡ k = omega arith in e)
+    (f.at 0 m refl)
 
 -- the history of a venue to which these packets came, all of its first session
 abbrev came : Session → List Input → History
 came s P = record { earlier = []; present = record { name = s.name; packets = P } }
 
 -- the last item has the number of the last message
-last_at : (s : Session) (window k : ℕ) (P : List Input) → IsUpTo s window k P → last_sent (came s P) ≡ k
+last_at : (s : Session) (window k : ℕ) (P : List Input) → IsUpTo s window k P
+    → last_sent (came s P) ≡ k
 last_at s window k P u =
     let front = front_at s window k P u in let none = no_end_at s window k P u in omega arith
 
 -- what these records lead to
-record Reaches (s : Session) (window place k : ℕ) (ms : List (List ℕ)) (hs : List History) : Type 0 where
+record Reaches (s : Session) (window place k : ℕ) (ms : List (List ℕ))
+    (hs : List History) : Type 0 where
   emitted : List ReplayEvent
   new : List History
   emits : Emits window false (records_from place s.name k ms) hs emitted new
@@ -286,8 +336,10 @@ told_of place s P a =
     packet_answered place A a.packet.number (length a.packet.messages) a.answer
     ∷ items_emitted place (came s P) (P ++ Arrived a ∷ []) ++ []
 
-tells_one : (s : Session) (window place : ℕ) (P : List Input) (p : Content) (hs : List History) (a : Arrival)
-    → Arrived a ≡ arrival_of A p a.answer → slice_get hs place ≡ Some (came s P) → IsContent p → p.ignored ≡ 0
+tells_one : (s : Session) (window place : ℕ) (P : List Input) (p : Content)
+    (hs : List History) (a : Arrival)
+    → Arrived a ≡ arrival_of A p a.answer → slice_get hs place ≡ Some (came s P)
+    → IsContent p → p.ignored ≡ 0
     → IsOutcome s.name window (last_sent (came s P)) P p a.answer
     → EmitsRecord window false (datagram_record place A (spelling p)) hs (told_of place s P a)
     (slice_set hs place (came s (P ++ Arrived a ∷ [])))
@@ -304,7 +356,8 @@ tells_one s window place P p hs a is there content none answer =
         answer = a.answer;
         spells = spells p content none;
         taken = record { right = answer; is = ap (λ (x : Input). came s (P ++ x ∷ [])) is };
-        emitted_is = ap (λ (q : Content). packet_answered place A q.number (length q.messages) a.answer
+        emitted_is = ap (λ (q : Content). packet_answered place A q.number
+            (length q.messages) a.answer
             ∷ items_emitted place (came s P) (P ++ Arrived a ∷ []) ++ []) same;
       });
       others = refl;
@@ -318,7 +371,8 @@ one_entry place s P a grows E =
     let n : length items ≡ length (stream_of (P ++ Arrived a ∷ [])) - length (stream_of P) =
     length-drop (length (stream_of P)) (stream_of (P ++ Arrived a ∷ [])) in
     let one : length items ≡ 1 = omega arith in
-    ap (λ (hs : List ReplayEvent). length (entries_of E hs)) (append-nil (map (item_taken place) items))
+    ap (λ (hs : List ReplayEvent). length (entries_of E hs))
+    (append-nil (map (item_taken place) items))
     ∙ items_len place items E ∙ ap (λ (x : ℕ). length E + x) one
 
 numbered_len : (n : ℕ) (xs : List Item) → length (numbered_from n xs) ≡ length xs
@@ -329,18 +383,22 @@ whole_len : (s : Session) → length (whole_session s) ≡ length s.items + 1
 whole_len s = length-append (numbered_from 1 s.items) (end_item (length s.items + 1) ∷ [])
     ∙ ap (λ (n : ℕ). n + 1) (numbered_len 1 s.items)
 
-reaches : (s : Session) (window place k : ℕ) (ms : List (List ℕ)) (P : List Input) (hs : List History)
+reaches : (s : Session) (window place k : ℕ) (ms : List (List ℕ))
+    (P : List Input) (hs : List History)
     → length s.name ≡ 10 → 1 ≤ window
-    → AreFrom s k ms → IsUpTo s window k P → slice_get hs place ≡ Some (came s P) → Reaches s window place k ms hs
+    → AreFrom s k ms → IsUpTo s window k P → slice_get hs place ≡ Some (came s P)
+    → Reaches s window place k ms hs
 reaches s window place k [] P hs ten wide f u there =
     let all : k ≡ length s.items = (let a = f.all in omega arith) in
     let small : k + 1 < 2 ^ 64 = (let a = f.small in omega arith) in
     let p : Content = end_packet s.name (k + 1) in
     let content : IsContent p = end_content s.name k ten small in
     let a : Arrival = end_arrival s.name k in
-    let ends : stream_of (P ++ Arrived a ∷ []) ≡ whole_session s = to_end s window k P u all content in
+    let ends : stream_of (P ++ Arrived a ∷ []) ≡ whole_session s = to_end s window k P u all content
+    in
     let len : length (stream_of P) ≡ k = stream_len s window k P u in
-    let more : length (stream_of (P ++ Arrived a ∷ [])) ≡ length (stream_of P) + 1 = ap length ends ∙ whole_len s
+    let more : length (stream_of (P ++ Arrived a ∷ [])) ≡ length (stream_of P) + 1 = ap length ends
+    ∙ whole_len s
     ∙ (let b = len in omega arith) in
     record {
       emitted = told_of place s P a ++ [];
@@ -354,8 +412,10 @@ reaches s window place k [] P hs ten wide f u there =
         (refl, refl),
         refl,
       );
-      count = λ E. ap (λ (l : List ReplayEvent). length (entries_of E l)) (append-nil (told_of place s P a))
-          ∙ one_entry place s P a more E ∙ (let e : length E + 1 ≡ length E + 0 + 1 = omega arith in e);
+      count = λ E. ap (λ (l : List ReplayEvent). length (entries_of E l))
+          (append-nil (told_of place s P a))
+          ∙ one_entry place s P a more E
+          ∙ (let e : length E + 1 ≡ length E + 0 + 1 = omega arith in e);
       packets = P ++ Arrived a ∷ [];
       there = get_set_here hs place (came s P) (came s (P ++ Arrived a ∷ [])) there;
       whole = ends;
@@ -366,9 +426,11 @@ reaches s window place k (m ∷ ms) P hs ten wide f u there =
     let content : IsContent p = message_content s.name k m ten f.each.0 small in
     let a : Arrival = message_arrival s.name k m in
     let at : slice_get s.items k ≡ Some (item_of m) = first_at s k m ms f in
-    let up : IsUpTo s window (k + 1) (P ++ Arrived a ∷ []) = came_more s window k P u wide m content at in
+    let up : IsUpTo s window (k + 1) (P ++ Arrived a ∷ []) = came_more s window k
+    P u wide m content at in
     let len : length (stream_of P) ≡ k = stream_len s window k P u in
-    let len_more : length (stream_of (P ++ Arrived a ∷ [])) ≡ k + 1 = stream_len s window (k + 1) (P ++ Arrived a ∷ []) up in
+    let len_more : length (stream_of (P ++ Arrived a ∷ [])) ≡ k + 1 = stream_len s window (k + 1) (P
+    ++ Arrived a ∷ []) up in
     let more : length (stream_of (P ++ Arrived a ∷ [])) ≡ length (stream_of P) + 1 = omega arith in
     let mid : List History = slice_set hs place (came s (P ++ Arrived a ∷ [])) in
     let r : Reaches s window place (k + 1) ms mid =
@@ -382,7 +444,8 @@ reaches s window place k (m ∷ ms) P hs ten wide f u there =
         told_of place s P a,
         r.emitted,
         tells_one s window place P p hs a refl there content refl
-            (answer s window k P u wide m content at (last_sent (came s P)) (last_at s window k P u)),
+            (answer s window k P u wide m content at (last_sent (came s P))
+            (last_at s window k P u)),
         r.emits,
         refl,
       );
@@ -391,7 +454,8 @@ reaches s window place k (m ∷ ms) P hs ten wide f u there =
           ∙ r.count (entries_of E (told_of place s P a))
           ∙ (let first =
           one_entry place s P a more E in let e : length
-          (entries_of E (told_of place s P a)) + length ms + 1 ≡ length E + suc (length ms) + 1 = omega arith in e);
+          (entries_of E (told_of place s P a)) + length ms + 1 ≡ length E + suc (length ms) + 1 =
+          omega arith in e);
       packets = r.packets;
       there = r.there;
       whole = r.whole;
@@ -418,19 +482,21 @@ hold s window place k [] ten f =
     )
 hold s window place k (m ∷ ms) ten f =
     let small : k + 2 < 2 ^ 64 = (let a = f.small in omega arith) in (
-      held s place (one_message s.name (k + 1) m) (message_content s.name k m ten f.each.0 small) refl (record {
-        name = refl;
-        messages = λ j h. one_item j h;
-        heartbeat = λ is. absurd cc;
-        end = λ is. absurd cc;
-      }),
+      held s place (one_message s.name (k + 1) m) (message_content s.name k m ten f.each.0 small)
+          refl (record {
+            name = refl;
+            messages = λ j h. one_item j h;
+            heartbeat = λ is. absurd cc;
+            end = λ is. absurd cc;
+          }),
       hold s window place (k + 1) ms ten (from_next s k m ms f),
     )
   where
     one_item : (j : ℕ) → j < 1
         → slice_get s.items (k + 1 + j - 1) ≡ Some (message_item (one_message s.name (k + 1) m) j)
     one_item zero h =
-        subst (λ (n : ℕ). slice_get s.items n ≡ Some (item_of m)) (let e : k ≡ k + 1 + 0 - 1 = omega arith in e)
+        subst (λ (n : ℕ). slice_get s.items n ≡ Some (item_of m))
+        (let e : k ≡ k + 1 + 0 - 1 = omega arith in e)
         (first_at s k m ms f)
     one_item (suc j) h = absurd (omega arith)
 
@@ -451,7 +517,8 @@ items_at : (ms : List (List ℕ)) (j : ℕ) (m : List ℕ) → slice_get ms j �
     → slice_get (map item_of ms) j ≡ Some (item_of m)
 items_at ms j m is = get_map item_of ms j m is
 
-pub comes_through : (s : Setting) (place : ℕ) (name : List ℕ) (messages : List (List ℕ)) → 1 ≤ s.window → 1 ≤ s.lane
+pub comes_through : (s : Setting) (place : ℕ) (name : List ℕ) (messages : List (List ℕ))
+    → 1 ≤ s.window → 1 ≤ s.lane
     → length messages < s.journal
     → slice_get s.sessions place ≡ Some name → length name ≡ 10 → AllByRecursion IsMessage messages
     → length messages + 1 < 2 ^ 64
@@ -473,7 +540,8 @@ comes_through s place name messages wide lane room at ten each small =
     let count : length (entries_of [] r.emitted) ≡ 0 + length messages + 1 = r.count [] in
     let fits : length (entries_of [] r.emitted) ≤ s.journal = omega arith in
     let run : IsReplayRun s (records_from place name 0 messages) r.emitted r.new =
-    replay_run config s.lane s.filters (records_from place name 0 messages) r.emitted r.new lane r.emits fits in
+    replay_run config s.lane s.filters (records_from place name 0 messages) r.emitted
+    r.new lane r.emits fits in
     record {
       events = run.events;
       outcomes = outcomes_of [] r.emitted;

@@ -59,16 +59,19 @@ none_is [] y ys e = cc
 none_is (x ∷ xs) y ys e = cc
 
 -- an event that adds no entry had room
-record IsPast (x : ReplayEvent) (xs first others : List ReplayEvent) (next : ReplayEvent) : Type 0 where
-  rest : List ReplayEvent
-  first_is : first ≡ x ∷ rest
-  rest_are : xs ≡ rest ++ next ∷ others
+record IsPast (x : ReplayEvent) (xs first others : List ReplayEvent) (next : ReplayEvent) : Type 0
+  where
+    rest : List ReplayEvent
+    first_is : first ≡ x ∷ rest
+    rest_are : xs ≡ rest ++ next ∷ others
 
 past : (E : List Entry) (x : ReplayEvent) (xs first others : List ReplayEvent) (next : ReplayEvent)
-    → x ∷ xs ≡ first ++ next ∷ others → entries_after E x ≡ E → Adds E next → IsPast x xs first others next
+    → x ∷ xs ≡ first ++ next ∷ others → entries_after E x ≡ E → Adds E next
+    → IsPast x xs first others next
 past E x xs [] others next e same adds =
     let is : length (entries_after E next) ≡ length E =
-    ap (λ (h : ReplayEvent). length (entries_after E h)) (sym (head_is x next xs others e)) ∙ ap length same in
+    ap (λ (h : ReplayEvent). length (entries_after E h)) (sym (head_is x next xs others e))
+    ∙ ap length same in
     absurd (omega arith)
 past E x xs (y ∷ first) others next e same adds = record {
   rest = first;
@@ -76,8 +79,10 @@ past E x xs (y ∷ first) others next e same adds = record {
   rest_are = tail_is x y xs (first ++ next ∷ others) e;
 }
 
-in_gap : (window : ℕ) (gaps : Bool) (venue : ℕ) (h : History) (E : List Entry) (first others : List ReplayEvent)
-    (next : ReplayEvent) → gap_emitted window gaps venue h ≡ first ++ next ∷ others → Adds E next → ⊥
+in_gap : (window : ℕ) (gaps : Bool) (venue : ℕ) (h : History) (E : List Entry)
+    (first others : List ReplayEvent)
+    (next : ReplayEvent) → gap_emitted window gaps venue h ≡ first ++ next
+    ∷ others → Adds E next → ⊥
 in_gap window false venue h E first others next e adds = none_is first next others e
 in_gap window true venue h E first others next e adds =
     by (gap_of h.present.name window (last_sent h) h.present.packets) e
@@ -85,11 +90,13 @@ in_gap window true venue h E first others next e adds =
     by : (o : Option Request) → gap_event venue o ≡ first ++ next ∷ others → ⊥
     by None e = none_is first next others e
     by (Some request) e =
-        (let p = past E (gap_left venue request) [] first others next e refl adds in none_is p.rest next others
+        (let p = past E (gap_left venue request) [] first others next e refl adds
+        in none_is p.rest next others
         p.rest_are)
 
 -- the event is one of the items
-record IsInItems (venue : ℕ) (ready : List Numbered) (first : List ReplayEvent) (next : ReplayEvent) : Type 0 where
+record IsInItems (venue : ℕ) (ready : List Numbered) (first : List ReplayEvent)
+    (next : ReplayEvent) : Type 0 where
   had : List Numbered
   item : Numbered
   rest : List Numbered
@@ -97,9 +104,11 @@ record IsInItems (venue : ℕ) (ready : List Numbered) (first : List ReplayEvent
   first_are : first ≡ map (item_taken venue) had
   next_is : next ≡ item_taken venue item
 
-in_items : (window : ℕ) (gaps : Bool) (venue : ℕ) (h : History) (E : List Entry) (ready : List Numbered)
+in_items : (window : ℕ) (gaps : Bool) (venue : ℕ) (h : History) (E : List Entry)
+    (ready : List Numbered)
     (first others : List ReplayEvent) (next : ReplayEvent)
-    → map (item_taken venue) ready ++ gap_emitted window gaps venue h ≡ first ++ next ∷ others → Adds E next
+    → map (item_taken venue) ready ++ gap_emitted window gaps venue h ≡ first
+    ++ next ∷ others → Adds E next
     → IsInItems venue ready first next
 in_items window gaps venue h E [] first others next e adds =
     absurd (in_gap window gaps venue h E first others next e adds)
@@ -110,11 +119,13 @@ in_items window gaps venue h E (x ∷ ready) [] others next e adds = record {
   ready_are = refl;
   first_are = refl;
   next_is =
-      sym (head_is (item_taken venue x) next (map (item_taken venue) ready ++ gap_emitted window gaps venue h) others e);
+      sym (head_is (item_taken venue x) next (map (item_taken venue) ready
+      ++ gap_emitted window gaps venue h) others e);
 }
 in_items window gaps venue h E (x ∷ ready) (y ∷ first) others next e adds =
     let i = in_items window gaps venue h E ready first others next
-    (tail_is (item_taken venue x) y (map (item_taken venue) ready ++ gap_emitted window gaps venue h)
+    (tail_is (item_taken venue x) y (map (item_taken venue) ready
+    ++ gap_emitted window gaps venue h)
     (first ++ next ∷ others) e) adds in
     record {
       had = x ∷ i.had;
@@ -123,14 +134,17 @@ in_items window gaps venue h E (x ∷ ready) (y ∷ first) others next e adds =
       ready_are = ap (λ (xs : List Numbered). x ∷ xs) i.ready_are;
       first_are =
           ap (λ (z : ReplayEvent). z ∷ first)
-          (sym (head_is (item_taken venue x) y (map (item_taken venue) ready ++ gap_emitted window gaps venue h)
-          (first ++ next ∷ others) e)) ∙ ap (λ (zs : List ReplayEvent). item_taken venue x ∷ zs) i.first_are;
+          (sym (head_is (item_taken venue x) y (map (item_taken venue) ready
+          ++ gap_emitted window gaps venue h)
+          (first ++ next ∷ others) e)) ∙ ap (λ (zs : List ReplayEvent). item_taken venue x ∷ zs)
+          i.first_are;
       next_is = i.next_is;
     }
 
 -- ---- the last record
 
-get_map_back : {X Y : Type 0} (f : X → Y) (xs : List X) (i : ℕ) (y : Y) → slice_get (map f xs) i ≡ Some y
+get_map_back : {X Y : Type 0} (f : X → Y) (xs : List X) (i : ℕ) (y : Y)
+    → slice_get (map f xs) i ≡ Some y
     → (x : X) × (slice_get xs i ≡ Some x) × (y ≡ f x)
 get_map_back f [] i y e = absurd cc
 get_map_back f (x ∷ xs) zero y e = (x, refl, (let same : f x ≡ y = cc in sym same))
@@ -138,7 +152,8 @@ get_map_back f (x ∷ xs) (suc i) y e = get_map_back f xs i y e
 
 -- the items that were emitted before are the streams of these histories
 abbrev AreTold : List ReplayEvent → List History → Type 0
-AreTold emitted hs = (place : ℕ) (h : History) → slice_get hs place ≡ Some h → items_taken place emitted ≡ streams_of h
+AreTold emitted hs = (place : ℕ) (h : History) → slice_get hs place ≡ Some h
+    → items_taken place emitted ≡ streams_of h
 
 -- the record's events that found room, and the one that doesn't
 record LastRan (s : Setting) (r : CaptureRecord) (hs : List History) (E : List Entry)
@@ -154,11 +169,15 @@ record LastRan (s : Setting) (r : CaptureRecord) (hs : List History) (E : List E
       → items_taken place (emitted ++ first) ≡ v.lane.received
   next : IsStep s full refused journal_full full
 
-module _ (s : Setting) (gaps : Bool) (lane : 1 ≤ s.lane) (hs : List History) (E : List Entry) (emitted : List ReplayEvent)
-    (venue : ℕ) (h : History) (there : slice_get hs venue ≡ Some h) (kept : IsAnsweredThroughout s.window h) where
+module _ (s : Setting) (gaps : Bool) (lane : 1 ≤ s.lane) (hs : List History) (E : List Entry)
+    (emitted : List ReplayEvent)
+    (venue : ℕ) (h : History) (there : slice_get hs venue ≡ Some h)
+    (kept : IsAnsweredThroughout s.window h) where
   -- the item that was pushed isn't consumed
-  refused_next : (new : History) (items : List Numbered) (x : Numbered) (F : List Entry) → s.journal ≤ length F
-      → IsStep s (at (map consumed_all hs) venue (venue_more new items x) F) (Consume venue) journal_full
+  refused_next : (new : History) (items : List Numbered) (x : Numbered) (F : List Entry)
+      → s.journal ≤ length F
+      → IsStep s (at (map consumed_all hs) venue (venue_more new items x) F)
+      (Consume venue) journal_full
       (at (map consumed_all hs) venue (venue_more new items x) F)
   refused_next new items x F full =
       let v : Venue = venue_more new items x in
@@ -166,31 +185,43 @@ module _ (s : Setting) (gaps : Bool) (lane : 1 ≤ s.lane) (hs : List History) (
       let no : nat_le s.journal (length F) ≡ true = le-leb s.journal (length F) full in
       at_venue w venue v journal_full w
       (λ v. Applies (with_intake w venue v)
-      (consume_next s.journal venue (next_out v.lane) (record { received = v.lane.received; entries = w.entries })) w
+      (consume_next s.journal venue (next_out v.lane) (record {
+        received = v.lane.received;
+        entries = w.entries;
+      })) w
       journal_full w)
-      (get_set_here (map consumed_all hs) venue (consumed_all h) v (get_map consumed_all hs venue h there))
+      (get_set_here (map consumed_all hs) venue (consumed_all h) v
+      (get_map consumed_all hs venue h there))
       (subst (λ (b : Bool). Applies (with_intake w venue v)
       (if b then Refused journal_full else journal_item venue (next_out v.lane)
-      (record { received = v.lane.received; entries = w.entries })) w journal_full w) (sym no) (refl, refl))
+      (record { received = v.lane.received; entries = w.entries })) w journal_full w) (sym no)
+      (refl, refl))
 
-  items_more : (new : History) (had : List Numbered) (x : Numbered) (F : List Entry) (first : List ReplayEvent)
-      → ((place : ℕ) → items_taken place first ≡ items_taken place (map (item_taken venue) had)) → AreTold emitted hs
+  items_more : (new : History) (had : List Numbered) (x : Numbered) (F : List Entry)
+      (first : List ReplayEvent)
+      → ((place : ℕ) → items_taken place first ≡ items_taken place (map (item_taken venue) had))
+      → AreTold emitted hs
       → (place : ℕ) (v : Venue)
-      → slice_get (slice_set (map consumed_all hs) venue (venue_more new (streams_of h ++ had) x)) place ≡ Some v
+      → slice_get (slice_set (map consumed_all hs) venue (venue_more new (streams_of h ++ had) x))
+      place ≡ Some v
       → items_taken place (emitted ++ first) ≡ v.lane.received
   items_more new had x F first taken before place v at_place =
       let u : Venue = venue_more new (streams_of h ++ had) x in
-      let split : items_taken place (emitted ++ first) ≡ items_taken place emitted ++ items_taken place
+      let split : items_taken place (emitted ++ first) ≡ items_taken place emitted
+      ++ items_taken place
       (map (item_taken venue) had) = flat_map-append (taken_by place) emitted first
       ∙ ap (λ (xs : List Numbered). items_taken place emitted ++ xs) (taken place) in
       elim (same_or_not place venue) [
         | inl here ↦ rw (here)
             (let is : v ≡ u =
             get_set_same (map consumed_all hs) venue u v
-            (subst (λ (n : ℕ). slice_get (slice_set (map consumed_all hs) venue u) n ≡ Some v) here at_place) in
-            subst (λ (n : ℕ). items_taken n (emitted ++ first) ≡ items_taken n emitted ++ items_taken n
+            (subst (λ (n : ℕ). slice_get (slice_set (map consumed_all hs) venue u) n ≡ Some v) here
+            at_place) in
+            subst (λ (n : ℕ). items_taken n (emitted ++ first) ≡ items_taken n emitted
+            ++ items_taken n
             (map (item_taken venue) had)) here split
-            ∙ ap (λ (xs : List Numbered). xs ++ items_taken venue (map (item_taken venue) had)) (before venue h there)
+            ∙ ap (λ (xs : List Numbered). xs ++ items_taken venue (map (item_taken venue) had))
+            (before venue h there)
             ∙ ap (λ (xs : List Numbered). streams_of h ++ xs) (items_same venue had)
             ∙ sym (ap (λ (x : Venue). x.lane.received) is))
         | inr away ↦
@@ -207,23 +238,31 @@ module _ (s : Setting) (gaps : Bool) (lane : 1 ≤ s.lane) (hs : List History) (
 
   -- the record's event leaves the venue so, and then one of the items that it made ready finds no
   -- room; what is emitted of the event itself adds no entry
-  ready_stops : (r : CaptureRecord) (e : Event) (d : Done) (x : ReplayEvent) (ready : List Numbered) (some : Bool)
+  ready_stops : (r : CaptureRecord) (e : Event) (d : Done) (x : ReplayEvent)
+      (ready : List Numbered) (some : Bool)
       (first others : List ReplayEvent) (next : ReplayEvent) (new : History)
-      → IsStep s (world_of hs E) e d (at (map consumed_all hs) venue (venue_at new (streams_of h)) E)
+      → IsStep s (world_of hs E) e d (at (map consumed_all hs) venue (venue_at new (streams_of h))
+      E)
       → ((l : List Entry) → entries_after l x ≡ l) → ((l : List Entry) → outcomes_by l x ≡ d ∷ [])
       → ((place : ℕ) → taken_by place x ≡ [])
       → ((n : ℕ) → StopsAt r (e ∷ drains venue n ++ Push venue ∷ []) (Consume venue))
-      → x ∷ map (item_taken venue) ready ++ gap_emitted s.window some venue new ≡ first ++ next ∷ others
+      → x ∷ map (item_taken venue) ready ++ gap_emitted s.window some venue new ≡ first ++ next
+      ∷ others
       → streams_of new ≡ streams_of h ++ ready
-      → length (entries_of E first) ≤ s.journal → s.journal < length (entries_after (entries_of E first) next)
+      → length (entries_of E first) ≤ s.journal
+      → s.journal < length (entries_after (entries_of E first) next)
       → LastRan s r hs E emitted first
-  ready_stops r e d x ready some first others next new step quiet told none_taken stops tells behind room short =
+  ready_stops r e d x ready some first others next new step quiet told none_taken stops
+      tells behind room short =
       let F : List Entry = entries_of E first in
-      let p = past F x (map (item_taken venue) ready ++ gap_emitted s.window some venue new) first others next tells
+      let p = past F x (map (item_taken venue) ready ++ gap_emitted s.window some venue new)
+      first others next tells
       (quiet F) (omega arith) in
-      let i = in_items s.window some venue new F ready p.rest others next p.rest_are (omega arith) in
+      let i = in_items s.window some venue new F ready p.rest others next p.rest_are (omega arith)
+      in
       let taken : List ReplayEvent = map (item_taken venue) i.had in
-      let first_is : first ≡ x ∷ taken = p.first_is ∙ ap (λ (xs : List ReplayEvent). x ∷ xs) i.first_are in
+      let first_is : first ≡ x ∷ taken = p.first_is
+      ∙ ap (λ (xs : List ReplayEvent). x ∷ xs) i.first_are in
       let after : F ≡ entries_of E taken =
       ap (entries_of E) first_is ∙ ap (λ (l : List Entry). entries_of l taken) (quiet E) in
       let outcomes : outcomes_of E first ≡ d ∷ outcomes_of E taken =
@@ -237,10 +276,12 @@ module _ (s : Setting) (gaps : Bool) (lane : 1 ≤ s.lane) (hs : List History) (
       let drained : World =
       at (map consumed_all hs) venue (venue_at new (streams_of h ++ i.had)) (entries_of E taken) in
       let full : World =
-      at (map consumed_all hs) venue (venue_more new (streams_of h ++ i.had) i.item) (entries_of E taken) in
+      at (map consumed_all hs) venue (venue_more new (streams_of h ++ i.had) i.item)
+      (entries_of E taken) in
       let there_is = get_map consumed_all hs venue h there in
       let same_len : length F ≡ length (entries_of E taken) = ap length after in
-      let fits : length E + length i.had ≤ s.journal = (let n = items_len venue i.had E in omega arith) in
+      let fits : length E + length i.had ≤ s.journal =
+      (let n = items_len venue i.had E in omega arith) in
       let no_room : s.journal ≤ length (entries_of E taken) =
       (let n : length (entries_after F next) ≡ length (F ++ entry.Consumed venue i.item ∷ []) =
       ap (λ (x : ReplayEvent). length (entries_after F x)) i.next_is in let m =
@@ -249,9 +290,11 @@ module _ (s : Setting) (gaps : Bool) (lane : 1 ≤ s.lane) (hs : List History) (
       ((d ∷ outcomes_of E taken) ++ outcome.Pushed i.item.number ∷ []) full = (
         mid,
         step,
-        run_more s mid drained full (drains venue (length i.had)) (Push venue ∷ []) (outcomes_of E taken)
+        run_more s mid drained full (drains venue (length i.had)) (Push venue
+            ∷ []) (outcomes_of E taken)
             (outcome.Pushed i.item.number ∷ [])
-            (drain s lane (map consumed_all hs) venue (consumed_all h) there_is new i.had (streams_of h)
+            (drain s lane (map consumed_all hs) venue (consumed_all h) there_is
+            new i.had (streams_of h)
             (i.item ∷ i.rest) E all fits) (
               full,
               push_step s lane (map consumed_all hs) venue (consumed_all h) there_is new
@@ -276,20 +319,27 @@ module _ (s : Setting) (gaps : Bool) (lane : 1 ≤ s.lane) (hs : List History) (
         next = refused_next new (streams_of h ++ i.had) i.item (entries_of E taken) no_room;
       }
 
-  packet_stops : (line : LineId) (bytes : List ℕ) (first others : List ReplayEvent) (next : ReplayEvent) (new : History)
+  packet_stops : (line : LineId) (bytes : List ℕ) (first others : List ReplayEvent)
+      (next : ReplayEvent) (new : History)
       → EmitsPacket s.window gaps venue line bytes h (first ++ next ∷ others) new
-      → length (entries_of E first) ≤ s.journal → s.journal < length (entries_after (entries_of E first) next)
+      → length (entries_of E first) ≤ s.journal
+      → s.journal < length (entries_after (entries_of E first) next)
       → LastRan s (datagram_record venue line bytes) hs E emitted first
   packet_stops line bytes first others next new t room short =
-      ready_stops (datagram_record venue line bytes) (Packet venue line (slice_of bytes)) (parts.packet_done t.answer)
-      (packet_answered venue line t.packet.number (length t.packet.messages) t.answer) (drop (stream_length h) (stream_of new.present.packets)) gaps first others
-      next new (packet_begins s gaps lane hs E venue h there kept line bytes (first ++ next ∷ others) new t)
+      ready_stops (datagram_record venue line bytes) (Packet venue line (slice_of bytes))
+      (parts.packet_done t.answer)
+      (packet_answered venue line t.packet.number (length t.packet.messages) t.answer)
+      (drop (stream_length h) (stream_of new.present.packets)) gaps first others
+      next new (packet_begins s gaps lane hs E venue h there kept line bytes (first
+      ++ next ∷ others) new t)
       (λ l. refl) (λ l. refl) (λ place. refl) (λ n. (n, refl, refl)) (sym t.emitted_is)
-      (ready_behind s gaps lane hs E venue h there kept line bytes (first ++ next ∷ others) new t) room short
+      (ready_behind s gaps lane hs E venue h there kept line bytes (first ++ next ∷ others) new t)
+      room short
 
   skip_stops : (number : ℕ) (first others : List ReplayEvent) (next : ReplayEvent) (new : History)
       → EmitsSkip venue number h (first ++ next ∷ others) new
-      → length (entries_of E first) ≤ s.journal → s.journal < length (entries_after (entries_of E first) next)
+      → length (entries_of E first) ≤ s.journal
+      → s.journal < length (entries_after (entries_of E first) next)
       → LastRan s (skip_record venue number) hs E emitted first
   skip_stops number first others next new t room short =
       let ready : List Numbered = drop (stream_length h) (stream_of new.present.packets) in
@@ -299,14 +349,18 @@ module _ (s : Setting) (gaps : Bool) (lane : 1 ≤ s.lane) (hs : List History) (
       (λ l. refl) (λ l. refl) (λ place. refl) (λ n. (n, refl, refl))
       (ap (λ (xs : List ReplayEvent). skip_answered venue number t.answer ∷ xs)
       (append-nil (map (item_taken venue) ready)) ∙ sym t.emitted_is)
-      (skip_behind s gaps lane hs E venue h there kept number (first ++ next ∷ others) new t) room short
+      (skip_behind s gaps lane hs E venue h there kept number (first ++ next ∷ others) new t) room
+      short
 
-  fault_stops : (line : LineId) (bytes : List ℕ) (first others : List ReplayEvent) (next : ReplayEvent) (new : History)
+  fault_stops : (line : LineId) (bytes : List ℕ) (first others : List ReplayEvent)
+      (next : ReplayEvent) (new : History)
       → EmitsFault s.window gaps venue line bytes h (first ++ next ∷ others) new
-      → s.journal < length (entries_after (entries_of E first) next) → length (entries_of E first) ≤ s.journal → ⊥
+      → s.journal < length (entries_after (entries_of E first) next)
+      → length (entries_of E first) ≤ s.journal → ⊥
   fault_stops line bytes first others next new t short room =
       let F : List Entry = entries_of E first in
-      let p = past F (packet_refused venue line t.fault) (gap_emitted s.window gaps venue new) first others next
+      let p = past F (packet_refused venue line t.fault) (gap_emitted s.window gaps venue new) first
+      others next
       (sym t.emitted_is) refl (omega arith) in
       in_gap s.window gaps venue new F p.rest others next p.rest_are (omega arith)
 
@@ -315,7 +369,8 @@ module _ (s : Setting) (gaps : Bool) (lane : 1 ≤ s.lane) (hs : List History) (
       → s.journal < length (if b then E else E ++ entry.SelfHelp venue on ∷ [])
       → Applies (λ (x : List Entry). world_of hs x)
       (if b then Refused already_so else
-      (if nat_le s.journal (length E) then Refused journal_full else Changes (outcome.Declared (length E + 1))
+      (if nat_le s.journal (length E) then Refused journal_full else Changes
+      (outcome.Declared (length E + 1))
       (E ++ entry.SelfHelp venue on ∷ []))) (world_of hs E) journal_full (world_of hs E)
   declared_full on true e room short = absurd (omega arith)
   declared_full on false e room short =
@@ -323,18 +378,23 @@ module _ (s : Setting) (gaps : Bool) (lane : 1 ≤ s.lane) (hs : List History) (
       let no : nat_le s.journal (length E) ≡ true = le-leb s.journal (length E) (omega arith) in
       subst (λ (b : Bool). Applies (λ (x : List Entry). world_of hs x)
       (if b then Refused journal_full else Changes (outcome.Declared (length E + 1))
-      (E ++ entry.SelfHelp venue on ∷ [])) (world_of hs E) journal_full (world_of hs E)) (sym no) (refl, refl)
+      (E ++ entry.SelfHelp venue on ∷ [])) (world_of hs E) journal_full (world_of hs E)) (sym no)
+      (refl, refl)
 
   self_help_stops : (on : Bool) (first others : List ReplayEvent) (next : ReplayEvent)
-      → first ++ next ∷ others ≡ self_help_declared venue on ∷ [] → length (entries_of E first) ≤ s.journal
+      → first ++ next ∷ others ≡ self_help_declared venue on ∷ []
+      → length (entries_of E first) ≤ s.journal
       → s.journal < length (entries_after (entries_of E first) next)
       → LastRan s (self_help_record venue on) hs E emitted first
   self_help_stops on (y ∷ first) others next e room short =
-      absurd (none_is first next others (sym (tail_is y (self_help_declared venue on) (first ++ next ∷ others) [] e)))
+      absurd (none_is first next others
+      (sym (tail_is y (self_help_declared venue on) (first ++ next ∷ others) [] e)))
   self_help_stops on [] others next e room short =
       let w : World = world_of hs E in
-      let is : next ≡ self_help_declared venue on = head_is next (self_help_declared venue on) others [] e in
-      let over : s.journal < length (if is_so E venue on then E else E ++ entry.SelfHelp venue on ∷ []) =
+      let is : next ≡ self_help_declared venue on =
+      head_is next (self_help_declared venue on) others [] e in
+      let over : s.journal < length (if is_so E venue on then E else E
+      ++ entry.SelfHelp venue on ∷ []) =
       subst (λ (x : ReplayEvent). s.journal < length (entries_after E x)) is short in
       record {
         events = [];
@@ -345,44 +405,58 @@ module _ (s : Setting) (gaps : Bool) (lane : 1 ≤ s.lane) (hs : List History) (
         run = refl;
         entries_are = refl;
         items = λ before place v at_place.
-            (let old = get_map_back consumed_all hs place v at_place in ap (items_taken place) (append-nil emitted)
+            (let old = get_map_back consumed_all hs place v at_place
+            in ap (items_taken place) (append-nil emitted)
             ∙ before place old.0 old.1 ∙ sym (ap (λ (x : Venue). x.lane.received) old.2));
         next = at_venue w venue (consumed_all h) journal_full w
             (λ v. Applies (λ (x : List Entry). record w { entries = x })
-            (declare_help s.journal venue on E) w journal_full w) (get_map consumed_all hs venue h there)
+            (declare_help s.journal venue on E) w journal_full w)
+            (get_map consumed_all hs venue h there)
             (declared_full on (is_so E venue on) refl room over);
       }
 
 last_ran : (s : Setting) (gaps : Bool) → 1 ≤ s.lane
-    → (hs after : List History) (E : List Entry) (r : CaptureRecord) (emitted first others : List ReplayEvent)
-    (next : ReplayEvent) → Each s.window hs → EmitsRecord s.window gaps r hs (first ++ next ∷ others) after
-    → length (entries_of E first) ≤ s.journal → s.journal < length (entries_after (entries_of E first) next)
+    → (hs after : List History) (E : List Entry) (r : CaptureRecord)
+    (emitted first others : List ReplayEvent)
+    (next : ReplayEvent) → Each s.window hs
+    → EmitsRecord s.window gaps r hs (first ++ next ∷ others) after
+    → length (entries_of E first) ≤ s.journal
+    → s.journal < length (entries_after (entries_of E first) next)
     → LastRan s r hs E emitted first
 last_ran s gaps lane hs after E r emitted first others next each t room short =
     by r t.at (each (record_venue r) t.before t.at) t.emits
   where
-    by : (r : CaptureRecord) → slice_get hs (record_venue r) ≡ Some t.before → IsAnsweredThroughout s.window t.before
-        → EmitsAt s.window gaps r t.before (first ++ next ∷ others) t.after → LastRan s r hs E emitted first
+    by : (r : CaptureRecord) → slice_get hs (record_venue r) ≡ Some t.before
+        → IsAnsweredThroughout s.window t.before
+        → EmitsAt s.window gaps r t.before (first ++ next ∷ others) t.after
+        → LastRan s r hs E emitted first
     by (datagram_record venue line bytes) at kept x = elim x [
       | inl f ↦
-          absurd (fault_stops s gaps lane hs E emitted venue t.before at kept line bytes first others next t.after f
+          absurd (fault_stops s gaps lane hs E emitted venue t.before at kept line bytes
+          first others next t.after f
           short room)
       | inr p ↦
-          packet_stops s gaps lane hs E emitted venue t.before at kept line bytes first others next t.after p room short
+          packet_stops s gaps lane hs E emitted venue t.before at kept line bytes first others
+          next t.after p room short
     ]
     by (renewal_record venue name) at kept x =
-        let p = past (entries_of E first) (renewal_answered venue x.answer) [] first others next (sym x.emitted_is) refl
+        let p = past (entries_of E first) (renewal_answered venue x.answer) [] first others next
+        (sym x.emitted_is) refl
         (omega arith) in
         absurd (none_is p.rest next others p.rest_are)
     by (skip_record venue number) at kept x =
-        skip_stops s gaps lane hs E emitted venue t.before at kept number first others next t.after x room short
+        skip_stops s gaps lane hs E emitted venue t.before at kept number first others
+        next t.after x room short
     by (self_help_record venue on) at kept x =
-        self_help_stops s gaps lane hs E emitted venue t.before at kept on first others next x.emitted_is room short
+        self_help_stops s gaps lane hs E emitted venue t.before at kept on first others next
+        x.emitted_is room short
 
 -- ---- from the first record on
 
-stops_only : (place : ℕ) (session : Session) (r : CaptureRecord) (events : List Event) (refused : Event)
-    → StopsAt r events refused → BringsOnly place session (event_of r) → BringOnly place events session
+stops_only : (place : ℕ) (session : Session) (r : CaptureRecord)
+    (events : List Event) (refused : Event)
+    → StopsAt r events refused → BringsOnly place session (event_of r)
+    → BringOnly place events session
 stops_only place session (datagram_record venue line bytes) events refused x may =
     subst (λ (es : List Event). BringOnly place es session) (sym x.1) (
       may,
@@ -403,11 +477,14 @@ only_front : (place : ℕ) (session : Session) (rs : List CaptureRecord) (r : Ca
     → BringOnly place (map event_of (rs ++ r ∷ [])) session
     → BringOnly place (map event_of rs) session × BringsOnly place session (event_of r)
 only_front place session [] r all = (tt, all.0)
-only_front place session (x ∷ rs) r all = (let f = only_front place session rs r all.1 in ((all.0, f.0), f.1))
+only_front place session (x ∷ rs) r all = (let f = only_front place session rs r all.1
+    in ((all.0, f.0), f.1))
 
-pub full_run : (config : ReplayConfig) (lane : ℕ) (filters : List Terms) (records : List TimedRecord)
+pub full_run : (config : ReplayConfig) (lane : ℕ) (filters : List Terms)
+    (records : List TimedRecord)
     (told : List TimedEvent) → 1 ≤ lane → (x : IsToldToFull config records told)
-    → IsRunToFull (replay_setting config lane filters) (map what_of x.taken) x.last.what (x.emitted ++ x.first)
+    → IsRunToFull (replay_setting config lane filters) (map what_of x.taken)
+    x.last.what (x.emitted ++ x.first)
 full_run config lane filters records told some x =
     let earlier : List CaptureRecord = map what_of x.taken in
     let last : CaptureRecord = x.last.what in
@@ -416,9 +493,11 @@ full_run config lane filters records told some x =
     let E : List Entry = entries_of [] x.emitted in
     let F : List Entry = entries_of E x.first in
     let told_first : entries_of [] (x.emitted ++ x.first) ≡ F = entries_more [] x.emitted x.first in
-    let room : length F ≤ config.journal = subst (λ (l : List Entry). length l ≤ config.journal) told_first x.room in
+    let room : length F ≤ config.journal = subst (λ (l : List Entry). length l ≤ config.journal)
+    told_first x.room in
     let past_end : entries_of [] (x.emitted ++ x.first ++ x.next ∷ []) ≡ entries_after F x.next =
-    entries_more [] (x.emitted ++ x.first) (x.next ∷ []) ∙ ap (λ (l : List Entry). entries_after l x.next) told_first in
+    entries_more [] (x.emitted ++ x.first) (x.next ∷ [])
+    ∙ ap (λ (l : List Entry). entries_after l x.next) told_first in
     let short : config.journal < length (entries_after F x.next) =
     subst (λ (l : List Entry). config.journal < length l) past_end x.full in
     let before_fits : length E ≤ config.journal = (let g = entries_grow E x.first in omega arith) in
@@ -427,7 +506,8 @@ full_run config lane filters records told some x =
     (new_each config) x.emits before_fits in
     let run : IsRun s (new_world s) ran.0 (outcomes_of [] x.emitted) (world_of hs E) =
     subst (λ (w : World). IsRun s w ran.0 (outcomes_of [] x.emitted) (world_of hs E))
-    (with_venues [] (map consumed_all (map new_history config.sessions.now)) (map new_venue config.sessions.now)
+    (with_venues [] (map consumed_all (map new_history config.sessions.now))
+    (map new_venue config.sessions.now)
     (begins config.sessions.now)) ran.2 in
     let l : LastRan s last hs E x.emitted x.first =
     last_ran s config.gaps some hs x.after E last x.emitted x.first x.others x.next
@@ -436,7 +516,8 @@ full_run config lane filters records told some x =
     (x.emitted ++ x.first) ++ l.pushed =
     sym (append_assoc (outcomes_of [] x.emitted) (outcomes_of E x.first) l.pushed)
     ∙ ap (λ (ds : List Done). ds ++ l.pushed) (sym (outcomes_more [] x.emitted x.first)) in
-    let all : IsRun s (new_world s) (ran.0 ++ l.events) (outcomes_of [] (x.emitted ++ x.first) ++ l.pushed) l.full =
+    let all : IsRun s (new_world s) (ran.0 ++ l.events) (outcomes_of [] (x.emitted ++ x.first)
+    ++ l.pushed) l.full =
     subst (λ (ds : List Done). IsRun s (new_world s) (ran.0 ++ l.events) ds l.full) whole
     (run_more s (new_world s) (world_of hs E) l.full ran.0 l.events (outcomes_of [] x.emitted)
     (outcomes_of E x.first ++ l.pushed) run l.run) in
@@ -447,14 +528,17 @@ full_run config lane filters records told some x =
       refused = l.refused;
       stops = l.stops;
       only = λ place session may. (let f = only_front place session earlier last may in
-          all_more (BringsOnly place session) ran.0 l.events (events_only place session earlier ran.0 ran.1 f.0)
+          all_more (BringsOnly place session) ran.0 l.events (events_only place session
+          earlier ran.0 ran.1 f.0)
           (stops_only place session last l.events l.refused l.stops f.1));
       pushed = l.pushed;
       full = l.full;
       run = all;
       entries = l.entries_are ∙ sym told_first;
-      items = l.items (λ place h there. taken_are_streams config earlier x.emitted hs x.emits place h there);
+      items = l.items (λ place h there. taken_are_streams config earlier x.emitted hs
+          x.emits place h there);
       notices = notices_all s.symbols [] (x.emitted ++ x.first);
-      headline = headline s (ran.0 ++ l.events) (outcomes_of [] (x.emitted ++ x.first) ++ l.pushed) l.full all;
+      headline = headline s (ran.0 ++ l.events) (outcomes_of [] (x.emitted ++ x.first)
+          ++ l.pushed) l.full all;
       next = l.next;
     }

@@ -17,21 +17,25 @@ pub told_of_run : (config : ReplayConfig) (records : List TimedRecord) (told : L
     → IsToldOf config records told → IsToldOfRun config records told
 told_of_run config records told x = record {
   is = x;
-  run = λ lane filters some. replay_run config lane filters (map what_of x.taken) x.emitted x.histories some x.emits x.room;
+  run = λ lane filters some. replay_run config lane filters (map what_of x.taken) x.emitted
+      x.histories some x.emits x.room;
 }
 
-pub told_of_whole_run : (config : ReplayConfig) (records : List TimedRecord) (told : List TimedEvent)
+pub told_of_whole_run : (config : ReplayConfig) (records : List TimedRecord)
+    (told : List TimedEvent)
     → IsToldOfAll config records told → IsToldOfWholeRun config records told
 told_of_whole_run config records told x = record {
   is = x;
-  run = λ lane filters some. replay_run config lane filters (map what_of x.taken) x.emitted x.histories some x.emits x.room;
+  run = λ lane filters some. replay_run config lane filters (map what_of x.taken) x.emitted
+      x.histories some x.emits x.room;
 }
 
 pub told_of_part_run : (config : ReplayConfig) (records : List TimedRecord) (told : List TimedEvent)
     → IsToldSome config records told → IsToldOfPartRun config records told
 told_of_part_run config records told x = record {
   is = x;
-  run = λ lane filters some. replay_run config lane filters (map what_of x.taken) x.emitted x.histories some x.emits x.room;
+  run = λ lane filters some. replay_run config lane filters (map what_of x.taken) x.emitted
+      x.histories some x.emits x.room;
 }
 
 pub told_to_full : (config : ReplayConfig) (records : List TimedRecord) (told : List TimedEvent)
@@ -43,12 +47,17 @@ told_to_full config records told x =
 
 -- all that meets one definition meets the other, too
 record Implies (one other : ToldFacts) : Type 0 where
-  records : (rs : List TimedRecord) (told : List TimedEvent) → one.OfRecords rs told → other.OfRecords rs told
-  capture : (rs : List TimedRecord) (told : List TimedEvent) → one.OfCapture rs told → other.OfCapture rs told
-  full : (rs : List TimedRecord) (told : List TimedEvent) → one.ToFull rs told → other.ToFull rs told
-  some : (rs : List TimedRecord) (told : List TimedEvent) → one.OfSome rs told → other.OfSome rs told
+  records : (rs : List TimedRecord) (told : List TimedEvent) → one.OfRecords rs told
+      → other.OfRecords rs told
+  capture : (rs : List TimedRecord) (told : List TimedEvent) → one.OfCapture rs told
+      → other.OfCapture rs told
+  full : (rs : List TimedRecord) (told : List TimedEvent)
+      → one.ToFull rs told → other.ToFull rs told
+  some : (rs : List TimedRecord) (told : List TimedEvent)
+      → one.OfSome rs told → other.OfSome rs told
 
-part_more : {one other : ToldFacts} → Implies one other → (rs : List TimedRecord) (told : List TimedEvent)
+part_more : {one other : ToldFacts} → Implies one other
+    → (rs : List TimedRecord) (told : List TimedEvent)
     → IsToldPart one rs told → IsToldPart other rs told
 part_more more rs told x = elim x [
   | inl some ↦ inl (more.some rs told some)
@@ -58,9 +67,11 @@ part_more more rs told x = elim x [
   ]
 ]
 
-module _ {R S F K : Type 0} (reading : Reading R) (parsing : Parsing S F) (taking : SinkTaking K) (is_shown : K → Type 0)
+module _ {R S F K : Type 0} (reading : Reading R) (parsing : Parsing S F) (taking : SinkTaking K)
+    (is_shown : K → Type 0)
     (config : ReplayConfig) (from to : R) (start finish : S) (before after : K) where
-  told_more : {IsLeft : List ℕ → Type 0} {CameTo : ℕ → R → Type 0} {One Other : List TimedRecord → List TimedEvent → Type 0}
+  told_more : {IsLeft : List ℕ → Type 0} {CameTo : ℕ → R → Type 0} {One Other : List TimedRecord
+      → List TimedEvent → Type 0}
       {Took : List TimedEvent → Type 0} {venues : ℕ}
       → ((rs : List TimedRecord) (told : List TimedEvent) → One rs told → Other rs told)
       → ReadAndTold reading parsing venues from start finish IsLeft CameTo One Took
@@ -78,9 +89,12 @@ module _ {R S F K : Type 0} (reading : Reading R) (parsing : Parsing S F) (takin
     took = x.took;
   }
 
-  by_more : (one other : ToldFacts) → Implies one other → (answer : Result (Unit {0}) (ReplayStop F))
-      → AnswersRun reading parsing taking is_shown config one from to start finish before after answer
-      → AnswersRun reading parsing taking is_shown config other from to start finish before after answer
+  by_more : (one other : ToldFacts) → Implies one other
+      → (answer : Result (Unit {0}) (ReplayStop F))
+      → AnswersRun reading parsing taking is_shown config one from to start
+      finish before after answer
+      → AnswersRun reading parsing taking is_shown config other from to start
+      finish before after answer
   by_more one other more (Ok done) x = told_more more.capture x
   by_more one other more (Err (Bad fault)) x = told_more more.records x
   by_more one other more (Err Short) x = told_more more.records x
@@ -91,8 +105,10 @@ module _ {R S F K : Type 0} (reading : Reading R) (parsing : Parsing S F) (takin
   by_more one other more (Err NoMemory) x = x
 
   pub replays_run : (answer : Result (Unit {0}) (ReplayStop F))
-      → AnswersRun reading parsing taking is_shown config (told_facts config) from to start finish before after answer
-      → AnswersRun reading parsing taking is_shown config (facts_of_run config) from to start finish before after answer
+      → AnswersRun reading parsing taking is_shown config (told_facts config) from to start
+      finish before after answer
+      → AnswersRun reading parsing taking is_shown config (facts_of_run config) from to start
+      finish before after answer
   replays_run answer x =
       by_more (told_facts config) (facts_of_run config)
       (record {

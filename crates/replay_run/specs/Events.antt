@@ -94,7 +94,8 @@ world_of histories entries = record {
 
 -- What these records emit is a run of the machine: over the records as events, with the outcomes
 -- that were emitted, to the world of these histories and of what was journaled; and the headline
--- holds of it. The items that were emitted of a venue are the venue's, where the premise on sessions
+-- holds of it. The items that were emitted of a venue are the venue's, where the premise on
+-- sessions
 -- is one on the records alone, and they are the journal's of the venue. The notices that were
 -- emitted, in order, are the changes of the national best: a filter would let those through that
 -- meet its terms.

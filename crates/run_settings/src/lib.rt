@@ -3,9 +3,9 @@
 //! which best lines and statistics are printed.
 //!
 //! Contract: each value that a setting can have is in its range, by the invariants of the types:
-//! 1 to 16 sessions, each symbol once, two lines for each venue, the lines of a packet capture those
-//! of the feed's venues. [`lines_at`] makes the lines of a list of addresses, and [`are_apart`]
-//! says whether no two are of one address and port (`specs/Lists.antt`).
+//! 1 to 16 sessions, each symbol once, two lines for each venue, the lines of a packet capture
+//! those of the feed's venues. [`lines_at`] makes the lines of a list of addresses, and
+//! [`are_apart`] says whether no two are of one address and port (`specs/Lists.antt`).
 //!
 //! `command_words` reads settings from words, and the runs take them: neither waits for the other.
 //!

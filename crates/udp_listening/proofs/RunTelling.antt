@@ -17,7 +17,8 @@ use Rattle.udp_listening.proofs.Telling.{at_one, each_of_more, each_of_one, more
 
 -- ---- gaps that were given up
 
-pub none_given_up : {E : Type 0} (w : Writing E) (venues : List ℕ) (s : E) → SaysGivenUp w venues s s
+pub none_given_up : {E : Type 0} (w : Writing E) (venues : List ℕ) (s : E)
+    → SaysGivenUp w venues s s
 none_given_up w venues s =
     record { gaps = []; named = λ k d inside. absurd (omega (arith, inside)); says = refl }
 
@@ -49,13 +50,15 @@ given_up_within w venues venue s t there a = record {
 
 -- what was said where it was answered that the messages are given up
 said_if : {E : Type 0} (w : Writing E) (news : GapNews) (done : Bool) (s t : E)
-    → SaysEach w (if done then given_up_texts news else []) s t → SaysGivenUp w (news.venue ∷ []) s t
+    → SaysEach w (if done then given_up_texts news else []) s t
+    → SaysGivenUp w (news.venue ∷ []) s t
 said_if w news false s t said =
     subst (λ last. SaysGivenUp w (news.venue ∷ []) s last) (sym said)
     (none_given_up w (news.venue ∷ []) s)
 said_if w news true s t said = one_given_up w news s t said
 
-pub said_of_answer : {E : Type 0} (w : Writing E) (answers : Bool → Type 0) (news : GapNews) (s t : E)
+pub said_of_answer : {E : Type 0} (w : Writing E) (answers : Bool → Type 0)
+    (news : GapNews) (s t : E)
     → TellsIfDone w answers news s t → SaysGivenUp w (news.venue ∷ []) s t
 said_of_answer w answers news s t told = said_if w news told.done s t told.tells
 
@@ -94,7 +97,8 @@ run_news_of_lines w run s t a = record {
   news = map of_line a.news;
   named = all_made (λ n. IsNewsOf run n) of_line a.news a.named;
   says =
-      subst (λ texts. SaysEach w texts s t) (sym (texts_of_made run_news_texts of_line a.news)) a.says;
+      subst (λ texts. SaysEach w texts s t) (sym (texts_of_made run_news_texts of_line a.news))
+      a.says;
 }
 
 -- and so are gaps that were given up
@@ -104,7 +108,8 @@ run_news_of_gaps w run s t a = record {
   news = map of_gap a.gaps;
   named = all_made (λ n. IsNewsOf run n) of_gap a.gaps a.named;
   says =
-      subst (λ texts. SaysEach w texts s t) (sym (texts_of_made run_news_texts of_gap a.gaps)) a.says;
+      subst (λ texts. SaysEach w texts s t) (sym (texts_of_made run_news_texts of_gap a.gaps))
+      a.says;
 }
 
 -- nothing was said of a run

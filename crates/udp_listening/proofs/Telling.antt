@@ -22,7 +22,8 @@ each_of_one w f x s t said =
     subst (λ (texts : List (List ℕ)). SaysEach w texts s t) (sym (append-nil (f x))) said
 
 -- the texts of things after those of others
-pub each_of_more : {E X : Type 0} (w : Writing E) (f : X → List (List ℕ)) (xs ys : List X) (s t u : E)
+pub each_of_more : {E X : Type 0} (w : Writing E) (f : X → List (List ℕ))
+    (xs ys : List X) (s t u : E)
     → SaysEach w (flat_map f xs) s t → SaysEach w (flat_map f ys) t u
     → SaysEach w (flat_map f (xs ++ ys)) s u
 each_of_more w f xs ys s t u a b =
@@ -30,7 +31,8 @@ each_of_more w f xs ys s t u a b =
     (says_each w (flat_map f xs) (flat_map f ys) s t u a b)
 
 -- what is so of one thing is so at each place of a list of one
-pub at_one : {X : Type 0} (P : X → Type 0) (x : X) → P x → (k : ℕ) (d : X) → k < 1 → P (get_or (x ∷ []) k d)
+pub at_one : {X : Type 0} (P : X → Type 0) (x : X) → P x → (k : ℕ) (d : X) → k < 1
+    → P (get_or (x ∷ []) k d)
 at_one P x holds zero d inside = holds
 at_one P x holds (suc k) d inside = absurd (omega (arith, inside))
 
@@ -40,8 +42,14 @@ pub within_one : {X : Type 0} (xs : List X) (x y : X) → Contains xs x → (k :
 within_one xs x y there zero inside same = subst (λ z. Contains xs z) same there
 within_one xs x y there (suc k) inside same = absurd (omega (arith, inside))
 
-pub no_news : {E : Type 0} (w : Writing E) (lines : List (ℕ × LineId)) (s : E) → SaysNews w lines s s
-no_news w lines s = record { news = []; named = λ k d inside. absurd (omega (arith, inside)); says = refl }
+pub no_news : {E : Type 0} (w : Writing E) (lines : List (ℕ × LineId)) (s : E)
+    → SaysNews w lines s s
+no_news w lines s = record {
+  news = [];
+  named = λ k d inside. absurd (omega (arith, inside));
+  says =
+      refl;
+}
 
 pub one_news : {E : Type 0} (w : Writing E) (news : LineNews) (s t : E)
     → SaysEach w (news_texts news) s t → SaysNews w ((news.venue, news.line) ∷ []) s t
@@ -62,7 +70,8 @@ more_news w lines s t u a b = record {
 }
 
 -- news of a line is news of the lines among which it is
-pub news_within : {E : Type 0} (w : Writing E) (lines : List (ℕ × LineId)) (line : ℕ × LineId) (s t : E)
+pub news_within : {E : Type 0} (w : Writing E) (lines : List (ℕ × LineId))
+    (line : ℕ × LineId) (s t : E)
     → Contains lines line → SaysNews w (line ∷ []) s t → SaysNews w lines s t
 news_within w lines line s t there a = record {
   news = a.news;
@@ -92,26 +101,43 @@ none_counted : (lines : List (ℕ × LineId)) → flat_map totals_of (uncounted 
 none_counted [] = refl
 none_counted (line ∷ lines) = none_counted lines
 
-pub no_totals : {E : Type 0} (w : Writing E) (lines : List (ℕ × LineId)) (s : E) → SaysTotals w lines s s
+pub no_totals : {E : Type 0} (w : Writing E) (lines : List (ℕ × LineId)) (s : E)
+    → SaysTotals w lines s s
 no_totals w lines s = record {
   counts = uncounted lines;
   one_each = each_uncounted lines;
-  says = subst (λ totals. SaysEach w (flat_map total_texts totals) s s) (sym (none_counted lines)) refl;
+  says = subst (λ totals. SaysEach w (flat_map total_texts totals) s s)
+      (sym (none_counted lines)) refl;
 }
 
 -- the total of a count that isn't 0
-pub one_total : {E : Type 0} (w : Writing E) (line : ℕ × LineId) (counted : LineCounted) (count : ℕ) (s t : E)
+pub one_total : {E : Type 0} (w : Writing E) (line : ℕ × LineId) (counted : LineCounted) (count : ℕ)
+    (s t : E)
     → count ≢ 0
-    → SaysEach w (total_texts (record { venue = line.0; line = line.1; counted = counted; count = count })) s t
+    → SaysEach w (total_texts (record {
+      venue = line.0;
+      line = line.1;
+      counted =
+          counted;
+      count = count;
+    })) s t
     → SaysEach w (flat_map total_texts (total_if line counted count)) s t
 one_total w line counted count s t some said =
     let positive : (count == 0) ≡ false = grind (arith, nat_tests, some) in
-    let total : LineTotal = record { venue = line.0; line = line.1; counted = counted; count = count } in
-    subst (λ (none : Bool). SaysEach w (flat_map total_texts (if none then [] else total ∷ [])) s t) (sym positive)
+    let total : LineTotal = record {
+      venue = line.0;
+      line = line.1;
+      counted =
+          counted;
+      count = count;
+    } in
+    subst (λ (none : Bool). SaysEach w (flat_map total_texts (if none then [] else total ∷ [])) s t)
+    (sym positive)
     (each_of_one w total_texts total s t said)
 
 -- both totals of a line
-pub totals_of_line : {E : Type 0} (w : Writing E) (line : ℕ × LineId) (unsent passed : ℕ) (s t u : E)
+pub totals_of_line : {E : Type 0} (w : Writing E) (line : ℕ × LineId)
+    (unsent passed : ℕ) (s t u : E)
     → SaysEach w (flat_map total_texts (total_if line Unsent unsent)) s t
     → SaysEach w (flat_map total_texts (total_if line Passed passed)) t u
     → SaysTotals w (line ∷ []) s u
@@ -120,8 +146,10 @@ totals_of_line w line unsent passed s t u a b =
       counts = counts ∷ [];
       one_each = refl;
       says =
-          subst (λ totals. SaysEach w (flat_map total_texts totals) s u) (sym (append-nil (totals_of counts)))
-          (each_of_more w total_texts (total_if line Unsent unsent) (total_if line Passed passed) s t u a b);
+          subst (λ totals. SaysEach w (flat_map total_texts totals) s u)
+          (sym (append-nil (totals_of counts)))
+          (each_of_more w total_texts (total_if line Unsent unsent) (total_if line Passed passed) s
+          t u a b);
     }
 
 pub more_totals : {E : Type 0} (w : Writing E) (lines more : List (ℕ × LineId)) (s t u : E)
@@ -135,5 +163,6 @@ more_totals w lines more s t u a b = record {
   says =
       subst (λ totals. SaysEach w (flat_map total_texts totals) s u)
       (sym (flat_map-append totals_of a.counts b.counts))
-      (each_of_more w total_texts (flat_map totals_of a.counts) (flat_map totals_of b.counts) s t u a.says b.says);
+      (each_of_more w total_texts (flat_map totals_of a.counts) (flat_map totals_of b.counts) s t u
+      a.says b.says);
 }

@@ -23,7 +23,8 @@ more_watched watches pushed watch n m place push before one at more =
     let same : 0 + n ≡ n = omega arith in
     ap (λ w. map watched w) push ∙ map-append watched watches (watch ∷ [])
     ∙ ap (λ first. first ++ watched watch ∷ []) before
-    ∙ ap (λ last. map listened_line (range_with_len 0 n) ++ last ∷ []) (one ∙ ap (λ p. listened_line p) at)
+    ∙ ap (λ last. map listened_line (range_with_len 0 n) ++ last ∷ []) (one
+    ∙ ap (λ p. listened_line p) at)
     ∙ sym (map-range_with_len_more listened_line 0 n n same)
     ∙ ap (λ k. map listened_line (range_with_len 0 k)) (sym more)
 

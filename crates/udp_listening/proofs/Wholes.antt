@@ -23,7 +23,11 @@ pub part_of_front : {W : Type 0} (adds : W → List ℕ → W → Type 0) (first
 part_of_front adds first now xs ys written =
     let same : take (length xs) (xs ++ ys) ≡ xs
     = take-append-le (length xs) xs ys (omega arith) ∙ take_all (length xs) xs (omega arith) in
-    record { count = length xs; taken = subst (λ (t : List ℕ). adds first t now) (sym same) written }
+    record {
+      count = length xs;
+      taken = subst (λ (t : List ℕ). adds first t now) (sym same)
+          written;
+    }
 
 -- four texts
 regroup : (a b r e : List ℕ) → a ++ (((b ++ r) ++ []) ++ e) ≡ (((a ++ b) ++ r) ++ []) ++ e
@@ -49,10 +53,12 @@ whole_by printed (x ∷ xs) e =
 pub whole_text : (s : SettlementState)
     → log_lines (take (settled_forgotten s) (settled_log s)) ++ summary_text (λ x. x.forgotten) s
     ≡ summary_text (λ x. 0) s
-whole_text s = whole_by (λ x. x.forgotten) s.subscribers (end_lines s.journal.entries 0 (take 16 s.venues))
+whole_text s = whole_by (λ x. x.forgotten) s.subscribers
+    (end_lines s.journal.entries 0 (take 16 s.venues))
 
 all_of_log : (xs : List SubscriberEndState)
-    → take (first_count (λ x. length x.log) xs) (first_lines (λ x. x.log) xs) ≡ first_lines (λ x. x.log) xs
+    → take (first_count (λ x. length x.log) xs) (first_lines (λ x. x.log) xs) ≡ first_lines
+    (λ x. x.log) xs
 all_of_log [] = refl
 all_of_log (x ∷ xs) = take_all (length x.log) x.log (omega arith)
 
@@ -63,16 +69,19 @@ front_text s =
     let rest : List ℕ = summary_text (λ x. length x.log) s in (
       rest,
       ap (λ l. log_lines l ++ rest) (sym (all_of_log s.subscribers))
-          ∙ whole_by (λ x. length x.log) s.subscribers (end_lines s.journal.entries 0 (take 16 s.venues)),
+          ∙ whole_by (λ x. length x.log) s.subscribers
+          (end_lines s.journal.entries 0 (take 16 s.venues)),
     )
 
 abbrev pub More : {W : Type 0} → Writing W → Type 0
 More {W} writing =
-    (s t u : W) (xs ys : List ℕ) → writing.adds s xs t → writing.adds t ys u → writing.adds s (xs ++ ys) u
+    (s t u : W) (xs ys : List ℕ) → writing.adds s xs t → writing.adds t ys u
+    → writing.adds s (xs ++ ys) u
 
 all_of_rest : {W E : Type 0} (writing : Writing W) (telling : Writing E) → More writing
     → (report : ListenReport) (first mid after : W) (said told : E) (status : ℕ)
-    → HasPrinted writing first (settled_log report.settlement) (settled_forgotten report.settlement) mid
+    → HasPrinted writing first (settled_log report.settlement) (settled_forgotten report.settlement)
+    mid
     → PrintsRest writing telling report mid after said told status
     → PrintsWhole writing telling report first after said told status
 all_of_rest writing telling more report first mid after said told status h (inl r) =
@@ -102,7 +111,8 @@ all_of_rest writing telling more report first mid after said told status h (inr 
     let front : List ℕ = log_lines (take (settled_forgotten s) (settled_log s)) in
     inr (inr (
       subst (λ (t : List ℕ). Wrote writing.adds first t after) (whole_text s)
-          (part_after writing.adds more first mid after front (summary_text (λ x. x.forgotten) s) h.lines r.0),
+          (part_after writing.adds more first mid after front (summary_text (λ x. x.forgotten) s)
+          h.lines r.0),
       r.1 ∙ ap (λ n. n + 1) h.sound,
       r.2,
       r.3,
@@ -111,7 +121,8 @@ all_of_rest writing telling more report first mid after said told status h (inr 
 -- a report after lines that were printed
 of_printed : {W E : Type 0} (writing : Writing W) (telling : Writing E) → More writing
     → (report : ListenReport) (first mid after : W) (silent told : E) (status : ℕ)
-    → HasPrinted writing first (settled_log report.settlement) (settled_forgotten report.settlement) mid
+    → HasPrinted writing first (settled_log report.settlement) (settled_forgotten report.settlement)
+    mid
     → PrintsReport writing telling report mid after silent told status
     → PrintsAll writing telling report first after silent told status
 of_printed writing telling more report first mid after silent told status h r = record {
@@ -179,17 +190,21 @@ nothing_printed writing none log Off now working =
 nothing_printed writing none log Failed now working = absurd (working refl)
 
 -- what is left of a feed's one subscriber
-of_one : {X : Type 0} (shown : List SubscriberEndState → X) (value : X) (xs : List SubscriberEndState)
+of_one : {X : Type 0} (shown : List SubscriberEndState → X) (value : X)
+    (xs : List SubscriberEndState)
     → length xs ≡ 1
-    → ((x : SubscriberEndState) (more : List SubscriberEndState) → slice_get xs 0 ≡ Some x → shown (x ∷ more) ≡ value)
+    → ((x : SubscriberEndState) (more : List SubscriberEndState) → slice_get xs 0 ≡ Some x
+    → shown (x ∷ more) ≡ value)
     → shown xs ≡ value
 of_one shown value [] one at = absurd (omega (arith, one))
 of_one shown value (x ∷ xs) one at = at x xs refl
 
 module _ {S : Type 0} {premise : Genuine S} {lanes : FeedLanes} {seats : List SeatState}
-    {logs : List SubscriberLogState} {s : SettlementState} (t : SubscriberLogState) (one : logs ≡ t ∷ [])
+    {logs : List SubscriberLogState} {s : SettlementState} (t : SubscriberLogState) (one : logs ≡ t
+    ∷ [])
     (settled : IsSettlement premise lanes seats logs s) where
-  own : (x : SubscriberEndState) → slice_get s.subscribers 0 ≡ Some x → ShowsSubscriber s.journal 0 t x
+  own : (x : SubscriberEndState) → slice_get s.subscribers 0 ≡ Some x
+      → ShowsSubscriber s.journal 0 t x
   own x there = settled.subscribers 0 t x (ap (λ l. slice_get l 0) one) there
 
   -- the settled log is the log that was handed in

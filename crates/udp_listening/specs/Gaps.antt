@@ -1,4 +1,5 @@
--- Gaps of venues that are given up while a run goes on: which, and what standard error has of them. The
+-- Gaps of venues that are given up while a run goes on: which, and what standard error has of them.
+-- The
 -- texts are this project's own.
 use Rattle.std.specs.Prelude.{◌≡◌, ℕ, ◌+◌, ◌-◌, ◌/◌, ◌^◌, ◌==◌, min, nat_le, nat_lt, Bool, false, ◌&&◌, ◌||◌, List, [], ◌∷◌, ◌++◌, All, Contains, flat_map, Option, Some, None, MatchOption, is_some, if◌then◌else◌, codes, decimal}
 use Rattle.run_settings.specs.declared.listen_settings.ListenSettings.{ListenSettings}
@@ -40,14 +41,17 @@ abbrev pub has_stood : Option ℕ → ℕ → Bool
 has_stood None stood = false
 has_stood (Some ms) stood = nat_le ms stood
 
--- A gap that has stood for this long is to be given up: where that is asked for, one in front of which
--- all was given up before, and nothing was taken in sequence, once it is seen again; and one that has
+-- A gap that has stood for this long is to be given up: where that is asked for, one in front of
+-- which
+-- all was given up before, and nothing was taken in sequence, once it is seen again; and one that
+-- has
 -- stood for as long as is asked for.
 abbrev pub is_due : GapRule → (passed front stood : ℕ) → Bool
 is_due rule passed front stood =
     (rule.join && nat_le front passed && nat_lt 0 stood) || has_stood rule.after_ms stood
 
--- The message to go on from: where none is held the one after all that is known of, and else the first
+-- The message to go on from: where none is held the one after all that is known of, and else the
+-- first
 -- one that is held. No number is past the greatest one.
 abbrev pub gap_next : ArbiterStatus → Request → ℕ
 gap_next cursors gap =
@@ -80,7 +84,8 @@ abbrev pub given_up_count_texts : (count number : ℕ) → List (List ℕ)
 given_up_count_texts count number =
     codes " gave up " ∷ decimal count ∷ messages_from_text count ∷ decimal number ∷ codes "\n" ∷ []
 
--- messages that were given up: in which second of the run and of which venue, and then how many, and
+-- messages that were given up: in which second of the run and of which venue, and then how many,
+-- and
 -- the first of them
 abbrev pub given_up_texts : GapNews → List (List ℕ)
 given_up_texts news =
@@ -103,13 +108,15 @@ pub record TellsIfDone {E : Type 0} (writing : Writing E) (answers : Bool → Ty
   pub answered : answers done
   pub tells : SaysEach writing (if done then given_up_texts news else []) before after
 
--- what is to be given up at a look at this time, of a venue that is watched so, by what is shown of it
+-- what is to be given up at a look at this time, of a venue that is watched so, by what is shown of
+-- it
 abbrev pub due_at : GapRule → GapWatch → ℕ → Option VenueStatus → Option DueGap
 due_at rule watch now None = None
 due_at rule watch now (Some status) =
     due_of rule watch.standing watch.passed now status.cursors status.gap
 
--- A venue is looked at at this time: what is due by what is shown of it is said where it was answered
+-- A venue is looked at at this time: what is due by what is shown of it is said where it was
+-- answered
 -- that it is given up; and nothing else.
 pub record GivesUpDue {E : Type 0} (writing : Writing E) (shows : Option VenueStatus → Type 0)
     (answers : ℕ → Bool → Type 0) (rule : GapRule) (watch : GapWatch) (now : ℕ) (before after : E)
@@ -117,7 +124,8 @@ pub record GivesUpDue {E : Type 0} (writing : Writing E) (shows : Option VenueSt
   pub status : Option VenueStatus
   pub shown : shows status
   pub tells : MatchOption (due_at rule watch now status) (after ≡ before)
-      (λ due. TellsIfDone writing (answers due.next) (news_of (now / 1000) watch.venue due) before after)
+      (λ due. TellsIfDone writing (answers due.next) (news_of (now / 1000) watch.venue due) before
+      after)
 
 -- the texts of some gaps of these venues that were given up, one after the other, and nothing else
 pub record SaysGivenUp {E : Type 0} (writing : Writing E) (venues : List ℕ) (before after : E)

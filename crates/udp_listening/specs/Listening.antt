@@ -56,7 +56,8 @@ feed_setting settings = record {
   kept = settings.kept;
 }
 
--- the line reads datagrams for the venue, as many as the settings say, and ends with an end of session
+-- the line reads datagrams for the venue, as many as the settings say, and ends with an end of
+-- session
 -- as they say
 pub record IsSourceOf (settings : ListenSettings) (venue : ℕ) (line : UdpLineState) : Type 0 where
   pub venue_is : line.venue ≡ venue
@@ -83,7 +84,8 @@ abbrev pub log_lines : List Logged → List ℕ
 log_lines log = flat_map (λ logged. best_line logged.notice) log
 
 -- of a subscriber: the best lines of the notices that it took, after the first ones, which are
--- printed already, then of those that were still in its lane, and then of those that were not offered
+-- printed already, then of those that were still in its lane, and then of those that were not
+-- offered
 abbrev pub subscriber_lines : ℕ → SubscriberEndState → List ℕ
 subscriber_lines printed x =
     log_lines (drop printed x.log)
@@ -119,7 +121,8 @@ abbrev pub first_count : {S : Type 0} → (S → ℕ) → List S → ℕ
 first_count count [] = 0
 first_count count (s ∷ more) = count s
 
--- From this output on the best lines of the log's first notices were written, as many as are counted,
+-- From this output on the best lines of the log's first notices were written, as many as are
+-- counted,
 -- and no call failed.
 pub record HasPrinted {W : Type 0} (writing : Writing W) (first : W) (log : List Logged)
     (printed : ℕ) (now : W) : Type 0 where
@@ -127,7 +130,8 @@ pub record HasPrinted {W : Type 0} (writing : Writing W) (first : W) (log : List
   pub lines : writing.adds first (log_lines (take printed log)) now
   pub sound : writing.failures now ≡ writing.failures first
 
--- The same, or where the output has failed a part of the log's best lines, by calls of which the last
+-- The same, or where the output has failed a part of the log's best lines, by calls of which the
+-- last
 -- one failed.
 abbrev pub HasFollowed : {W : Type 0} → Writing W → W → List Logged → Following → ℕ → W → Type 0
 HasFollowed writing first log On printed now = HasPrinted writing first log printed now
@@ -157,7 +161,8 @@ settled_log s = first_lines (λ x. x.log) s.subscribers
 abbrev pub settled_forgotten : SettlementState → ℕ
 settled_forgotten s = first_count (λ x. x.forgotten) s.subscribers
 
--- The end of a run: from the output `first` on the best lines that the settled log has forgotten were
+-- The end of a run: from the output `first` on the best lines that the settled log has forgotten
+-- were
 -- written; or where there is no report, those of some log's first notices.
 abbrev pub HasListened : {W : Type 0} → Writing W → W → Result ListenReport ListenFault
     → Following → W → Type 0
@@ -304,7 +309,8 @@ ListensToEnd writing telling (Err fault) before after silent told status =
     × Says telling (listen_fault_text fault) silent told × (status ≡ 1)
 
 -- However it is asked to end and to print, listening ends in one of these ways. Before, standard
--- error has whatever counts the settings ask for, and where they ask for none what is said of the run.
+-- error has whatever counts the settings ask for, and where they ask for none what is said of the
+-- run.
 pub record Listens {W E : Type 0} (writing : Writing W) (telling : Writing E)
     (settings : ListenSettings) (before after : W) (silent told : E) (status : ℕ) : Type 0 where
   pub outcome : Result ListenReport ListenFault

@@ -1,4 +1,5 @@
--- What standard error has of lines while a run goes on, and at its end. The texts are this project's
+-- What standard error has of lines while a run goes on, and at its end. The texts are this
+-- project's
 -- own.
 use Rattle.std.specs.Prelude.{◌≡◌, ℕ, ◌==◌, List, [], ◌∷◌, ◌++◌, All, Contains, flat_map, map, if◌then◌else◌, codes, decimal}
 use Rattle.feed_types.specs.declared.line.LineId.{LineId}
@@ -60,7 +61,8 @@ abbrev pub total_texts : LineTotal → List (List ℕ)
 total_texts total =
     codes "nbbo: line " ∷ (line_name_texts total.venue total.line ++ counted_texts total)
 
--- what was counted of a line: the requests that couldn't be sent, and the ends of session after which
+-- what was counted of a line: the requests that couldn't be sent, and the ends of session after
+-- which
 -- it went on
 pub record LineTally : Type 0 where
   pub line : ℕ × LineId
@@ -81,13 +83,15 @@ totals_of c = total_if c.line kinds.Unsent c.unsent ++ total_if c.line kinds.Pas
 -- ---- what was said
 
 -- the texts of some news of these lines, one after the other, and nothing else
-pub record SaysNews {E : Type 0} (writing : Writing E) (lines : List (ℕ × LineId)) (before after : E)
+pub record SaysNews {E : Type 0} (writing : Writing E)
+    (lines : List (ℕ × LineId)) (before after : E)
     : Type 0 where
   pub news : List LineNews
   pub named : All (λ n. Contains lines (n.venue, n.line)) news
   pub says : SaysEach writing (flat_map news_texts news) before after
 
--- of some counts of each of these lines, in their order, the texts of those that aren't 0, and nothing
+-- of some counts of each of these lines, in their order, the texts of those that aren't 0, and
+-- nothing
 -- else
 pub record SaysTotals {E : Type 0} (writing : Writing E) (lines : List (ℕ × LineId))
     (before after : E) : Type 0 where

@@ -1,4 +1,5 @@
--- What is watched of a run: its lines, each by its venue's number, and the venues whose gaps may be given
+-- What is watched of a run: its lines, each by its venue's number, and the venues whose gaps may be
+-- given
 -- up.
 use Rattle.std.specs.Prelude.{ℕ, ◌/◌, ◌%◌, ◌==◌, List, [], map, vec_len, if◌then◌else◌}
 use Rattle.std.specs.List.{range_with_len}
@@ -37,7 +38,8 @@ watched watch = (watch.venue, watch.line)
 abbrev pub watched_lines : LineWatches → List (ℕ × LineId)
 watched_lines watches = map watched watches.lines.items
 
--- the venues of the settings whose gaps may be given up: each, or none where the settings let no gap be
+-- the venues of the settings whose gaps may be given up: each, or none where the settings let no
+-- gap be
 abbrev pub skipping_venues : ListenSettings → List ℕ
 skipping_venues settings =
     if gives_up (rule_of settings) then range_with_len 0 (vec_len settings.feed.sessions) else []

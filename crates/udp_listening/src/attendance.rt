@@ -1,6 +1,6 @@
-//! The attendant of a run at its work, beside the run's thread: it takes what the subscriber is offered,
-//! prints it where that is asked for, says what is new of the lines and what was counted, gives up the gaps that are to
-//! be given up, and stops the run where it is to end.
+//! The attendant of a run at its work, beside the run's thread: it takes what the subscriber is
+//! offered, prints it where that is asked for, says what is new of the lines and what was counted,
+//! gives up the gaps that are to be given up, and stops the run where it is to end.
 ghost use Rattle.std.specs.Prelude.{◌≡◌, IfOk, None};
 ghost use Rattle.feed_text.specs.Devices.{Writing};
 ghost use Rattle.udp_listening.specs.Listening.{KeepsFollowing};
@@ -32,9 +32,9 @@ pub struct Attendance<N: FeedName, C, W, E> {
 }
 
 impl<N: FeedName, C: Clock + Drop, W: TextOut, E: TextOut> Attendance<N, C, W, E> {
-    /// Attends a run until it is over, and stops it where it is to end. Where the run doesn't begin it
-    /// stops it, and gives up. `status` returns what a venue has come to, or None where there is none; `skip` goes on
-    /// from a message of a venue, and returns whether it did.
+    /// Attends a run until it is over, and stops it where it is to end. Where the run doesn't begin
+    /// it stops it, and gives up. `status` returns what a venue has come to, or None where there is
+    /// none; `skip` goes on from a message of a venue, and returns whether it did.
     pub fn attend<R, S, K>(
         self,
         rt: &R,
@@ -53,7 +53,8 @@ impl<N: FeedName, C: Clock + Drop, W: TextOut, E: TextOut> Attendance<N, C, W, E
         ensures run { watched_run result.watches ≡ watched_run self.watches }
         ensures quiet { self.attendant.counts ≡ None
             → SaysRunNews (record { adds = E.adds; failures = E.failures })
-            (watched_run self.watches) self.desk.errors result.desk.errors × (result.attendant.counts ≡ None) }
+            (watched_run self.watches) self.desk.errors result.desk.errors
+            × (result.attendant.counts ≡ None) }
     {
         let mut attendance = self;
         for _ in rt.forever() {
@@ -72,8 +73,8 @@ impl<N: FeedName, C: Clock + Drop, W: TextOut, E: TextOut> Attendance<N, C, W, E
         attendance
     }
 
-    /// Looks at the run once, takes what the subscriber is offered, says what is new of the lines, and returns what is
-    /// to be done then. Where there is nothing to do it waits before.
+    /// Looks at the run once, takes what the subscriber is offered, says what is new of the lines,
+    /// and returns what is to be done then. Where there is nothing to do it waits before.
     fn turn<R: Wait>(&mut self, rt: &R) -> Turn
         ensures shows { KeepsFollowing (record { adds = W.adds; failures = W.failures })
             self.old.log self.old.desk self.new.log self.new.desk }
@@ -104,7 +105,8 @@ impl<N: FeedName, C: Clock + Drop, W: TextOut, E: TextOut> Attendance<N, C, W, E
         self.watches.write_news(second, &mut self.desk.errors);
     }
 
-    /// Gives up the gaps that are due, and says so, unless the run is over: nothing is printed of what comes then.
+    /// Gives up the gaps that are due, and says so, unless the run is over: nothing is printed of
+    /// what comes then.
     fn give_up_gaps<S, K>(&mut self, status: S, skip: K)
     where
         S: Fn(VenueId) -> Option<VenueStatus>,
@@ -165,9 +167,10 @@ impl<N: FeedName, C: Clock + Drop, W: TextOut, E: TextOut> Attendance<N, C, W, E
         }
     }
 
-    /// Ends the attendance of a run that is over: says what is to be said of the lines, writes the table of all
-    /// counts, where counts are asked for, and returns what of the run is to be settled, and where the program prints.
-    /// `ran` is what the run returned; `statuses` has what each venue has come to.
+    /// Ends the attendance of a run that is over: says what is to be said of the lines, writes the
+    /// table of all counts, where counts are asked for, and returns what of the run is to be
+    /// settled, and where the program prints. `ran` is what the run returned; `statuses` has what
+    /// each venue has come to.
     pub fn close(
         self,
         alloc: Global,

@@ -18,8 +18,8 @@ const WAIT_MS: u64 = 20;
 /// How long it waits where lines are printed as they come.
 const FOLLOWING_WAIT_MS: u64 = 5;
 
-/// How long it waits for a run to begin, in milliseconds: where no thread can be had for the run, the
-/// attendant is called before it.
+/// How long it waits for a run to begin, in milliseconds: where no thread can be had for the run,
+/// the attendant is called before it.
 const MOST_BEFORE_MS: u64 = 10_000;
 
 /// What a look of the attendant asks for.
@@ -90,8 +90,8 @@ impl<C: Clock + Drop> Attendant<C> {
         self.elapsed.ms()
     }
 
-    /// Returns why the run stopped early: that there was no thread where the attendant has given up,
-    /// else what the run's report says.
+    /// Returns why the run stopped early: that there was no thread where the attendant has given
+    /// up, else what the run's report says.
     pub fn reason(&self, reported: Option<Stop>) -> Option<Stop>
         ensures { result
             ≡ (if self.now.has_given_up then Some Stop.NoThread else reported) }
@@ -129,7 +129,8 @@ impl<C: Clock + Drop> Attendant<C> {
         }
     }
 
-    /// What is to be done at a run that goes on. Where nothing is, and nothing was taken just now either, it waits.
+    /// What is to be done at a run that goes on. Where nothing is, and nothing was taken just now
+    /// either, it waits.
     pub fn look_on(&mut self, following: Following, has_taken: bool) -> Turn
         ensures { self.new.counts ≡ self.old.counts }
     {

@@ -28,8 +28,8 @@ pub struct ClosedRun<N: FeedName> {
     pub lacking: Vec<Lack>,
 }
 
-/// Closes a run: `ran` is what it returned, None where memory was refused, and `log` its subscriber's.
-/// NoMemory where memory was or is refused.
+/// Closes a run: `ran` is what it returned, None where memory was refused, and `log` its
+/// subscriber's. NoMemory where memory was or is refused.
 pub fn closed_run<N: FeedName, C: Clock + Drop>(
     alloc: Global,
     ran: Option<RunOutcome<N, C>>,

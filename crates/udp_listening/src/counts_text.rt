@@ -1,4 +1,5 @@
-//! The counts of venues and lines as text: a line for each venue and period, and a table at the end.
+//! The counts of venues and lines as text: a line for each venue and period, and a table at the
+//! end.
 
 use crate::live_counts::{LineCounts, REFUSALS, VenueCounts};
 use std::alloc::{AllocError, Global};

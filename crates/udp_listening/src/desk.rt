@@ -16,14 +16,15 @@ const MOST: usize = 1_024;
 pub enum Following {
     /// They are printed as they come.
     On,
-    /// They are printed at the end, since that was asked for, or since memory for a line was refused.
+    /// They are printed at the end, since that was asked for, or since memory for a line was
+    /// refused.
     Off,
     /// The output failed, and nothing more is printed on it.
     Failed,
 }
 
-/// Standard output and standard error, and whether lines are printed while the run goes on. What was
-/// printed of a log it has forgotten.
+/// Standard output and standard error, and whether lines are printed while the run goes on. What
+/// was printed of a log it has forgotten.
 #[derive(Drop)]
 pub struct Desk<W, E> {
     pub output: W,
@@ -31,8 +32,8 @@ pub struct Desk<W, E> {
     pub following: Following,
 }
 
-/// Polls once, and returns whether a notice was taken. Where that is refused, a run isn't to wait for
-/// the subscriber until its lane was found empty again.
+/// Polls once, and returns whether a notice was taken. Where that is refused, a run isn't to wait
+/// for the subscriber until its lane was found empty again.
 fn has_polled<N: FeedName, R: Wait>(rt: &R, log: &mut SubscriberLog<N>) -> bool
     ensures lines { IsPrefix log.old.lines log.new.lines }
     ensures forgotten { log.new.forgotten ≡ log.old.forgotten }
@@ -85,9 +86,9 @@ impl<W: TextOut, E> Desk<W, E> {
         }
     }
 
-    /// Takes what the log's subscriber is offered, 1,024 notices at most, and where lines are printed
-    /// as they come prints those of the log that aren't printed yet, and has the log forget them.
-    /// Returns whether it took anything.
+    /// Takes what the log's subscriber is offered, 1,024 notices at most, and where lines are
+    /// printed as they come prints those of the log that aren't printed yet, and has the log forget
+    /// them. Returns whether it took anything.
     ///
     /// Where memory for the lines is refused they are printed at the end, with all that follow.
     pub fn follow<N: FeedName, R: Wait>(
@@ -127,7 +128,8 @@ impl<W: TextOut, E> Desk<W, E> {
         self.write_rest(text.as_slice(), log);
     }
 
-    /// Writes the text of the log's best lines that aren't printed yet, and has the log forget them.
+    /// Writes the text of the log's best lines that aren't printed yet, and has the log forget
+    /// them.
     fn write_rest<N: FeedName>(&mut self, text: &[u8], log: &mut SubscriberLog<N>)
         requires on { self.old.following ≡ Following.On }
         requires text { text.now ≡ log_lines (drop log.old.forgotten log.old.lines) }

@@ -3,7 +3,8 @@
 use crate::udp_line::millis;
 use std::time::{Clock, Duration};
 
-/// The time since a moment, by a clock that may fail: where it can't be read, what was slept counts.
+/// The time since a moment, by a clock that may fail: where it can't be read, what was slept
+/// counts.
 #[derive(Drop)]
 pub struct Elapsed<C> {
     clock: C,

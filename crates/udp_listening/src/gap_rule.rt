@@ -7,7 +7,8 @@ use run_settings::ListenSettings;
 /// Which gaps of a run's venues are given up while it goes on.
 #[derive(Clone, Copy, Debug, PartialEq, Eq)]
 pub struct GapRule {
-    /// Whether those are in front of which nothing was taken in sequence, once they are seen a second time.
+    /// Whether those are in front of which nothing was taken in sequence, once they are seen a
+    /// second time.
     pub join: bool,
     /// After how many milliseconds the others are, if after any number.
     pub after_ms: Option<u32>,
@@ -41,8 +42,9 @@ impl GapRule {
         self.join || self.after_ms.is_some()
     }
 
-    /// Whether a gap is to be given up that has stood for so long since it was seen first. Messages are taken in
-    /// sequence, or were given up, up to `front`, and up to `passed` all were given up.
+    /// Whether a gap is to be given up that has stood for so long since it was seen first. Messages
+    /// are taken in sequence, or were given up, up to `front`, and up to `passed` all were given
+    /// up.
     pub fn is_due(&self, passed: u64, front: u64, stood_ms: u64) -> bool
         ensures { result ≡ is_due self.now passed front stood_ms }
     {

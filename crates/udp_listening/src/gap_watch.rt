@@ -1,4 +1,5 @@
-//! The gap of a venue as the thread beside the run sees it: since when it stands, and when it is given up.
+//! The gap of a venue as the thread beside the run sees it: since when it stands, and when it is
+//! given up.
 ghost use Rattle.std.specs.Prelude.{◌≡◌, ◌∷◌, [], None};
 ghost use Rattle.feed_text.specs.Devices.{Writing};
 ghost use Rattle.udp_listening.specs.Gaps.{GivesUpDue, SaysGivenUp, TellsIfDone, due_of, gap_next, news_of, passed_then, standing_after, standing_at};
@@ -42,8 +43,8 @@ fn standing_at(before: Option<StandingGap>, now_ms: u64, gap: &Request) -> Stand
     }
 }
 
-/// The first message after those that are missing and to be given up: the first one that is held, or where none is the
-/// one after all that is known of.
+/// The first message after those that are missing and to be given up: the first one that is held,
+/// or where none is the one after all that is known of.
 fn gap_next(cursors: &ArbiterStatus, gap: &Request) -> u64
     ensures { result ≡ gap_next cursors.now gap.now }
 {
@@ -81,7 +82,8 @@ impl GapWatch {
           standing = standing_after self.old.standing now_ms status.now.gap;
         } }
         ensures due { result
-            ≡ due_of rule.now self.old.standing self.old.passed now_ms status.now.cursors status.now.gap }
+            ≡ due_of rule.now self.old.standing self.old.passed now_ms status.now.cursors
+            status.now.gap }
     {
         let Some(gap) = &status.gap else {
             self.standing = None;
@@ -99,8 +101,8 @@ impl GapWatch {
         })
     }
 
-    /// Notes that these messages were given up: where nothing was taken in sequence before them, nothing was before
-    /// what comes next either.
+    /// Notes that these messages were given up: where nothing was taken in sequence before them,
+    /// nothing was before what comes next either.
     fn pass(&mut self, due: &DueGap)
         ensures { self.new ≡ record (self.old) { passed = passed_then self.old.passed due.now } }
     {
@@ -110,8 +112,8 @@ impl GapWatch {
         }
     }
 
-    /// Gives up what is due, where `skip` does so, and says it then. `skip` goes on from a message of a venue, and
-    /// returns whether it did.
+    /// Gives up what is due, where `skip` does so, and says it then. `skip` goes on from a message
+    /// of a venue, and returns whether it did.
     fn give_up_due<K, E>(&mut self, due: &DueGap, second: u64, skip: K, errors: &mut E)
     where
         K: Fn(VenueId, u64) -> bool,

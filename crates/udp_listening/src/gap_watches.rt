@@ -13,7 +13,8 @@ use live_feed::VenueStatus;
 use run_settings::ListenSettings;
 use std::alloc::{AllocError, Global};
 
-/// How many milliseconds are between two looks at least: so long two lines may bring the same packets apart.
+/// How many milliseconds are between two looks at least: so long two lines may bring the same
+/// packets apart.
 const LOOK_MS: u64 = 20;
 
 /// The venues of a run whose gaps may be given up.
@@ -69,9 +70,10 @@ impl GapWatches {
         }
     }
 
-    /// Looks at the venues, `elapsed_ms` milliseconds after the beginning, unless it has done so just before, and gives
-    /// up what is due. `status` returns what a venue has come to, or None where there is none; `skip` goes on from a
-    /// message of a venue, and returns whether it did. Where it didn't, a later look tries again.
+    /// Looks at the venues, `elapsed_ms` milliseconds after the beginning, unless it has done so
+    /// just before, and gives up what is due. `status` returns what a venue has come to, or None
+    /// where there is none; `skip` goes on from a message of a venue, and returns whether it did.
+    /// Where it didn't, a later look tries again.
     pub fn give_up<S, K, E>(&mut self, elapsed_ms: u64, status: S, skip: K, errors: &mut E)
     where
         S: Fn(VenueId) -> Option<VenueStatus>,

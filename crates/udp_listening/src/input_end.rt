@@ -31,8 +31,8 @@ impl InputEnd {
         self.ended
     }
 
-    /// Waits at most `ms` milliseconds for the input, and looks at what has come, if anything. Returns
-    /// whether it could wait.
+    /// Waits at most `ms` milliseconds for the input, and looks at what has come, if anything.
+    /// Returns whether it could wait.
     pub fn wait(&mut self, ms: u16) -> bool {
         let mut asked = [pollfd {
             fd: STDIN,

@@ -1,4 +1,5 @@
-//! The lines of a run as the thread beside it sees them: what is news of them, and what was counted.
+//! The lines of a run as the thread beside it sees them: what is news of them, and what was
+//! counted.
 ghost use Rattle.std.specs.Prelude.{◌≡◌, ◌∷◌, [], flat_map};
 ghost use Rattle.feed_text.specs.Devices.{Writing};
 ghost use Rattle.feed_text.specs.StandardError.{SaysEach};
@@ -106,7 +107,8 @@ impl LineWatch {
         ensures news { SaysNews (record { adds = E.adds; failures = E.failures })
             (watched self.old ∷ []) errors.old errors.new }
     {
-        // A line ends after all that it has counted, and its end is looked at first, so that nothing is said after it.
+        // A line ends after all that it has counted, and its end is looked at first, so that
+        // nothing is said after it.
         let end = self.new_end();
         let unsent = self.new_unsent();
         let passed = self.new_passed();

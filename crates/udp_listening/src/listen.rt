@@ -49,8 +49,8 @@ fn fail<E: TextOut>(text: &str, errors: &mut E) -> u8
     1
 }
 
-/// Prints the report of listening, after the best lines that were printed while it went on, and returns
-/// the status of the program.
+/// Prints the report of listening, after the best lines that were printed while it went on, and
+/// returns the status of the program.
 fn print_report<W: TextOut, E: TextOut>(
     alloc: Global,
     report: &ListenReport,
@@ -72,7 +72,8 @@ fn print_report<W: TextOut, E: TextOut>(
     status_of(report.failed.as_slice(), report.stopped)
 }
 
-/// Prints the report of listening after the output has failed, and returns the status of the program.
+/// Prints the report of listening after the output has failed, and returns the status of the
+/// program.
 fn print_failed_report<E: TextOut>(report: &ListenReport, errors: &mut E) -> u8
     ensures { PrintsFailedReport (record { adds = E.adds; failures = E.failures })
         report.now errors.old errors.new result }
@@ -91,8 +92,8 @@ fn fault_line(fault: ListenFault) -> &'static str
     }
 }
 
-/// Prints the end of listening, and returns the status of the program: 0, or 1 where a line failed, the
-/// run stopped early, or not all was printed.
+/// Prints the end of listening, and returns the status of the program: 0, or 1 where a line failed,
+/// the run stopped early, or not all was printed.
 fn print_end<W: TextOut, E: TextOut>(
     alloc: Global,
     outcome: &Result<ListenReport, ListenFault>,
@@ -127,13 +128,14 @@ fn following_of(settings: &ListenSettings) -> Following
     }
 }
 
-/// Listens on these sockets, in the order of the settings' lines, until all have ended or the settings
-/// end the run; then prints the report for a subscriber that wants every change. Returns the status of
-/// the program: 0, or 1 where a line failed, the run stopped early, or not all was printed.
+/// Listens on these sockets, in the order of the settings' lines, until all have ended or the
+/// settings end the run; then prints the report for a subscriber that wants every change. Returns
+/// the status of the program: 0, or 1 where a line failed, the run stopped early, or not all was
+/// printed.
 ///
-/// Where the settings ask for it, best lines are printed as they come, and counts on standard error. That has also what
-/// is news of the lines, as it comes, and which gaps were given up, as the settings say, and at the end what was counted
-/// of the lines.
+/// Where the settings ask for it, best lines are printed as they come, and counts on standard
+/// error. That has also what is news of the lines, as it comes, and which gaps were given up, as
+/// the settings say, and at the end what was counted of the lines.
 pub fn listen_with<R, C, W, E>(
     rt: &R,
     clock: &C,

@@ -33,9 +33,9 @@ impl ListenCounts {
         self.due_ms
     }
 
-    /// Writes the line of each venue, of what was counted since its line before, and has the next lines
-    /// due at the next period's end. `status` returns what a venue has come to, or None where there is
-    /// none. A line is left out where memory for it is refused.
+    /// Writes the line of each venue, of what was counted since its line before, and has the next
+    /// lines due at the next period's end. `status` returns what a venue has come to, or None where
+    /// there is none. A line is left out where memory for it is refused.
     pub fn tell_each<S, E>(&mut self, elapsed_ms: u64, status: S, errors: &mut E)
     where
         S: Fn(VenueId) -> Option<VenueStatus>,
@@ -69,8 +69,8 @@ impl ListenCounts {
         }
     }
 
-    /// Writes the table of what was counted of all venues. Where memory for it is refused, it is left
-    /// out.
+    /// Writes the table of what was counted of all venues. Where memory for it is refused, it is
+    /// left out.
     pub fn tell_all<E: TextOut>(&self, statuses: &[VenueStatus], errors: &mut E) {
         let mut venues = Vec::new(self.alloc);
         for status in statuses {

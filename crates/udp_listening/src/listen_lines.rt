@@ -104,8 +104,8 @@ fn write_gaps<E: TextOut>(report: &ListenReport, errors: &mut E)
     write_lacks(report.lacking.as_slice(), errors);
 }
 
-/// Writes which lines failed, why the run stopped early, if it did, which lines have read as many datagrams as they
-/// may, and what venues lack.
+/// Writes which lines failed, why the run stopped early, if it did, which lines have read as many
+/// datagrams as they may, and what venues lack.
 pub fn write_report_lines<E: TextOut>(report: &ListenReport, errors: &mut E)
     ensures { SaysEach (record { adds = E.adds; failures = E.failures })
         (report_texts report.now) errors.old errors.new }

@@ -58,8 +58,8 @@ pub struct ListenReport {
     pub settlement: Settlement,
 }
 
-/// The most notices of the log: as many as the journal's entries, unless they are printed as they come
-/// and forgotten.
+/// The most notices of the log: as many as the journal's entries, unless they are printed as they
+/// come and forgotten.
 fn most_logged(settings: &ListenSettings) -> u32
     ensures { result ≡ most_logged settings.now }
 {
@@ -84,8 +84,8 @@ fn config_of(settings: &ListenSettings) -> FeedConfig<'_>
     }
 }
 
-/// The feed of the settings, to which nothing came yet. Where best lines are printed as they come it
-/// keeps as many changes as its subscriber may be behind, else all.
+/// The feed of the settings, to which nothing came yet. Where best lines are printed as they come
+/// it keeps as many changes as its subscriber may be behind, else all.
 pub fn feed_of(alloc: Global, settings: &ListenSettings) -> Result<LiveFeed<Anything>, CoreFault>
     ensures { IfOk result (λ feed. feed.setting ≡ feed_setting settings.now) }
 {
@@ -96,8 +96,8 @@ pub fn feed_of(alloc: Global, settings: &ListenSettings) -> Result<LiveFeed<Anyt
     }
 }
 
-/// What is run: the lines' sources in the order of the settings, the same lines and their venues for the attendant, what
-/// the subscriber wants, the run's attendant, and where the program prints.
+/// What is run: the lines' sources in the order of the settings, the same lines and their venues
+/// for the attendant, what the subscriber wants, the run's attendant, and where the program prints.
 #[derive(Drop)]
 pub struct ListenTask<C, W, E> {
     pub sources: Vec<UdpLine<C>>,
@@ -134,7 +134,8 @@ fn fault_of(fault: SettleFault) -> ListenFault {
     }
 }
 
-/// Returns the statuses of the venues that there are; `status` returns one's, or None where there is none.
+/// Returns the statuses of the venues that there are; `status` returns one's, or None where there
+/// is none.
 fn statuses_by<S: Fn(VenueId) -> Option<VenueStatus>>(
     alloc: Global,
     status: S,

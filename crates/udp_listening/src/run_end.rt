@@ -48,8 +48,8 @@ impl RunEnd {
         is_over || has_ended
     }
 
-    /// How long to wait at most until the next look: `most` milliseconds, 100, or until the seconds are
-    /// over.
+    /// How long to wait at most until the next look: `most` milliseconds, 100, or until the seconds
+    /// are over.
     fn wait_ms<C: Clock>(&self, elapsed: &Elapsed<C>, most: u64) -> u16 {
         let most = most.min(LOOK_MS);
         let left = match self.after_ms {
@@ -67,8 +67,8 @@ impl RunEnd {
         }
     }
 
-    /// Waits at most `most` milliseconds, and less where the run is to end before. Where there is no time
-    /// to wait, it looks at standard input once in 5 milliseconds.
+    /// Waits at most `most` milliseconds, and less where the run is to end before. Where there is
+    /// no time to wait, it looks at standard input once in 5 milliseconds.
     pub fn wait<C: Clock>(&mut self, elapsed: &mut Elapsed<C>, most: u64) {
         let ms = self.wait_ms(elapsed, most);
         if ms > 0 || elapsed.ms() >= self.looked_ms.saturating_add(INPUT_MS) {

@@ -4,8 +4,8 @@ use std::alloc::{AllocError, Global};
 use std::sync::Arc;
 use std::sync::atomic::{AtomicBool, Ordering};
 
-/// Whether a run has begun, and whether it is over: its thread marks it, and the one beside it, which
-/// has a share, looks at it.
+/// Whether a run has begun, and whether it is over: its thread marks it, and the one beside it,
+/// which has a share, looks at it.
 #[derive(Drop)]
 pub struct RunProgress {
     begun: Arc<AtomicBool, Global>,

@@ -26,8 +26,8 @@ fn size_of(socket: &UdpSocket) -> Option<u32> {
     Some(u32::from_ne_bytes([value[0], value[1], value[2], value[3]]) / 2)
 }
 
-/// Asks for a buffer of this many bytes at each socket, and returns the line that says how many the smallest one has
-/// then.
+/// Asks for a buffer of this many bytes at each socket, and returns the line that says how many the
+/// smallest one has then.
 pub fn enlarge(alloc: Global, sockets: &[UdpSocket], bytes: u32) -> Result<String, AllocError> {
     let mut least = u32::MAX;
     for socket in sockets {

@@ -50,8 +50,8 @@ pub struct ListenLines<C> {
     pub watches: LineWatches,
 }
 
-/// Makes the sources of the settings' lines, which these sockets receive, in the order of the settings. There are two
-/// lines for each session.
+/// Makes the sources of the settings' lines, which these sockets receive, in the order of the
+/// settings. There are two lines for each session.
 pub fn lines_over<C: Clock + Clone + Drop>(
     alloc: Global,
     settings: &ListenSettings,
@@ -79,8 +79,8 @@ pub fn lines_over<C: Clock + Clone + Drop>(
 /// A line that is received by UDP, of the feed N.
 type UdpLineOf<N, C> = Line<Anything, N, UdpLine<C>>;
 
-/// Makes lines of the sources, in their order. `seat_of` hands out the seat of a venue's line; Unsettled
-/// where it doesn't.
+/// Makes lines of the sources, in their order. `seat_of` hands out the seat of a venue's line;
+/// Unsettled where it doesn't.
 pub fn seated<N, C, S>(
     alloc: Global,
     sources: Vec<UdpLine<C>>,

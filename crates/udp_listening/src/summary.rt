@@ -89,8 +89,8 @@ fn put_ends(text: &mut LineBuffer, settlement: &Settlement) -> Result<(), AllocE
     Ok(())
 }
 
-/// The text that is printed once all lines have ended: the best lines of the first subscriber, but for
-/// those that its log has forgotten, and then a line for each venue.
+/// The text that is printed once all lines have ended: the best lines of the first subscriber, but
+/// for those that its log has forgotten, and then a line for each venue.
 pub fn summary_of(alloc: Global, settlement: &Settlement) -> Result<LineBuffer, AllocError>
     ensures { IfOk result (λ text. text.items
         ≡ summary_text (λ x. x.forgotten) settlement.now) }

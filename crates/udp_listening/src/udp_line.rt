@@ -26,7 +26,8 @@ const REQUEST_LEN: usize = 20;
 /// How many times one call asks the socket at most.
 const MAX_TURNS: u32 = 1_000_000;
 
-/// How long a line waits for a datagram, in milliseconds, until a run may look whether it is to stop.
+/// How long a line waits for a datagram, in milliseconds, until a run may look whether it is to
+/// stop.
 const WAIT_MS: u64 = 100;
 
 /// What a line is made for.
@@ -44,11 +45,11 @@ pub struct UdpLineSettings {
     pub requests_to: Option<SocketAddr>,
 }
 
-/// A line of a venue that is received by UDP. It ends after as many datagrams as it was made for, if
-/// there is such a limit, and after an end of session that ends it.
+/// A line of a venue that is received by UDP. It ends after as many datagrams as it was made for,
+/// if there is such a limit, and after an end of session that ends it.
 ///
-/// Once its socket has failed the line has ended: it asks the socket for nothing more. A request that can't be sent
-/// ends nothing. What has become of the line is marked in its progress.
+/// Once its socket has failed the line has ended: it asks the socket for nothing more. A request
+/// that can't be sent ends nothing. What has become of the line is marked in its progress.
 #[derive(Drop)]
 pub struct UdpLine<C> {
     line_venue: VenueId,
@@ -83,8 +84,8 @@ impl<C> Model for UdpLine<C> {
     } };
 }
 
-/// Waits a while for a datagram, puts it at the front of the buffer, and returns how many bytes it has; None where none
-/// has come. A call that was interrupted is made again.
+/// Waits a while for a datagram, puts it at the front of the buffer, and returns how many bytes it
+/// has; None where none has come. A call that was interrupted is made again.
 fn receive(socket: &UdpSocket, buffer: &mut [u8]) -> Result<Option<usize>, SourceFault>
     ensures count { IfOk result (λ came. IfSome came (λ count. count ≤ length buffer.new)) }
     ensures fault { IfErr result (λ fault. fault ≢ NoMemory) }
@@ -102,8 +103,8 @@ fn receive(socket: &UdpSocket, buffer: &mut [u8]) -> Result<Option<usize>, Sourc
     Err(SourceFault::TooManyTurns)
 }
 
-/// Sends the bytes as one datagram, and returns whether that could be done. A call that was interrupted is made again,
-/// a million times at most.
+/// Sends the bytes as one datagram, and returns whether that could be done. A call that was
+/// interrupted is made again, a million times at most.
 fn has_sent(socket: &UdpSocket, bytes: &[u8], to: SocketAddr) -> bool {
     for _ in 0..MAX_TURNS {
         match socket.send_to(bytes, to) {
@@ -124,8 +125,8 @@ fn datagram_of(alloc: Global, bytes: &[u8]) -> Result<Datagram, AllocError>
     Ok(Datagram::new(held))
 }
 
-/// Waits a while for a datagram, and returns it, or why there is none; None where none has come. NoMemory where memory
-/// for it was refused: it is lost then.
+/// Waits a while for a datagram, and returns it, or why there is none; None where none has come.
+/// NoMemory where memory for it was refused: it is lost then.
 fn hear(
     alloc: Global,
     socket: &UdpSocket,
@@ -159,8 +160,8 @@ fn ended_session(bytes: &[u8]) -> Option<[u8; 10]>
     }
 }
 
-/// Whether a datagram ends a line of this session by the rule; `ended` is the session that it is an end of, if it is
-/// an end of session.
+/// Whether a datagram ends a line of this session by the rule; `ended` is the session that it is an
+/// end of, if it is an end of session.
 fn is_last(rule: EndRule, session: [u8; 10], ended: Option<[u8; 10]>) -> bool
     ensures { IsTrue result ↔ IsLast rule session ended }
 {
@@ -203,8 +204,8 @@ fn one_fewer(left: Option<u32>) -> Option<u32>
 impl<C: Drop> UdpLine<C> {
     /// The line of these settings that this socket receives, and from which its requests go.
     ///
-    /// The socket waits 100 ms for a datagram from now on. Where the system refuses that, it waits for ever, and so
-    /// does a run that is to stop.
+    /// The socket waits 100 ms for a datagram from now on. Where the system refuses that, it waits
+    /// for ever, and so does a run that is to stop.
     pub fn new(
         alloc: Global,
         settings: UdpLineSettings,
@@ -237,8 +238,8 @@ impl<C: Drop> UdpLine<C> {
         })
     }
 
-    /// Waits a while for a datagram, and returns whether the next one needn't be waited for: it is there, or the socket
-    /// has failed, or the line has ended.
+    /// Waits a while for a datagram, and returns whether the next one needn't be waited for: it is
+    /// there, or the socket has failed, or the line has ended.
     fn listen(&mut self) -> bool
         ensures { self.new ≡ self.old }
     {
@@ -249,7 +250,8 @@ impl<C: Drop> UdpLine<C> {
         self.heard.is_some()
     }
 
-    /// The progress of the line, for another thread. AllocError where it can't be shared any further.
+    /// The progress of the line, for another thread. AllocError where it can't be shared any
+    /// further.
     pub fn share_progress(&self) -> Result<LineProgress, AllocError> {
         self.progress.share()
     }
@@ -263,7 +265,8 @@ impl<C: Drop> UdpLine<C> {
         }
     }
 
-    /// Marks that the line has failed, and returns the fault. Want of memory is no fault of its socket.
+    /// Marks that the line has failed, and returns the fault. Want of memory is no fault of its
+    /// socket.
     fn fail(&mut self, fault: SourceFault) -> SourceFault
         requires { self.old.failed ≡ false }
         ensures fault { result ≡ fault }
@@ -303,11 +306,11 @@ impl<C: Drop> UdpLine<C> {
         self.mark_end();
     }
 
-    /// Receives the next datagram; None once the line has ended, and only then. An end of session that by the line's
-    /// rule ends it is its last, and so is the last datagram that it may read.
+    /// Receives the next datagram; None once the line has ended, and only then. An end of session
+    /// that by the line's rule ends it is its last, and so is the last datagram that it may read.
     ///
-    /// Device where the socket failed, TooManyTurns where it was interrupted a million times: the line has
-    /// ended then. NoMemory where memory for the datagram was refused, which is lost then.
+    /// Device where the socket failed, TooManyTurns where it was interrupted a million times: the
+    /// line has ended then. NoMemory where memory for the datagram was refused, which is lost then.
     fn receive_next(&mut self) -> Result<Option<Datagram>, SourceFault>
         ensures over { result ≡ Ok None → IsOver self.old }
         ensures ended { IsOver self.old → (result ≡ Ok None) × (self.new ≡ self.old) }

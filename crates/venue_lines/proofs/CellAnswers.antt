@@ -27,7 +27,8 @@ use Rattle.line_arbiter.specs.laws.FitsHistory.{ordinal_is}
 PassesEnd : Session → List Input → Type 0
 PassesEnd s packets = (n : ℕ) × Contains packets (Skip n) × (length s.items + 1 < n)
 
-passes_later : (s : Session) (x : Input) (packets : List Input) → PassesEnd s packets → PassesEnd s (x ∷ packets)
+passes_later : (s : Session) (x : Input) (packets : List Input) → PassesEnd s packets
+    → PassesEnd s (x ∷ packets)
 unfolding PassesEnd
 passes_later s x packets (n, (k, below, is), past) = (n, (suc k, omega arith, is), past)
 
@@ -49,7 +50,8 @@ within_or_past s (Skip n ∷ packets) = elim (cases_lt (length s.items + 1) n) [
 ]
 
 pub accepts : {S : Type 0} (premise : Genuine S) (lanes : FeedLanes) (c : CellState)
-    (k : VenueLockInvariant premise lanes c) (p : Content) (answer : Result Outcome LineFault) → IsContent p
+    (k : VenueLockInvariant premise lanes c) (p : Content) (answer : Result Outcome LineFault)
+    → IsContent p
     → IsOutcome c.arbiter.session c.arbiter.window c.arbiter.sent k.history.present.packets p answer
     → AcceptsTheirPacket premise lanes c.arbiter.venue p answer
 unfolding PassesEnd
@@ -69,7 +71,8 @@ accepts premise lanes c k p answer content o all ordinal s names at of = elim o 
   ]
 ]
   where
-    here : (p.session ≡ c.arbiter.session) × ToKind p.kind c.arbiter.window c.arbiter.sent k.history.present.packets p
+    here : (p.session ≡ c.arbiter.session) × ToKind p.kind c.arbiter.window c.arbiter.sent
+        k.history.present.packets p
         answer → AllByRecursion (SkipsWithin s) k.history.present.packets → IsOk answer
     here same within =
         let h = k.history in
@@ -84,10 +87,14 @@ accepts premise lanes c k p answer content o all ordinal s names at of = elim o 
         let genuine : AreGenuine premise.carries premise.ends venue n h.present.packets =
         given_genuine premise venue c.arbiter.window n h.present
         (present_given premise venue c.arbiter.window 1 h.earlier h.present k.given) in
-        let mine = subst (λ (x : ℕ). AreGenuine premise.carries premise.ends venue x h.present.packets)
+        let mine = subst (λ (x : ℕ). AreGenuine premise.carries premise.ends
+        venue x h.present.packets)
         (sym one) genuine in
         let outcome : IsOutcome s.name c.arbiter.window c.arbiter.sent h.present.packets p answer =
-        subst (λ (x : List ℕ). IsOutcome x c.arbiter.window c.arbiter.sent h.present.packets p answer)
+        subst (λ (x : List ℕ). IsOutcome x c.arbiter.window c.arbiter.sent
+        h.present.packets p answer)
         (sym same.0 ∙ of.name) o in
-        accepted s h.present.packets (part_of_session premise.sessions premise.carries premise.ends venue ordinal all s
-        h.present.packets names at mine within) c.arbiter.window c.arbiter.sent p answer content of outcome
+        accepted s h.present.packets (part_of_session premise.sessions premise.carries
+        premise.ends venue ordinal all s
+        h.present.packets names at mine within) c.arbiter.window c.arbiter.sent p
+        answer content of outcome

@@ -59,7 +59,8 @@ came line p answer = record { line = line; packet = p; answer = answer }
 
 -- an answer adds to what was accepted what it adds to nothing
 answer_adds : (p : Content) (answer : Result Outcome LineFault) (b : Brought)
-    → (with_answer p answer b).accepted ≡ b.accepted ++ (with_answer p answer nothing_brought).accepted
+    → (with_answer p answer b).accepted ≡ b.accepted
+    ++ (with_answer p answer nothing_brought).accepted
 answer_adds p (Ok outcome) b = refl
 answer_adds p (Err fault) b = sym (append-nil b.accepted)
 
@@ -84,15 +85,18 @@ no_more B p fault b = refl
 no_more Recovery p fault b = refl
 
 -- one packet more, as it is counted on the line
-pub counted_on : (line l : LineId) (p : Content) (outcome : Outcome) (x : AcceptedPacket) (old new : PerLine Brought)
+pub counted_on : (line l : LineId) (p : Content) (outcome : Outcome) (x : AcceptedPacket)
+    (old new : PerLine Brought)
     → new ≡ with_line l (with_packet x (on_line l old)) old → x ≡ accepted_as p outcome → l ≡ line
     → new ≡ brought_after line p (Ok outcome) old
 counted_on line l p outcome x old new counted named same =
     counted ∙ (λ i. with_line (same i) (with_packet (named i) (on_line (same i) old)) old)
 
 -- with one more packet what was accepted is that of all packets
-accepted_more : (old : CellState) (brought : PerLine Brought) (h : History) (line : LineId) (p : Content)
-    (answer : Result Outcome LineFault) → CellFitsHistory old h → brought ≡ brought_after line p answer old.brought
+accepted_more : (old : CellState) (brought : PerLine Brought) (h : History)
+    (line : LineId) (p : Content)
+    (answer : Result Outcome LineFault) → CellFitsHistory old h
+    → brought ≡ brought_after line p answer old.brought
     → (l : LineId) → (on_line l brought).accepted ≡ accepted_on l (arrivals_of
     (all_begun (after_input h (arrival_of line p answer))))
 accepted_more old brought h line p answer f is l =
@@ -118,9 +122,11 @@ refusal_leaves Recovery B fault b = refl
 refusal_leaves Recovery Recovery fault b = refl
 
 -- the cell keeps what it keeps
-pub refusal_kept : {S : Type 0} (premise : Genuine S) (lanes : FeedLanes) (line : LineId) (fault : TakeFault)
+pub refusal_kept : {S : Type 0} (premise : Genuine S) (lanes : FeedLanes)
+    (line : LineId) (fault : TakeFault)
     (old : CellState) → VenueLockInvariant premise lanes old
-    → VenueLockInvariant premise lanes (record old { brought = refused_on_line line fault old.brought })
+    → VenueLockInvariant premise lanes
+    (record old { brought = refused_on_line line fault old.brought })
 refusal_kept premise lanes line fault old k = record {
   history = k.history;
   fits = record {
@@ -138,10 +144,13 @@ refusal_kept premise lanes line fault old k = record {
 
 -- ---- a packet
 
-module _ (old new : CellState) (h : History) (line : LineId) (p : Content) (answer : Result Outcome LineFault)
-    (f : CellFitsHistory old h) (lane : new.lane ≡ old.lane) (kept : KeepsItsPlace old.arbiter new.arbiter)
+module _ (old new : CellState) (h : History) (line : LineId) (p : Content)
+    (answer : Result Outcome LineFault)
+    (f : CellFitsHistory old h) (lane : new.lane ≡ old.lane)
+    (kept : KeepsItsPlace old.arbiter new.arbiter)
     (fits : Fits new.arbiter (h.present.packets ++ arrival_of line p answer ∷ []))
-    (grows : IsPrefix (stream_of h.present.packets) (stream_of (h.present.packets ++ arrival_of line p answer ∷ [])))
+    (grows : IsPrefix (stream_of h.present.packets) (stream_of (h.present.packets
+    ++ arrival_of line p answer ∷ [])))
     (brought : new.brought ≡ brought_after line p answer old.brought) where
   abbrev a : Input
   a = arrival_of line p answer
@@ -163,18 +172,26 @@ module _ (old new : CellState) (h : History) (line : LineId) (p : Content) (answ
     accepted = accepted_more old new.brought h line p answer f brought;
   }
 
-  right_at : IsOutcome old.arbiter.session old.arbiter.window old.arbiter.sent h.present.packets p answer
+  right_at : IsOutcome old.arbiter.session old.arbiter.window old.arbiter.sent
+      h.present.packets p answer
       → IsOutcome h.present.name old.arbiter.window old.arbiter.sent h.present.packets p answer
   right_at o = outcome_in h p answer f.history o
 
-  pub takes : IsOutcome old.arbiter.session old.arbiter.window old.arbiter.sent h.present.packets p answer
+  pub takes : IsOutcome old.arbiter.session old.arbiter.window old.arbiter.sent
+      h.present.packets p answer
       → TakesPacket line p answer h old new
-  takes o = record { after = after_input h a; taken = record { right = right_at o; is = refl }; fits = packet_fits }
+  takes o = record {
+    after = after_input h a;
+    taken = record { right = right_at o; is = refl };
+    fits = packet_fits;
+  }
 
 -- what was given, with one more packet
-pub given_after : {S : Type 0} (premise : Genuine S) (lanes : FeedLanes) (old : CellState) (line : LineId) (p : Content)
+pub given_after : {S : Type 0} (premise : Genuine S) (lanes : FeedLanes) (old : CellState)
+    (line : LineId) (p : Content)
     (answer : Result Outcome LineFault) (k : VenueLockInvariant premise lanes old) → IsContent p
-    → IsOutcome old.arbiter.session old.arbiter.window old.arbiter.sent k.history.present.packets p answer
+    → IsOutcome old.arbiter.session old.arbiter.window old.arbiter.sent
+    k.history.present.packets p answer
     → IsGenuinePacket premise old.arbiter.venue p
     → AreGivenFrom premise old.arbiter.venue old.arbiter.window 1 k.history.earlier
     (after_input k.history (arrival_of line p answer)).present
@@ -186,10 +203,13 @@ given_after premise lanes old line p answer k content o genuine =
     let right = outcome_in h p answer f.history o in
     let ordinal : ordinal_of old.arbiter ≡ 1 + length h.earlier = ordinal_is h f.history in
     let named : premise.sessions venue (1 + length h.earlier) h.present.name =
-    subst (λ (x : ℕ × List ℕ). premise.sessions venue x.0 x.1) (λ i. (ordinal i, f.history.session i)) k.named in
-    present_more premise venue window 1 h.earlier h.present (after_input h (arrival_of line p answer)).present
+    subst (λ (x : ℕ × List ℕ). premise.sessions venue x.0 x.1)
+    (λ i. (ordinal i, f.history.session i)) k.named in
+    present_more premise venue window 1 h.earlier h.present
+    (after_input h (arrival_of line p answer)).present
     (given_more premise venue window (1 + length h.earlier) h.present (arrival_of line p answer)
-    (λ same. genuine (1 + length h.earlier) (subst (λ (n : List ℕ). premise.sessions venue (1 + length h.earlier) n)
+    (λ same. genuine (1 + length h.earlier)
+    (subst (λ (n : List ℕ). premise.sessions venue (1 + length h.earlier) n)
     (sym same) named)) (record { content = content; sent = old.arbiter.sent; outcome = right }))
     k.given
 
@@ -197,7 +217,8 @@ given_after premise lanes old line p answer k content o genuine =
 module _ {S : Type 0} (premise : Genuine S) (lanes : FeedLanes) (old new : CellState) (x : Input)
     (k : VenueLockInvariant premise lanes old) (kept : KeepsItsSession old.arbiter new.arbiter)
     (tag : new.lane.tag ≡ old.lane.tag) (lane : new.lane.lane ≡ old.lane.lane)
-    (capacity : new.lane.capacity ≡ old.lane.capacity) (fits : CellFitsHistory new (after_input k.history x))
+    (capacity : new.lane.capacity ≡ old.lane.capacity) (fits : CellFitsHistory new
+    (after_input k.history x))
     (given : AreGivenFrom premise old.arbiter.venue old.arbiter.window 1 k.history.earlier
     (after_input k.history x).present) where
   input_kept : VenueLockInvariant premise lanes new
@@ -215,26 +236,34 @@ module _ {S : Type 0} (premise : Genuine S) (lanes : FeedLanes) (old new : CellS
   }
 
 -- a cell of the same session, which was given one more packet
-module _ {S : Type 0} (premise : Genuine S) (lanes : FeedLanes) (old new : CellState) (line : LineId) (p : Content)
+module _ {S : Type 0} (premise : Genuine S) (lanes : FeedLanes) (old new : CellState)
+    (line : LineId) (p : Content)
     (answer : Result Outcome LineFault) (k : VenueLockInvariant premise lanes old)
     (kept : KeepsItsSession old.arbiter new.arbiter) (tag : new.lane.tag ≡ old.lane.tag)
     (lane : new.lane.lane ≡ old.lane.lane) (capacity : new.lane.capacity ≡ old.lane.capacity)
-    (fits : CellFitsHistory new (after_input k.history (arrival_of line p answer))) (content : IsContent p)
-    (o : IsOutcome old.arbiter.session old.arbiter.window old.arbiter.sent k.history.present.packets p answer)
+    (fits : CellFitsHistory new (after_input k.history (arrival_of line p answer)))
+    (content : IsContent p)
+    (o : IsOutcome old.arbiter.session old.arbiter.window old.arbiter.sent
+    k.history.present.packets p answer)
     (genuine : IsGenuinePacket premise old.arbiter.venue p) where
   pub more_kept : VenueLockInvariant premise lanes new
-  more_kept = input_kept premise lanes old new (arrival_of line p answer) k kept tag lane capacity fits
+  more_kept = input_kept premise lanes old new (arrival_of line p answer) k
+      kept tag lane capacity fits
       (given_after premise lanes old line p answer k content o genuine)
 
-pub packet_kept : {S : Type 0} (premise : Genuine S) (lanes : FeedLanes) (old new : CellState) (line : LineId)
+pub packet_kept : {S : Type 0} (premise : Genuine S) (lanes : FeedLanes)
+    (old new : CellState) (line : LineId)
     (p : Content) (answer : Result Outcome LineFault) (k : VenueLockInvariant premise lanes old)
     → new.lane ≡ old.lane → KeepsItsPlace old.arbiter new.arbiter
     → CellFitsHistory new (after_input k.history (arrival_of line p answer)) → IsContent p
-    → IsOutcome old.arbiter.session old.arbiter.window old.arbiter.sent k.history.present.packets p answer
+    → IsOutcome old.arbiter.session old.arbiter.window old.arbiter.sent
+    k.history.present.packets p answer
     → IsGenuinePacket premise old.arbiter.venue p → VenueLockInvariant premise lanes new
 packet_kept premise lanes old new line p answer k lane kept fits content o genuine =
-    more_kept premise lanes old new line p answer k kept.session (ap (λ (e : LaneEnd Numbered). e.tag) lane)
-    (ap (λ (e : LaneEnd Numbered). e.lane) lane) (ap (λ (e : LaneEnd Numbered). e.capacity) lane) fits content o
+    more_kept premise lanes old new line p answer k kept.session
+    (ap (λ (e : LaneEnd Numbered). e.tag) lane)
+    (ap (λ (e : LaneEnd Numbered). e.lane) lane) (ap (λ (e : LaneEnd Numbered). e.capacity) lane)
+    fits content o
     genuine
 
 -- ---- a push
@@ -249,7 +278,8 @@ module _ (items : List Numbered) (sent : ℕ) (h : History)
       ap (λ (xs : List Numbered). slice_get xs (length items)) (items_push h.earlier h.present)
       ∙ get_sent (items_of h.earlier) (stream_of h.present.packets) items sent is le
 
-  sent_more : (x : Numbered) (n : ℕ) → n ≡ sent + 1 → Some x ≡ slice_get (stream_of h.present.packets) sent
+  sent_more : (x : Numbered) (n : ℕ) → n ≡ sent + 1
+      → Some x ≡ slice_get (stream_of h.present.packets) sent
       → items ++ x ∷ [] ≡ items_of h.earlier ++ take n (stream_of h.present.packets)
   sent_more x n one e =
       ap (λ (xs : List Numbered). xs ++ x ∷ []) is
@@ -259,31 +289,38 @@ module _ (items : List Numbered) (sent : ℕ) (h : History)
 
   -- it may be sent
   pub may_push : {S : Type 0} (premise : Genuine S) (venue window : ℕ) (x : Numbered)
-      → AreGivenFrom premise venue window 1 h.earlier h.present → Some x ≡ slice_get (stream_of h.present.packets) sent
+      → AreGivenFrom premise venue window 1 h.earlier h.present
+      → Some x ≡ slice_get (stream_of h.present.packets) sent
       → AreInSequence premise venue (items ++ x ∷ [])
   may_push premise venue window x given e =
       let stream = stream_of h.present.packets in
       let n = sent + 1 in
       let whole : streams_of h ≡ (items_of h.earlier ++ take n stream) ++ drop n stream =
       items_push h.earlier h.present ∙ ap (λ (xs : List Numbered). items_of h.earlier ++ xs)
-      (sym (take-append-drop n stream)) ∙ sym (append_assoc (items_of h.earlier) (take n stream) (drop n stream)) in
-      let all : AreInSequence premise venue ((items_of h.earlier ++ take n stream) ++ drop n stream) =
+      (sym (take-append-drop n stream))
+      ∙ sym (append_assoc (items_of h.earlier) (take n stream) (drop n stream)) in
+      let all : AreInSequence premise venue ((items_of h.earlier ++ take n stream)
+      ++ drop n stream) =
       subst (λ (xs : List Numbered). AreInSequence premise venue xs) whole
       (streams_sequence premise venue window h given) in
       subst (λ (xs : List Numbered). AreInSequence premise venue xs) (sym (sent_more x n refl e))
-      (prefix_in_sequence premise.carries premise.ends venue (items_of h.earlier ++ take n stream) (drop n stream)
+      (prefix_in_sequence premise.carries premise.ends venue (items_of h.earlier
+      ++ take n stream) (drop n stream)
       all)
 
 module _ (c : CellState) (h : History) (f : CellFitsHistory c h) where
   abbrev place : ℕ
   place = place_of h.present.packets c.arbiter.sent
 
-  pub next_of_cell : slice_get (streams_of h) (length c.lane.items) ≡ slice_get (stream_of h.present.packets) place
+  pub next_of_cell : slice_get (streams_of h) (length c.lane.items) ≡ slice_get
+      (stream_of h.present.packets) place
   next_of_cell = next_is c.lane.items place h f.sent (place_within f.history.present)
 
-  pub push_fits : (new : CellState) (x : Numbered) → Some x ≡ slice_get (stream_of h.present.packets) place
+  pub push_fits : (new : CellState) (x : Numbered)
+      → Some x ≡ slice_get (stream_of h.present.packets) place
       → new.lane ≡ with_items c.lane (c.lane.items ++ x ∷ []) → new.brought ≡ c.brought
-      → IsAdvanced c.arbiter new.arbiter → Fits new.arbiter h.present.packets → CellFitsHistory new h
+      → IsAdvanced c.arbiter new.arbiter → Fits new.arbiter h.present.packets
+      → CellFitsHistory new h
   push_fits new x e lane brought advanced fits = record {
     history = fits_push h f.history advanced.kept fits;
     sent = ap (λ (e : LaneEnd Numbered). e.items) lane
@@ -294,7 +331,8 @@ module _ (c : CellState) (h : History) (f : CellFitsHistory c h) where
 
   pub pushes : (new : CellState) (x : Numbered) (number : ℕ)
       → Some x ≡ slice_get (stream_of h.present.packets) place → number ≡ x.number
-      → new.lane ≡ with_items c.lane (c.lane.items ++ x ∷ []) → CellFitsHistory new h → PushesOne (Ok number) h c new
+      → new.lane ≡ with_items c.lane (c.lane.items ++ x ∷ []) → CellFitsHistory new h
+      → PushesOne (Ok number) h c new
   pushes new x number e is lane fits = record {
     full = false;
     was_full = λ t. absurd cc;
@@ -302,7 +340,8 @@ module _ (c : CellState) (h : History) (f : CellFitsHistory c h) where
     fits = fits;
   }
 
-  pub push_nothing : None ≡ slice_get (stream_of h.present.packets) place → PushesOne (Err unsent.Nothing) h c c
+  pub push_nothing : None ≡ slice_get (stream_of h.present.packets) place
+      → PushesOne (Err unsent.Nothing) h c c
   push_nothing e = record {
     full = false;
     was_full = λ t. absurd cc;
@@ -326,7 +365,8 @@ module _ (c : CellState) (h : History) (f : CellFitsHistory c h) where
   nothing_next whole unended =
       let present = f.history.present in
       let packets = h.present.packets in
-      let ending = ap (λ (e : Option ℕ). length (end_at e (front_of packets + 1))) (sym present.end ∙ unended) in
+      let ending = ap (λ (e : Option ℕ). length (end_at e (front_of packets + 1)))
+      (sym present.end ∙ unended) in
       next_of_cell ∙ slice_get_past (stream_of packets) place (omega (
         arith,
         length-append (closed_of packets) (part_of packets),
@@ -336,7 +376,8 @@ module _ (c : CellState) (h : History) (f : CellFitsHistory c h) where
         whole,
       ))
 
-pub push_kept : {S : Type 0} (premise : Genuine S) (lanes : FeedLanes) (old new : CellState) (x : Numbered)
+pub push_kept : {S : Type 0} (premise : Genuine S) (lanes : FeedLanes)
+    (old new : CellState) (x : Numbered)
     (k : VenueLockInvariant premise lanes old)
     → new.lane ≡ with_items old.lane (old.lane.items ++ x ∷ []) → IsAdvanced old.arbiter new.arbiter
     → CellFitsHistory new k.history → VenueLockInvariant premise lanes new
@@ -345,9 +386,11 @@ push_kept premise lanes old new x k lane advanced fits =
     record {
       history = k.history;
       fits = fits;
-      given = subst (λ (x : ℕ × ℕ). AreGivenFrom premise x.0 x.1 1 k.history.earlier k.history.present)
+      given = subst (λ (x : ℕ × ℕ). AreGivenFrom premise x.0 x.1 1
+          k.history.earlier k.history.present)
           (λ i. (sym kept.venue i, sym kept.window i)) k.given;
-      named = subst (λ (x : ℕ × (List (List ℕ) × List ℕ)). premise.sessions x.0 (length x.1.0) x.1.1)
+      named = subst (λ (x : ℕ × (List (List ℕ) × List ℕ)). premise.sessions
+          x.0 (length x.1.0) x.1.1)
           (λ i. (sym kept.venue i, (sym kept.sessions i, sym kept.session i))) k.named;
       tag = ap (λ (e : LaneEnd Numbered). e.tag) lane ∙ k.tag ∙ sym kept.venue;
       lane = ap (slice_get lanes.venues) kept.venue ∙ k.lane
@@ -360,25 +403,30 @@ push_kept premise lanes old new x k lane advanced fits =
 
 -- What such a packet brings: it is answered as new, the stream stays as it is up to there, and its
 -- item is there.
-pub record BringsOne (session : List ℕ) (window sent : ℕ) (packets : List Input) (line : LineId) (p : Content)
+pub record BringsOne (session : List ℕ) (window sent : ℕ) (packets : List Input)
+    (line : LineId) (p : Content)
     (x : Numbered) : Type 0 where
   pub answer : IsOutcome session window sent packets p (Ok (Taken 1 0))
-  pub grows : IsPrefix (stream_of packets) (stream_of (packets ++ arrival_of line p (Ok (Taken 1 0)) ∷ []))
+  pub grows : IsPrefix (stream_of packets) (stream_of (packets ++ arrival_of line p (Ok (Taken 1 0))
+      ∷ []))
   pub item : Some x ≡ slice_get (stream_of (packets ++ arrival_of line p (Ok (Taken 1 0)) ∷ []))
       (place_of (packets ++ arrival_of line p (Ok (Taken 1 0)) ∷ []) sent)
 
-get_drop : {X : Type 0} (n : ℕ) (xs ys : List X) (x : X) → drop n xs ≡ x ∷ ys → Some x ≡ slice_get xs n
+get_drop : {X : Type 0} (n : ℕ) (xs ys : List X) (x : X) → drop n xs ≡ x ∷ ys
+    → Some x ≡ slice_get xs n
 get_drop zero [] ys x e = absurd cc
 get_drop zero (z ∷ zs) ys x e = cc
 get_drop (suc n) [] ys x e = absurd cc
 get_drop (suc n) (z ∷ zs) ys x e = get_drop n zs ys x e
 
-pub has_one : (n : ℕ) (x : Numbered) (ms : List (List ℕ)) → x ∷ [] ≡ numbered_from n (map item_of ms) → length ms ≡ 1
+pub has_one : (n : ℕ) (x : Numbered) (ms : List (List ℕ)) → x
+    ∷ [] ≡ numbered_from n (map item_of ms) → length ms ≡ 1
 has_one n x [] e = absurd cc
 has_one n x (m ∷ []) e = refl
 has_one n x (m ∷ k ∷ ms) e = absurd cc
 
-pub first_number : (n : ℕ) (x : Numbered) (xs : List Item) → x ∷ [] ≡ numbered_from n xs → x.number ≡ n
+pub first_number : (n : ℕ) (x : Numbered) (xs : List Item) → x
+    ∷ [] ≡ numbered_from n xs → x.number ≡ n
 first_number n x [] e = absurd cc
 first_number n x (y ∷ ys) e = cc
 
@@ -395,9 +443,11 @@ module _ (s : State) (packets : List Input) (p : Content) (x : Numbered)
       let all = added (length p.messages) in
       let rest = drop (place_of all (last_number p)) (stream_of all) in
       record {
-        answer = subst (λ (n : ℕ). IsOutcome s.session s.window s.sent packets p (Ok (Taken n 0))) one b.answer;
+        answer = subst (λ (n : ℕ). IsOutcome s.session s.window s.sent packets p (Ok (Taken n 0)))
+            one b.answer;
         grows = subst (λ (n : ℕ). IsPrefix (stream_of packets) (stream_of (added n))) one b.grows;
-        item = subst (λ (n : ℕ). Some x ≡ slice_get (stream_of (added n)) (place_of (added n) s.sent)) one
+        item = subst (λ (n : ℕ). Some x ≡ slice_get (stream_of (added n))
+            (place_of (added n) s.sent)) one
             (get_drop (place_of all s.sent) (stream_of all) rest x
             (b.items ∙ ap (λ (xs : List Numbered). xs ++ rest) (sym item)));
       }
@@ -411,8 +461,10 @@ module _ (s : State) (packets : List Input) (p : Content) (x : Numbered)
       let one = one_message in
       omega arith
 
-module _ (old : CellState) (h : History) (line : LineId) (p : Content) (x : Numbered) (f : CellFitsHistory old h)
-    (brings : BringsOne old.arbiter.session old.arbiter.window old.arbiter.sent h.present.packets line p x) where
+module _ (old : CellState) (h : History) (line : LineId) (p : Content) (x : Numbered)
+    (f : CellFitsHistory old h)
+    (brings : BringsOne old.arbiter.session old.arbiter.window old.arbiter.sent
+    h.present.packets line p x) where
   abbrev passed : Input
   passed = arrival_of line p (Ok (Taken 1 0))
 
@@ -433,7 +485,8 @@ module _ (old : CellState) (h : History) (line : LineId) (p : Content) (x : Numb
   -- the items that were sent are a prefix with the packet, too
   sent_before : old.lane.items ≡ items_of h.earlier ++ take (place_of packets old.arbiter.sent) more
   sent_before = f.sent ∙ ap (λ (xs : List Numbered). items_of h.earlier ++ xs)
-      (sym (take_same (stream_of h.present.packets) more (place_of h.present.packets old.arbiter.sent) brings.grows
+      (sym (take_same (stream_of h.present.packets) more (place_of h.present.packets
+      old.arbiter.sent) brings.grows
       (place_within f.history.present))
       ∙ ap (λ (n : ℕ). take n more) (sym (places_stay old.arbiter.sent)))
 
@@ -441,7 +494,8 @@ module _ (old : CellState) (h : History) (line : LineId) (p : Content) (x : Numb
   is_there =
       let le = place_within f.history.present in
       let stay = places_stay old.arbiter.sent in
-      let e : length more ≡ length (stream_of h.present.packets) + length brings.grows.rest = ap length brings.grows.is
+      let e : length more ≡ length (stream_of h.present.packets) + length brings.grows.rest =
+      ap length brings.grows.is
       ∙ length-append (stream_of h.present.packets) brings.grows.rest in
       omega arith
 
@@ -453,18 +507,22 @@ module _ (old : CellState) (h : History) (line : LineId) (p : Content) (x : Numb
 
   module _ (new : CellState) (outcome : Outcome) (one : outcome ≡ Taken 1 0)
       (lane : new.lane ≡ with_items old.lane (old.lane.items ++ x ∷ []))
-      (sent : new.arbiter.sent ≡ old.arbiter.sent + 1) (kept : KeepsItsSession old.arbiter new.arbiter)
+      (sent : new.arbiter.sent ≡ old.arbiter.sent + 1)
+      (kept : KeepsItsSession old.arbiter new.arbiter)
       (fits : Fits new.arbiter (h.present.packets ++ arrival_of line p (Ok outcome) ∷ []))
       (brought : new.brought ≡ brought_after line p (Ok outcome) old.brought) where
     pub pass_fits : CellFitsHistory new (after_input h passed)
     pass_fits = record {
       history = fits_packet h passed f.history kept (subst
-          (λ (o : Outcome). Fits new.arbiter (h.present.packets ++ arrival_of line p (Ok o) ∷ [])) one fits);
+          (λ (o : Outcome). Fits new.arbiter (h.present.packets ++ arrival_of line p (Ok o) ∷ []))
+          one fits);
       sent = ap (λ (e : LaneEnd Numbered). e.items) lane
-          ∙ sent_more old.lane.items (place_of packets old.arbiter.sent) (after_input h passed) sent_before x
+          ∙ sent_more old.lane.items (place_of packets old.arbiter.sent)
+          (after_input h passed) sent_before x
           (place_of packets new.arbiter.sent) (ap (place_of packets) sent ∙ next_place) brings.item;
       accepted = accepted_more old new.brought h line p (Ok (Taken 1 0)) f
-          (subst (λ (o : Outcome). new.brought ≡ brought_after line p (Ok o) old.brought) one brought);
+          (subst (λ (o : Outcome). new.brought ≡ brought_after line p (Ok o) old.brought) one
+          brought);
     }
 
     abbrev takes_one : TakesPacket line p (Ok (Taken 1 0)) h old new
@@ -481,7 +539,8 @@ module _ (old : CellState) (h : History) (line : LineId) (p : Content) (x : Numb
     passes number = subst (λ (o : Outcome). TakesAndPushes line p o h old new) (sym one) (record {
       takes = takes_one;
       comes = rw (
-        next_is old.lane.items (place_of packets old.arbiter.sent) (after_input h passed) sent_before is_there,
+        next_is old.lane.items (place_of packets old.arbiter.sent)
+            (after_input h passed) sent_before is_there,
         ← brings.item,
         ← number,
       ) (refl, ap (λ (e : LaneEnd Numbered). e.items) lane);
@@ -490,20 +549,28 @@ module _ (old : CellState) (h : History) (line : LineId) (p : Content) (x : Numb
 -- ---- a cell where nothing came yet
 
 nothing : (line : LineId)
-    → (on_line line (record { a = nothing_brought; b = nothing_brought; recovery = nothing_brought })).accepted ≡ []
+    → (on_line line (record {
+      a = nothing_brought;
+      b = nothing_brought;
+      recovery =
+          nothing_brought;
+    })).accepted ≡ []
 nothing A = refl
 nothing B = refl
 nothing Recovery = refl
 
-pub new_fits : (arbiter : State) (lane : LaneEnd Numbered) → IsNew arbiter lane.tag arbiter.session arbiter.window
-    → Fits arbiter [] → lane.items ≡ [] → CellFitsHistory (new_cell arbiter lane) (new_history arbiter.session)
+pub new_fits : (arbiter : State) (lane : LaneEnd Numbered)
+    → IsNew arbiter lane.tag arbiter.session arbiter.window
+    → Fits arbiter [] → lane.items ≡ [] → CellFitsHistory (new_cell arbiter lane)
+    (new_history arbiter.session)
 new_fits arbiter lane new fits empty = record {
   history = fits_new new fits;
   sent = empty ∙ sym (ap (λ (n : ℕ). take (place_of [] n) (stream_of [])) new.begun.sent);
   accepted = nothing;
 }
 
-pub new_kept : {S : Type 0} (premise : Genuine S) (lanes : FeedLanes) (arbiter : State) (lane : LaneEnd Numbered)
+pub new_kept : {S : Type 0} (premise : Genuine S) (lanes : FeedLanes) (arbiter : State)
+    (lane : LaneEnd Numbered)
     → IsNew arbiter lane.tag arbiter.session arbiter.window → Fits arbiter [] → lane.items ≡ []
     → premise.sessions lane.tag 1 arbiter.session → slice_get lanes.venues lane.tag ≡ Some lane.lane
     → (arbiter.window ≡ lanes.setting.window) × (lane.capacity ≡ lanes.setting.lane)
@@ -531,37 +598,45 @@ module _ (old new : CellState) (h : History) (name : List ℕ) (f : CellFitsHist
     (whole : IsComplete h.present.packets
     × (place_of h.present.packets old.arbiter.sent ≡ length (stream_of h.present.packets)))
     (lane : new.lane ≡ old.lane) (brought : new.brought ≡ old.brought) where
-  pub renewed_fits : CellFitsHistory new (record { earlier = all_begun h; present = new_session name })
+  pub renewed_fits : CellFitsHistory new
+      (record { earlier = all_begun h; present = new_session name })
   renewed_fits = record {
     history = fits_renewal h name f.history begun fits;
     sent =
         ap (λ (e : LaneEnd Numbered). e.items) lane ∙ f.sent
         ∙ ap (λ (n : ℕ). items_of h.earlier ++ take n (stream_of h.present.packets)) whole.1
-        ∙ ap (λ (xs : List Numbered). items_of h.earlier ++ xs) (take_whole (stream_of h.present.packets))
+        ∙ ap (λ (xs : List Numbered). items_of h.earlier ++ xs)
+        (take_whole (stream_of h.present.packets))
         ∙ sym (items_push h.earlier h.present)
         ∙ sym (append-nil (items_of (all_begun h)))
-        ∙ ap (λ (n : ℕ). items_of (all_begun h) ++ take (place_of [] n) (stream_of [])) (sym begun.begun.sent);
+        ∙ ap (λ (n : ℕ). items_of (all_begun h) ++ take (place_of [] n) (stream_of []))
+        (sym begun.begun.sent);
     accepted = λ l. ap (λ (b : PerLine Brought). (on_line l b).accepted) brought ∙ f.accepted l
         ∙ ap (accepted_on l) (sym (arrivals_push (all_begun h) (new_session name)
         ∙ append-nil (arrivals_of (all_begun h))));
   }
 
-  pub renewed_kept : {S : Type 0} (premise : Genuine S) (lanes : FeedLanes) (k : VenueLockInvariant premise lanes old)
+  pub renewed_kept : {S : Type 0} (premise : Genuine S) (lanes : FeedLanes)
+      (k : VenueLockInvariant premise lanes old)
       → k.history ≡ h → premise.sessions old.arbiter.venue (ordinal_of old.arbiter + 1) name
       → VenueLockInvariant premise lanes new
   renewed_kept premise lanes k is named =
-      let given = subst (λ (x : History). AreGivenFrom premise old.arbiter.venue old.arbiter.window 1 x.earlier
+      let given = subst (λ (x : History). AreGivenFrom premise old.arbiter.venue
+      old.arbiter.window 1 x.earlier
       x.present) is k.given in
       record {
         history = record { earlier = all_begun h; present = new_session name };
         fits = renewed_fits;
-        given = subst (λ (x : ℕ × ℕ). AreGivenFrom premise x.0 x.1 1 (all_begun h) (new_session name))
+        given = subst (λ (x : ℕ × ℕ). AreGivenFrom premise x.0 x.1 1
+            (all_begun h) (new_session name))
             (λ i. (sym begun.venue i, sym begun.window i))
-            (next_given premise old.arbiter.venue old.arbiter.window 1 h.earlier h.present name whole.0 given);
+            (next_given premise old.arbiter.venue old.arbiter.window 1 h.earlier
+            h.present name whole.0 given);
         named = subst (λ (x : ℕ × (ℕ × List ℕ)). premise.sessions x.0 x.1.0 x.1.1)
             (λ i. (sym begun.venue i, (sym ordinal i, sym begun.begun.session i))) named;
         tag = ap (λ (e : LaneEnd Numbered). e.tag) lane ∙ k.tag ∙ sym begun.venue;
-        lane = ap (slice_get lanes.venues) begun.venue ∙ k.lane ∙ ap (λ (e : LaneEnd Numbered). Some e.lane) (sym lane);
+        lane = ap (slice_get lanes.venues) begun.venue ∙ k.lane
+            ∙ ap (λ (e : LaneEnd Numbered). Some e.lane) (sym lane);
         window = begun.window ∙ k.window;
         capacity = ap (λ (e : LaneEnd Numbered). e.capacity) lane ∙ k.capacity;
       }
@@ -569,7 +644,8 @@ module _ (old new : CellState) (h : History) (name : List ℕ) (f : CellFitsHist
       ordinal : ordinal_of new.arbiter ≡ ordinal_of old.arbiter + 1
       ordinal = ap length begun.sessions ∙ length-append old.arbiter.sessions (name ∷ [])
 
-  pub renews : (ordinal : ℕ) → IsRenewal old.arbiter.sessions old.arbiter.end old.arbiter.sent name (Ok ordinal)
+  pub renews : (ordinal : ℕ) → IsRenewal old.arbiter.sessions old.arbiter.end
+      old.arbiter.sent name (Ok ordinal)
       → RenewsSession name (Ok ordinal) h old new
   renews ordinal right = record {
     after = record { earlier = all_begun h; present = new_session name };
@@ -588,11 +664,13 @@ skip_keeps s = record {
   earlier = s.earlier;
 }
 
-module _ (old new : CellState) (h : History) (number : ℕ) (f : CellFitsHistory old h) (done : Unit {0})
+module _ (old new : CellState) (h : History) (number : ℕ)
+    (f : CellFitsHistory old h) (done : Unit {0})
     (right : IsSkip h.present.packets old.arbiter.sent number (Ok done))
     (skipped : IsSkipped old.arbiter new.arbiter number)
     (fits : Fits new.arbiter (h.present.packets ++ Skip number ∷ []))
-    (grows : IsPrefix (stream_of h.present.packets) (stream_of (h.present.packets ++ Skip number ∷ [])))
+    (grows : IsPrefix (stream_of h.present.packets)
+    (stream_of (h.present.packets ++ Skip number ∷ [])))
     (lane : new.lane ≡ old.lane) (brought : new.brought ≡ old.brought) where
   abbrev stream : List Numbered
   stream = stream_of h.present.packets
@@ -612,7 +690,8 @@ module _ (old new : CellState) (h : History) (number : ℕ) (f : CellFitsHistory
         ∙ ap (λ (n : ℕ). take n (stream_of with_skip))
         (sym (place_skip h.present.packets number new.arbiter.sent right.1 skipped.sent)));
     accepted = λ l. ap (λ (b : PerLine Brought). (on_line l b).accepted) brought ∙ f.accepted l
-        ∙ ap (accepted_on l) (sym (arrivals_more h (Skip number) ∙ append-nil (arrivals_of (all_begun h))));
+        ∙ ap (accepted_on l) (sym (arrivals_more h (Skip number)
+        ∙ append-nil (arrivals_of (all_begun h))));
   }
 
   pub skips : SkipsGap number (Ok done) h old new
@@ -622,10 +701,12 @@ module _ (old new : CellState) (h : History) (number : ℕ) (f : CellFitsHistory
     fits = skipped_fits;
   }
 
-pub skip_kept : {S : Type 0} (premise : Genuine S) (lanes : FeedLanes) (old new : CellState) (number : ℕ)
+pub skip_kept : {S : Type 0} (premise : Genuine S) (lanes : FeedLanes)
+    (old new : CellState) (number : ℕ)
     (k : VenueLockInvariant premise lanes old) → MaySkip k.history.present.packets number
     → IsSkipped old.arbiter new.arbiter number → new.lane ≡ old.lane
-    → CellFitsHistory new (after_input k.history (Skip number)) → VenueLockInvariant premise lanes new
+    → CellFitsHistory new (after_input k.history (Skip number))
+    → VenueLockInvariant premise lanes new
 skip_kept premise lanes old new number k may skipped lane fits =
     let h = k.history in
     let venue = old.arbiter.venue in
@@ -643,10 +724,12 @@ past_end (x ∷ xs) (suc n) e = let h = past_end xs n e in omega arith
 
 -- where no item is ready, all were sent
 none_unsent : (c : CellState) (h : History) → CellFitsHistory c h
-    → slice_get (streams_of h) (length c.lane.items) ≡ None → AllSent h.present.packets c.arbiter.sent
+    → slice_get (streams_of h) (length c.lane.items) ≡ None
+    → AllSent h.present.packets c.arbiter.sent
 none_unsent c h f none =
     let packets = h.present.packets in
-    let past = past_end (stream_of packets) (place_of packets c.arbiter.sent) (sym (next_of_cell c h f) ∙ none) in
+    let past = past_end (stream_of packets) (place_of packets c.arbiter.sent)
+    (sym (next_of_cell c h f) ∙ none) in
     let whole = length-append (closed_of packets) (part_of packets) in
     let opened = f.history.present.opened in
     let sent = f.history.present.sent in
@@ -673,7 +756,8 @@ unsent_where_full premise lanes most first number answer old before between k pu
         IsSkip k.history.present.packets before.arbiter.sent number a) is right
 
 -- what was done in the section of a skip
-pub skips_at : {S : Type 0} (premise : Genuine S) (lanes : FeedLanes) (venue number first pushed : ℕ)
+pub skips_at : {S : Type 0} (premise : Genuine S) (lanes : FeedLanes)
+    (venue number first pushed : ℕ)
     (answer : Result (Unit {0}) SkipFault) (old before between new : CellState)
     → VenueLockInvariant premise lanes old → old.arbiter.venue ≡ venue
     → Pushes (2 ^ 64 - 1) first old before → VenueLockInvariant premise lanes before
@@ -681,7 +765,8 @@ pub skips_at : {S : Type 0} (premise : Genuine S) (lanes : FeedLanes) (venue num
     → OnOk answer (GoesOnFrom number before between) → OnErr answer (between ≡ before)
     → Pushes (2 ^ 64 - 1) pushed between new → VenueLockInvariant premise lanes new
     → UnderVenueLock premise lanes venue (PushesAndSkips number answer)
-skips_at premise lanes venue number first pushed answer old before between new kept is sends ready skips on refused
+skips_at premise lanes venue number first pushed answer old before between new kept is
+    sends ready skips on refused
     pushes keeps = record {
       old = old;
       kept = kept;
@@ -743,9 +828,11 @@ module _ (pushed : ℕ) (old between new : CellState) (r : PushesSoFar pushed ol
         sent = omega (arith, longer, before);
         others = record {
           arbiter = keeping_all_but_sent_is_transitive r.others.arbiter next.arbiter;
-          lane = next.lane ∙ ap (λ (e : LaneEnd Numbered). with_items e new.lane.items) r.others.lane;
+          lane = next.lane
+              ∙ ap (λ (e : LaneEnd Numbered). with_items e new.lane.items) r.others.lane;
           others = next.others
-              ∙ ap (λ (s : CellState). record s { arbiter = new.arbiter; lane = new.lane }) r.others.others;
+              ∙ ap (λ (s : CellState). record s { arbiter = new.arbiter; lane = new.lane })
+              r.others.others;
         };
       }
 
@@ -772,7 +859,8 @@ module _ (pushed : ℕ) (old between new : CellState) (r : PushesSoFar pushed ol
       by_why : (u : Unsent)
           → ((h : History) → CellFitsHistory between h → PushesOne (Err u) h between new)
           → HasFilled between.lane ⊎ HasNoneReady between
-      by_why unsent.Nothing all = inr (λ h f. none_ready between.lane.items new.lane.items (all h f).full
+      by_why unsent.Nothing all = inr (λ h f. none_ready between.lane.items
+          new.lane.items (all h f).full
           (slice_get (streams_of h) (length between.lane.items)) (all h f).comes)
       by_why unsent.LaneFull all =
           let p = all k.history fits in
@@ -788,7 +876,15 @@ module _ {S : Type 0} (premise : Genuine S) (lanes : FeedLanes) (venue : ℕ)
       → old.arbiter.venue ≡ venue → VenueLockInvariant premise lanes new → section old new
       → DoneAtVenue premise lanes venue section answer
   at_venue old new kept is keeps leads =
-      inl (record { old = old; kept = kept; venue_is = is; new = new; keeps = keeps; leads = leads })
+      inl (record {
+        old = old;
+        kept = kept;
+        venue_is = is;
+        new = new;
+        keeps =
+            keeps;
+        leads = leads;
+      })
 
   -- it was another venue's
   pub at_another : (cell : CellState) → VenueLockInvariant premise lanes cell

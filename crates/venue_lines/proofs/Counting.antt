@@ -33,18 +33,21 @@ one_more_at (Line line.EndMoved) f = refl
 one_more_at (Line line.EndTooEarly) f = refl
 one_more_at (Line line.Conflict) f = refl
 
-one_if : (b : Bool) (n : ℕ) → (if b then shown (shown n + 1) else shown n) ≡ shown (n + (if b then 1 else 0))
+one_if : (b : Bool) (n : ℕ) → (if b then shown (shown n + 1) else shown n) ≡ shown
+    (n + (if b then 1 else 0))
 one_if true n = omega arith
 one_if false n = omega arith
 
 refusals_more : (faults : List TakeFault) (fault : TakeFault)
     → slice_set (map (λ k. shown (count_of_code k faults)) counted_codes) (take_fault_code fault)
-    (shown (slice_index (map (λ k. shown (count_of_code k faults)) counted_codes) (take_fault_code fault) + 1))
+    (shown (slice_index (map (λ k. shown (count_of_code k faults)) counted_codes)
+    (take_fault_code fault) + 1))
     ≡ map (λ k. shown (count_of_code k (faults ++ fault ∷ []))) counted_codes
 refusals_more faults fault =
     one_more_at fault (λ k. shown (count_of_code k faults))
     ∙ (λ i. map (λ k. (one_if (take_fault_code fault == k) (count_of_code k faults)
-    ∙ ap shown (sym (sum_by_push (λ x. if take_fault_code x == k then 1 else 0) faults fault))) i) counted_codes)
+    ∙ ap shown (sym (sum_by_push (λ x. if take_fault_code x == k then 1 else 0) faults fault))) i)
+    counted_codes)
 
 pub refusal_counted : (old : LineCounts) (b : Brought) (fault : TakeFault) → old ≡ counts_of b
     → record old {
@@ -108,6 +111,7 @@ both_counted s t b c is are =
           ∷ both_wrapped (number_of is_of_heartbeat) b.accepted c.accepted i
           ∷ both_wrapped (number_of is_of_end) b.accepted c.accepted i
           ∷ both_wrapped (number_of is_past_window) b.accepted c.accepted i ∷ [];
-      refused = map (λ k. both_shown (λ x. if take_fault_code x == k then 1 else 0) b.refused c.refused i)
+      refused = map (λ k. both_shown (λ x. if take_fault_code x == k then 1 else 0) b.refused
+          c.refused i)
           counted_codes;
     })

@@ -23,9 +23,11 @@ take_next (y ∷ ys) zero (suc m) x is e =
     let same : y ≡ x = cc in
     ap (λ (k : ℕ). y ∷ take k ys) none ∙ ap (λ (z : _). z ∷ []) same
 take_next (y ∷ ys) (suc n) zero x is e = absurd (omega arith)
-take_next (y ∷ ys) (suc n) (suc m) x is e = ap (λ (l : List _). y ∷ l) (take_next ys n m x (omega arith) e)
+take_next (y ∷ ys) (suc n) (suc m) x is e = ap (λ (l : List _). y ∷ l)
+    (take_next ys n m x (omega arith) e)
 
-get_after : {X : Type 0} (xs ys : List X) (n m : ℕ) → m ≡ length xs + n → slice_get (xs ++ ys) m ≡ slice_get ys n
+get_after : {X : Type 0} (xs ys : List X) (n m : ℕ) → m ≡ length xs + n
+    → slice_get (xs ++ ys) m ≡ slice_get ys n
 get_after [] ys n m is = ap (slice_get ys) (omega arith)
 get_after (x ∷ xs) ys n zero is = absurd (omega arith)
 get_after (x ∷ xs) ys n (suc m) is = get_after xs ys n m (omega arith)
@@ -75,19 +77,25 @@ module _ {S : Type 0} (premise : Genuine S) (venue window : ℕ) where
       (record b { packets = b.packets ++ x ∷ [] })
   given_more ordinal b x genuine right g = record {
     answered = answered_more b.name window b.packets x g.answered right;
-    genuine = all_push (λ (y : Input). IsGenuineIn premise.carries premise.ends venue ordinal b.name y)
+    genuine = all_push (λ (y : Input). IsGenuineIn premise.carries premise.ends
+        venue ordinal b.name y)
         b.packets x g.genuine genuine;
   }
 
-  pub present_given : (ordinal : ℕ) (bs : List Begun) (b : Begun) → AreGivenFrom premise venue window ordinal bs b
+  pub present_given : (ordinal : ℕ) (bs : List Begun) (b : Begun)
+      → AreGivenFrom premise venue window ordinal bs b
       → AreGiven premise venue window (ordinal + length bs) b
-  present_given ordinal [] b g = subst (λ (n : ℕ). AreGiven premise venue window n b) (omega arith) g
-  present_given ordinal (x ∷ bs) b g = subst (λ (n : ℕ). AreGiven premise venue window n b) (omega arith)
+  present_given ordinal [] b g = subst (λ (n : ℕ). AreGiven premise venue window n b) (omega arith)
+      g
+  present_given ordinal (x ∷ bs) b g = subst (λ (n : ℕ). AreGiven premise venue window n b)
+      (omega arith)
       (present_given (ordinal + 1) bs b g.2)
 
   pub present_more : (ordinal : ℕ) (bs : List Begun) (b c : Begun)
-      → (AreGiven premise venue window (ordinal + length bs) b → AreGiven premise venue window (ordinal + length bs) c)
-      → AreGivenFrom premise venue window ordinal bs b → AreGivenFrom premise venue window ordinal bs c
+      → (AreGiven premise venue window (ordinal + length bs) b → AreGiven premise venue window
+      (ordinal + length bs) c)
+      → AreGivenFrom premise venue window ordinal bs b
+      → AreGivenFrom premise venue window ordinal bs c
   present_more ordinal [] b c f g =
       let same : ordinal + 0 ≡ ordinal = omega arith in
       subst (λ (n : ℕ). AreGiven premise venue window n c) same
@@ -96,13 +104,17 @@ module _ {S : Type 0} (premise : Genuine S) (venue window : ℕ) where
       let same : (ordinal + 1) + length bs ≡ ordinal + length (x ∷ bs) = omega arith in (
         g.0,
         g.1,
-        present_more (ordinal + 1) bs b c (λ h. subst (λ (n : ℕ). AreGiven premise venue window n c) (sym same)
+        present_more (ordinal + 1) bs b c (λ h. subst (λ (n : ℕ). AreGiven premise venue window n c)
+            (sym same)
             (f (subst (λ (n : ℕ). AreGiven premise venue window n b) same h))) g.2,
       )
 
   -- the present session is over, and another begins, of which nothing came
-  pub next_given : (ordinal : ℕ) (bs : List Begun) (b : Begun) (name : List ℕ) → IsComplete b.packets
+  pub next_given : (ordinal : ℕ) (bs : List Begun) (b : Begun) (name : List ℕ)
+      → IsComplete b.packets
       → AreGivenFrom premise venue window ordinal bs b
-      → AreGivenFrom premise venue window ordinal (bs ++ b ∷ []) (record { name = name; packets = [] })
+      → AreGivenFrom premise venue window ordinal (bs ++ b ∷ [])
+      (record { name = name; packets = [] })
   next_given ordinal [] b name over g = (g, over, record { answered = tt; genuine = tt })
-  next_given ordinal (x ∷ bs) b name over g = (g.0, g.1, next_given (ordinal + 1) bs b name over g.2)
+  next_given ordinal (x ∷ bs) b name over g =
+      (g.0, g.1, next_given (ordinal + 1) bs b name over g.2)

@@ -10,19 +10,23 @@ get_last : {X : Type 0} (xs : List X) (x : X) → slice_get (xs ++ x ∷ []) (le
 get_last [] x = refl
 get_last (y ∷ ys) x = get_last ys x
 
-get_more : {X : Type 0} (xs ys : List X) (k : ℕ) (x : X) → slice_get xs k ≡ Some x → slice_get (xs ++ ys) k ≡ Some x
+get_more : {X : Type 0} (xs ys : List X) (k : ℕ) (x : X) → slice_get xs k ≡ Some x
+    → slice_get (xs ++ ys) k ≡ Some x
 get_more [] ys k x e = absurd cc
 get_more (z ∷ xs) ys zero x e = e
 get_more (z ∷ xs) ys (suc k) x e = get_more xs ys k x e
 
 -- one more venue
-pub starts_more : (window lane : ℕ) (starts : List StartState) (receivers : List (LaneEnd Numbered)) (s : StartState)
-    (e : LaneEnd Numbered) → AreStarts window lane starts receivers → e ≡ s.lane → e.tag ≡ length receivers
+pub starts_more : (window lane : ℕ) (starts : List StartState) (receivers : List (LaneEnd Numbered))
+    (s : StartState)
+    (e : LaneEnd Numbered) → AreStarts window lane starts receivers → e ≡ s.lane
+    → e.tag ≡ length receivers
     → e.items ≡ []
     → (s.arbiter.window ≡ window) × (s.lane.capacity ≡ lane)
     → AreStarts window lane (starts ++ s ∷ []) (receivers ++ e ∷ [])
 starts_more window lane starts receivers s e h same tag empty sized = record {
-  count = length-append starts (s ∷ []) ∙ ap (λ (n : ℕ). n + 1) h.count ∙ sym (length-append receivers (e ∷ []));
+  count = length-append starts (s ∷ []) ∙ ap (λ (n : ℕ). n + 1) h.count
+      ∙ sym (length-append receivers (e ∷ []));
   same = λ k y at. elim (get_push starts k s y at) [
     | inl here ↦ ap (slice_get (receivers ++ e ∷ [])) (here.0 ∙ h.count) ∙ get_last receivers e
         ∙ ap Some (same ∙ sym (ap (λ (x : StartState). x.lane) here.1))
@@ -34,7 +38,8 @@ starts_more window lane starts receivers s e h same tag empty sized = record {
     | inr there ↦ h.new k y there.1
   ];
   sized = λ k y at. elim (get_push starts k s y at) [
-    | inl here ↦ subst (λ (x : StartState). (x.arbiter.window ≡ window) × (x.lane.capacity ≡ lane)) (sym here.1) sized
+    | inl here ↦ subst (λ (x : StartState). (x.arbiter.window ≡ window) × (x.lane.capacity ≡ lane))
+        (sym here.1) sized
     | inr there ↦ h.sized k y there.1
   ];
 }

@@ -15,7 +15,8 @@ use Rattle.feed_steps.specs.Lanes.{FeedLanes}
 use Rattle.venue_lines.specs.Cells.{CellState, VenueLockInvariant}
 use Rattle.venue_lines.specs.laws.Given.{streams_sequence}
 
-module _ {S : Type 0} (premise : Genuine S) (of_sessions : AreOfSessions premise) (lanes : FeedLanes) where
+module _ {S : Type 0} (premise : Genuine S) (of_sessions : AreOfSessions premise)
+    (lanes : FeedLanes) where
   -- what was sent may be sent: it is the first items of the sessions' streams
   sent_in_sequence : (c : CellState) → VenueLockInvariant premise lanes c
       → AreInSequence premise c.arbiter.venue c.lane.items

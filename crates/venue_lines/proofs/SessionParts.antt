@@ -27,7 +27,8 @@ use Rattle.venue_lines.specs.laws.Given.{given_genuine}
 
 -- ---- one session
 
-module _ {S : Type 0} (premise : Genuine S) (venue window ordinal : ℕ) (all : List Session) (s : Session)
+module _ {S : Type 0} (premise : Genuine S) (venue window ordinal : ℕ)
+    (all : List Session) (s : Session)
     (names : BringExactly premise venue all) (at : IsSessionAt all ordinal s) (name : List ℕ) where
   -- what came so far: what was taken is genuine, and the skips go on within the session
   record CameSoFar (packets : List Input) : Type 0 where
@@ -35,21 +36,25 @@ module _ {S : Type 0} (premise : Genuine S) (venue window ordinal : ℕ) (all : 
     within : AllByRecursion (SkipsWithin s) packets
 
   part : (packets : List Input) → CameSoFar packets → part_of packets ≡ part_in s packets
-  part packets so_far = part_is s packets (part_of_session premise.sessions premise.carries premise.ends venue
+  part packets so_far = part_is s packets (part_of_session premise.sessions
+      premise.carries premise.ends venue
       ordinal all s packets names at so_far.genuine so_far.within)
 
   abbrev genuine_in : Input → Type 0
   genuine_in x = IsGenuineIn premise.carries premise.ends venue ordinal name x
 
-  more : (before : List Input) (x : Input) → CameSoFar before → IsAnswered name window before x → genuine_in x
+  more : (before : List Input) (x : Input) → CameSoFar before → IsAnswered name window before x
+      → genuine_in x
       → SkipsWithin s x → CameSoFar (before ++ x ∷ [])
   more before x so_far right genuine within = record {
-    genuine = genuine_grows premise.carries premise.ends venue ordinal window name before x so_far.genuine genuine
+    genuine = genuine_grows premise.carries premise.ends venue ordinal window name before
+        x so_far.genuine genuine
         right;
     within = all_push (SkipsWithin s) before x so_far.within within;
   }
 
-  closed_are : (before rest : List Input) → CameSoFar before → AreAnsweredAfter name window before rest
+  closed_are : (before rest : List Input) → CameSoFar before
+      → AreAnsweredAfter name window before rest
       → AllByRecursion (λ x. genuine_in x) rest → AllByRecursion (SkipsWithin s) rest
       → closed_after before rest ≡ parts_after s before rest
   closed_are before [] so_far answered genuine within = refl
@@ -59,10 +64,12 @@ module _ {S : Type 0} (premise : Genuine S) (venue window ordinal : ℕ) (all : 
   closed_are before (Skip n ∷ rest) so_far answered genuine within =
       let later = closed_are (before ++ Skip n ∷ []) rest
       (more before (Skip n) so_far answered.0 genuine.0 within.0) answered.1 genuine.1 within.1 in
-      ap (λ (xs : List Numbered). xs ++ closed_after (before ++ Skip n ∷ []) rest) (part before so_far)
+      ap (λ (xs : List Numbered). xs ++ closed_after (before ++ Skip n ∷ []) rest)
+      (part before so_far)
       ∙ ap (λ (xs : List Numbered). part_in s before ++ xs) later
 
-pub stream_parts : {S : Type 0} (premise : Genuine S) (venue window ordinal : ℕ) (all : List Session) (s : Session)
+pub stream_parts : {S : Type 0} (premise : Genuine S) (venue window ordinal : ℕ)
+    (all : List Session) (s : Session)
     → BringExactly premise venue all → IsSessionAt all ordinal s → (b : Begun)
     → AreGiven premise venue window ordinal b → AllByRecursion (SkipsWithin s) b.packets
     → stream_of b.packets ≡ session_parts s b.packets
@@ -84,26 +91,33 @@ module _ {S : Type 0} (premise : Genuine S) (venue window : ℕ) (all : List Ses
     (names : BringExactly premise venue all) where
   -- these are the sessions from the ordinal on
   abbrev AreFrom : ℕ → List Session → Type 0
-  AreFrom ordinal ss = (i : ℕ) (s : Session) → slice_get ss i ≡ Some s → IsSessionAt all (ordinal + i) s
+  AreFrom ordinal ss = (i : ℕ) (s : Session) → slice_get ss i ≡ Some s
+      → IsSessionAt all (ordinal + i) s
 
-  later : (ordinal : ℕ) (s : Session) (ss : List Session) → AreFrom ordinal (s ∷ ss) → AreFrom (ordinal + 1) ss
+  later : (ordinal : ℕ) (s : Session) (ss : List Session) → AreFrom ordinal (s ∷ ss)
+      → AreFrom (ordinal + 1) ss
   later ordinal s ss from i t is =
       subst (λ (n : ℕ). IsSessionAt all n t) (omega arith) (from (suc i) t is)
 
-  first : (ordinal : ℕ) (s : Session) (ss : List Session) → AreFrom ordinal (s ∷ ss) → IsSessionAt all ordinal s
+  first : (ordinal : ℕ) (s : Session) (ss : List Session) → AreFrom ordinal (s ∷ ss)
+      → IsSessionAt all ordinal s
   first ordinal s ss from = subst (λ (n : ℕ). IsSessionAt all n s) (omega arith) (from 0 s refl)
 
   items_parts : (ordinal : ℕ) (ss : List Session) (bs : List Begun) (b : Begun) → AreFrom ordinal ss
       → length bs < length ss → AreGivenFrom premise venue window ordinal bs b
-      → SkipWithinSessions ss (bs ++ b ∷ []) → items_of (bs ++ b ∷ []) ≡ parts_of_sessions ss (bs ++ b ∷ [])
+      → SkipWithinSessions ss (bs ++ b ∷ [])
+      → items_of (bs ++ b ∷ []) ≡ parts_of_sessions ss (bs ++ b ∷ [])
   items_parts ordinal [] bs b from below given within = absurd (omega arith)
   items_parts ordinal (s ∷ ss) [] b from below given within =
-      let one = stream_parts premise venue window ordinal all s names (first ordinal s ss from) b given within.0 in
+      let one = stream_parts premise venue window ordinal all s names
+      (first ordinal s ss from) b given within.0 in
       ap (λ (xs : List Numbered). xs ++ []) one
       ∙ ap (λ (xs : List Numbered). session_parts s b.packets ++ xs) (sym (no_parts ss))
   items_parts ordinal (s ∷ ss) (x ∷ bs) b from below given within =
-      let one = stream_parts premise venue window ordinal all s names (first ordinal s ss from) x given.0 within.0 in
-      let rest = items_parts (ordinal + 1) ss bs b (later ordinal s ss from) (omega arith) given.2 within.1 in
+      let one = stream_parts premise venue window ordinal all s names
+      (first ordinal s ss from) x given.0 within.0 in
+      let rest = items_parts (ordinal + 1) ss bs b (later ordinal s ss from)
+      (omega arith) given.2 within.1 in
       ap (λ (xs : List Numbered). xs ++ items_of (bs ++ b ∷ [])) one
       ∙ ap (λ (xs : List Numbered). session_parts s x.packets ++ xs) rest
 
@@ -112,11 +126,13 @@ module _ {S : Type 0} (premise : Genuine S) (venue window : ℕ) (all : List Ses
       → streams_of h ≡ parts_of_sessions all (all_begun h)
   history_parts h given below within =
       items_parts 1 all h.earlier h.present
-      (λ i s is. (omega arith, subst (λ (n : ℕ). slice_get all n ≡ Some s) (omega arith) is)) below given within
+      (λ i s is. (omega arith, subst (λ (n : ℕ). slice_get all n ≡ Some s) (omega arith) is)) below
+      given within
 
 -- ---- what was sent
 
-pub sent_parts : {S : Type 0} (premise : Genuine S) (lanes : FeedLanes) (c : CellState) (all : List Session)
+pub sent_parts : {S : Type 0} (premise : Genuine S) (lanes : FeedLanes)
+    (c : CellState) (all : List Session)
     (k : VenueLockInvariant premise lanes c) → BringExactly premise c.arbiter.venue all
     → SkipWithinSessions all (all_begun k.history)
     → IsPrefix c.lane.items (parts_of_sessions all (all_begun k.history))
@@ -127,11 +143,13 @@ sent_parts premise lanes c all k names within =
     let found = (names.named (ordinal_of c.arbiter) c.arbiter.session).0 k.named in
     let there = slice_get_within all (ordinal_of c.arbiter - 1) found.0 found.1.1 in
     let ordinal = ordinal_is h k.fits.history in
-    let parts = history_parts premise c.arbiter.venue c.arbiter.window all names h k.given (omega arith) within in
+    let parts = history_parts premise c.arbiter.venue c.arbiter.window all names h k.given
+    (omega arith) within in
     record {
       rest = drop place stream;
       is = sym parts ∙ items_push h.earlier h.present
-          ∙ ap (λ (xs : List Numbered). items_of h.earlier ++ xs) (sym (take-append-drop place stream))
+          ∙ ap (λ (xs : List Numbered). items_of h.earlier ++ xs)
+          (sym (take-append-drop place stream))
           ∙ sym (append_assoc (items_of h.earlier) (take place stream) (drop place stream))
           ∙ ap (λ (xs : List Numbered). xs ++ drop place stream) (sym k.fits.sent);
     }

@@ -22,7 +22,8 @@ pub shows_under_lock : {S : Type 0} (premise : Genuine S)
     (lanes : FeedLanes) (venue : ℕ) (cell : CellState) (status : VenueStatus)
     → VenueLockInvariant premise lanes cell → cell.arbiter.venue ≡ venue
     → status.cursors.sent ≡ cell.arbiter.sent
-    → ((h : History) → CellFitsHistory cell h → ShowsHistory cell.arbiter.window h cell.brought status)
+    → ((h : History) → CellFitsHistory cell h
+    → ShowsHistory cell.arbiter.window h cell.brought status)
     → ShowsUnderLock premise lanes venue status
 shows_under_lock premise lanes venue cell status kept is sent shows = record {
   cell = cell;

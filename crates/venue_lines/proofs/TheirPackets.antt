@@ -22,7 +22,8 @@ as_taken (Err fault) = Err (faults.Line fault)
 module _ {S : Type 0} (premise : Genuine S) (lanes : FeedLanes) (venue : ℕ) (bytes : List ℕ) where
   pub faulty : (fault : PacketFault) → HasFault bytes fault
       → AcceptsTheirs premise lanes venue bytes (Err (faults.Packet fault))
-  faulty fault has all ordinal session p rest names at spells of = absurd (no_fault bytes p rest fault spells has)
+  faulty fault has all ordinal session p rest names at spells of =
+      absurd (no_fault bytes p rest fault spells has)
 
   pub other : AcceptsTheirs premise lanes venue bytes (Err (faults.Line OtherSession))
   other all ordinal session p rest names at spells of = inr (inl refl)

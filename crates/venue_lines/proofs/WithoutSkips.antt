@@ -22,7 +22,8 @@ use Rattle.venue_lines.specs.Cells.{CellState, VenueLockInvariant}
 
 -- ---- lists
 
-both_skip_nothing : (xs ys : List Numbered) → SkipsNothing xs → SkipsNothing ys → SkipsNothing (xs ++ ys)
+both_skip_nothing : (xs ys : List Numbered) → SkipsNothing xs → SkipsNothing ys
+    → SkipsNothing (xs ++ ys)
 both_skip_nothing [] ys front back = back
 both_skip_nothing (x ∷ xs) ys front back = (front.0, both_skip_nothing xs ys front.1 back)
 
@@ -40,7 +41,8 @@ none_at_end (Some e) m = by_test (e == m)
     by_test true = (λ is. absurd cc, tt)
     by_test false = tt
 
-skipped_was_carried : (o : Option Item) → unwrap_or o items.Other ≡ items.Skipped → o ≡ Some items.Skipped
+skipped_was_carried : (o : Option Item) → unwrap_or o items.Other ≡ items.Skipped
+    → o ≡ Some items.Skipped
 skipped_was_carried None is = absurd cc
 skipped_was_carried (Some x) is = ap (λ (y : Item). Some y) is
 
@@ -89,4 +91,5 @@ sent_skips_nothing premise lanes c k arrived =
     ∙ sym (append_assoc (items_of h.earlier) (take place stream) (drop place stream))
     ∙ ap (λ (xs : List Numbered). xs ++ drop place stream) (sym k.fits.sent) in
     front_skips_nothing c.lane.items (drop place stream)
-    (subst (λ (xs : List Numbered). SkipsNothing xs) whole (items_skip_nothing (all_begun h) arrived))
+    (subst (λ (xs : List Numbered). SkipsNothing xs) whole
+    (items_skip_nothing (all_begun h) arrived))

@@ -112,7 +112,8 @@ counts_of b = record {
 -- the packet of the arrival, where it was accepted on this line, as a list of one; else none
 abbrev pub accepted_in : LineId → Arrival → List AcceptedPacket
 accepted_in line a =
-    if is_same_line a.line line then (with_answer a.packet a.answer nothing_brought).accepted else []
+    if is_same_line a.line line then (with_answer a.packet a.answer nothing_brought).accepted else
+    []
 
 -- the packets that were accepted on the line, in order
 abbrev pub accepted_on : LineId → List Arrival → List AcceptedPacket

@@ -63,7 +63,8 @@ push_done (Ok number) = done.Pushed number
 push_done (Err unsent.Nothing) = done.NothingReady
 push_done (Err unsent.LaneFull) = done.LaneFull
 
--- Push: the next item of the venue's streams was sent, or was refused by the lane, which was sent as
+-- Push: the next item of the venue's streams was sent, or was refused by the lane, which was sent
+-- as
 -- many items as it has room for.
 pub record PushesOne (answer : Result ℕ Unsent)
     (h : History) (old new : CellState) : Type 0 where

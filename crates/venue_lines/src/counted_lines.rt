@@ -54,7 +54,8 @@ impl CountedLines {
     /// Counts one more packet that was accepted on the line.
     #[inline(always)]
     pub(crate) fn count(&mut self, line: LineId, packet: &AcceptedPacket)
-        ensures { self.new ≡ with_line line (with_packet packet.now (on_line line self.old)) self.old }
+        ensures { self.new ≡ with_line line (with_packet packet.now (on_line line self.old))
+            self.old }
     {
         match line {
             LineId::A => self.on_a.count(packet),

@@ -2,9 +2,9 @@
 //! its lines show.
 //!
 //! A venue's lock guards the venue's arbiter, the sending end of its lane and the counts of its
-//! lines, a [`VenueCell`], and which seats were handed out ([`Guarded`]). A line has a [`LineSeat`],
-//! which counts what it brought, too ([`LineCounts`]). [`VenueLocks`] are the venues of a feed; each
-//! of their calls takes one lock.
+//! lines, a [`VenueCell`], and which seats were handed out ([`Guarded`]). A line has a
+//! [`LineSeat`], which counts what it brought, too ([`LineCounts`]). [`VenueLocks`] are the venues
+//! of a feed; each of their calls takes one lock.
 //!
 //! Contract: whenever a lock is free, what it guards is a part of a world of the event machine
 //! (`feed_core`), and each section under it is one of the machine's events, or several

@@ -26,4 +26,5 @@ new-seller-requires-clause-right g c = boxed_allowed _ _ (elim [
 ]) _
 
 pub returns : goal.returns
-returns g c = at_ok each_served c.settle.result c.ok-8.result c.ok-8.ensures.value c.settle.ensures.settled
+returns g c = at_ok each_served c.settle.result c.ok-8.result c.ok-8.ensures.value
+    c.settle.ensures.settled

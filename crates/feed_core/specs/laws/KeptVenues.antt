@@ -1,4 +1,5 @@
--- What each venue's moves keep, an event keeps of all venues, and so does a run; of the venue alone, or
+-- What each venue's moves keep, an event keeps of all venues, and so does a run; of the venue
+-- alone, or
 -- with the journal's entries.
 use Rattle.std.proofs.Common.{◌≡◌, ℕ, Bool, true, false, List, [], ◌∷◌, ◌++◌, length, Option, Some, None, Result, sym, subst, refl, ◌+◌, ◌∙◌, append-nil, inl, inr}
 use Rattle.std.specs.Prelude.{MatchOption, slice_get, if◌then◌else◌, nat_le}
@@ -31,7 +32,8 @@ use Rattle.feed_core.specs.OneStep.{IsStep}
 use Rattle.feed_core.specs.Runs.{IsRun}
 use Rattle.feed_steps.specs.laws.Lists.{get_after_set, get_at_set, get_off_set}
 
-pub record KeepsVenueStep (s : Setting) (May : Event → Type 0) (Q : ℕ → Venue → Type 0) : Type 0 where
+pub record KeepsVenueStep (s : Setting) (May : Event → Type 0) (Q : ℕ → Venue
+    → Type 0) : Type 0 where
   pub packet : (place : ℕ) (v : Venue) (line : LineId) (bytes : _) (p : Content) (rest : List ℕ)
       (answer : Result Outcome LineFault) (h : History)
       → May (Packet place line bytes) → Spells bytes.now p rest
@@ -49,7 +51,8 @@ pub record KeepsVenueStep (s : Setting) (May : Event → Type 0) (Q : ℕ → Ve
   pub consume : (place : ℕ) (v : Venue) (x : Numbered) → next_out v.lane ≡ Some x → Q place v
       → Q place (record v { lane = record v.lane { received = v.lane.received ++ x ∷ [] } })
 
--- The same with the journal's entries: an item that is consumed is one more entry, which leaves what
+-- The same with the journal's entries: an item that is consumed is one more entry, which leaves
+-- what
 -- holds of another venue, and so does a declaration.
 pub record KeepsEntriesStep (s : Setting) (May : Event → Type 0)
     (R : List Entry → ℕ → Venue → Type 0) : Type 0 where
@@ -58,7 +61,8 @@ pub record KeepsEntriesStep (s : Setting) (May : Event → Type 0)
       → May (Packet place line bytes) → Spells bytes.now p rest
       → AddsArrival s.window (session_sent v) line p v.history answer h → R E place v
       → R E place (record v { history = h })
-  pub renew : (E : List Entry) (place : ℕ) (v : Venue) (name : List ℕ) (answer : Result ℕ RenewFault)
+  pub renew : (E : List Entry) (place : ℕ) (v : Venue) (name : List ℕ)
+      (answer : Result ℕ RenewFault)
       (h : History) → AddsRenewal (session_sent v) name v.history answer h → R E place v
       → R E place (record v { history = h })
   pub skip : (E : List Entry) (place : ℕ) (v : Venue) (number : ℕ)

@@ -103,7 +103,8 @@ arrived window v line bytes p rest answer h spells taken k =
     let b : Begun = v.history.present in
     let one : IsAnswered b.name window b.packets a =
     record { content = spells.content; sent = session_sent v; outcome = taken.right } in
-    subst (λ (x : History). ServesItsStreams window (record v { history = x })) (sym taken.is) (record {
+    subst (λ (x : History). ServesItsStreams window (record v { history = x }))
+    (sym taken.is) (record {
       serves =
           serve_more v.lane (streams_of v.history) _
           (grown v.history.earlier b (record b { packets = b.packets ++ a ∷ [] })
@@ -141,7 +142,8 @@ skipped window v number (Ok _) h r k =
       answered = answered_arrival window v.history k.answered (Skip number) r.right.1;
     })
 
-pub moves : (s : Setting) → KeepsVenueStep s (λ e. Unit {0}) (λ place v. ServesItsStreams s.window v)
+pub moves : (s : Setting)
+    → KeepsVenueStep s (λ e. Unit {0}) (λ place v. ServesItsStreams s.window v)
 moves s = record {
   packet =
       λ place v line bytes p rest answer h may spells taken k. arrived s.window v line bytes.now p
@@ -152,7 +154,8 @@ moves s = record {
       λ place v x e k. record {
         serves =
             serve_in v.lane (streams_of v.history) x k.serves e;
-        begun = (let before = k.begun in let more = length-append v.lane.sent (x ∷ []) in omega arith);
+        begun = (let before = k.begun in let more = length-append v.lane.sent (x ∷ [])
+            in omega arith);
         answered = k.answered;
       };
   consume =
@@ -188,7 +191,8 @@ none_asked (e ∷ es) = (tt, none_asked es)
 pub kept_through : (s : Setting) (events : List Event) (ds : List Done) (w : World)
     → IsRun s (new_world s) events ds w → EachVenue (λ place v. ServesItsStreams s.window v) w
 kept_through s events ds w run =
-    run_keeps s (λ e. Unit {0}) (λ place v. ServesItsStreams s.window v) (moves s) (new_world s) events ds w
+    run_keeps s (λ e. Unit {0}) (λ place v. ServesItsStreams s.window v) (moves s)
+    (new_world s) events ds w
     (none_asked events) (new_at (λ place v. ServesItsStreams s.window v) s.sessions
     (λ i name. new_kept s.window name)) run
 
@@ -232,7 +236,8 @@ module _ (setting : Setting) (at : ℕ) (s : Session) where
       subst (IsOnly s) (sym r.is)
       (record {
         earlier =
-            all_push (λ b. AllByRecursion (IsArrivalOf s) b.packets) old.earlier old.present k.earlier
+            all_push (λ b. AllByRecursion (IsArrivalOf s) b.packets)
+            old.earlier old.present k.earlier
             k.present;
         present = tt;
       })
@@ -258,7 +263,8 @@ module _ (setting : Setting) (at : ℕ) (s : Session) where
         λ place v name answer h r k here. renewed_only (session_sent v) name v.history answer h r
         (k here);
     skip =
-        λ place v number answer h may r k here. skipped_only (session_sent v) number v.history answer
+        λ place v number answer h may r k here. skipped_only (session_sent v)
+        number v.history answer
         h r (k here);
     push = λ place v x e k. k;
     consume = λ place v x e k. k;
@@ -280,7 +286,8 @@ gives window s b answered only named =
     (subst (λ (n : List ℕ). AreAnswered n window b.packets) named.name answered)
     (of_session s b.packets only named.within)
 
-are_session : (window : ℕ) (s : Session) (v : Venue) → ServesItsStreams window v → IsOnly s v.history
+are_session : (window : ℕ) (s : Session) (v : Venue)
+    → ServesItsStreams window v → IsOnly s v.history
     → AreSession s v.history
 are_session window s v k only = record {
   earlier = each v.history.earlier k.answered.over only.earlier;
@@ -300,7 +307,8 @@ are_session window s v k only = record {
 
 -- what is known of a session that was brought: what came under its name is its parts
 Known : Session → List Begun → Type 0
-Known s bs = AllByRecursion (λ b. IsBegunAs s b → stream_of b.packets ≡ session_parts s b.packets) bs
+Known s bs = AllByRecursion (λ b. IsBegunAs s b → stream_of b.packets ≡ session_parts s b.packets)
+    bs
 
 by_session : (Brought : Session → Type 0) (ss : List Session) (bs : List Begun)
     → ((s : Session) → Brought s → Known s bs) → AreBegunAs ss bs → AllByRecursion Brought ss
@@ -317,7 +325,8 @@ by_session Brought (s ∷ ss) (b ∷ bs) known named all =
 known_of : (s : Session) (h : History) → AreSession s h → Known s (all_begun h)
 unfolding Known
 known_of s h are =
-    all_push (λ b. IsBegunAs s b → stream_of b.packets ≡ session_parts s b.packets) h.earlier h.present
+    all_push (λ b. IsBegunAs s b → stream_of b.packets ≡ session_parts s b.packets) h.earlier
+    h.present
     (streams h.earlier are.earlier) (λ named. (are.present named).stream)
   where
     streams : (bs : List Begun)
@@ -344,12 +353,13 @@ module _ (events : List Event) (place : ℕ) where
   among_renewed : (sent : ℕ) (name : List ℕ) (old : History) (answer : Result ℕ RenewFault)
       (new : History) → AddsRenewal sent name old answer new → AreAmong events place old
       → AreAmong events place new
-  among_renewed sent name old (Ok ordinal) new r k = subst (AreAmong events place) (sym r.is) (record {
-    earlier =
-        all_push (λ b. AllByRecursion (IsAmong events place) b.packets) old.earlier old.present
-        k.earlier k.present;
-    present = tt;
-  })
+  among_renewed sent name old (Ok ordinal) new r k =
+      subst (AreAmong events place) (sym r.is) (record {
+        earlier =
+            all_push (λ b. AllByRecursion (IsAmong events place) b.packets) old.earlier old.present
+            k.earlier k.present;
+        present = tt;
+      })
   among_renewed sent name old (Err fault) new r k = subst (AreAmong events place) (sym r.is) k
 
   among_skipped : (sent number : ℕ) (old : History) (answer : Result (Unit {0}) SkipFault)
@@ -378,7 +388,8 @@ among_through : (s : Setting) (events : List Event) (ds : List Done) (w : World)
     → IsRun s (new_world s) events ds w
     → EachVenue (λ place v. AreAmong events place v.history) w
 among_through s events ds w run =
-    run_keeps s (Contains events) (λ place v. AreAmong events place v.history) (among_moves s events)
+    run_keeps s (Contains events) (λ place v. AreAmong events place v.history)
+    (among_moves s events)
     (new_world s) events ds w
     (recursion_from_All (Contains events) events (All-contains_itself events))
     (new_at (λ place v. AreAmong events place v.history) s.sessions

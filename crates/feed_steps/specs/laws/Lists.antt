@@ -54,7 +54,8 @@ begins_drop {xs =
     ∙ ap (λ (l : List _). xs ++ l) (drop-append_seam xs a.rest) ∙ sym a.is
 
 -- the first items of a list that begins another
-pub take_same : {X : Type 0} (xs ys : List X) (n : ℕ) → IsPrefix xs ys → n ≤ length xs → take n ys ≡ take n xs
+pub take_same : {X : Type 0} (xs ys : List X) (n : ℕ) → IsPrefix xs ys → n ≤ length xs
+    → take n ys ≡ take n xs
 take_same xs ys n g le = ap (take n) g.is ∙ take-append-le n xs g.rest le
 
 -- what is read after a write: what was written at its place, and what was there elsewhere
@@ -65,8 +66,11 @@ get_after_set [] i j x y e = absurd cc
 get_after_set (z ∷ xs) zero zero x y e = inl (refl, cc)
 get_after_set (z ∷ xs) zero (suc j) x y e = inr ((λ h. omega arith), e)
 get_after_set (z ∷ xs) (suc i) zero x y e = inr ((λ h. omega arith), e)
-get_after_set (z ∷ xs) (suc i) (suc j) x y e = elim (get_after_set xs i j x y e)
-    [ inl here ↦ inl (ap suc here.0, here.1) | inr there ↦ inr ((λ h. there.0 (omega arith)), there.1) ]
+get_after_set (z ∷ xs) (suc i) (suc j) x y e = elim (get_after_set xs i j x y e) [
+  | inl here ↦ inl (ap suc here.0, here.1)
+  | inr there ↦ inr
+      ((λ h. there.0 (omega arith)), there.1)
+]
 
 -- at its place, and off it
 pub get_at_set : {X : Type 0} (xs : List X) (i j : ℕ) (x y : X)
@@ -95,18 +99,21 @@ get_push (z ∷ xs) (suc i) x y e =
     ]
 
 -- an item written over itself
-pub put_same : {X : Type 0} (xs : List X) (i : ℕ) (x : X) → slice_get xs i ≡ Some x → slice_set xs i x ≡ xs
+pub put_same : {X : Type 0} (xs : List X) (i : ℕ) (x : X) → slice_get xs i ≡ Some x
+    → slice_set xs i x ≡ xs
 put_same [] i x e = refl
 put_same (y ∷ ys) zero x e = let same : y ≡ x = cc in ap (λ (z : _). z ∷ ys) (sym same)
 put_same (y ∷ ys) (suc i) x e = ap (λ (l : List _). y ∷ l) (put_same ys i x e)
 
 -- the item at an index is got there
-pub at_index : {X : Type 0} (xs : List X) (i k : ℕ) (x : X) → i ≡ k → i < length xs → x ≡ get_or xs i x
+pub at_index : {X : Type 0} (xs : List X) (i k : ℕ) (x : X) → i ≡ k
+    → i < length xs → x ≡ get_or xs i x
     → slice_get xs k ≡ Some x
 at_index xs i k x e lt h = ap (slice_get xs) (sym e) ∙ slice_get_read xs (length xs) i x refl lt h
 
 -- an item that is got is within the list
-pub found_within : {X : Type 0} (xs : List X) (i : ℕ) (x : X) → Some x ≡ slice_get xs i → i < length xs
+pub found_within : {X : Type 0} (xs : List X) (i : ℕ) (x : X)
+    → Some x ≡ slice_get xs i → i < length xs
 found_within [] i x e = absurd cc
 found_within (y ∷ ys) zero x e = omega arith
 found_within (y ∷ ys) (suc i) x e = let h = found_within ys i x e in omega arith

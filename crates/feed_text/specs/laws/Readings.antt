@@ -33,7 +33,8 @@ help_one venue true false e = absurd (omega arith)
 help_one venue false true e = absurd (omega arith)
 help_one venue false false e = refl
 
-no_help : (k : LineId) (venue : ℕ) (on : Bool) → line_letter k ≡ kind_byte (self_help_record venue on) → ⊥
+no_help : (k : LineId) (venue : ℕ) (on : Bool)
+    → line_letter k ≡ kind_byte (self_help_record venue on) → ⊥
 no_help A venue true e = omega arith
 no_help A venue false e = omega arith
 no_help B venue true e = omega arith
@@ -54,7 +55,8 @@ no_number : (venue : ℕ) (on : Bool) → kind_byte (self_help_record venue on) 
 no_number venue true e = omega arith
 no_number venue false e = omega arith
 
-same_kind : (v w : ℕ) (on : Bool) → kind_byte (self_help_record v on) ≡ kind_byte (self_help_record w on)
+same_kind : (v w : ℕ) (on : Bool) → kind_byte (self_help_record v on) ≡ kind_byte
+    (self_help_record w on)
 same_kind v w true = refl
 same_kind v w false = refl
 
@@ -67,7 +69,8 @@ number_one i j m n e =
 -- a record is its venue, its kind and its bytes
 record_one : (e f : CaptureRecord) → HasNumber e → HasNumber f → record_venue e ≡ record_venue f
     → kind_byte e ≡ kind_byte f → payload_of e ≡ payload_of f → e ≡ f
-record_one (datagram_record v k p) (datagram_record w l q) m n a b c = let d = letter_one k l b in cc
+record_one (datagram_record v k p) (datagram_record w l q) m n a b c = let d = letter_one k l b
+    in cc
 record_one (datagram_record v k p) (renewal_record w q) m n a b c = absurd (no_line k b)
 record_one (datagram_record v k p) (skip_record w i) m n a b c = absurd (no_skip k b)
 record_one (datagram_record v k p) (self_help_record w on) m n a b c = absurd (no_help k w on b)
@@ -89,7 +92,8 @@ record_one (self_help_record v on) (self_help_record w off) m n a b c =
 -- two lists of one length before the same bytes
 same_parts : (p q a b : List ℕ) → length p ≡ length q → p ++ a ≡ q ++ b → (p ≡ q) × (a ≡ b)
 same_parts p q a b n e =
-    let front : p ≡ q = sym (take_at p a (length q) n) ∙ (ap (take (length q)) e ∙ take_at q b (length q) refl) in
+    let front : p ≡ q = sym (take_at p a (length q) n)
+    ∙ (ap (take (length q)) e ∙ take_at q b (length q) refl) in
     (front, append_cancel_left p a b (e ∙ ap (λ (xs : List ℕ). xs ++ b) (sym front)))
 
 -- a record that begins the same bytes as another is that record
@@ -107,22 +111,36 @@ same_front e f a b m k h =
 
 -- what begins with a record's spelling begins with its header
 pub begins_header : (venues : ℕ) (e : CaptureRecord) (a : List ℕ) → IsRecord venues e
-    → IsHeader venues (bytes_of_record e ++ a) × (len_at (bytes_of_record e ++ a) ≡ length (payload_of e))
+    → IsHeader venues (bytes_of_record e ++ a)
+    × (len_at (bytes_of_record e ++ a) ≡ length (payload_of e))
 begins_header venues e a i =
-    let len : length (payload_of e) / 256 * 256 + length (payload_of e) % 256 ≡ length (payload_of e) = omega arith in
-    (record { whole = omega arith; venue = i.venue; kind = subst (IsKind (kind_byte e)) (sym len) i.kind }, len)
+    let len : length (payload_of e) / 256 * 256 + length (payload_of e) % 256 ≡ length
+    (payload_of e) = omega arith in (
+      record {
+        whole = omega arith;
+        venue = i.venue;
+        kind = subst (IsKind (kind_byte e))
+            (sym len) i.kind;
+      },
+      len,
+    )
 
 pub no_front : (venues : ℕ) (e : CaptureRecord) (a : List ℕ) → IsRecord venues e
     → NoRecord venues (bytes_of_record e ++ a) → ⊥
 no_front venues e a i n =
-    let long : length (payload_of e ++ a) ≡ length (payload_of e) + length a = length-append (payload_of e) a in
+    let long : length (payload_of e ++ a) ≡ length (payload_of e) + length a =
+    length-append (payload_of e) a in
     let whole : length (bytes_of_record e ++ a) ≡ 4 + length (payload_of e ++ a) = omega arith in
     let head = begins_header venues e a i in
     elim n [
       | inl none ↦ let z : length (bytes_of_record e ++ a) ≡ 0 = ap length none in omega arith
       | inr other ↦ elim other [
         | inl bad ↦ bad.wrong head.0
-        | inr short ↦ elim short.cut [ inl v ↦ omega arith | inr v ↦ let u = v.1 in let w = head.1 in omega arith ]
+        | inr short ↦ elim short.cut [
+          | inl v ↦ omega arith
+          | inr v ↦ let u = v.1 in let w =
+              head.1 in omega arith
+        ]
       ]
     ]
 
@@ -131,7 +149,8 @@ front_of_stream : (e : CaptureRecord) (es : List CaptureRecord) (r : List ℕ)
 front_of_stream e es r = append_assoc (bytes_of_record e) (flat_map bytes_of_record es) r
 
 pub readings : (venues : ℕ) (xs ys : List CaptureRecord) (r s : List ℕ) → All (IsRecord venues) xs
-    → All (IsRecord venues) ys → NoRecord venues r → NoRecord venues s → capture_of xs r ≡ capture_of ys s
+    → All (IsRecord venues) ys → NoRecord venues r → NoRecord venues s
+    → capture_of xs r ≡ capture_of ys s
     → (xs ≡ ys) × (r ≡ s)
 readings venues [] [] r s i j n m e = (refl, e)
 readings venues [] (y ∷ ys) r s i j n m e =
@@ -144,7 +163,8 @@ readings venues (x ∷ xs) (y ∷ ys) r s i j n m e =
     let f = same_front x y (capture_of xs r) (capture_of ys s) (i 0 x (omega arith)).number
     (j 0 y (omega arith)).number (sym (front_of_stream x xs r)
     ∙ (e ∙ front_of_stream y ys s)) in
-    let g = readings venues xs ys r s (All-tail (IsRecord venues) x xs i) (All-tail (IsRecord venues) y ys j) n m f.1 in
+    let g = readings venues xs ys r s (All-tail (IsRecord venues) x xs i)
+    (All-tail (IsRecord venues) y ys j) n m f.1 in
     let front = f.0 in
     let back = g.0 in
     (cc, g.1)

@@ -29,14 +29,16 @@ no_rest (x ∷ xs) zero few = absurd (omega (arith, few))
 no_rest (x ∷ xs) (suc n) few = no_rest xs n (omega (arith, few))
 
 -- the texts of one more thing
-pub texts_more : {S X : Type 0} (w : Writing S) (f : X → List (List ℕ)) (xs : List X) (n : ℕ) (x : X)
+pub texts_more : {S X : Type 0} (w : Writing S) (f : X → List (List ℕ))
+    (xs : List X) (n : ℕ) (x : X)
     (s t u : S) → slice_get xs n ≡ Some x → SaysEach w (f x) s t
     → SaysEach w (flat_map f (drop (n + 1) xs)) t u → SaysEach w (flat_map f (drop n xs)) s u
 texts_more {S} {X} w f xs n x s t u here says rest =
     subst (λ (left : List X). SaysEach w (flat_map f left) s u) (sym (rest_at xs n x here))
     (says_each w (f x) (flat_map f (drop (n + 1) xs)) s t u says rest)
 
-pub texts_done : {S X : Type 0} (w : Writing S) (f : X → List (List ℕ)) (xs : List X) (n : ℕ) (s : S)
+pub texts_done : {S X : Type 0} (w : Writing S) (f : X → List (List ℕ))
+    (xs : List X) (n : ℕ) (s : S)
     → length xs ≤ n → SaysEach w (flat_map f (drop n xs)) s s
 texts_done {S} {X} w f xs n s many =
     subst (λ (left : List X). SaysEach w (flat_map f left) s s) (sym (no_rest xs n many)) refl

@@ -132,7 +132,8 @@ module _ (window : ℕ) (gaps : Bool) (venue : ℕ) where
       let next : Begun = record b { packets = b.packets ++ x ∷ [] } in
       let ready : List Numbered = drop (stream_length old) (stream_of next.packets) in
       let items : items_taken venue emitted ≡ ready =
-      ready_is ∙ ap (λ (h : History). drop (stream_length old) (stream_of h.present.packets)) grown in
+      ready_is ∙ ap (λ (h : History). drop (stream_length old) (stream_of h.present.packets)) grown
+      in
       subst (AddsEmittedItems window venue old emitted) (sym grown) (record {
         items = items_push old.earlier next
             ∙ ap (λ (xs : List Numbered). histories.items_of old.earlier ++ xs)
@@ -148,7 +149,8 @@ module _ (window : ℕ) (gaps : Bool) (venue : ℕ) where
       → AddsEmittedItems window venue old emitted new
   packet_goes line bytes old new emitted k t =
       input_goes (arrival_of line t.packet t.answer) old new emitted k
-      (record { content = t.spells.content; sent = last_sent old; outcome = t.taken.right }) t.taken.is
+      (record { content = t.spells.content; sent = last_sent old; outcome = t.taken.right })
+      t.taken.is
       (ready_items line bytes old new emitted t)
 
   skip_goes : (number : ℕ) (old new : History) (emitted : List ReplayEvent)
@@ -185,14 +187,16 @@ module _ (window : ℕ) (gaps : Bool) (venue : ℕ) where
 
 pub here : (window : ℕ) (gaps : Bool) (r : CaptureRecord) (old new : History)
     (emitted : List ReplayEvent) → IsAnsweredThroughout window old
-    → EmitsAt window gaps r old emitted new → AddsEmittedItems window (record_venue r) old emitted new
+    → EmitsAt window gaps r old emitted new
+    → AddsEmittedItems window (record_venue r) old emitted new
 here window gaps (datagram_record venue line bytes) old new emitted k t = elim t [
   | inl f ↦ stays window venue old new emitted k f.same
       (ap (items_taken venue) f.emitted_is ∙ no_gap_items venue window gaps venue new)
   | inr p ↦ packet_goes window gaps venue line bytes old new emitted k p
 ]
 here window gaps (renewal_record venue name) old new emitted k t =
-    renewal_goes window gaps venue name old new emitted t.answer k t.renewed.right t.renewed.is t.emitted_is
+    renewal_goes window gaps venue name old new emitted t.answer k t.renewed.right
+    t.renewed.is t.emitted_is
 here window gaps (skip_record venue number) old new emitted k t =
     skip_goes window gaps venue number old new emitted t.answer k t.skipped.right t.skipped.is
     (skip_items window gaps venue number old new emitted t)

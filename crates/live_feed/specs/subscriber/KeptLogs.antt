@@ -12,7 +12,8 @@ pub record KeptLogState : Type 0 where
 
 -- The list has the lines that came after these; no more than half of it is forgotten, and the log
 -- has no more lines than it takes.
-pub record KeepsLog (lines : List Logged) (most earlier : ℕ) (list : List Logged) (gone : ℕ) : Type 0 where
+pub record KeepsLog (lines : List Logged) (most earlier : ℕ) (list : List Logged)
+    (gone : ℕ) : Type 0 where
   pub kept : list ≡ drop earlier lines
   pub within : earlier ≤ length lines
   pub half : gone + gone ≤ length list

@@ -36,7 +36,8 @@ pub record SubscriberLogInvariant (lanes : FeedLanes) (t : SubscriberLogState) :
   pub capacity : t.lane.capacity ≡ lanes.setting.lane
 
 -- The answer to `poll`, by cases: LogFull exactly where the log is full; nothing is taken by a
--- refused poll, nor at None; else the next notice was taken (Dequeue of the machine) and logged with
+-- refused poll, nor at None; else the next notice was taken (Dequeue of the machine) and logged
+-- with
 -- its advice.
 abbrev pub Polls : Result (Option Advice) PollFault → SubscriberLogState → SubscriberLogState
     → Type 0

@@ -221,8 +221,8 @@ impl<G: Genuine, N: FeedName> OpenFeed<G, N> {
 
     /// Adds a subscriber with this filter and strategy, whose log is empty and holds as many lines
     /// as configured. Its notices begin with the first change of the journal. It is refused, with
-    /// both, as TooManySubscribers where there are 32, as TooLate where not all changes are kept and
-    /// there is one, else as NoMemory.
+    /// both, as TooManySubscribers where there are 32, as TooLate where not all changes are kept
+    /// and there is one, else as NoMemory.
     pub fn subscribe<W: Wait>(
         &self,
         rt: &W,

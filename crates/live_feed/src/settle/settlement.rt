@@ -18,8 +18,8 @@ use std::marker::Model;
 /// subscriber.
 ///
 /// A venue's items that were consumed, then those in its lane, then those that are ready are the
-/// streams of its sessions. The notices of a subscriber's log, with those that it has forgotten, then
-/// those in its lane, then those that weren't offered are what it wants of the entries
+/// streams of its sessions. The notices of a subscriber's log, with those that it has forgotten,
+/// then those in its lane, then those that weren't offered are what it wants of the entries
 /// (`IsSettlement` in `specs/settle/Settlements.antt`).
 #[derive(Drop)]
 pub struct Settlement {

@@ -206,12 +206,13 @@ read_or_fault bytes are = elim (cases_lt (length bytes) 20) [
             } in
             elim (cases_eq (number_at bytes) 0) [
               | inl zero_ ↦ inr (ZeroSequence, (whole, zero_))
-              | inr one ↦ elim (cases_lt (2 ^ 64) (number_at bytes + blocks_wanted (count_at bytes))) [
-                | inl over ↦ let small =
-                    number_small bytes are in
-                    inr (SequenceOverflow, (whole, omega arith, omega arith, over))
-                | inr within ↦ inl (reading bytes are long there (omega arith) within)
-              ]
+              | inr one ↦ elim
+                  (cases_lt (2 ^ 64) (number_at bytes + blocks_wanted (count_at bytes))) [
+                    | inl over ↦ let small =
+                        number_small bytes are in
+                        inr (SequenceOverflow, (whole, omega arith, omega arith, over))
+                    | inr within ↦ inl (reading bytes are long there (omega arith) within)
+                  ]
             ]
       ]
 ]

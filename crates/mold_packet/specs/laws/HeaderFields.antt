@@ -111,5 +111,6 @@ pub whole_header : (bytes session : List ℕ) (number count : ℕ) → length by
     → ((i : ℕ) → get_or bytes i 0 < 256) → session ≡ session_at bytes → number ≡ number_at bytes
     → count ≡ count_at bytes → bytes ≡ header session number count
 whole_header bytes session number count exact h s n c =
-    header_as_read bytes session number count [] (omega arith) h s n c (drop_all 20 bytes (omega arith))
+    header_as_read bytes session number count [] (omega arith) h s n c
+    (drop_all 20 bytes (omega arith))
     ∙ append-nil (header session number count)

@@ -154,7 +154,8 @@ session_after s _ = s
 abbrev pub expected_in : SequenceStats → ℕ
 expected_in s = s.highest + 1
 
--- the highest number that was told of, once a packet tells of this last one: the end of a session says
+-- the highest number that was told of, once a packet tells of this last one: the end of a session
+-- says
 -- which is its last
 abbrev pub highest_after : Outcome → ℕ → ℕ → ℕ
 highest_after Ended highest last = last

@@ -31,10 +31,25 @@ packets_table s = packets_rows s.a s.b s.recovery
 -- those refusals that there are
 abbrev pub refusals_rows : Refusals → Refusals → Refusals → List ℕ
 refusals_rows a b r =
-    rows_if_any ((codes "\n    refused: short header     ", a.short_header, b.short_header, r.short_header)
-    ∷ (codes "\n    refused: truncated block  ", a.truncated_block, b.truncated_block, r.truncated_block)
+    rows_if_any ((
+      codes "\n    refused: short header     ",
+      a.short_header,
+      b.short_header,
+      r.short_header,
+    )
+    ∷ (
+      codes "\n    refused: truncated block  ",
+      a.truncated_block,
+      b.truncated_block,
+      r.truncated_block,
+    )
     ∷ (codes "\n    refused: zero sequence    ", a.zero_sequence, b.zero_sequence, r.zero_sequence)
-    ∷ (codes "\n    refused: sequence overflow", a.sequence_overflow, b.sequence_overflow, r.sequence_overflow)
+    ∷ (
+      codes "\n    refused: sequence overflow",
+      a.sequence_overflow,
+      b.sequence_overflow,
+      r.sequence_overflow,
+    )
     ∷ (codes "\n    refused: other session    ", a.other_session, b.other_session, r.other_session)
     ∷ (codes "\n    refused: past end         ", a.past_end, b.past_end, r.past_end)
     ∷ (codes "\n    refused: end moved        ", a.end_moved, b.end_moved, r.end_moved)

@@ -17,7 +17,8 @@ pub record AreCounted (durations : List ℕ) (held : Durations) : Type 0 where
 abbrev pub count_within : ℕ → List ℕ → ℕ
 count_within bound durations = count_by (λ duration. nat_le duration bound) durations
 
--- At least `percent` of a hundred durations are within the bound, and fewer within any bound that it
+-- At least `percent` of a hundred durations are within the bound, and fewer within any bound that
+-- it
 -- exceeds by more than one sixteenth.
 pub record IsShareBound (percent : ℕ) (durations : List ℕ) (bound : ℕ) : Type 0 where
   pub within : length durations * percent ≤ 100 * count_within bound durations

@@ -1,4 +1,5 @@
--- How a replay's packets run in time, by the timed events that tell of them. Of a list of events the
+-- How a replay's packets run in time, by the timed events that tell of them. Of a list of events
+-- the
 -- last one stands first. A time that isn't known counts as of 1970.
 use Rattle.std.specs.Prelude.{◌≡◌, ℕ, ◌+◌, ◌<◌, ◌==◌, ◌&&◌, Bool, false, true, List, [], ◌∷◌, ◌++◌, flat_map, length, nat_lt, reverse, slice_get, Option, Some, unwrap_or, Ok, if◌then◌else◌}
 use Rattle.feed_types.specs.declared.line.LineId.{LineId}

@@ -14,8 +14,8 @@ pub struct SequenceStats {
     /// Whether a packet of the present session came.
     pub begun: bool,
     /// The highest number of the present session that was told of: that of a packet's last message,
-    /// or the one below a heartbeat's, or the session's last one once its end is told. What comes next
-    /// has the number after it.
+    /// or the one below a heartbeat's, or the session's last one once its end is told. What comes
+    /// next has the number after it.
     pub highest: u64,
     /// The gaps: the packets whose number is past the next one.
     pub found: u64,

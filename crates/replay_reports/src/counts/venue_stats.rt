@@ -27,7 +27,8 @@ impl ItemStats {
     /// Counts an item.
     #[inline(always)]
     fn add(&mut self, numbered: &Numbered)
-        ensures { (venue : ℕ) → self.new ≡ items_after self.old (told_item venue numbered.now ∷ []) }
+        ensures { (venue : ℕ) → self.new ≡ items_after self.old
+            (told_item venue numbered.now ∷ []) }
     {
         self.last = numbered.number;
         match &numbered.item {

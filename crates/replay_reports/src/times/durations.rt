@@ -8,8 +8,8 @@ ghost use Rattle.replay_reports.specs.times.Places.{IsAt, last_at};
 use crate::times::figures::DurationTimes;
 use std::alloc::{AllocError, Global};
 
-/// How many counts there are: one for each duration below 16 ns, and 16 for each power of two from there
-/// on.
+/// How many counts there are: one for each duration below 16 ns, and 16 for each power of two from
+/// there on.
 const COUNTS: usize = 976;
 
 /// How many counts a power of two has.
@@ -18,8 +18,8 @@ const PARTS: u64 = 16;
 /// How many binary digits say which of these parts it is.
 const PART_DIGITS: u32 = 4;
 
-/// Durations in nanoseconds, counted by their size: of each its first five binary digits are kept, so
-/// that a bound of a share of them is at most one sixteenth too large. The longest one is exact.
+/// Durations in nanoseconds, counted by their size: of each its first five binary digits are kept,
+/// so that a bound of a share of them is at most one sixteenth too large. The longest one is exact.
 #[derive(Drop)]
 pub struct Durations {
     counts: Vec<u64>,
@@ -96,8 +96,8 @@ impl Durations {
         self.longest
     }
 
-    /// Returns a bound of the shortest `percent` of a hundred of the durations, which is one of them, or
-    /// at most one sixteenth longer: with 50 the median.
+    /// Returns a bound of the shortest `percent` of a hundred of the durations, which is one of
+    /// them, or at most one sixteenth longer: with 50 the median.
     pub fn bound_of(&self, percent: u64) -> u64
         ensures { (durations : List ℕ) → AreCounted durations self.now → length durations < 2 ^ 64
             → percent ≤ 100 → IsShareBound percent durations result }

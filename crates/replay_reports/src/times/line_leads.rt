@@ -76,9 +76,9 @@ fn place_after(place: u64, size: u64) -> u64
     0
 }
 
-/// By how much which of two lines is first: of each message that both bring, how long the second one
-/// takes, by the line that brings it first. A message isn't counted where the one `window` numbers
-/// further has come before.
+/// By how much which of two lines is first: of each message that both bring, how long the second
+/// one takes, by the line that brings it first. A message isn't counted where the one `window`
+/// numbers further has come before.
 #[derive(Drop)]
 pub struct LineLeads {
     arrivals: Vec<FirstArrival>,
@@ -135,8 +135,8 @@ impl LineLeads {
         }
     }
 
-    /// Notes the messages of a packet that was taken. Those of a packet with numbers that no message
-    /// has don't count.
+    /// Notes the messages of a packet that was taken. Those of a packet with numbers that no
+    /// message has don't count.
     #[inline(always)]
     fn note_packet(&mut self, packet: HeardPacket)
         ensures { (window : ℕ) (came : List MessageOn) (before_a before_b : List ℕ)

@@ -5,8 +5,8 @@ ghost use Rattle.replay_reports.specs.times.TimeFigures.{AreSpellTimes};
 
 use crate::times::figures::SpellTimes;
 
-/// The spells in which a venue lacks messages: from the packet that shows that there are more than came
-/// without a gap, to the one after which none is missing.
+/// The spells in which a venue lacks messages: from the packet that shows that there are more than
+/// came without a gap, to the one after which none is missing.
 #[derive(Clone, Copy, Debug, PartialEq, Eq)]
 pub struct MissingSpells {
     /// The time at which the spell at hand began, if there is one.

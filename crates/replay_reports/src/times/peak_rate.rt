@@ -27,8 +27,8 @@ impl PeakRate {
         }
     }
 
-    /// Counts messages of a period, which is given by its number. Where time goes back to an earlier
-    /// period, its count begins anew.
+    /// Counts messages of a period, which is given by its number. Where time goes back to an
+    /// earlier period, its count begins anew.
     #[inline(always)]
     pub(crate) fn add(&mut self, period: u64, messages: u64)
         ensures { (length time : ℕ) (came : List MessagesAt) → period ≡ time / length

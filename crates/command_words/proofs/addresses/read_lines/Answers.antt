@@ -7,15 +7,25 @@ use Rattle.command_words.proofs.addresses.read_lines.Goals as goal
 
 pub returns-then-len-venues-clause-err : goal.returns-then-len-venues-clause-err
 returns-then-len-venues-clause-err c =
-    let cut = map_from_collect {E = AllocError} (Ok c.in_ok-texts.texts) c.in_ok-texts.ensures.ran (YieldsList-from_str_split 44 c.args.list.now (lit< tt) c.split.ensures.text c.split.ensures.has_more c.split.ensures.pattern) in
+    let cut = map_from_collect {E = AllocError} (Ok c.in_ok-texts.texts) c.in_ok-texts.ensures.ran
+    (YieldsList-from_str_split 44 c.args.list.now (lit< tt) c.split.ensures.text
+    c.split.ensures.has_more c.split.ensures.pattern) in
     other_length c.in_ok-texts.texts.items c.args.list.now c.args.venues cut (search rules)
 
 pub returns-in-Ok-clause-ok : goal.returns-in-Ok-clause-ok
 returns-in-Ok-clause-ok c =
-    let cut = ap (map (λ text. text.now)) c.as_slice.ensures.value ∙ map_from_collect {E = AllocError} (Ok c.in_ok-texts.texts) c.in_ok-texts.ensures.ran (YieldsList-from_str_split 44 c.args.list.now (lit< tt) c.split.ensures.text c.split.ensures.has_more c.split.ensures.pattern) in
-    NameLines-all c.as_slice.result.now c.args.list.now c.args.venues c.in-Ok.lines.items cut (search rules) c.in-Ok.ensures.ok
+    let cut = ap (map (λ text. text.now)) c.as_slice.ensures.value
+    ∙ map_from_collect {E = AllocError} (Ok c.in_ok-texts.texts) c.in_ok-texts.ensures.ran
+    (YieldsList-from_str_split 44 c.args.list.now (lit< tt) c.split.ensures.text
+    c.split.ensures.has_more c.split.ensures.pattern) in
+    NameLines-all c.as_slice.result.now c.args.list.now c.args.venues c.in-Ok.lines.items cut
+    (search rules) c.in-Ok.ensures.ok
 
 pub returns-clause-err : goal.returns-clause-err
 returns-clause-err c =
-    let cut = ap (map (λ text. text.now)) c.as_slice.ensures.value ∙ map_from_collect {E = AllocError} (Ok c.in_ok-texts.texts) c.in_ok-texts.ensures.ran (YieldsList-from_str_split 44 c.args.list.now (lit< tt) c.split.ensures.text c.split.ensures.has_more c.split.ensures.pattern) in
-    none_spelled c.as_slice.result.now c.args.list.now c.args.venues c.in-Err.fault cut c.in-Err.ensures.err
+    let cut = ap (map (λ text. text.now)) c.as_slice.ensures.value
+    ∙ map_from_collect {E = AllocError} (Ok c.in_ok-texts.texts) c.in_ok-texts.ensures.ran
+    (YieldsList-from_str_split 44 c.args.list.now (lit< tt) c.split.ensures.text
+    c.split.ensures.has_more c.split.ensures.pattern) in
+    none_spelled c.as_slice.result.now c.args.list.now c.args.venues c.in-Err.fault
+    cut c.in-Err.ensures.err

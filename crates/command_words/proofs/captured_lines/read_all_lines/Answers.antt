@@ -9,4 +9,5 @@ loop-fewer-preserved c =
     let list = c.args.list.now in
     let venues = c.loop-fewer.fewer in
     none_more list venues c.loop-fewer.invariant
-    (subst (λ (fault : LinesFault). HasCapturedLinesFault list (venues + 1) fault) c.in-Err-BadLines.field-0-is c.in-Err-BadLines.ensures.err)
+    (subst (λ (fault : LinesFault). HasCapturedLinesFault list (venues + 1) fault)
+    c.in-Err-BadLines.field-0-is c.in-Err-BadLines.ensures.err)

@@ -4,4 +4,5 @@ use Rattle.command_words.specs.declared.addresses.LinesFault.TheVariants.{BadLin
 use Rattle.command_words.proofs.captured_lines.read_all_lines.Given as goal
 
 abbrev pub invariant-loop-fewer : goal.invariant-loop-fewer
-invariant-loop-fewer l = (venues : ℕ) → 1 ≤ venues → venues ≤ l.fewer → HasCapturedLinesFault l.list venues BadLines
+invariant-loop-fewer l = (venues : ℕ) → 1 ≤ venues → venues ≤ l.fewer
+    → HasCapturedLinesFault l.list venues BadLines

@@ -9,9 +9,11 @@ use Rattle.command_words.proofs.command_line.end_rule_of.Goals as goal
 pub returns-clause-ok : goal.returns-clause-ok
 returns-clause-ok c =
     subst (λ (name : Option Text). IfOk c.read_end_rule.result (NamesEndRule name))
-    (c.get_str.ensures ∙ first_value-rows (found_of c.args.listen.now) (codes "end")) c.read_end_rule.ensures.ok
+    (c.get_str.ensures ∙ first_value-rows (found_of c.args.listen.now) (codes "end"))
+    c.read_end_rule.ensures.ok
 
 pub returns-clause-err : goal.returns-clause-err
 returns-clause-err c =
     subst (λ (name : Option Text). IfErr c.read_end_rule.result (λ fault. NamesNoEndRule name))
-    (c.get_str.ensures ∙ first_value-rows (found_of c.args.listen.now) (codes "end")) c.read_end_rule.ensures.err
+    (c.get_str.ensures ∙ first_value-rows (found_of c.args.listen.now) (codes "end"))
+    c.read_end_rule.ensures.err

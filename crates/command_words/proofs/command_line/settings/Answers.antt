@@ -7,17 +7,23 @@ use Rattle.command_words.proofs.command_line.settings.Goals as goal
 pub returns-in_err-listening_of-clause-err : goal.returns-in_err-listening_of-clause-err
 returns-in_err-listening_of-clause-err c =
     let words = map (λ word. string_bytes word) c.args.words.now in
-    let p = err_from_is_err_and c.from_residual-in_err-listening_of.result c.from_residual-in_err-listening_of.ensures.1 in
-    rw (p.1, p.2) (IsRefused-listening words c.in_err-listening_of.field-0.0 c.in_ok-matches.ensures.taken (search rules) (search rules))
+    let p = err_from_is_err_and c.from_residual-in_err-listening_of.result
+    c.from_residual-in_err-listening_of.ensures.1 in
+    rw (p.1, p.2) (IsRefused-listening words c.in_err-listening_of.field-0.0
+    c.in_ok-matches.ensures.taken (search rules) (search rules))
 
 pub returns-in_err-conversion_of-clause-err : goal.returns-in_err-conversion_of-clause-err
 returns-in_err-conversion_of-clause-err c =
     let words = map (λ word. string_bytes word) c.args.words.now in
-    let p = err_from_is_err_and c.from_residual-in_err-conversion_of.result c.from_residual-in_err-conversion_of.ensures.1 in
-    rw (p.1, p.2) (IsRefused-converting words c.in_err-conversion_of.field-0.0 c.in_ok-matches.ensures.taken (search rules) (search rules))
+    let p = err_from_is_err_and c.from_residual-in_err-conversion_of.result
+    c.from_residual-in_err-conversion_of.ensures.1 in
+    rw (p.1, p.2) (IsRefused-converting words c.in_err-conversion_of.field-0.0
+    c.in_ok-matches.ensures.taken (search rules) (search rules))
 
 pub returns-in_err-stats_of-clause-err : goal.returns-in_err-stats_of-clause-err
 returns-in_err-stats_of-clause-err c =
     let words = map (λ word. string_bytes word) c.args.words.now in
-    let p = err_from_is_err_and c.from_residual-in_err-stats_of.result c.from_residual-in_err-stats_of.ensures.1 in
-    rw (p.1, p.2) (IsRefused-counting words c.in_err-stats_of.field-0.0 c.in_ok-matches.ensures.taken (search rules) (search rules))
+    let p = err_from_is_err_and c.from_residual-in_err-stats_of.result
+    c.from_residual-in_err-stats_of.ensures.1 in
+    rw (p.1, p.2) (IsRefused-counting words c.in_err-stats_of.field-0.0
+    c.in_ok-matches.ensures.taken (search rules) (search rules))

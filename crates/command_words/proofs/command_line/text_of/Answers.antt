@@ -6,7 +6,9 @@ use Rattle.clap.specs.Walk.{Text}
 use Rattle.command_words.proofs.command_line.text_of.Goals as goal
 
 pub returns-in-Some : goal.returns-in-Some
-returns-in-Some c = ap (λ (o : Option Text). unwrap_or o []) (c.in-Some.ensures ∙ first_value-rows (found_of c.args.options.now) c.args.name.now)
+returns-in-Some c = ap (λ (o : Option Text). unwrap_or o []) (c.in-Some.ensures
+    ∙ first_value-rows (found_of c.args.options.now) c.args.name.now)
 
 pub returns-in-None : goal.returns-in-None
-returns-in-None c = ap (λ (o : Option Text). unwrap_or o []) (c.in-None.ensures ∙ first_value-rows (found_of c.args.options.now) c.args.name.now)
+returns-in-None c = ap (λ (o : Option Text). unwrap_or o []) (c.in-None.ensures
+    ∙ first_value-rows (found_of c.args.options.now) c.args.name.now)

@@ -15,5 +15,6 @@ returns-in-Some-clause-err c = (
 
 pub returns-in-None-clause-ok : goal.returns-in-None-clause-ok
 returns-in-None-clause-ok c =
-    subst (λ (follow : Bool). GivesKept (rows_of (found_of c.args.listen.now)) follow None) (sym c.if-follow.false)
+    subst (λ (follow : Bool). GivesKept (rows_of (found_of c.args.listen.now)) follow None)
+    (sym c.if-follow.false)
     (sym (c.in-None.ensures ∙ first_value-rows (found_of c.args.listen.now) (codes "kept")), refl)

@@ -9,9 +9,11 @@ use Rattle.command_words.proofs.run_words.input_of.Goals as goal
 pub returns-clause-ok : goal.returns-clause-ok
 returns-clause-ok c =
     subst (λ (list : Option Text). IfOk c.read_input.result (NamesInput list c.args.venues))
-    (c.get_str.ensures ∙ first_value-rows (found_of c.args.run.now) (codes "lines")) c.read_input.ensures.ok
+    (c.get_str.ensures ∙ first_value-rows (found_of c.args.run.now) (codes "lines"))
+    c.read_input.ensures.ok
 
 pub returns-clause-err : goal.returns-clause-err
 returns-clause-err c =
     subst (λ (list : Option Text). IfErr c.read_input.result (HasInputFault list c.args.venues))
-    (c.get_str.ensures ∙ first_value-rows (found_of c.args.run.now) (codes "lines")) c.read_input.ensures.err
+    (c.get_str.ensures ∙ first_value-rows (found_of c.args.run.now) (codes "lines"))
+    c.read_input.ensures.err

@@ -11,4 +11,6 @@ returns-in_err-input-clause-err c =
     let rows = rows_of (found_of c.args.replay.now) in
     let residual = c.from_residual-in_err-input in
     let p = err_from_is_err_and residual.result residual.ensures.1 in
-    rw (p.1, p.2) (GivesNoRun-lines rows (GivesOutput rows) (GivesBadFormat rows) c.in_ok-feed.feed c.in_ok-output.output c.in_err-input.field-0.0 c.in_ok-feed.ensures.ok c.in_ok-output.ensures.ok (search rules))
+    rw (p.1, p.2) (GivesNoRun-lines rows (GivesOutput rows) (GivesBadFormat rows) c.in_ok-feed.feed
+    c.in_ok-output.output c.in_err-input.field-0.0 c.in_ok-feed.ensures.ok
+    c.in_ok-output.ensures.ok (search rules))

@@ -7,15 +7,22 @@ use Rattle.command_words.proofs.sessions.read_sessions.Goals as goal
 use Rattle.command_words.proofs.sessions.read_sessions.Goals.{After-are_names}
 
 cut : (c : After-are_names) → AreNamesOf c.as_slice.result.now c.args.list.now
-cut c = ap (map (λ name. name.now)) c.as_slice.ensures.value ∙ map_from_collect {E = AllocError} (Ok c.in_ok-names.names) c.in_ok-names.ensures.ran (YieldsList-from_str_split 44 c.args.list.now (lit< tt) c.split.ensures.text c.split.ensures.has_more c.split.ensures.pattern)
+cut c = ap (map (λ name. name.now)) c.as_slice.ensures.value
+    ∙ map_from_collect {E = AllocError} (Ok c.in_ok-names.names) c.in_ok-names.ensures.ran
+    (YieldsList-from_str_split 44 c.args.list.now (lit< tt) c.split.ensures.text
+    c.split.ensures.has_more c.split.ensures.pattern)
 
 pub returns-then-not-are_names-clause-err : goal.returns-then-not-are_names-clause-err
-returns-then-not-are_names-clause-err c = λ _. sessions_in-bad _ c.args.list.now (cut (goal.at.returns-then-not-are_names-clause-err c).After-are_names) (search rules)
+returns-then-not-are_names-clause-err c = λ _. sessions_in-bad _ c.args.list.now
+    (cut (goal.at.returns-then-not-are_names-clause-err c).After-are_names) (search rules)
 
 pub returns-then-len-gt-MAX_VENUES-clause-err : goal.returns-then-len-gt-MAX_VENUES-clause-err
-returns-then-len-gt-MAX_VENUES-clause-err c = λ _. sessions_in-too_many _ c.args.list.now (cut (goal.at.returns-then-len-gt-MAX_VENUES-clause-err c).After-are_names) (search rules) (search rules)
+returns-then-len-gt-MAX_VENUES-clause-err c = λ _. sessions_in-too_many _ c.args.list.now
+    (cut (goal.at.returns-then-len-gt-MAX_VENUES-clause-err c).After-are_names)
+    (search rules) (search rules)
 
 pub returns-clause-ok : goal.returns-clause-ok
 returns-clause-ok c =
     let a = (goal.at.returns-clause-ok c).After-are_names in
-    sessions_in-ok _ c.args.list.now (cut a) (search rules) (search rules) ∙ ap (λ (s : List (List ℕ)). Ok s) (search rules)
+    sessions_in-ok _ c.args.list.now (cut a) (search rules) (search rules)
+    ∙ ap (λ (s : List (List ℕ)). Ok s) (search rules)

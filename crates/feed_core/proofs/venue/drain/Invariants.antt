@@ -7,7 +7,14 @@ use Rattle.feed_core.proofs.venue.drain.Given as goal
 abbrev pub invariant-loop-next : goal.invariant-loop-next
 invariant-loop-next l = record {
   fits : (packets : List Input) → Fits l.fn.lines packets → Fits l.lines packets;
-  lane : (packets : List Input) → Fits l.fn.lines packets → record l.lane { sent = l.lane.sent ++ drop (place_of packets l.lines.sent) (stream_of packets) } ≡ record l.fn.lane { sent = l.fn.lane.sent ++ drop (place_of packets l.fn.lines.sent) (stream_of packets) };
+  lane : (packets : List Input) → Fits l.fn.lines packets
+      → record l.lane {
+        sent = l.lane.sent ++ drop (place_of packets l.lines.sent)
+            (stream_of packets);
+      } ≡ record l.fn.lane {
+        sent = l.fn.lane.sent
+            ++ drop (place_of packets l.fn.lines.sent) (stream_of packets);
+      };
 }
 
 abbrev pub decreases-loop-next : goal.decreases-loop-next

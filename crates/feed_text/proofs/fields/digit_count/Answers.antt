@@ -6,7 +6,9 @@ pub returns-then-number-lt10-clause-value : goal.returns-then-number-lt10-clause
 returns-then-number-lt10-clause-value c = sym (count_one c.args.number c.if-number-lt10.true)
 
 pub returns-then-number-lt100-clause-value : goal.returns-then-number-lt100-clause-value
-returns-then-number-lt100-clause-value c = sym (count_two c.args.number (omega (arith, c.if-number-lt10.false)) c.if-number-lt100.true)
+returns-then-number-lt100-clause-value c =
+    sym (count_two c.args.number (omega (arith, c.if-number-lt10.false)) c.if-number-lt100.true)
 
 pub returns-else-number-lt100-clause-value : goal.returns-else-number-lt100-clause-value
-returns-else-number-lt100-clause-value c = sym (count_three c.args.number (omega (arith, c.if-number-lt100.false)) c.requires)
+returns-else-number-lt100-clause-value c =
+    sym (count_three c.args.number (omega (arith, c.if-number-lt100.false)) c.requires)

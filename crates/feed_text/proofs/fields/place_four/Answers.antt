@@ -5,5 +5,6 @@ use Rattle.feed_text.proofs.fields.place_four.Goals as goal
 
 pub returns-clause-placed : goal.returns-clause-placed
 returns-clause-placed c =
-    placed_as _ _ _ _ _ _ (placed_more _ _ _ _ _ _ _ _ c.place_two-at.ensures.placed c.place_pair.ensures)
+    placed_as _ _ _ _ _ _ (placed_more _ _ _ _ _ _ _ _ c.place_two-at.ensures.placed
+    c.place_pair.ensures)
     (sym (decimal_pair c.args.number (omega arith) (omega arith)))

@@ -9,4 +9,5 @@ front_of_front (suc n) (x ∷ xs) = ap (λ (ys : List ℕ). x ∷ ys) (front_of_
 
 pub returns-clause-placed : goal.returns-clause-placed
 returns-clause-placed c =
-    placed_as _ _ _ _ _ _ c.place_word.ensures (rw (c.name-len.ensures.value, c.field.ensures.value) (front_of_front _ c.args.symbol))
+    placed_as _ _ _ _ _ _ c.place_word.ensures (rw (c.name-len.ensures.value, c.field.ensures.value)
+    (front_of_front _ c.args.symbol))

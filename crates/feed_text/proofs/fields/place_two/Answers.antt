@@ -12,7 +12,8 @@ returns-clause-placed c =
     let len : c.if-number-lt10.len ≡ length (decimal n) =
     elim c.if-number-lt10.branch [
       | then-number-lt10 w ↦ w.len-is ∙ sym (count_one n w.if-number-lt10.true)
-      | else-number-lt10 w ↦ w.len-is ∙ sym (count_two n (omega (arith, w.if-number-lt10.false)) c.requires.small)
+      | else-number-lt10 w ↦ w.len-is
+          ∙ sym (count_two n (omega (arith, w.if-number-lt10.false)) c.requires.small)
     ] in
     placed_as _ _ _ _ _ _ c.place_word.ensures
     (ap (λ (k : ℕ). take k (get_or FRONTS n [])) len ∙ front_at n (omega (arith, c.requires.small)))

@@ -5,7 +5,11 @@ use Rattle.feed_text.proofs.lack_lines.write_lack.Goals as goal
 
 pub returns : goal.returns
 returns g c =
-    let w : Writing g.row.E.Denot = record { adds = g.E.TextOut.adds; failures = g.E.TextOut.failures } in
+    let w : Writing g.row.E.Denot = record {
+      adds = g.E.TextOut.adds;
+      failures =
+          g.E.TextOut.failures;
+    } in
     let lack = c.args.lack.now in
     says_each w (lacking_texts lack.venue) (missing_texts lack.count lack.number)
     c.args.errors.now c.write_lacking.new.errors c.write_missing.new.errors

@@ -5,9 +5,17 @@ use Rattle.feed_text.proofs.report.tell_bests.Given as goal
 
 abbrev pub invariant-loop-change : goal.invariant-loop-change
 invariant-loop-change g l = record {
-  took : (end : g.row.K.Denot) → g.K.EventSink.takes l.sink (at_time l.time (map told_best (notices_from l.number (drop l.change-index l.change-items)))) end
-      → g.K.EventSink.takes l.fn.sink (at_time l.time (map told_best (notices_from l.fn.latest.first l.change-items))) end;
-  failed : (end : g.row.K.Denot) → g.K.EventSink.fails l.sink (at_time l.time (map told_best (notices_from l.number (drop l.change-index l.change-items)))) end
-      → g.K.EventSink.fails l.fn.sink (at_time l.time (map told_best (notices_from l.fn.latest.first l.change-items))) end;
+  took : (end : g.row.K.Denot)
+      → g.K.EventSink.takes l.sink
+      (at_time l.time (map told_best (notices_from l.number (drop l.change-index l.change-items))))
+      end
+      → g.K.EventSink.takes l.fn.sink
+      (at_time l.time (map told_best (notices_from l.fn.latest.first l.change-items))) end;
+  failed : (end : g.row.K.Denot)
+      → g.K.EventSink.fails l.sink
+      (at_time l.time (map told_best (notices_from l.number (drop l.change-index l.change-items))))
+      end
+      → g.K.EventSink.fails l.fn.sink
+      (at_time l.time (map told_best (notices_from l.fn.latest.first l.change-items))) end;
   number : l.number ≡ l.fn.latest.first + l.change-index;
 }

@@ -15,8 +15,10 @@ use Rattle.feed_text.proofs.Taking.{skip_emits, skip_stopped, skip_taken, some_n
 use Rattle.feed_text.proofs.rule_skips.take_skips.Given.{Over}
 use Rattle.feed_text.proofs.rule_skips.take_skips.Goals as goal
 
-laws_of : (g : Over) → SinkLaws (record { takes = g.K.EventSink.takes; fails = g.K.EventSink.fails })
-laws_of g = laws_by g.met.K.EventSink.takes_none g.met.K.EventSink.takes_more g.met.K.EventSink.fails_after g.met.K.EventSink.fails_longer
+laws_of : (g : Over)
+    → SinkLaws (record { takes = g.K.EventSink.takes; fails = g.K.EventSink.fails })
+laws_of g = laws_by g.met.K.EventSink.takes_none g.met.K.EventSink.takes_more
+    g.met.K.EventSink.fails_after g.met.K.EventSink.fails_longer
 
 pub loop-number-init : goal.loop-number-init
 loop-number-init g c = record {
@@ -31,8 +33,13 @@ loop-number-smaller g c =
     let s = c.loop-number.invariant.taken A some.0 some.1 in
     let r : CaptureRecord = datagram_record c.args.venue A c.args.bytes.now in
     let puts = c.in-Some.ensures A s.after s.follow in
-    let e = skip_emits _ c.args.config.now r c.args.venue c.in-Some.number s.after c.loop-number.venues c.skip_to.new.self (state_of_replay c.loop-number.report) (state_of_replay c.skip_to.new.report) (Ok tt) refl (c.loop-number.invariant.kept.gaps ∙ c.requires.gaps) s.follow c.in_ok-skip_to.ensures in
-    let on = skip_progress _ c.args.config.now r c.in-Some.number s.after c.loop-number.venues.items c.skip_to.new.self.items (state_of_replay c.loop-number.report) (state_of_replay c.skip_to.new.report) s.follow puts e in
+    let e = skip_emits _ c.args.config.now r c.args.venue c.in-Some.number s.after
+    c.loop-number.venues c.skip_to.new.self (state_of_replay c.loop-number.report)
+    (state_of_replay c.skip_to.new.report) (Ok tt) refl (c.loop-number.invariant.kept.gaps
+    ∙ c.requires.gaps) s.follow c.in_ok-skip_to.ensures in
+    let on = skip_progress _ c.args.config.now r c.in-Some.number s.after c.loop-number.venues.items
+    c.skip_to.new.self.items (state_of_replay c.loop-number.report)
+    (state_of_replay c.skip_to.new.report) s.follow puts e in
     omega (arith, on.0, on.1, on.2)
 
 pub loop-number-preserved : goal.loop-number-preserved
@@ -42,8 +49,13 @@ loop-number-preserved g c =
     let old = state_of_replay c.loop-number.report in
     let new = state_of_replay c.skip_to.new.report in
     let gaps = c.loop-number.invariant.kept.gaps ∙ c.requires.gaps in
-    let one : (line : LineId) (hs : List History) → FollowAll c.args.config.now.window c.loop-number.venues.items hs → EmitsNext (record { takes = g.K.EventSink.takes; fails = g.K.EventSink.fails }) c.args.config.now.window c.args.config.now.gaps (skip_at (at line) c.in-Some.number) hs old new c.skip_to.new.self.items (Ok tt) = λ line hs f.
-    skip_emits _ c.args.config.now (at line) c.args.venue c.in-Some.number hs c.loop-number.venues c.skip_to.new.self old new (Ok tt) refl gaps f c.in_ok-skip_to.ensures in
+    let one : (line : LineId) (hs : List History)
+    → FollowAll c.args.config.now.window c.loop-number.venues.items hs
+    → EmitsNext (record { takes = g.K.EventSink.takes; fails = g.K.EventSink.fails })
+    c.args.config.now.window c.args.config.now.gaps (skip_at (at line) c.in-Some.number) hs old
+    new c.skip_to.new.self.items (Ok tt) = λ line hs f.
+    skip_emits _ c.args.config.now (at line) c.args.venue c.in-Some.number hs c.loop-number.venues
+    c.skip_to.new.self old new (Ok tt) refl gaps f c.in_ok-skip_to.ensures in
     let some = c.requires.follow in
     let s = c.loop-number.invariant.taken A some.0 some.1 in
     let first = one A s.after s.follow in
@@ -58,7 +70,10 @@ loop-number-preserved g c =
           let e = one line k.after k.follow in
           record {
             after = e.after;
-            took = skip_taken (laws_of g) c.args.config.now (timed line) (timed_record (skip_at (at line) c.in-Some.number) c.args.report.now.time) hs k.after (state_of_replay c.args.report.now) old new c.skip_to.new.self.items k.took (c.in-Some.number, c.in-Some.ensures line k.after k.follow, refl) e;
+            took = skip_taken (laws_of g) c.args.config.now (timed line)
+                (timed_record (skip_at (at line) c.in-Some.number) c.args.report.now.time) hs
+                k.after (state_of_replay c.args.report.now) old new c.skip_to.new.self.items k.took
+                (c.in-Some.number, c.in-Some.ensures line k.after k.follow, refl) e;
             follow = e.follow;
           };
     }
@@ -72,11 +87,26 @@ returns-in_err-skip_to-clause-taken g c = λ line hs f.
     let p = err_from_is_err_and c.from_residual.result c.from_residual.ensures.1 in
     let k = c.loop-number.invariant.taken line hs f in
     let stop : PublishStop = c.in_err-skip_to.field-0.0 in
-    let e = skip_emits _ c.args.config.now at c.args.venue c.in-Some.number k.after c.loop-number.venues c.skip_to.new.self old new (Err stop) refl (c.loop-number.invariant.kept.gaps ∙ c.requires.gaps) k.follow c.in_err-skip_to.ensures in
+    let e = skip_emits _ c.args.config.now at c.args.venue c.in-Some.number k.after
+    c.loop-number.venues c.skip_to.new.self old new (Err stop) refl
+    (c.loop-number.invariant.kept.gaps ∙ c.requires.gaps) k.follow c.in_err-skip_to.ensures in
     rw (p.1, p.2)
-    (skip_stopped (laws_of g) c.args.config.now r (timed_record (skip_at at c.in-Some.number) c.args.report.now.time) hs k.after (state_of_replay c.args.report.now) old new c.skip_to.new.self.items stop k.took (c.in-Some.number, c.in-Some.ensures line k.after k.follow, refl) e)
+    (skip_stopped (laws_of g) c.args.config.now r (timed_record (skip_at at c.in-Some.number)
+    c.args.report.now.time) hs k.after (state_of_replay c.args.report.now) old new
+    c.skip_to.new.self.items stop k.took (
+      c.in-Some.number,
+      c.in-Some.ensures line
+          k.after k.follow,
+      refl,
+    ) e)
 
 pub returns-clause-taken : goal.returns-clause-taken
 returns-clause-taken g c = λ line hs f.
     let k = c.loop-number.invariant.taken line hs f in
-    record { after = k.after; took = k.took; follow = k.follow; none = c.in_default.ensures line k.after k.follow }
+    record {
+      after = k.after;
+      took = k.took;
+      follow = k.follow;
+      none = c.in_default.ensures
+          line k.after k.follow;
+    }

@@ -6,10 +6,23 @@ use Rattle.feed_text.proofs.run.run.Given as goal
 
 abbrev pub invariant-pieces : goal.invariant-pieces
 invariant-pieces g l = record {
-  ran : Ran (record { gives = g.R.CaptureIn.gives; ends = g.R.CaptureIn.ends; failures = g.R.CaptureIn.failures; fails = g.R.CaptureIn.fails })
-      (record { reads = g.F.RecordFormat.reads; wants = g.F.RecordFormat.wants; is_bad = g.F.RecordFormat.is_bad; is_whole = g.F.RecordFormat.is_whole })
+  ran : Ran (record {
+    gives = g.R.CaptureIn.gives;
+    ends = g.R.CaptureIn.ends;
+    failures =
+        g.R.CaptureIn.failures;
+    fails = g.R.CaptureIn.fails;
+  })
+      (record {
+        reads = g.F.RecordFormat.reads;
+        wants = g.F.RecordFormat.wants;
+        is_bad =
+            g.F.RecordFormat.is_bad;
+        is_whole = g.F.RecordFormat.is_whole;
+      })
       (record { takes = g.K.EventSink.takes; fails = g.K.EventSink.fails })
-      l.config l.fn.reader (l.config.turns - l.turns) l.reader l.fn.format l.format l.unread l.fn.report.sink l.venues (state_of_replay l.report);
+      l.config l.fn.reader (l.config.turns - l.turns) l.reader l.fn.format l.format l.unread
+      l.fn.report.sink l.venues (state_of_replay l.report);
   turns : l.turns ≤ l.config.turns;
   room : length l.unread ≤ 1179648;
   reads : g.R.CaptureIn.failures l.reader ≡ g.R.CaptureIn.failures l.fn.reader;

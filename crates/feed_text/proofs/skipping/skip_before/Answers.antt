@@ -9,7 +9,8 @@ use Rattle.feed_text.proofs.skipping.skip_before.Goals as goal
 use Rattle.feed_text.proofs.skipping.skip_before.Goals.{After-status-cursors}
 use Rattle.feed_text.proofs.skipping.skip_before.Goals.{then-not-allows-via-then-not-allows, then-not-allows-via-else-not-allows+then-not-is_ahead}
 
-cursors_are : (c : After-status-cursors) (h : History) → HasSentAll c.args.window c.args.arbiter.now h → c.status-cursors.result ≡ cursors_of (last_sent h) h.present.packets
+cursors_are : (c : After-status-cursors) (h : History) → HasSentAll c.args.window c.args.arbiter.now
+    h → c.status-cursors.result ≡ cursors_of (last_sent h) h.present.packets
 cursors_are c h f =
     c.status-cursors.ensures.packets h.present.packets f.history.present ∙ cursors_shown h f
 
@@ -18,7 +19,8 @@ returns-then-not-allows c = λ h f number x.
     let cursors = cursors_are (goal.at.returns-then-not-allows c).After-status-cursors h f in
     elim c.then-not-allows.branch [
       | then-not-allows-via-then-not-allows w ↦ w.if-not-allows.ensures h cursors x.allowed
-      | then-not-allows-via-else-not-allows+then-not-is_ahead w ↦ w.if-not-is_ahead.ensures h f cursors x.ahead
+      | then-not-allows-via-else-not-allows+then-not-is_ahead w ↦ w.if-not-is_ahead.ensures h f
+          cursors x.ahead
     ]
 
 pub overflow_add-result : goal.overflow_add-result
@@ -34,7 +36,8 @@ returns-then-past-gt1 c = λ h f.
     record {
       allowed = c.if-not-allows.ensures h cursors;
       ahead = c.if-not-is_ahead.ensures h f cursors;
-      first = c.first_past-past.ensures.first c.args.window h c.args.packet.now f cursors (omega (arith, own, test));
+      first = c.first_past-past.ensures.first c.args.window h c.args.packet.now f cursors
+          (omega (arith, own, test));
       missing = omega (arith, front, past);
     }
 
@@ -45,7 +48,8 @@ returns-else-past-gt1 c = λ h f number x.
     let own = c.number-number.ensures.value in
     let test = c.if-number-cursors.false in
     let past = c.if-past-gt1.false in
-    let first = c.first_past-past.ensures.first c.args.window h c.args.packet.now f cursors (omega (arith, own, test)) in
+    let first = c.first_past-past.ensures.first c.args.window h c.args.packet.now f cursors
+    (omega (arith, own, test)) in
     let is = x.first in
     let missing = x.missing in
     omega (arith, first, is, missing, front, past)

@@ -8,14 +8,18 @@ use Rattle.feed_text.proofs.Tales.{SinkLaws, laws_by, tells_more, tells_stop}
 use Rattle.feed_text.proofs.venue.publish_answer.Given.{Over}
 use Rattle.feed_text.proofs.venue.publish_answer.Goals as goal
 
-laws_of : (g : Over) → SinkLaws (record { takes = g.K.EventSink.takes; fails = g.K.EventSink.fails })
-laws_of g = laws_by g.met.K.EventSink.takes_none g.met.K.EventSink.takes_more g.met.K.EventSink.fails_after g.met.K.EventSink.fails_longer
+laws_of : (g : Over)
+    → SinkLaws (record { takes = g.K.EventSink.takes; fails = g.K.EventSink.fails })
+laws_of g = laws_by g.met.K.EventSink.takes_none g.met.K.EventSink.takes_more
+    g.met.K.EventSink.fails_after g.met.K.EventSink.fails_longer
 
 pub returns-clause-emits : goal.returns-clause-emits
 returns-clause-emits g c = λ packets f.
-    let answered : ReplayEvent = packet_answered c.args.venue c.args.line c.args.packet.now.number (length c.args.packet.now.messages) c.args.answer.now in
+    let answered : ReplayEvent = packet_answered c.args.venue c.args.line c.args.packet.now.number
+    (length c.args.packet.now.messages) c.args.answer.now in
     tells_more (laws_of g) (state_of_replay c.publish_ready.new.report) (answered ∷ [])
-    (map (item_taken c.args.venue) (drop (place_of packets c.args.arbiter.now.sent) (stream_of packets))) c.publish_ready.result
+    (map (item_taken c.args.venue) (drop (place_of packets c.args.arbiter.now.sent)
+    (stream_of packets))) c.publish_ready.result
     c.in_ok-tell_answer.ensures
     (c.publish_ready.ensures.emits packets f)
 
@@ -24,9 +28,13 @@ publish_ready-requires g c = rw c.in_ok-tell_answer.ensures.venues c.requires
 
 pub returns-in_err-tell_answer-clause-emits : goal.returns-in_err-tell_answer-clause-emits
 returns-in_err-tell_answer-clause-emits g c = λ packets f.
-    let answered : ReplayEvent = packet_answered c.args.venue c.args.line c.args.packet.now.number (length c.args.packet.now.messages) c.args.answer.now in
+    let answered : ReplayEvent = packet_answered c.args.venue c.args.line c.args.packet.now.number
+    (length c.args.packet.now.messages) c.args.answer.now in
     let p = err_from_is_err_and c.from_residual.result c.from_residual.ensures.1 in
     rw (p.1, p.2)
-    (tells_stop (record { takes = g.K.EventSink.takes; fails = g.K.EventSink.fails }) (state_of_replay c.args.report.now) (state_of_replay c.tell_answer.new.report) (answered ∷ [])
-    (map (item_taken c.args.venue) (drop (place_of packets c.args.arbiter.now.sent) (stream_of packets))) c.in_err-tell_answer.field-0.0
+    (tells_stop (record { takes = g.K.EventSink.takes; fails = g.K.EventSink.fails })
+    (state_of_replay c.args.report.now) (state_of_replay c.tell_answer.new.report) (answered
+    ∷ [])
+    (map (item_taken c.args.venue) (drop (place_of packets c.args.arbiter.now.sent)
+    (stream_of packets))) c.in_err-tell_answer.field-0.0
     c.in_err-tell_answer.ensures)

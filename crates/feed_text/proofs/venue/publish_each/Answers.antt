@@ -11,8 +11,10 @@ use Rattle.feed_text.proofs.Tales.{SinkLaws, laws_by, took_none, took_one, took_
 use Rattle.feed_text.proofs.venue.publish_each.Given.{Over}
 use Rattle.feed_text.proofs.venue.publish_each.Goals as goal
 
-laws_of : (g : Over) → SinkLaws (record { takes = g.K.EventSink.takes; fails = g.K.EventSink.fails })
-laws_of g = laws_by g.met.K.EventSink.takes_none g.met.K.EventSink.takes_more g.met.K.EventSink.fails_after g.met.K.EventSink.fails_longer
+laws_of : (g : Over)
+    → SinkLaws (record { takes = g.K.EventSink.takes; fails = g.K.EventSink.fails })
+laws_of g = laws_by g.met.K.EventSink.takes_none g.met.K.EventSink.takes_more
+    g.met.K.EventSink.fails_after g.met.K.EventSink.fails_longer
 
 pub loop-next-init : goal.loop-next-init
 loop-next-init g c = record {
@@ -32,7 +34,10 @@ loop-next-preserved g c = record {
       let one_more : place_of P c.advance.new.self.sent ≡ place_of P c.loop-next.arbiter.sent + 1 =
       ap (place_of P) c.advance.ensures.after.sent ∙ place_next fits in
       took_one (laws_of g) (item_taken c.args.venue c.in-Some.next) _
-      (ap (map (item_taken c.args.venue)) (rest_next (stream_of P) (place_of P c.loop-next.arbiter.sent) (place_of P c.advance.new.self.sent) c.in-Some.next (c.in-Some.ensures.stream P fits) one_more))
+      (ap (map (item_taken c.args.venue))
+      (rest_next (stream_of P) (place_of P c.loop-next.arbiter.sent)
+      (place_of P c.advance.new.self.sent) c.in-Some.next (c.in-Some.ensures.stream P fits)
+      one_more))
       (c.loop-next.invariant.emitted P f) c.in_ok-take_item.ensures;
 }
 
@@ -40,13 +45,18 @@ pub returns : goal.returns
 returns g c = record {
   emits = λ P f.
       let here = c.next_ready.ensures.stream P (c.loop-next.invariant.fits P f) in
-      took_all (ap (map (item_taken c.args.venue)) (rest_end (stream_of P) (place_of P c.loop-next.arbiter.sent) (sym c.in_default.is ∙ here))) (c.loop-next.invariant.emitted P f);
+      took_all (ap (map (item_taken c.args.venue))
+      (rest_end (stream_of P) (place_of P c.loop-next.arbiter.sent) (sym c.in_default.is
+      ∙ here))) (c.loop-next.invariant.emitted P f);
   sent = record {
     fits = λ P f.
         let fits = c.loop-next.invariant.fits P f in
         let here = c.next_ready.ensures.stream P fits in
-        let most : length (stream_of P) ≤ place_of P c.loop-next.arbiter.sent = no_more (stream_of P) (place_of P c.loop-next.arbiter.sent) (sym c.in_default.is ∙ here) in
-        let least : place_of P c.loop-next.arbiter.sent ≤ length (stream_of P) = place_within fits in
+        let most : length (stream_of P) ≤ place_of P c.loop-next.arbiter.sent =
+        no_more (stream_of P) (place_of P c.loop-next.arbiter.sent) (sym c.in_default.is ∙ here)
+        in
+        let least : place_of P c.loop-next.arbiter.sent ≤ length (stream_of P) = place_within fits
+        in
         (fits, omega arith);
     kept = c.loop-next.invariant.kept;
   };
@@ -57,8 +67,11 @@ returns-in_err-take_item g c =
     let p = err_from_is_err_and c.from_residual.result c.from_residual.ensures.1 in
     rw (p.1, p.2) (record {
       emits = λ P f.
-          took_stop (laws_of g) (state_of_replay c.take_item.new.self) (item_taken c.args.venue c.in-Some.next) _ c.in_err-take_item.field-0.0
-          (ap (map (item_taken c.args.venue)) (rest_at (stream_of P) (place_of P c.loop-next.arbiter.sent) c.in-Some.next (c.in-Some.ensures.stream P (c.loop-next.invariant.fits P f))))
+          took_stop (laws_of g) (state_of_replay c.take_item.new.self)
+          (item_taken c.args.venue c.in-Some.next) _ c.in_err-take_item.field-0.0
+          (ap (map (item_taken c.args.venue))
+          (rest_at (stream_of P) (place_of P c.loop-next.arbiter.sent) c.in-Some.next
+          (c.in-Some.ensures.stream P (c.loop-next.invariant.fits P f))))
           (c.loop-next.invariant.emitted P f) c.in_err-take_item.ensures;
       sent = tt;
     })

@@ -11,25 +11,37 @@ use Rattle.feed_text.proofs.Passing.{passed_all, passed_part}
 use Rattle.feed_text.proofs.venue.publish_next.Given.{Over}
 use Rattle.feed_text.proofs.venue.publish_next.Goals as goal
 
-laws_of : (g : Over) → SinkLaws (record { takes = g.K.EventSink.takes; fails = g.K.EventSink.fails })
-laws_of g = laws_by g.met.K.EventSink.takes_none g.met.K.EventSink.takes_more g.met.K.EventSink.fails_after g.met.K.EventSink.fails_longer
+laws_of : (g : Over)
+    → SinkLaws (record { takes = g.K.EventSink.takes; fails = g.K.EventSink.fails })
+laws_of g = laws_by g.met.K.EventSink.takes_none g.met.K.EventSink.takes_more
+    g.met.K.EventSink.fails_after g.met.K.EventSink.fails_longer
 
 pub returns-clause-emits : goal.returns-clause-emits
 returns-clause-emits g c = λ from packets f sends.
-    let answered : ReplayEvent = packet_answered c.args.venue c.args.line c.args.packet.now.number (length c.args.packet.now.messages) (Ok c.args.outcome) in
-    passed_all (laws_of g) c.args.venue (place_of packets from) (place_of packets c.args.arbiter.now.sent) (numbered_from c.args.packet.now.number (map item_of c.args.packet.now.messages)) (stream_of packets) answered
-    (state_of_replay c.args.report.now) (state_of_replay c.tell_answer.new.report) (state_of_replay c.publish_messages.new.report) (state_of_replay c.publish_ready.new.report) c.publish_ready.result
+    let answered : ReplayEvent = packet_answered c.args.venue c.args.line c.args.packet.now.number
+    (length c.args.packet.now.messages) (Ok c.args.outcome) in
+    passed_all (laws_of g) c.args.venue (place_of packets from)
+    (place_of packets c.args.arbiter.now.sent) (numbered_from c.args.packet.now.number
+    (map item_of c.args.packet.now.messages)) (stream_of packets) answered
+    (state_of_replay c.args.report.now) (state_of_replay c.tell_answer.new.report)
+    (state_of_replay c.publish_messages.new.report) (state_of_replay c.publish_ready.new.report)
+    c.publish_ready.result
     sends
     c.in_ok-tell_answer.ensures
     c.in_ok-publish_messages.ensures (c.publish_ready.ensures.emits packets f)
 
 pub returns-in_err-publish_messages-clause-emits : goal.returns-in_err-publish_messages-clause-emits
 returns-in_err-publish_messages-clause-emits g c = λ from packets f sends.
-    let answered : ReplayEvent = packet_answered c.args.venue c.args.line c.args.packet.now.number (length c.args.packet.now.messages) (Ok c.args.outcome) in
-    let p = err_from_is_err_and c.from_residual-in_err-publish_messages.result c.from_residual-in_err-publish_messages.ensures.1 in
+    let answered : ReplayEvent = packet_answered c.args.venue c.args.line c.args.packet.now.number
+    (length c.args.packet.now.messages) (Ok c.args.outcome) in
+    let p = err_from_is_err_and c.from_residual-in_err-publish_messages.result
+    c.from_residual-in_err-publish_messages.ensures.1 in
     rw (p.1, p.2)
-    (passed_part (laws_of g) c.args.venue (place_of packets from) (place_of packets c.args.arbiter.now.sent) (numbered_from c.args.packet.now.number (map item_of c.args.packet.now.messages)) (stream_of packets) answered
-    (state_of_replay c.args.report.now) (state_of_replay c.tell_answer.new.report) (state_of_replay c.publish_messages.new.report) c.in_err-publish_messages.field-0.0
+    (passed_part (laws_of g) c.args.venue (place_of packets from)
+    (place_of packets c.args.arbiter.now.sent) (numbered_from c.args.packet.now.number
+    (map item_of c.args.packet.now.messages)) (stream_of packets) answered
+    (state_of_replay c.args.report.now) (state_of_replay c.tell_answer.new.report)
+    (state_of_replay c.publish_messages.new.report) c.in_err-publish_messages.field-0.0
     sends
     c.in_ok-tell_answer.ensures
     c.in_err-publish_messages.ensures)
@@ -38,13 +50,18 @@ pub publish_messages-requires : goal.publish_messages-requires
 publish_messages-requires g c = rw c.in_ok-tell_answer.ensures.venues c.requires
 
 pub publish_ready-requires : goal.publish_ready-requires
-publish_ready-requires g c = rw (c.in_ok-publish_messages.ensures.venues ∙ c.in_ok-tell_answer.ensures.venues) c.requires
+publish_ready-requires g c = rw (c.in_ok-publish_messages.ensures.venues
+    ∙ c.in_ok-tell_answer.ensures.venues) c.requires
 
 pub returns-in_err-tell_answer-clause-emits : goal.returns-in_err-tell_answer-clause-emits
 returns-in_err-tell_answer-clause-emits g c = λ from packets f sends.
-    let answered : ReplayEvent = packet_answered c.args.venue c.args.line c.args.packet.now.number (length c.args.packet.now.messages) (Ok c.args.outcome) in
+    let answered : ReplayEvent = packet_answered c.args.venue c.args.line c.args.packet.now.number
+    (length c.args.packet.now.messages) (Ok c.args.outcome) in
     let p = err_from_is_err_and c.from_residual.result c.from_residual.ensures.1 in
     rw (p.1, p.2)
-    (tells_stop (record { takes = g.K.EventSink.takes; fails = g.K.EventSink.fails }) (state_of_replay c.args.report.now) (state_of_replay c.tell_answer.new.report) (answered ∷ [])
-    (map (item_taken c.args.venue) (drop (place_of packets from) (stream_of packets))) c.in_err-tell_answer.field-0.0
+    (tells_stop (record { takes = g.K.EventSink.takes; fails = g.K.EventSink.fails })
+    (state_of_replay c.args.report.now) (state_of_replay c.tell_answer.new.report) (answered
+    ∷ [])
+    (map (item_taken c.args.venue) (drop (place_of packets from) (stream_of packets)))
+    c.in_err-tell_answer.field-0.0
     c.in_err-tell_answer.ensures)

@@ -10,6 +10,9 @@ returns c =
     let field = c.args.field.now in
     let long : length field ≡ 8 = omega arith in
     let bytes : (i : ℕ) → get_or field i 0 < 256 = search rules in
-    tested_word field long (small_at field bytes) _ (ap (λ (w : ℕ). (w + 0xdfdf_dfdf_dfdf_dfe0) % 2 ^ 64) (c.from_le_bytes-above.ensures ∙ read field long)) c.past_tilde.result c.misplaced.result
+    tested_word field long (small_at field bytes) _
+    (ap (λ (w : ℕ). (w + 0xdfdf_dfdf_dfdf_dfe0) % 2 ^ 64) (c.from_le_bytes-above.ensures
+    ∙ read field long)) c.past_tilde.result c.misplaced.result
     c.past_tilde.ensures
-    (λ bytes are e. c.misplaced.ensures _ (length-map bytes (nat_le 1) ∙ are.eight) (c.no_spaces.ensures bytes are e))
+    (λ bytes are e. c.misplaced.ensures _ (length-map bytes (nat_le 1) ∙ are.eight)
+    (c.no_spaces.ensures bytes are e))

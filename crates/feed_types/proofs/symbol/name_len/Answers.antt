@@ -13,10 +13,13 @@ before_space xs = prefix_len (λ byte. not (is_space byte)) xs
 pub returns : goal.returns
 returns c =
     let field : List ℕ = c.args.field.now in
-    let first = IsFirst-from_position _ _ c.position.result (λ byte. is_space byte ≡ true) (λ byte. is_space byte ≡ false)
-    c.position.ensures.ran (YieldsList-from_slice field cc) (λ x q k. search (rules, tests)) (λ x q k. search (rules, tests)) in
+    let first = IsFirst-from_position _ _ c.position.result (λ byte. is_space byte ≡ true)
+    (λ byte. is_space byte ≡ false)
+    c.position.ensures.ran (YieldsList-from_slice field cc) (λ x q k. search (rules, tests))
+    (λ x q k. search (rules, tests)) in
     let found : before_space field ≡ unwrap_or c.position.result (length field) =
-    index_from_first before_space (λ byte. is_space byte ≡ true) (λ byte. is_space byte ≡ false) refl
+    index_from_first before_space (λ byte. is_space byte ≡ true) (λ byte. is_space byte ≡ false)
+    refl
     (λ x xs e. ap (λ b. cond (not b) (1 + before_space xs) 0) e)
     (λ x xs e. ap (λ b. cond (not b) (1 + before_space xs) 0) e ∙ omega arith)
     field c.position.result first in

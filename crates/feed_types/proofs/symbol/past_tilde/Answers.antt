@@ -3,4 +3,5 @@ use Rattle.feed_types.proofs.Lanes.{reaching}
 use Rattle.feed_types.proofs.symbol.past_tilde.Goals as goal
 
 pub returns : goal.returns
-returns c = λ bytes are e. ap (λ (w : ℕ). bit_and ((w + 33 * 0x0101_0101_0101_0101) % 2 ^ 64) 0x8080_8080_8080_8080) e ∙ reaching 33 95 refl bytes are
+returns c = λ bytes are e. ap (λ (w : ℕ). bit_and ((w + 33 * 0x0101_0101_0101_0101) % 2 ^ 64)
+    0x8080_8080_8080_8080) e ∙ reaching 33 95 refl bytes are

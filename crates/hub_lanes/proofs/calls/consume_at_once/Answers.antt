@@ -15,7 +15,8 @@ pub loop-count-preserved : goal.loop-count-preserved
 loop-count-preserved g c =
     let i = c.loop-count.invariant in
     let e = c.in-Ok-Ok.ensures in
-    let one = subst (λ (next : Result ℕ NoItem). ConsumesAtOnce c.args.venue (Ok next) c.loop-count.core
+    let one = subst (λ (next : Result ℕ NoItem). ConsumesAtOnce c.args.venue
+    (Ok next) c.loop-count.core
     c.try_consume.new.self) c.in-Ok-Ok.field-0-is e.consume in (
       search rules,
       λ none. absurd (omega arith),
@@ -27,7 +28,8 @@ pub returns-in-Ok-Err-clause-batch : goal.returns-in-Ok-Err-clause-batch
 returns-in-Ok-Err-clause-batch g c =
     let i = c.loop-count.invariant in
     let e = c.in-Ok-Err.ensures in
-    let one = subst (λ (next : Result ℕ NoItem). ConsumesAtOnce c.args.venue (Ok next) c.loop-count.core
+    let one = subst (λ (next : Result ℕ NoItem). ConsumesAtOnce c.args.venue
+    (Ok next) c.loop-count.core
     c.try_consume.new.self) c.in-Ok-Err.field-0-is e.consume in (
       search (rules, arith),
       none_more_item c.args.venue c.args.core.now c.loop-count.count c.loop-count.core

@@ -7,12 +7,15 @@ loop-place-init g c = none_yet c.args.core.now
 
 pub loop-place-preserved : goal.loop-place-preserved
 loop-place-preserved g c =
-    one_offered c.loop-place.place _ c.look_limit-to.result c.loop-place.offered c.offer_up_to-done.result.pushed
+    one_offered c.loop-place.place _ c.look_limit-to.result c.loop-place.offered
+    c.offer_up_to-done.result.pushed
     c.saturating_add-offered.result c.loop-place.unfinished c.offer_up_to-done.result.unfinished
     c.args.core.now c.loop-place.core c.offer_up_to-done.new.core
-    (search rules) c.loop-place.invariant c.offer_up_to-done.ensures c.look_limit-to.ensures c.saturating_add-offered.ensures
+    (search rules) c.loop-place.invariant c.offer_up_to-done.ensures c.look_limit-to.ensures
+    c.saturating_add-offered.ensures
 
 pub returns : goal.returns
 returns g c =
-    all_offered _ c.loop-place.offered c.loop-place.unfinished c.args.core.now c.loop-place.core c.loop-place.invariant
+    all_offered _ c.loop-place.offered c.loop-place.unfinished c.args.core.now
+    c.loop-place.core c.loop-place.invariant
     (search (rules, arith))

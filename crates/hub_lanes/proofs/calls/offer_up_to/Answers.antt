@@ -19,7 +19,8 @@ loop-preserved-in-Ok-answer g c =
     let i = c.loop.invariant in
     let e = c.in-Ok.ensures in
     let new = c.offer.new.self in
-    let one = subst (λ (a : Result ℕ Unsent). HubOffersOne c.args.id a c.loop.core new) c.in-Ok-answer.is e.offer in (
+    let one = subst (λ (a : Result ℕ Unsent). HubOffersOne c.args.id a c.loop.core new)
+    c.in-Ok-answer.is e.offer in (
       tt,
       tt,
       subst (λ (n : ℕ). c.args.id < n) (sym (count_stays c.loop.core new e.kept)) i.2,
@@ -32,7 +33,8 @@ loop-preserved g c =
     let i = c.loop.invariant in
     let e = c.in-Ok.ensures in
     let new = c.offer.new.self in
-    let one = subst (λ (a : Result ℕ Unsent). HubOffersOne c.args.id a c.loop.core new) c.in-Err-LaneFull.is e.offer in (
+    let one = subst (λ (a : Result ℕ Unsent). HubOffersOne c.args.id a c.loop.core new)
+    c.in-Err-LaneFull.is e.offer in (
       tt,
       tt,
       subst (λ (n : ℕ). c.args.id < n) (sym (count_stays c.loop.core new e.kept)) i.2,
@@ -48,6 +50,8 @@ pub returns-in-Err-answer : goal.returns-in-Err-answer
 returns-in-Err-answer g c =
     let e = c.in-Ok.ensures in
     let new = c.offer.new.self in
-    let one = subst (λ (a : Result ℕ Unsent). HubOffersOne c.args.id a c.loop.core new) c.in-Err-answer.is e.offer in
+    let one = subst (λ (a : Result ℕ Unsent). HubOffersOne c.args.id a c.loop.core new)
+    c.in-Err-answer.is e.offer in
     offered_up_to c.args.id c.args.to c.loop.pushed c.args.core.now new
-    (offered c.args.id c.loop.pushed _ c.args.core.now c.loop.core new c.loop.invariant.3 e.kept one)
+    (offered c.args.id c.loop.pushed _ c.args.core.now c.loop.core new
+    c.loop.invariant.3 e.kept one)

@@ -10,4 +10,5 @@ returns-clause-value g c =
     was_national g.G.Genuine g.N.FeedName.lanes c.args.symbol.now c.args.core.now c.national.result
     c.show_lock_invariant.ensures
     (subst (λ (j : JournalState). IfSome c.national.result
-    (λ (n : National). n ≡ national_of j.entries c.args.symbol.now)) c.journal.ensures c.national.ensures.value)
+    (λ (n : National). n ≡ national_of j.entries c.args.symbol.now)) c.journal.ensures
+    c.national.ensures.value)

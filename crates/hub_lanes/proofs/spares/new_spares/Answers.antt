@@ -9,6 +9,12 @@ loop-id-preserved c =
     let spare = c.loop-id.spare.items in
     rw c.in_ok-push_back.ensures.items (
       spares_more c.args.capacity spare _ i.0
-          (record { tag = e.new.0 ∙ sym i.1; capacity_is = e.new.1; items = e.new.2; same = e.same }),
+          (record {
+            tag = e.new.0 ∙ sym i.1;
+            capacity_is = e.new.1;
+            items =
+                e.new.2;
+            same = e.same;
+          }),
       length-append spare (_ ∷ []) ∙ ap (λ (n : ℕ). n + 1) i.1,
     )

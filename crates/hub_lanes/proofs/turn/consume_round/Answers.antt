@@ -23,7 +23,8 @@ loop-step-preserved g c =
     let step = c.loop-step.step in
     let consumed = c.loop-step.done.consumed in
     let venue = c.venue_after-venue in
-    let place = subst (λ (n : ℕ). (venue.result ≡ first.result + step) ⊎ (venue.result + n ≡ first.result + step))
+    let place = subst (λ (n : ℕ). (venue.result ≡ first.result + step)
+    ⊎ (venue.result + n ≡ first.result + step))
     c.venue_count-venues.ensures.lanes venue.ensures.place in (
       search (rules, arith),
       i.1,

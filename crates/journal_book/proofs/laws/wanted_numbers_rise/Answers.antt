@@ -6,4 +6,5 @@ pub returns-clause-past : goal.returns-clause-past
 returns-clause-past c = wanted_rise
 
 pub returns-clause-pairs : goal.returns-clause-pairs
-returns-clause-pairs c = λ symbols terms entries. pairs_rise 0 (wanted_of symbols terms entries) (wanted_rise symbols terms entries)
+returns-clause-pairs c = λ symbols terms entries. pairs_rise 0 (wanted_of symbols terms entries)
+    (wanted_rise symbols terms entries)

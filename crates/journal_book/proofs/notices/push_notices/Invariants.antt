@@ -5,7 +5,9 @@ use Rattle.journal_book.proofs.notices.push_notices.Given as goal
 
 abbrev pub invariant-loop-change : goal.invariant-loop-change
 invariant-loop-change l = record {
-  items : l.notices.items ++ notices_from l.number (drop l.change-index l.change-items) ≡ l.fn.notices.items ++ notices_from l.fn.latest.first l.change-items;
+  items : l.notices.items
+      ++ notices_from l.number (drop l.change-index l.change-items) ≡ l.fn.notices.items
+      ++ notices_from l.fn.latest.first l.change-items;
   len : vec_len l.notices ≡ vec_len l.fn.notices + l.change-index;
   capacity : vec_capacity l.notices ≡ vec_capacity l.fn.notices;
   number : l.number ≡ l.fn.latest.first + l.change-index;

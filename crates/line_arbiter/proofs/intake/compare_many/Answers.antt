@@ -13,7 +13,8 @@ module _ (c : After-compare_one) where
   n = c.loop-i.i-iterator.count
 
   abbrev Agrees : ℕ → Type 0
-  Agrees k = HoldsNoOther c.args.window.now (c.number-first.result + k) (message_item c.args.packet.now k)
+  Agrees k = HoldsNoOther c.args.window.now (c.number-first.result + k)
+      (message_item c.args.packet.now k)
 
   abbrev There : ℕ → Type 0
   There k = IsThere c.args.window.now (c.number-first.result + k)
@@ -25,15 +26,19 @@ module _ (c : After-compare_one) where
   count = omega (arith, c.in-Some.ensures.steps.1, c.in-Some.ensures.steps.2)
 
   next : IsAt c.args.packet.now (n + 1) c.next.new.self.iter
-  next = go_on c.in-Some.message.now c.next.new.self.iter c.loop-i.invariant.at c.in-Some.ensures.steps.0
+  next = go_on c.in-Some.message.now c.next.new.self.iter c.loop-i.invariant.at
+      c.in-Some.ensures.steps.0
 
   item : item_of c.in-Some.message.now ≡ message_item c.args.packet.now n
-  item = ap item_of (sym (at_turn c.in-Some.message.now c.next.new.self.iter c.loop-i.invariant.at c.in-Some.ensures.steps.0).here)
+  item = ap item_of (sym (at_turn c.in-Some.message.now c.next.new.self.iter c.loop-i.invariant.at
+      c.in-Some.ensures.steps.0).here)
 
   fits : n + 1 + length c.next.new.self.iter < 2 ^ 64
-  fits = let k = next.len in let f = numbers_fit c.args.packet.now c.number-first.ensures.content in let o = c.number-first.ensures.content.from_one in omega arith
+  fits = let k = next.len in let f = numbers_fit c.args.packet.now c.number-first.ensures.content
+      in let o = c.number-first.ensures.content.from_one in omega arith
 
-  all_agree : HoldsNoOther c.args.window.now (c.number-first.result + c.in-Some.i) (item_of c.in-Some.message.now) → (k : ℕ) → k < n + 1 → Agrees k
+  all_agree : HoldsNoOther c.args.window.now (c.number-first.result + c.in-Some.i)
+      (item_of c.in-Some.message.now) → (k : ℕ) → k < n + 1 → Agrees k
   all_agree here = below_more Agrees n c.loop-i.invariant.agrees (rw (← item, ← place) here)
 
 pub loop-i-preserved-in-Repeats : goal.loop-i-preserved-in-Repeats
@@ -43,7 +48,8 @@ loop-i-preserved-in-Repeats c =
       can = (tt, tt, inl (let f = fits at in let k = count at in omega arith));
       finite = tt;
       at = rw (count at) (next at);
-      there = λ all. rw (count at) (below_more (There at) (n at) (c.loop-i.invariant.there all) (rw (← place at) c.in-Repeats.ensures.0));
+      there = λ all. rw (count at) (below_more (There at) (n at) (c.loop-i.invariant.there all)
+          (rw (← place at) c.in-Repeats.ensures.0));
       agrees = rw (count at) (all_agree at c.in-Repeats.ensures.1);
     }
 

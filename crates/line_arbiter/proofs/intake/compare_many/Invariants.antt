@@ -11,5 +11,6 @@ invariant-loop-i l = record {
   finite : (goal.iterator-loop-i).is_finite l.i-iterator;
   at : IsAt l.packet l.i-iterator.count l.i-iterator.iter;
   there : l.all_there ≡ true → (k : ℕ) → k < l.i-iterator.count → IsThere l.window (l.first + k);
-  agrees : (k : ℕ) → k < l.i-iterator.count → HoldsNoOther l.window (l.first + k) (message_item l.packet k);
+  agrees : (k : ℕ) → k < l.i-iterator.count
+      → HoldsNoOther l.window (l.first + k) (message_item l.packet k);
 }

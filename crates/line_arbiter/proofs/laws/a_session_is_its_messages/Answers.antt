@@ -7,4 +7,6 @@ pub returns-clause-packet : goal.returns-clause-packet
 returns-clause-packet c = of_messages
 
 pub returns-clause-stream : goal.returns-clause-stream
-returns-clause-stream c = λ name messages window packets answered all. gives_session (session_of_messages name messages) window packets answered (all_of_messages name messages packets all)
+returns-clause-stream c = λ name messages window packets answered all. gives_session
+    (session_of_messages name messages) window packets answered
+    (all_of_messages name messages packets all)

@@ -7,7 +7,10 @@ use Rattle.line_captures.proofs.Finding.{none_more}
 use Rattle.line_captures.proofs.captured_line.line_to.Goals as goal
 
 pub loop-line-preserved : goal.loop-line-preserved
-loop-line-preserved c = none_more (λ (line : CapturedLine). Takes line (datagram_content c.args.datagram.now)) c.args.lines.now c.loop-line.line-index c.line-item.result c.loop-line-test.true c.line-item.is c.loop-line.invariant (λ t. let e = c.if-takes.ensures.1 t in absurd cc)
+loop-line-preserved c = none_more (λ (line : CapturedLine). Takes line
+    (datagram_content c.args.datagram.now)) c.args.lines.now c.loop-line.line-index
+    c.line-item.result c.loop-line-test.true c.line-item.is c.loop-line.invariant (λ t. let e =
+    c.if-takes.ensures.1 t in absurd cc)
 
 pub returns-then-takes-clause-some : goal.returns-then-takes-clause-some
 returns-then-takes-clause-some c = record {

@@ -6,8 +6,21 @@ use Rattle.line_captures.proofs.Converting.{Laws, copied_none, copied_record, co
 use Rattle.line_captures.proofs.conversion.convert.Given.{Over}
 use Rattle.line_captures.proofs.conversion.convert.Goals as goal
 
-laws_of : (g : Over) → Laws (record { gives = g.R.CaptureIn.gives; ends = g.R.CaptureIn.ends; failures = g.R.CaptureIn.failures; fails = g.R.CaptureIn.fails })
-    (record { reads = g.F.RecordFormat.reads; wants = g.F.RecordFormat.wants; is_bad = g.F.RecordFormat.is_bad; is_whole = g.F.RecordFormat.is_whole })
+laws_of : (g : Over)
+    → Laws (record {
+      gives = g.R.CaptureIn.gives;
+      ends = g.R.CaptureIn.ends;
+      failures =
+          g.R.CaptureIn.failures;
+      fails = g.R.CaptureIn.fails;
+    })
+    (record {
+      reads = g.F.RecordFormat.reads;
+      wants = g.F.RecordFormat.wants;
+      is_bad =
+          g.F.RecordFormat.is_bad;
+      is_whole = g.F.RecordFormat.is_whole;
+    })
     (record { adds = g.W.TextOut.adds; failures = g.W.TextOut.failures })
 laws_of g = record {
   gives_none = g.met.R.CaptureIn.gives_none;
@@ -34,15 +47,23 @@ pub returns-in_err-write_full-in-Came : goal.returns-in_err-write_full-in-Came
 returns-in_err-write_full-in-Came g c =
     let p = err_from_is_err_and c.from_residual.result c.from_residual.ensures.1 in
     let failed = c.in_err-write_full-in-Came.ensures in
-    let waits = copied_record (laws_of g) (timed_record (record_of c.in-Came.record) c.in-Came.time) c.in-Came.len c.bytes.ensures c.advance.ensures c.in-Came.ensures.steps
-    (subst (λ (n : ℕ). IsRecord n (record_of c.in-Came.record)) c.pieces.invariant.of_venues c.in-Came.ensures.came) c.put_record.ensures c.pieces.invariant.copied in
-    rw (p.1, p.2) (unwritten (laws_of g) failed.part waits, failed.failed ∙ ap (λ (n : ℕ). n + 1) c.pieces.invariant.writes)
+    let waits = copied_record (laws_of g) (timed_record (record_of c.in-Came.record) c.in-Came.time)
+    c.in-Came.len c.bytes.ensures c.advance.ensures c.in-Came.ensures.steps
+    (subst (λ (n : ℕ). IsRecord n (record_of c.in-Came.record)) c.pieces.invariant.of_venues
+    c.in-Came.ensures.came) c.put_record.ensures c.pieces.invariant.copied in
+    rw (p.1, p.2) (
+      unwritten (laws_of g) failed.part waits,
+      failed.failed ∙ ap (λ (n : ℕ). n + 1)
+          c.pieces.invariant.writes,
+    )
 
 pub pieces-preserved-in-Continue-1 : goal.pieces-preserved-in-Continue-1
 pieces-preserved-in-Continue-1 g c =
     let wrote = c.in_ok-write_full-in-Came.ensures in
-    let waits = copied_record (laws_of g) (timed_record (record_of c.in-Came.record) c.in-Came.time) c.in-Came.len c.bytes.ensures c.advance.ensures c.in-Came.ensures.steps
-    (subst (λ (n : ℕ). IsRecord n (record_of c.in-Came.record)) c.pieces.invariant.of_venues c.in-Came.ensures.came) c.put_record.ensures c.pieces.invariant.copied in
+    let waits = copied_record (laws_of g) (timed_record (record_of c.in-Came.record) c.in-Came.time)
+    c.in-Came.len c.bytes.ensures c.advance.ensures c.in-Came.ensures.steps
+    (subst (λ (n : ℕ). IsRecord n (record_of c.in-Came.record)) c.pieces.invariant.of_venues
+    c.in-Came.ensures.came) c.put_record.ensures c.pieces.invariant.copied in
     record {
       copied = copied_written (laws_of g) wrote.written waits;
       turns = c.pieces.invariant.turns;
@@ -50,37 +71,45 @@ pieces-preserved-in-Continue-1 g c =
       page = wrote.room;
       reads = c.pieces.invariant.reads;
       writes = wrote.kept ∙ c.pieces.invariant.writes;
-      of_venues = g.met.F.RecordFormat.reads_venues _ _ _ _ _ c.in-Came.ensures.steps.read ∙ c.pieces.invariant.of_venues;
+      of_venues = g.met.F.RecordFormat.reads_venues _ _ _ _ _ c.in-Came.ensures.steps.read
+          ∙ c.pieces.invariant.of_venues;
     }
 
 pub pieces-preserved-in-Passed : goal.pieces-preserved-in-Passed
 pieces-preserved-in-Passed g c =
     let piece = c.in-Passed.ensures.steps in
     record {
-      copied = copied_passed (laws_of g) c.in-Passed.len c.bytes.ensures c.advance-in-Passed.ensures piece c.pieces.invariant.copied;
+      copied = copied_passed (laws_of g) c.in-Passed.len c.bytes.ensures c.advance-in-Passed.ensures
+          piece c.pieces.invariant.copied;
       turns = c.pieces.invariant.turns;
-      room = rw c.advance-in-Passed.ensures (omega (arith, c.pieces.invariant.room, length-drop {A = ℕ}));
+      room = rw c.advance-in-Passed.ensures
+          (omega (arith, c.pieces.invariant.room, length-drop {A = ℕ}));
       page = c.pieces.invariant.page;
       reads = c.pieces.invariant.reads;
       writes = c.pieces.invariant.writes;
-      of_venues = g.met.F.RecordFormat.reads_venues _ _ _ _ _ piece.read ∙ c.pieces.invariant.of_venues;
+      of_venues = g.met.F.RecordFormat.reads_venues _ _ _ _ _ piece.read
+          ∙ c.pieces.invariant.of_venues;
     }
 
 pub returns-in_err-write_page-in-Bad : goal.returns-in_err-write_page-in-Bad
 returns-in_err-write_page-in-Bad g c =
-    let p = err_from_is_err_and c.from_residual-in_err-write_page-in-Bad.result c.from_residual-in_err-write_page-in-Bad.ensures.1 in
+    let p = err_from_is_err_and c.from_residual-in_err-write_page-in-Bad.result
+    c.from_residual-in_err-write_page-in-Bad.ensures.1 in
     let failed = c.in_err-write_page-in-Bad.ensures in
     rw (p.1, p.2) (
-      unwritten (laws_of g) failed.part (copied_kept (laws_of g) c.in-Bad.ensures.steps.1 c.pieces.invariant.copied),
+      unwritten (laws_of g) failed.part (copied_kept (laws_of g) c.in-Bad.ensures.steps.1
+          c.pieces.invariant.copied),
       failed.failed ∙ ap (λ (n : ℕ). n + 1) c.pieces.invariant.writes,
     )
 
 pub returns-in_err-write_page-in-Wants : goal.returns-in_err-write_page-in-Wants
 returns-in_err-write_page-in-Wants g c =
-    let p = err_from_is_err_and c.from_residual-in_err-write_page-in-Wants.result c.from_residual-in_err-write_page-in-Wants.ensures.1 in
+    let p = err_from_is_err_and c.from_residual-in_err-write_page-in-Wants.result
+    c.from_residual-in_err-write_page-in-Wants.ensures.1 in
     let failed = c.in_err-write_page-in-Wants.ensures in
     rw (p.1, p.2) (
-      unwritten (laws_of g) failed.part (copied_kept (laws_of g) c.in-Wants.ensures.steps.2 c.pieces.invariant.copied),
+      unwritten (laws_of g) failed.part (copied_kept (laws_of g) c.in-Wants.ensures.steps.2
+          c.pieces.invariant.copied),
       failed.failed ∙ ap (λ (n : ℕ). n + 1) c.pieces.invariant.writes,
     )
 
@@ -89,8 +118,13 @@ pieces-preserved g c =
     let same = c.in-Wants.ensures.steps.2 in
     let wrote = c.in_ok-write_page-in-Wants.ensures in
     record {
-      copied = copied_read (laws_of g) _ (omega (arith, c.pieces.invariant.turns, c.if-left-eq0.false)) (c.in-Went.ensures.went refl)
-          (copied_written (laws_of g) wrote.written (copied_kept (laws_of g) same c.pieces.invariant.copied));
+      copied = copied_read (laws_of g) _ (omega (
+        arith,
+        c.pieces.invariant.turns,
+        c.if-left-eq0.false,
+      )) (c.in-Went.ensures.went refl)
+          (copied_written (laws_of g) wrote.written (copied_kept (laws_of g) same
+          c.pieces.invariant.copied));
       turns = omega (arith, c.pieces.invariant.turns);
       room = c.read_from.ensures.bound;
       page = rw wrote.none (omega arith);

@@ -4,10 +4,23 @@ use Rattle.line_captures.proofs.conversion.convert.Given as goal
 
 abbrev pub invariant-pieces : goal.invariant-pieces
 invariant-pieces g l = record {
-  copied : Copied (record { gives = g.R.CaptureIn.gives; ends = g.R.CaptureIn.ends; failures = g.R.CaptureIn.failures; fails = g.R.CaptureIn.fails })
-      (record { reads = g.F.RecordFormat.reads; wants = g.F.RecordFormat.wants; is_bad = g.F.RecordFormat.is_bad; is_whole = g.F.RecordFormat.is_whole })
+  copied : Copied (record {
+    gives = g.R.CaptureIn.gives;
+    ends = g.R.CaptureIn.ends;
+    failures =
+        g.R.CaptureIn.failures;
+    fails = g.R.CaptureIn.fails;
+  })
+      (record {
+        reads = g.F.RecordFormat.reads;
+        wants = g.F.RecordFormat.wants;
+        is_bad =
+            g.F.RecordFormat.is_bad;
+        is_whole = g.F.RecordFormat.is_whole;
+      })
       (record { adds = g.W.TextOut.adds; failures = g.W.TextOut.failures })
-      (g.F.RecordFormat.venues l.fn.format) l.fn.reader (l.fn.turns - l.left) l.reader l.fn.format l.format l.unread l.fn.writer l.writer l.page;
+      (g.F.RecordFormat.venues l.fn.format) l.fn.reader (l.fn.turns - l.left) l.reader l.fn.format
+      l.format l.unread l.fn.writer l.writer l.page;
   turns : l.left ≤ l.fn.turns;
   room : length l.unread ≤ 1179648;
   page : length l.page ≤ 65533;

@@ -8,15 +8,30 @@ use Rattle.line_captures.proofs.packet_format.step_of.Goals as goal
 
 pub returns-in-Some-record_in-clause-counts : goal.returns-in-Some-record_in-clause-counts
 returns-in-Some-record_in-clause-counts c =
-    let after : Progress = record { position = c.add_time.new.self.position; last_time = c.add_time.new.self.last_time; passed = c.record_in.new.passed } in
-    counts_frame c.args.lines.now c.args.progress.now c.add_bytes.new.self c.add_time.new.self after (piece_of c.args.piece) (frame_of c.in-Some.frame)
-    c.add_bytes.ensures c.add_time.ensures refl c.record_in.ensures.counts (ap frame_in_piece c.in-Some.is)
+    let after : Progress = record {
+      position = c.add_time.new.self.position;
+      last_time =
+          c.add_time.new.self.last_time;
+      passed = c.record_in.new.passed;
+    } in
+    counts_frame c.args.lines.now c.args.progress.now c.add_bytes.new.self c.add_time.new.self after
+    (piece_of c.args.piece) (frame_of c.in-Some.frame)
+    c.add_bytes.ensures c.add_time.ensures refl c.record_in.ensures.counts
+    (ap frame_in_piece c.in-Some.is)
 
 pub returns-in-None-clause-counts : goal.returns-in-None-clause-counts
 returns-in-None-clause-counts c =
-    let after : Progress = record { position = c.add_time.new.self.position; last_time = c.add_time.new.self.last_time; passed = c.record_in.new.passed } in
-    counts_frame c.args.lines.now c.args.progress.now c.add_bytes.new.self c.add_time.new.self after (piece_of c.args.piece) (frame_of c.in-Some.frame)
-    c.add_bytes.ensures c.add_time.ensures refl c.record_in.ensures.counts (ap frame_in_piece c.in-Some.is)
+    let after : Progress = record {
+      position = c.add_time.new.self.position;
+      last_time =
+          c.add_time.new.self.last_time;
+      passed = c.record_in.new.passed;
+    } in
+    counts_frame c.args.lines.now c.args.progress.now c.add_bytes.new.self c.add_time.new.self after
+    (piece_of c.args.piece) (frame_of c.in-Some.frame)
+    c.add_bytes.ensures c.add_time.ensures refl c.record_in.ensures.counts
+    (ap frame_in_piece c.in-Some.is)
 
 pub returns-in-Some-record_in-clause-came : goal.returns-in-Some-record_in-clause-came
-returns-in-Some-record_in-clause-came c = λ venues of. record_ok venues c.args.lines.now (record_of c.in-Some-record_in.record) c.in-Some-record_in.ensures.of_line of
+returns-in-Some-record_in-clause-came c = λ venues of. record_ok venues c.args.lines.now
+    (record_of c.in-Some-record_in.record) c.in-Some-record_in.ensures.of_line of

@@ -10,7 +10,8 @@ loop-item-preserved g c =
       tt,
       tt,
       rw pushed.items
-          (pairwise_more _ c.loop-item.yielded c.loop-item.made.items c.in-Some.item c.make-one.result i.2
+          (pairwise_more _ c.loop-item.yielded c.loop-item.made.items
+          c.in-Some.item c.make-one.result i.2
           (c.len.result, c.make-one.ensures)),
       omega (arith, more, pushed.len, i.3),
       omega (arith, pushed.capacity, i.4),

@@ -10,11 +10,13 @@ loop-first-preserved g c =
     let third = c.in-Some-pop_front-2.ensures in
     let pushed = c.push_reserved.ensures in
     record {
-      until = one_done _ c.args.firsts.items _ c.pop_front.new.self.items c.loop-first.made.items _ c.in-Some.first
+      until = one_done _ c.args.firsts.items _ c.pop_front.new.self.items
+          c.loop-first.made.items _ c.in-Some.first
           c.make.result first.items pushed.items
           (c.in-Some-pop_front.second, c.in-Some-pop_front-2.third, c.make.ensures) i.until;
       callable = λ place a b d at bt dt. i.callable (suc place) a b d
-          (ap (λ l. slice_get l (suc place)) first.items ∙ at) (ap (λ l. slice_get l (suc place)) second.items ∙ bt)
+          (ap (λ l. slice_get l (suc place)) first.items ∙ at)
+          (ap (λ l. slice_get l (suc place)) second.items ∙ bt)
           (ap (λ l. slice_get l (suc place)) third.items ∙ dt);
       seconds = omega (arith, i.seconds, first.cases, second.cases);
       thirds = omega (arith, i.thirds, first.cases, third.cases);

@@ -5,9 +5,11 @@ use Rattle.live_feed.proofs.lists.made_of_three.Given as goal
 -- the results so far, and those of the items that are left, are those of all items
 abbrev pub invariant-loop-first : goal.invariant-loop-first
 invariant-loop-first g l = record {
-  until : Until (λ first one. (second : _) × (third : _) × goal.F-post g l.make first second third one)
+  until : Until (λ first one. (second : _) × (third : _)
+      × goal.F-post g l.make first second third one)
       l.fn.firsts.items l.made.items l.firsts.items;
-  callable : (place : ℕ) (first : _) (second : _) (third : _) → slice_get l.firsts.items place ≡ Some first
+  callable : (place : ℕ) (first : _) (second : _) (third : _)
+      → slice_get l.firsts.items place ≡ Some first
       → slice_get l.seconds.items place ≡ Some second → slice_get l.thirds.items place ≡ Some third
       → goal.F-pre g l.make first second third;
   seconds : deque_len l.seconds ≡ deque_len l.firsts;

@@ -12,10 +12,13 @@ returns-clause-lines g c =
     (λ line handle. (handle.promise.seat.value ≡ line.seat)
     × (handle.promise.source.value ≡ line.source))
     (λ line. LineHasEnded takes brings failures line.seat line.source)
-    (λ handle. LineHasEnded takes brings failures handle.promise.seat.value handle.promise.source.value)
-    (λ line handle ended made kept. ended_of takes brings failures handle.promise.seat.value line.seat
+    (λ handle. LineHasEnded takes brings failures handle.promise.seat.value
+    handle.promise.source.value)
+    (λ line handle ended made kept. ended_of takes brings failures
+    handle.promise.seat.value line.seat
     handle.promise.source.value line.source ended made.0 made.1 kept)
-    c.args.parts.lines.lines.items c.start_lines-line_threads.result.items c.join_each-ends.result.items
+    c.args.parts.lines.lines.items c.start_lines-line_threads.result.items
+    c.join_each-ends.result.items
     c.start_lines-line_threads.ensures.threads c.join_each-ends.ensures.ends
 
 pub returns-clause-logs : goal.returns-clause-logs
@@ -25,5 +28,6 @@ returns-clause-logs g c =
     HasPolled
     (λ handle. HasPolled handle.promise.log.value)
     (λ log handle back made kept. subst (λ given. HasPolled given back) made kept)
-    c.args.parts.logs.logs.items c.start_subscribers-log_threads.result.items c.join_each-logs.result.items
+    c.args.parts.logs.logs.items c.start_subscribers-log_threads.result.items
+    c.join_each-logs.result.items
     c.start_subscribers-log_threads.ensures.threads c.join_each-logs.ensures.ends

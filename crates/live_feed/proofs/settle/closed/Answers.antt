@@ -13,7 +13,8 @@ use Rattle.feed_steps.specs.laws.Lists.{found_within}
 use Rattle.live_feed.proofs.Sides.{at_map, seen_zipped}
 use Rattle.live_feed.proofs.settle.closed.Goals as goal
 
-pub made_of_three-venue_ends-requires-clause-counts : goal.made_of_three-venue_ends-requires-clause-counts
+pub made_of_three-venue_ends-requires-clause-counts :
+    goal.made_of_three-venue_ends-requires-clause-counts
 made_of_three-venue_ends-requires-clause-counts g c =
     let made = c.into_parts-journal in
     let received = ap length made.ensures.parts.1 in
@@ -26,7 +27,8 @@ made_of_three-venue_ends-requires-clause-counts g c =
     let third = c.args.room.venues.ok.0 in
     (omega arith, omega arith)
 
-pub made_of_three-venue_ends-requires-clause-callable : goal.made_of_three-venue_ends-requires-clause-callable
+pub made_of_three-venue_ends-requires-clause-callable :
+    goal.made_of_three-venue_ends-requires-clause-callable
 made_of_three-venue_ends-requires-clause-callable g c =
     let premise = g.G.Genuine in
     let lanes = g.N.FeedName.lanes in
@@ -38,12 +40,15 @@ made_of_three-venue_ends-requires-clause-callable g c =
     record {
       consumed = subst (λ (x : JournalState × ℕ). IsConsumed premise lanes x.0.entries x.1 e)
           (λ i. (sym parts.0 i, sym is i))
-          (made.ensures.hub.consumed venue e (ap (λ (l : List (LaneEnd Numbered)). slice_get l venue) (sym parts.1) ∙ mid));
-      room = subst (λ (j : JournalState). HasVenueRoom (kept_of j.kept j.entries) guarded.cell r) (sym parts.0)
+          (made.ensures.hub.consumed venue e
+          (ap (λ (l : List (LaneEnd Numbered)). slice_get l venue) (sym parts.1) ∙ mid));
+      room = subst (λ (j : JournalState). HasVenueRoom (kept_of j.kept j.entries) guarded.cell r)
+          (sym parts.0)
           (c.requires.room.venues venue guarded.cell r at right);
     })
 
-pub made_of_three-subscriber_ends-requires-clause-counts : goal.made_of_three-subscriber_ends-requires-clause-counts
+pub made_of_three-subscriber_ends-requires-clause-counts :
+    goal.made_of_three-subscriber_ends-requires-clause-counts
 made_of_three-subscriber_ends-requires-clause-counts g c =
     let made = c.into_parts-journal in
     let sent = ap length made.ensures.parts.2 in
@@ -73,9 +78,11 @@ made_of_three-subscriber_ends-requires-clause-callable g c =
     let cursors = ap (λ (j : JournalState). length j.cursors) parts.0 in
     record {
       known = omega arith;
-      offered = subst (λ (x : JournalState × ℕ). IsOffered lanes x.0 x.1 e) (λ i. (sym parts.0 i, sym is i))
+      offered = subst (λ (x : JournalState × ℕ). IsOffered lanes x.0 x.1 e)
+          (λ i. (sym parts.0 i, sym is i))
           (made.ensures.hub.offered id e sent);
-      room = subst (λ (x : JournalState × ℕ). HasSubscriberRoom x.0 x.1 e r) (λ i. (sym parts.0 i, sym is i))
+      room = subst (λ (x : JournalState × ℕ). HasSubscriberRoom x.0 x.1 e r)
+          (λ i. (sym parts.0 i, sym is i))
           (c.requires.room.subscribers id e r sent right);
     })
 
@@ -89,12 +96,15 @@ returns g c =
     let journal = made.result.0 in
     let venue_ends = c.made_of_three-venue_ends in
     let subscriber_ends = c.made_of_three-subscriber_ends in
-    subst (λ (s : SettlementState). IsClosedFeed premise lanes (map (λ v. v.cell) unlocked.venues.items)
+    subst (λ (s : SettlementState). IsClosedFeed premise lanes
+    (map (λ v. v.cell) unlocked.venues.items)
     unlocked.hub.core (map (λ s. s.log) subscribers) s) (sym c.new.ensures) (record {
       kept = made.ensures.hub;
       journal = made.ensures.parts.0;
       venues = seen_zipped _ (IsClosedVenue premise lanes journal) (λ v. v.cell)
-          (λ guarded end one. one.2) unlocked.venues.items venue_ends.result.items venue_ends.ensures;
-      subscribers = seen_zipped _ (λ t x. ShowsSubscriber journal t.id t x) (λ s. s.log) (λ s x one. one.2) subscribers
+          (λ guarded end one. one.2) unlocked.venues.items
+          venue_ends.result.items venue_ends.ensures;
+      subscribers = seen_zipped _ (λ t x. ShowsSubscriber journal t.id t x) (λ s. s.log)
+          (λ s x one. one.2) subscribers
           subscriber_ends.result.items subscriber_ends.ensures;
     })

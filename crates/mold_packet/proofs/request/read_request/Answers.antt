@@ -8,5 +8,6 @@ returns-clause-spelled c = record {
   session = rw c.read_session.ensures (omega (arith, length-take 10 c.args.bytes.now));
   small = omega arith;
   few = omega arith;
-  spelled = whole_header _ _ _ _ (omega arith) (λ i. omega (arith, c.type_inv.bytes i)) c.read_session.ensures c.read_number-number.ensures c.read_count.ensures;
+  spelled = whole_header _ _ _ _ (omega arith) (λ i. omega (arith, c.type_inv.bytes i))
+      c.read_session.ensures c.read_number-number.ensures c.read_count.ensures;
 }

@@ -16,4 +16,5 @@ returns-clause-spelled c =
 pub returns-clause-first : goal.returns-clause-first
 returns-clause-first c =
     let ten : length c.args.request.now.session ≡ 10 = omega arith in
-    writes_first 20 _ c.args.out.now _ (length-header c.args.request.now.session c.args.request.now.number c.args.request.now.count ten) (omega arith) c.write_header.ensures
+    writes_first 20 _ c.args.out.now _ (length-header c.args.request.now.session
+    c.args.request.now.number c.args.request.now.count ten) (omega arith) c.write_header.ensures

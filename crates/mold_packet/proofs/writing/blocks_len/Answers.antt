@@ -6,5 +6,6 @@ pub loop-message-preserved : goal.loop-message-preserved
 loop-message-preserved c =
     let i = c.loop-message.message-index in (
       omega (arith, length-blocks_more c.args.messages.now i c.loop-message-test.true),
-      let short = message_at c.args.messages.now i c.requires.each c.loop-message-test.true in omega (arith, short),
+      let short = message_at c.args.messages.now i c.requires.each c.loop-message-test.true
+          in omega (arith, short),
     )

@@ -19,8 +19,10 @@ loop-symbol-preserved c =
     c.in_ok-push.ensures.items
     ∙ ap (λ (side : BookSide). c.loop-symbol.rows.items ++ row_of side c.new-in-loop-symbol.result
     c.symbol-item.result ∷ []) c.new.ensures
-    ∙ ap (λ (side : BookSide). c.loop-symbol.rows.items ++ row_of empty_side side c.symbol-item.result ∷ [])
+    ∙ ap (λ (side : BookSide). c.loop-symbol.rows.items ++ row_of empty_side side
+    c.symbol-item.result ∷ [])
     c.new-in-loop-symbol.ensures
     ∙ ap (λ (t : List Row). t ++ empty_row c.symbol-item.result ∷ []) c.loop-symbol.invariant
-    ∙ rows_more symbols i c.symbol-item.result c.symbol-item.result c.loop-symbol-test.true c.symbol-item.is
+    ∙ rows_more symbols i c.symbol-item.result c.symbol-item.result
+    c.loop-symbol-test.true c.symbol-item.is
     ∙ ap (λ (n : ℕ). map empty_row (take n symbols)) (sym (add-one i))

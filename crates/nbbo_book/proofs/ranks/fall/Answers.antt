@@ -10,7 +10,11 @@ use Rattle.nbbo_book.proofs.ranks.fall.Goals as goal
 
 pub loop-at-init : goal.loop-at-init
 loop-at-init c = record {
-  within = omega (arith, length-remove c.args.ranks.now c.args.from c.requires.ready.below, c.requires.ready.below);
+  within = omega (
+    arith,
+    length-remove c.args.ranks.now c.args.from c.requires.ready.below,
+    c.requires.ready.below,
+  );
   moved = set_in_place c.args.ranks.now c.args.from c.args.x.now c.requires.ready.below;
   stopped = c.requires.stopped;
   noted = c.requires.ready.noted;
@@ -19,7 +23,8 @@ loop-at-init c = record {
 pub returns-then-is_ahead-clause-place : goal.returns-then-is_ahead-clause-place
 returns-then-is_ahead-clause-place c =
     let ys = remove c.args.ranks.now c.args.from in
-    let ahead : is_ahead c.args.order.now c.args.x.now c.index-ranks-at.result ≡ true = first_of (cc, grind arith) in
+    let ahead : is_ahead c.args.order.now c.args.x.now c.index-ranks-at.result ≡ true =
+    first_of (cc, grind arith) in
     record {
       within = c.loop-at.invariant.within;
       before = c.loop-at.invariant.stopped;
@@ -33,32 +38,41 @@ returns-then-is_ahead-clause-place c =
 pub loop-at-preserved : goal.loop-at-preserved
 loop-at-preserved c =
     let ys = remove c.args.ranks.now c.args.from in
-    let long : length c.loop-at.ranks ≡ length ys + 1 = sym (long_set c.loop-at.ranks c.loop-at.at c.args.x.now)
+    let long : length c.loop-at.ranks ≡ length ys + 1 =
+    sym (long_set c.loop-at.ranks c.loop-at.at c.args.x.now)
     ∙ ap length c.loop-at.invariant.moved
     ∙ length-insert ys c.loop-at.at c.args.x.now c.loop-at.invariant.within in
     let h : c.loop-at.at < length ys = omega (arith, long) in
-    let m = slid_down ys c.loop-at.ranks c.loop-at.at c.args.x.now c.index-ranks-at.result c.loop-at.invariant.moved
-    h (c.index-ranks-at.is ∙ ap (λ i. get_or c.loop-at.ranks i c.index-ranks-at.result) (add-one c.loop-at.at)) in
-    let n = slid_down ys c.loop-at.ranks c.loop-at.at c.args.x.now c.index-ranks-at-in-loop-at.result
+    let m = slid_down ys c.loop-at.ranks c.loop-at.at c.args.x.now c.index-ranks-at.result
+    c.loop-at.invariant.moved
+    h (c.index-ranks-at.is ∙ ap (λ i. get_or c.loop-at.ranks i c.index-ranks-at.result)
+    (add-one c.loop-at.at)) in
+    let n = slid_down ys c.loop-at.ranks c.loop-at.at c.args.x.now
+    c.index-ranks-at-in-loop-at.result
     c.loop-at.invariant.moved h (c.index-ranks-at-in-loop-at.is
-    ∙ ap (λ i. get_or c.loop-at.ranks i c.index-ranks-at-in-loop-at.result) (add-one c.loop-at.at)) in
+    ∙ ap (λ i. get_or c.loop-at.ranks i c.index-ranks-at-in-loop-at.result) (add-one c.loop-at.at))
+    in
     let own : c.index.result ≡ c.index-ranks-at-in-loop-at.result.venue =
     c.index.ensures.value ∙ ap (λ (t : Best). t.venue) (sym c.index-ranks-at.is ∙ m.1 ∙ sym n.1) in
-    let worse : is_ahead c.args.order.now c.args.x.now c.index-ranks-at.result ≡ false = first_of (cc, grind arith) in
+    let worse : is_ahead c.args.order.now c.args.x.now c.index-ranks-at.result ≡ false =
+    first_of (cc, grind arith) in
     record {
       within = omega (arith, h);
       moved = rw (add-one c.loop-at.at) n.0;
       stopped = λ k e.
           let same : c.loop-at.at ≡ k = omega (arith, e) in
-          ap (λ (n : ℕ). is_ahead c.args.order.now c.args.x.now (get_or ys n c.args.x.now)) (sym same)
+          ap (λ (n : ℕ). is_ahead c.args.order.now c.args.x.now (get_or ys n c.args.x.now))
+          (sym same)
           ∙ ap (λ (t : Best). is_ahead c.args.order.now c.args.x.now t) (sym m.1) ∙ worse;
       noted = subst (λ (i : ℕ). AreNoted
           (set (set c.loop-at.places i c.loop-at.at) c.args.x.now.venue (c.loop-at.at + 1))
-          (set (set c.loop-at.ranks c.loop-at.at c.index-ranks-at-in-loop-at.result) (c.loop-at.at + 1) c.args.x.now))
+          (set (set c.loop-at.ranks c.loop-at.at c.index-ranks-at-in-loop-at.result)
+          (c.loop-at.at + 1) c.args.x.now))
           (sym own)
           (noted_past c.loop-at.places c.loop-at.ranks c.loop-at.at (c.loop-at.at + 1) c.args.x.now
           c.index-ranks-at-in-loop-at.result
-          (omega arith) (omega arith) (λ e. (let no : c.loop-at.at ≡ c.loop-at.at + 1 = e in omega (arith, no)))
+          (omega arith) (omega arith) (λ e. (let no : c.loop-at.at ≡ c.loop-at.at + 1 =
+          e in omega (arith, no)))
           (omega (arith, c.requires.ready.venue)) (omega (arith, own, c.index.ensures.in_range))
           c.loop-at.invariant.noted c.index-ranks-at-in-loop-at.is);
     }
@@ -66,7 +80,8 @@ loop-at-preserved c =
 pub returns-clause-place : goal.returns-clause-place
 returns-clause-place c =
     let ys = remove c.args.ranks.now c.args.from in
-    let long : length c.loop-at.ranks ≡ length ys + 1 = sym (long_set c.loop-at.ranks c.loop-at.at c.args.x.now)
+    let long : length c.loop-at.ranks ≡ length ys + 1 =
+    sym (long_set c.loop-at.ranks c.loop-at.at c.args.x.now)
     ∙ ap length c.loop-at.invariant.moved
     ∙ length-insert ys c.loop-at.at c.args.x.now c.loop-at.invariant.within in
     record {

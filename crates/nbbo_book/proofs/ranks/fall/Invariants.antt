@@ -7,7 +7,8 @@ abbrev pub invariant-loop-at : goal.invariant-loop-at
 invariant-loop-at l = record {
   within : l.at ≤ length (remove l.fn.ranks l.from);
   moved : set l.ranks l.at l.x ≡ insert (remove l.fn.ranks l.from) l.at l.x;
-  stopped : (k : ℕ) → l.at ≡ k + 1 → is_ahead l.order l.x (get_or (remove l.fn.ranks l.from) k l.x) ≡ false;
+  stopped : (k : ℕ) → l.at ≡ k + 1
+      → is_ahead l.order l.x (get_or (remove l.fn.ranks l.from) k l.x) ≡ false;
   noted : AreNoted (set l.places l.x.venue l.at) (set l.ranks l.at l.x);
 }
 

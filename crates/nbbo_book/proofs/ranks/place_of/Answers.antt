@@ -35,5 +35,6 @@ returns-clause-absent c = λ none.
           (λ l. ap (λ (y : Best). nat_eq y.venue v) (sym w.index-ranks-at.is) ∙ other)
       | else-at-ranks-via-else-at-ranks w ↦
           let d : Best = record { venue = 0; price = 0; size = 0 } in
-          stands_nowhere v P xs at d c.requires is (λ l. absurd (omega (arith, l, w.if-at-ranks.false)))
+          stands_nowhere v P xs at d c.requires is
+          (λ l. absurd (omega (arith, l, w.if-at-ranks.false)))
     ]

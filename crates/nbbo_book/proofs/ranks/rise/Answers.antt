@@ -20,21 +20,30 @@ pub loop-at-preserved : goal.loop-at-preserved
 loop-at-preserved c =
     let is : c.loop-at.at ≡ suc (c.loop-at.at - 1) = omega arith in
     let h : c.loop-at.at - 1 < length (remove c.args.ranks.now c.args.from) =
-    omega (arith, length-remove c.args.ranks.now c.args.from c.requires.below, c.loop-at.invariant.within) in
-    let m = slid_up (remove c.args.ranks.now c.args.from) c.loop-at.ranks c.loop-at.at (c.loop-at.at - 1)
+    omega (
+      arith,
+      length-remove c.args.ranks.now c.args.from c.requires.below,
+      c.loop-at.invariant.within,
+    ) in
+    let m = slid_up (remove c.args.ranks.now c.args.from) c.loop-at.ranks
+    c.loop-at.at (c.loop-at.at - 1)
     c.args.x.now c.index-ranks-at.result c.loop-at.invariant.moved is h c.index-ranks-at.is in
-    let n = slid_up (remove c.args.ranks.now c.args.from) c.loop-at.ranks c.loop-at.at (c.loop-at.at - 1)
-    c.args.x.now c.index-ranks-at-in-loop-at.result c.loop-at.invariant.moved is h c.index-ranks-at-in-loop-at.is in
+    let n = slid_up (remove c.args.ranks.now c.args.from) c.loop-at.ranks
+    c.loop-at.at (c.loop-at.at - 1)
+    c.args.x.now c.index-ranks-at-in-loop-at.result c.loop-at.invariant.moved is h
+    c.index-ranks-at-in-loop-at.is in
     let own : c.index.result ≡ c.index-ranks-at-in-loop-at.result.venue =
     c.index.ensures.value ∙ ap (λ (t : Best). t.venue) (sym c.index-ranks-at.is ∙ m.1 ∙ sym n.1) in
-    let ahead : is_ahead c.args.order.now c.args.x.now c.index-ranks-at.result ≡ true = first_of (cc, grind arith) in
+    let ahead : is_ahead c.args.order.now c.args.x.now c.index-ranks-at.result ≡ true =
+    first_of (cc, grind arith) in
     record {
       within = omega (arith, c.loop-at.invariant.within);
       moved = n.0;
       passed = λ l. ap (λ (t : Best). is_ahead c.args.order.now c.args.x.now t) (sym m.1) ∙ ahead;
       noted = subst (λ (i : ℕ). AreNoted
           (set (set c.loop-at.places i c.loop-at.at) c.args.x.now.venue (c.loop-at.at - 1))
-          (set (set c.loop-at.ranks c.loop-at.at c.index-ranks-at-in-loop-at.result) (c.loop-at.at - 1) c.args.x.now))
+          (set (set c.loop-at.ranks c.loop-at.at c.index-ranks-at-in-loop-at.result)
+          (c.loop-at.at - 1) c.args.x.now))
           (sym own)
           (noted_past c.loop-at.places c.loop-at.ranks c.loop-at.at (c.loop-at.at - 1) c.args.x.now
           c.index-ranks-at-in-loop-at.result
@@ -51,8 +60,13 @@ returns-then-not-is_ahead-clause-stopped c = λ k e.
     let same : c.loop-at.at - 1 ≡ k = omega (arith, e) in
     let ys = remove c.args.ranks.now c.args.from in
     let h : c.loop-at.at - 1 < length ys =
-    omega (arith, length-remove c.args.ranks.now c.args.from c.requires.below, c.loop-at.invariant.within) in
-    let m = slid_up ys c.loop-at.ranks c.loop-at.at (c.loop-at.at - 1) c.args.x.now c.index-ranks-at.result
+    omega (
+      arith,
+      length-remove c.args.ranks.now c.args.from c.requires.below,
+      c.loop-at.invariant.within,
+    ) in
+    let m = slid_up ys c.loop-at.ranks c.loop-at.at (c.loop-at.at - 1) c.args.x.now
+    c.index-ranks-at.result
     c.loop-at.invariant.moved is h c.index-ranks-at.is in
     let after_it : is_ahead c.args.order.now c.args.x.now c.index-ranks-at.result ≡ false =
     first_of (cc, grind arith) in

@@ -7,8 +7,10 @@ pub loop-i-preserved : goal.loop-i-preserved
 loop-i-preserved c =
     let row : Row = get_or c.loop-i.rows c.loop-i.i c.index-rows-i.result in
     record {
-      walked = walked_on c.args.step.now c.loop-i.i c.args.rows.now c.loop-i.rows c.args.out.now.items
-          c.loop-i.out.items c.append_change.new.out.items c.index-rows-i.result c.recheck-has_changed.new.self
+      walked = walked_on c.args.step.now c.loop-i.i c.args.rows.now
+          c.loop-i.rows c.args.out.now.items
+          c.loop-i.out.items c.append_change.new.out.items c.index-rows-i.result
+          c.recheck-has_changed.new.self
           c.recheck-has_changed.result c.loop-i-test.true c.loop-i.invariant.walked
           (record {
             stepped = c.recheck-has_changed.ensures.row ∙ sym (c.requires.rechecks row);

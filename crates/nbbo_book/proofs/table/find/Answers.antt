@@ -15,7 +15,8 @@ returns-then-is_of c =
     let distinct = symbols_apart (symbols_in_rows rows) c.args.table.now.symbols.keys c.requires in
     sym (place_found rows c.args.symbol c.place_of-cached.result c.index-rows-cached.result distinct
     (omega (arith, c.if-cached-rows.true))
-    (ap (λ (row : Row). bytes_eq c.args.symbol row.symbol) (sym c.index-rows-cached.is) ∙ sym c.is_of.ensures
+    (ap (λ (row : Row). bytes_eq c.args.symbol row.symbol) (sym c.index-rows-cached.is)
+    ∙ sym c.is_of.ensures
     ∙ c.if-is_of.true))
 
 pub returns : goal.returns

@@ -10,9 +10,11 @@ pub returns-in-Ok-false-clause-twice : goal.returns-in-Ok-false-clause-twice
 returns-in-Ok-false-clause-twice c = λ distinct.
     let has : HasKey c.symbol-item.result =
     record { told = ap (to_be_bytes w64) (sym c.key.ensures.value) ∙ c.key.ensures.field } in
-    twice_here c.args.symbols.now c.loop-symbol.symbol-index c.symbol-item.result c.loop-symbol.set.keys
+    twice_here c.args.symbols.now c.loop-symbol.symbol-index
+    c.symbol-item.result c.loop-symbol.set.keys
     c.in-Ok-false.field-0
-    c.loop-symbol-test.true c.symbol-item.is has c.loop-symbol.invariant.told c.loop-symbol.invariant.in_order
+    c.loop-symbol-test.true c.symbol-item.is has c.loop-symbol.invariant.told
+    c.loop-symbol.invariant.in_order
     (c.in-Ok-false.ensures.added ∙ ap (λ (w : ℕ). not (list_any (nat_eq w) c.loop-symbol.set.keys))
     c.key.ensures.value)
     c.in-Ok-false.field-0-test distinct

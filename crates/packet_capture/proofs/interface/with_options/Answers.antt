@@ -5,7 +5,8 @@ pub loop-code-init : goal.loop-code-init
 loop-code-init c = so_far _ _ _
 
 pub loop-code-preserved : goal.loop-code-preserved
-loop-code-preserved c = one_more _ _ _ _ _ _ _ _ c.loop-code.invariant c.in-Found.ensures.0 c.in-Found.ensures.1 c.with_option-interface.ensures
+loop-code-preserved c = one_more _ _ _ _ _ _ _ _ c.loop-code.invariant c.in-Found.ensures.0
+    c.in-Found.ensures.1 c.with_option-interface.ensures
 
 pub returns-in-End-clause-found : goal.returns-in-End-clause-found
 returns-in-End-clause-found c = at_end _ _ _ _ _ c.loop-code.invariant c.in-End.ensures

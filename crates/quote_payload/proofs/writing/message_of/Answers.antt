@@ -19,4 +19,5 @@ returns-clause-bytes g c =
     (ap (λ (x : ℕ). x ∷ []) c.flags.ensures))
 
 pub returns-clause-symbol : goal.returns-clause-symbol
-returns-clause-symbol g c = subst (λ x. is_symbol_field x ≡ true) c.field.ensures.value c.field.ensures.symbol
+returns-clause-symbol g c = subst (λ x. is_symbol_field x ≡ true)
+    c.field.ensures.value c.field.ensures.symbol

@@ -16,4 +16,5 @@ returns-clause-bytes c =
 pub returns-clause-item : goal.returns-clause-item
 returns-clause-item c =
     ap item_of (returns-clause-bytes c)
-    ∙ item_of-halt c.args.symbol c.args.halted (subst (λ x. is_symbol_field x ≡ true) c.field.ensures.value c.field.ensures.symbol)
+    ∙ item_of-halt c.args.symbol c.args.halted (subst (λ x. is_symbol_field x ≡ true)
+    c.field.ensures.value c.field.ensures.symbol)

@@ -7,7 +7,8 @@ abbrev pub invariant-loop-place : goal.invariant-loop-place
 invariant-loop-place l = record {
   within : l.place ≤ length l.lines;
   apart : (later earlier : ℕ) (line other : CapturedLine) → later < l.place → earlier < later
-      → Some other ≡ slice_get l.lines earlier → Some line ≡ slice_get l.lines later → AreSame other line → ⊥;
+      → Some other ≡ slice_get l.lines earlier → Some line ≡ slice_get l.lines later
+      → AreSame other line → ⊥;
 }
 
 abbrev pub decreases-loop-place : goal.decreases-loop-place

@@ -5,9 +5,12 @@ use Rattle.run_settings.proofs.line_list.lines_at.Goals as goal
 pub loop-address-preserved : goal.loop-address-preserved
 loop-address-preserved c = record {
   place = search rules;
-  lines = listed_more c.args.addresses.now c.loop-address.place c.loop-address.address-index _ c.loop-address.lines.items c.push.new.self.items c.captured_line_at.result
-      c.loop-address.invariant.place c.loop-address-test.true c.loop-address.invariant.lines c.captured_line_at.ensures c.in_ok-push.ensures.items;
+  lines = listed_more c.args.addresses.now c.loop-address.place c.loop-address.address-index _
+      c.loop-address.lines.items c.push.new.self.items c.captured_line_at.result
+      c.loop-address.invariant.place c.loop-address-test.true c.loop-address.invariant.lines
+      c.captured_line_at.ensures c.in_ok-push.ensures.items;
 }
 
 pub returns-clause-venues : goal.returns-clause-venues
-returns-clause-venues c = listed_venues c.args.addresses.now c.loop-address.address-index c.loop-address.lines.items c.loop-address-test.false c.loop-address.invariant.lines
+returns-clause-venues c = listed_venues c.args.addresses.now c.loop-address.address-index
+    c.loop-address.lines.items c.loop-address-test.false c.loop-address.invariant.lines

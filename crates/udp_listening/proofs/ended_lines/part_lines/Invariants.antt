@@ -9,5 +9,7 @@ invariant-loop-end g l =
     (goal.iterator-loop-end g).can_next l.end-iterator
     × (goal.iterator-loop-end g).is_finite l.end-iterator
     × (l.ended.seats.items ≡ map (λ e. e.seat) l.yielded)
-    × (l.ended.failed.items ≡ flat_map (λ e. line_if (is_some e.fault) (seat_line e.seat)) l.yielded)
-    × (l.ended.read_out.items ≡ flat_map (λ e. line_if (is_read_out e.source) (seat_line e.seat)) l.yielded)
+    × (l.ended.failed.items ≡ flat_map (λ e. line_if (is_some e.fault) (seat_line e.seat))
+    l.yielded)
+    × (l.ended.read_out.items ≡ flat_map (λ e. line_if (is_read_out e.source) (seat_line e.seat))
+    l.yielded)

@@ -8,9 +8,15 @@ use Rattle.udp_listening.proofs.listen_lines.write_faults.Goals as goal
 
 pub returns : goal.returns
 returns g c =
-    let w : Writing g.row.E.Denot = record { adds = g.E.TextOut.adds; failures = g.E.TextOut.failures } in
-    says_each w (flat_map failed_texts c.args.report.now.failed.items) (stop_texts c.args.report.now.stopped)
+    let w : Writing g.row.E.Denot = record {
+      adds = g.E.TextOut.adds;
+      failures =
+          g.E.TextOut.failures;
+    } in
+    says_each w (flat_map failed_texts c.args.report.now.failed.items)
+    (stop_texts c.args.report.now.stopped)
     c.args.errors.now c.write_each_failed.new.errors c.write_stop.new.errors
-    (subst (λ (lines : List (ℕ × LineId)). SaysEach w (flat_map failed_texts lines) c.args.errors.now c.write_each_failed.new.errors)
+    (subst (λ (lines : List (ℕ × LineId)). SaysEach w (flat_map failed_texts lines)
+    c.args.errors.now c.write_each_failed.new.errors)
     c.as_slice.ensures.value c.write_each_failed.ensures)
     c.write_stop.ensures

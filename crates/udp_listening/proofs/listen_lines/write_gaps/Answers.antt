@@ -10,10 +10,17 @@ use Rattle.udp_listening.proofs.listen_lines.write_gaps.Goals as goal
 
 pub returns : goal.returns
 returns g c =
-    let w : Writing g.row.E.Denot = record { adds = g.E.TextOut.adds; failures = g.E.TextOut.failures } in
-    says_each w (flat_map read_out_texts c.args.report.now.read_out.items) (flat_map lack_texts c.args.report.now.lacking.items)
+    let w : Writing g.row.E.Denot = record {
+      adds = g.E.TextOut.adds;
+      failures =
+          g.E.TextOut.failures;
+    } in
+    says_each w (flat_map read_out_texts c.args.report.now.read_out.items)
+    (flat_map lack_texts c.args.report.now.lacking.items)
     c.args.errors.now c.write_each_read_out.new.errors c.write_lacks.new.errors
-    (subst (λ (lines : List (ℕ × LineId)). SaysEach w (flat_map read_out_texts lines) c.args.errors.now c.write_each_read_out.new.errors)
+    (subst (λ (lines : List (ℕ × LineId)). SaysEach w (flat_map read_out_texts lines)
+    c.args.errors.now c.write_each_read_out.new.errors)
     c.as_slice.ensures.value c.write_each_read_out.ensures)
-    (subst (λ (lacks : List Lack). SaysEach w (flat_map lack_texts lacks) c.write_each_read_out.new.errors c.write_lacks.new.errors)
+    (subst (λ (lacks : List Lack). SaysEach w (flat_map lack_texts lacks)
+    c.write_each_read_out.new.errors c.write_lacks.new.errors)
     c.as_slice-2.ensures.value c.write_lacks.ensures)

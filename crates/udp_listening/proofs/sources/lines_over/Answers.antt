@@ -11,21 +11,27 @@ use Rattle.udp_listening.proofs.sources.lines_over.Goals as goal
 
 pub loop-place-preserved : goal.loop-place-preserved
 loop-place-preserved g c =
-    let sockets = YieldsList-from_vec {s = c.into_iter.result} c.args.sockets.items c.into_iter.ensures.rest (search rules) in
-    let some = YieldsList-from_take {s = c.take.result} c.take.result.n (YieldsList-at c.take.ensures.source sockets) refl in
+    let sockets = YieldsList-from_vec {s = c.into_iter.result} c.args.sockets.items
+    c.into_iter.ensures.rest (search rules) in
+    let some = YieldsList-from_take {s = c.take.result} c.take.result.n
+    (YieldsList-at c.take.ensures.source sockets) refl in
     let each =
     YieldsList-from_enumerate {s = c.enumerate-place-items.result}
-    (YieldsList-at c.enumerate-place-items.ensures.source some) c.enumerate-place-items.ensures.count in
+    (YieldsList-at c.enumerate-place-items.ensures.source some)
+    c.enumerate-place-items.ensures.count in
     let turn =
     YieldsList-turn (YieldsList-at c.into_iter-place-iterator.ensures.into_iter_gives each)
-    c.loop-place.yielded c.loop-place.place-iterator c.loop-place.yielded_by c.next.result c.next.new.self
+    c.loop-place.yielded c.loop-place.place-iterator c.loop-place.yielded_by
+    c.next.result c.next.new.self
     (c.in-Some.place, c.in-Some.socket) c.in-Some.is
     c.next.ensures.steps in
     let place = c.in-Some.place in
     let n = length c.loop-place.yielded in
-    let at = place_of (take c.take.result.n c.args.sockets.items) n (place, c.in-Some.socket) turn in
+    let at = place_of (take c.take.result.n c.args.sockets.items) n (place, c.in-Some.socket) turn
+    in
     let one =
-    c.new.ensures ∙ ap (λ (venue : ℕ). (venue, c.line_at.result)) (c.venue.ensures ∙ c.in_ok-source.ensures.venue_is)
+    c.new.ensures ∙ ap (λ (venue : ℕ). (venue, c.line_at.result)) (c.venue.ensures
+    ∙ c.in_ok-source.ensures.venue_is)
     ∙ ap (λ line. ((listened_line place).0, line)) c.line_at.ensures in (
       search rules,
       tt,
@@ -36,19 +42,24 @@ loop-place-preserved g c =
 
 pub returns : goal.returns
 returns g c =
-    let sockets = YieldsList-from_vec {s = c.into_iter.result} c.args.sockets.items c.into_iter.ensures.rest (search rules) in
-    let some = YieldsList-from_take {s = c.take.result} c.take.result.n (YieldsList-at c.take.ensures.source sockets) refl in
+    let sockets = YieldsList-from_vec {s = c.into_iter.result} c.args.sockets.items
+    c.into_iter.ensures.rest (search rules) in
+    let some = YieldsList-from_take {s = c.take.result} c.take.result.n
+    (YieldsList-at c.take.ensures.source sockets) refl in
     let each =
     YieldsList-from_enumerate {s = c.enumerate-place-items.result}
-    (YieldsList-at c.enumerate-place-items.ensures.source some) c.enumerate-place-items.ensures.count in
+    (YieldsList-at c.enumerate-place-items.ensures.source some)
+    c.enumerate-place-items.ensures.count in
     let seen =
     YieldsList-end (YieldsList-at c.into_iter-place-iterator.ensures.into_iter_gives each)
-    c.loop-place.yielded c.loop-place.place-iterator c.loop-place.yielded_by c.next.result c.next.new.self
+    c.loop-place.yielded c.loop-place.place-iterator c.loop-place.yielded_by
+    c.next.result c.next.new.self
     c.in-None.is c.next.ensures.steps in
     let lines = c.args.settings.now.lines in
     let most = c.take.result.n in
     let items = c.args.sockets.items in
-    let n = c.take.ensures.count ∙ ap (λ (k : ℕ). 2 * k) c.len-most.ensures ∙ sym c.args.settings.now.two_lines_each in
+    let n = c.take.ensures.count ∙ ap (λ (k : ℕ). 2 * k) c.len-most.ensures
+    ∙ sym c.args.settings.now.two_lines_each in
     ap (λ w. watched_lines w) c.new-2.ensures ∙ c.loop-place.invariant.2
     ∙ first_lines _ (length items) (length c.loop-place.yielded)
     (seen.1 ∙ length-enumerate_from 0 (take most items) ∙ length-take most items

@@ -8,7 +8,8 @@ returns-then-eq-clause-only c =
     let p = c.in-Ok.packet in
     let spelled = c.in-Ok.ensures.spelled in
     let one = end_of_one c.args.bytes.now session p
-    (λ q more other. c.one_reading.ensures.packet c.args.bytes.now p q spelled.0 more spelled.1 other) e in
+    (λ q more other. c.one_reading.ensures.packet c.args.bytes.now p q spelled.0
+    more spelled.1 other) e in
     ap (λ (name : List ℕ). Some name) (c.session.ensures.value ∙ one.1)
 
 pub returns-else-eq-clause-only : goal.returns-else-eq-clause-only
@@ -17,6 +18,7 @@ returns-else-eq-clause-only c =
     let p = c.in-Ok.packet in
     let spelled = c.in-Ok.ensures.spelled in
     let one = end_of_one c.args.bytes.now session p
-    (λ q more other. c.one_reading.ensures.packet c.args.bytes.now p q spelled.0 more spelled.1 other) e in
+    (λ q more other. c.one_reading.ensures.packet c.args.bytes.now p q spelled.0
+    more spelled.1 other) e in
     let is = one.0 in
     search (rules, is)

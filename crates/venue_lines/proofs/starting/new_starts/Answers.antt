@@ -7,7 +7,8 @@ loop-place-preserved g c =
     let i = c.loop-place.invariant in
     let e = c.in_ok-start.ensures in
     let receivers = c.loop-place.receivers.items in
-    let more = starts_more _ _ c.loop-place.starts.items receivers c.in_ok-start.start c.in_ok-start.receiver i.0
+    let more = starts_more _ _ c.loop-place.starts.items receivers c.in_ok-start.start
+    c.in_ok-start.receiver i.0
     e.lane.0 (e.lane.1 ∙ c.at.ensures ∙ sym i.1) e.lane.2 e.sized in
     rw (c.in_ok-push.ensures.items, c.in_ok-push-2.ensures.items)
     (more, length-append receivers (c.in_ok-start.receiver ∷ []) ∙ ap (λ (n : ℕ). n + 1) i.1)

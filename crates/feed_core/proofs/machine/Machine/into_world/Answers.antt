@@ -5,4 +5,6 @@ use Rattle.feed_core.proofs.machine.Machine.into_world.Goals as goal
 
 pub returns : goal.returns
 returns c = λ s es r.
-    rw c.new.ensures (finished s es c.args.outcomes.items _ _ (subst (λ (m : MachineView). HasReached s es c.args.outcomes.items m) (sym c.self.view_is) r) c.in_ok-finish_all.ensures)
+    rw c.new.ensures (finished s es c.args.outcomes.items _ _
+    (subst (λ (m : MachineView). HasReached s es c.args.outcomes.items m) (sym c.self.view_is)
+    r) c.in_ok-finish_all.ensures)

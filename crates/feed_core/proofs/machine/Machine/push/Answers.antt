@@ -6,5 +6,6 @@ use Rattle.feed_core.proofs.machine.Machine.push.Goals as goal
 pub returns-clause-step : goal.returns-clause-step
 returns-clause-step c = if_ok c.push.result _ _ (λ d left s w f.
     let lt : c.index-place.result < length c.self.inside.venue_states.items = search rules in
-    push_step s _ w c.args.venue c.index-place.result c.index_mut-state.result.now c.push.new.self c.index-place.ensures.value lt c.index_mut-state.ensures.value
+    push_step s _ w c.args.venue c.index-place.result c.index_mut-state.result.now c.push.new.self
+    c.index-place.ensures.value lt c.index_mut-state.ensures.value
     (subst (λ (m : MachineView). FitsWorld s m w) (sym c.self.view_is) f) d left) c.push.ensures

@@ -6,5 +6,7 @@ use Rattle.feed_core.proofs.machine.Machine.skip.Goals as goal
 pub returns-clause-step : goal.returns-clause-step
 returns-clause-step c = λ s w f.
     let lt : c.index-place.result < length c.self.inside.venue_states.items = search rules in
-    skip_step s _ w c.args.venue c.index-place.result c.index_mut-state.result.now c.skip_to.new.self c.index-place.ensures.value lt c.index_mut-state.ensures.value
-    (subst (λ (m : MachineView). FitsWorld s m w) (sym c.self.view_is) f) c.args.number c.skip_to.result c.skip_to.ensures
+    skip_step s _ w c.args.venue c.index-place.result c.index_mut-state.result.now
+    c.skip_to.new.self c.index-place.ensures.value lt c.index_mut-state.ensures.value
+    (subst (λ (m : MachineView). FitsWorld s m w) (sym c.self.view_is) f) c.args.number
+    c.skip_to.result c.skip_to.ensures

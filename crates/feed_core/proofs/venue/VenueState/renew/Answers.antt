@@ -12,8 +12,11 @@ returns c = λ window place v f.
     let g = subst (λ (h : VenueView). FitsVenue window place h v) (sym c.self.view_is) f in
     let told : c.match-renew.result ≡ renewal_done c.renew.result = elim c.match-renew.branch [
       | in-Ok w ↦ w.result-is ∙ sym (ap renewal_done w.in-Ok.is)
-      | in-Err w ↦ w.result-is ∙ ap (λ (n : ℕ). done.Refused n) w.code.ensures ∙ sym (ap renewal_done w.in-Err.is)
+      | in-Err w ↦ w.result-is ∙ ap (λ (n : ℕ). done.Refused n) w.code.ensures
+          ∙ sym (ap renewal_done w.in-Err.is)
     ] in
-    subst (λ (d : Done). LeftRenewed window place v c.args.session d (record { arbiter = c.renew.new.self; lane = c.self.inside.items })) (sym told)
-    (renewal_left window place _ c.renew.new.self c.self.inside.items v c.args.session c.renew.result g c.renew.ensures.answer c.renew.ensures.ok c.renew.ensures.fits
+    subst (λ (d : Done). LeftRenewed window place v c.args.session d
+    (record { arbiter = c.renew.new.self; lane = c.self.inside.items })) (sym told)
+    (renewal_left window place _ c.renew.new.self c.self.inside.items v c.args.session
+    c.renew.result g c.renew.ensures.answer c.renew.ensures.ok c.renew.ensures.fits
     (c.renew.ensures.complete v.history.present.packets g.history.present) c.renew.ensures.refused)

@@ -9,37 +9,51 @@ use Rattle.feed_text.proofs.Tales.{SinkLaws, laws_by, item_full, entry_goes, ent
 use Rattle.feed_text.proofs.report.ReplaySink.take_item.Given.{Over}
 use Rattle.feed_text.proofs.report.ReplaySink.take_item.Goals as goal
 
-laws_of : (g : Over) → SinkLaws (record { takes = g.K.EventSink.takes; fails = g.K.EventSink.fails })
-laws_of g = laws_by g.met.K.EventSink.takes_none g.met.K.EventSink.takes_more g.met.K.EventSink.fails_after g.met.K.EventSink.fails_longer
+laws_of : (g : Over)
+    → SinkLaws (record { takes = g.K.EventSink.takes; fails = g.K.EventSink.fails })
+laws_of g = laws_by g.met.K.EventSink.takes_none g.met.K.EventSink.takes_more
+    g.met.K.EventSink.fails_after g.met.K.EventSink.fails_longer
 
 pub returns-then-not-has_room : goal.returns-then-not-has_room
 returns-then-not-has_room g c =
     let journal = c.args.self.now.journal in
-    let full : journal.journal < length journal.entries + 1 = lt_of_not-le (λ less. let has = c.if-not-has_room.ensures.1 (omega (arith, less)) in absurd cc) in
-    item_full (laws_of g) journal c.args.self.now.time c.args.self.now.sink c.args.venue c.args.numbered.now (omega (arith, full))
+    let full : journal.journal < length journal.entries + 1 = lt_of_not-le (λ less. let has =
+    c.if-not-has_room.ensures.1 (omega (arith, less)) in absurd cc) in
+    item_full (laws_of g) journal c.args.self.now.time c.args.self.now.sink c.args.venue
+    c.args.numbered.now (omega (arith, full))
 
 pub returns : goal.returns
 returns g c =
-    entry_goes (laws_of g) c.args.self.now.journal c.record.new.self c.args.self.now.time c.args.self.now.sink c.take.new.self c.tell_bests.new.sink
-    (item_taken c.args.venue c.args.numbered.now) (told_item c.args.venue c.args.numbered.now) (Consumed c.args.venue c.args.numbered.now)
+    entry_goes (laws_of g) c.args.self.now.journal c.record.new.self c.args.self.now.time
+    c.args.self.now.sink c.take.new.self c.tell_bests.new.sink
+    (item_taken c.args.venue c.args.numbered.now) (told_item c.args.venue c.args.numbered.now)
+    (Consumed c.args.venue c.args.numbered.now)
     (notices_from c.latest.result.first c.latest.result.changes.now)
-    (c.has_room.ensures.0 c.if-not-has_room.false) c.record.ensures.goes_on refl refl c.latest.ensures.notices
+    (c.has_room.ensures.0 c.if-not-has_room.false) c.record.ensures.goes_on refl refl
+    c.latest.ensures.notices
     c.in_ok-take.ensures.took c.in_ok-tell_bests.ensures.took
 
 pub returns-in_err-take : goal.returns-in_err-take
 returns-in_err-take g c =
     let p = err_from_is_err_and c.from_residual.result c.from_residual.ensures.1 in
     rw (p.1, p.2)
-    (entry_fails_first (laws_of g) c.args.self.now.journal c.record.new.self c.args.self.now.time c.args.self.now.sink c.take.new.self
-    (item_taken c.args.venue c.args.numbered.now) (told_item c.args.venue c.args.numbered.now) (Consumed c.args.venue c.args.numbered.now)
-    (c.has_room.ensures.0 c.if-not-has_room.false) c.record.ensures.goes_on refl refl c.in_err-take.ensures.failed)
+    (entry_fails_first (laws_of g) c.args.self.now.journal c.record.new.self c.args.self.now.time
+    c.args.self.now.sink c.take.new.self
+    (item_taken c.args.venue c.args.numbered.now) (told_item c.args.venue c.args.numbered.now)
+    (Consumed c.args.venue c.args.numbered.now)
+    (c.has_room.ensures.0 c.if-not-has_room.false) c.record.ensures.goes_on refl refl
+    c.in_err-take.ensures.failed)
 
 pub returns-in_err-tell_bests : goal.returns-in_err-tell_bests
 returns-in_err-tell_bests g c =
-    let p = err_from_is_err_and c.from_residual-in_err-tell_bests.result c.from_residual-in_err-tell_bests.ensures.1 in
+    let p = err_from_is_err_and c.from_residual-in_err-tell_bests.result
+    c.from_residual-in_err-tell_bests.ensures.1 in
     rw (p.1, p.2)
-    (entry_fails_later (laws_of g) c.args.self.now.journal c.record.new.self c.args.self.now.time c.args.self.now.sink c.take.new.self c.tell_bests.new.sink
-    (item_taken c.args.venue c.args.numbered.now) (told_item c.args.venue c.args.numbered.now) (Consumed c.args.venue c.args.numbered.now)
+    (entry_fails_later (laws_of g) c.args.self.now.journal c.record.new.self c.args.self.now.time
+    c.args.self.now.sink c.take.new.self c.tell_bests.new.sink
+    (item_taken c.args.venue c.args.numbered.now) (told_item c.args.venue c.args.numbered.now)
+    (Consumed c.args.venue c.args.numbered.now)
     (notices_from c.latest.result.first c.latest.result.changes.now)
-    (c.has_room.ensures.0 c.if-not-has_room.false) c.record.ensures.goes_on refl refl c.latest.ensures.notices
+    (c.has_room.ensures.0 c.if-not-has_room.false) c.record.ensures.goes_on refl refl
+    c.latest.ensures.notices
     c.in_ok-take.ensures.took c.in_err-tell_bests.ensures.failed)

@@ -4,5 +4,6 @@ use Rattle.feed_text.proofs.unread.ReadBuffer.push.Goals as goal
 
 pub returns : goal.returns
 returns g c =
-    range_more _ _ _ _ _ _ (c.make_room-end.ensures.same ∙ c.self.view_is) (omega arith) (omega arith) (omega arith) c.place.ensures.front
+    range_more _ _ _ _ _ _ (c.make_room-end.ensures.same ∙ c.self.view_is) (omega arith)
+    (omega arith) (omega arith) c.place.ensures.front
     ∙ ap (λ (xs : List ℕ). c.args.self.now ++ xs) c.place.ensures.more

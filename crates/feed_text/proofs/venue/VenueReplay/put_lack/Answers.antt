@@ -10,19 +10,39 @@ use Rattle.feed_text.proofs.VenueSteps.{all_sent, gap_shown}
 use Rattle.feed_text.proofs.venue.VenueReplay.put_lack.Goals as goal
 use Rattle.feed_text.proofs.venue.VenueReplay.put_lack.Goals.{After-gap}
 
-gap_is : (c : After-gap) (width place : ℕ) (h : History) → Follows width place c.args.self.now h → c.gap.result ≡ gap_of h.present.name width (last_sent h) h.present.packets
+gap_is : (c : After-gap) (width place : ℕ) (h : History) → Follows width place c.args.self.now h
+    → c.gap.result ≡ gap_of h.present.name width (last_sent h) h.present.packets
 gap_is c width place h f =
-    let v : ReplayVenue = record { arbiter = c.self.inside.arbiter; sent_before = c.self.inside.sent_before; opens_after = c.self.inside.opens_after } in
-    let g : Follows width place v h = subst (λ (w : ReplayVenue). Follows width place w h) (sym c.self.view_is) f in
+    let v : ReplayVenue = record {
+      arbiter = c.self.inside.arbiter;
+      sent_before =
+          c.self.inside.sent_before;
+      opens_after = c.self.inside.opens_after;
+    } in
+    let g : Follows width place v h = subst (λ (w : ReplayVenue). Follows width place w h)
+    (sym c.self.view_is) f in
     c.gap.ensures h.present.packets g.history.present ∙ gap_shown h (all_sent h g)
 
 pub returns-in-Some-clause-lack : goal.returns-in-Some-clause-lack
 returns-in-Some-clause-lack c = λ width place h f.
     let at = (goal.at.returns-in-Some-clause-lack c).After-gap in
-    let gap : Some c.in-Some.gap ≡ gap_of h.present.name width (last_sent h) h.present.packets = sym c.in-Some.is ∙ gap_is at width place h f in
-    let number : c.venue.result ≡ place = c.venue.ensures ∙ ap (λ (v : ReplayVenue). v.arbiter.venue) c.self.view_is ∙ f.number in
-    let made : Lack = record { venue = place; number = c.in-Some.gap.number; count = c.in-Some.gap.count } in
-    let is : c.of.result ≡ made = c.of.ensures ∙ ap (λ (v : ℕ). record { venue = v; number = c.in-Some.gap.number; count = c.in-Some.gap.count }) number in
+    let gap : Some c.in-Some.gap ≡ gap_of h.present.name width (last_sent h) h.present.packets =
+    sym c.in-Some.is ∙ gap_is at width place h f in
+    let number : c.venue.result ≡ place = c.venue.ensures
+    ∙ ap (λ (v : ReplayVenue). v.arbiter.venue) c.self.view_is ∙ f.number in
+    let made : Lack = record {
+      venue = place;
+      number = c.in-Some.gap.number;
+      count =
+          c.in-Some.gap.count;
+    } in
+    let is : c.of.result ≡ made = c.of.ensures
+    ∙ ap (λ (v : ℕ). record {
+      venue = v;
+      number = c.in-Some.gap.number;
+      count =
+          c.in-Some.gap.count;
+    }) number in
     c.push_reserved.ensures.items
     ∙ ap (λ (lack : Lack). c.args.lacks.now.items ++ lack ∷ []) is
     ∙ ap (λ (o : Option Request). c.args.lacks.now.items ++ lack_by place o) gap
@@ -30,5 +50,7 @@ returns-in-Some-clause-lack c = λ width place h f.
 pub returns-in_default-clause-lack : goal.returns-in_default-clause-lack
 returns-in_default-clause-lack c = λ width place h f.
     let at = (goal.at.returns-in_default-clause-lack c).After-gap in
-    let gap : None ≡ gap_of h.present.name width (last_sent h) h.present.packets = sym c.in_default.is ∙ gap_is at width place h f in
-    sym (append-nil c.args.lacks.now.items) ∙ ap (λ (o : Option Request). c.args.lacks.now.items ++ lack_by place o) gap
+    let gap : None ≡ gap_of h.present.name width (last_sent h) h.present.packets =
+    sym c.in_default.is ∙ gap_is at width place h f in
+    sym (append-nil c.args.lacks.now.items) ∙ ap (λ (o : Option Request). c.args.lacks.now.items
+    ++ lack_by place o) gap

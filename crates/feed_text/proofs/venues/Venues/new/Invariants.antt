@@ -5,4 +5,5 @@ use Rattle.feed_text.specs.Following.{FollowAll}
 use Rattle.feed_text.proofs.venues.Venues.new.Given as goal
 
 abbrev pub invariant-loop-place : goal.invariant-loop-place
-invariant-loop-place l = FollowAll l.window l.venues.items (map new_history (take l.place l.sessions))
+invariant-loop-place l = FollowAll l.window l.venues.items
+    (map new_history (take l.place l.sessions))

@@ -8,7 +8,10 @@ use Rattle.feed_text.proofs.venues.Venues.tell_last.Given as goal
 abbrev pub invariant-loop-venue : goal.invariant-loop-venue
 invariant-loop-venue g l = record {
   took : (window : ℕ) (hs : List History) → FollowAll window l.self.items hs → (end : g.row.K.Denot)
-      → g.K.EventSink.takes l.sink (at_time None (lasts_told l.venue-index (drop l.venue-index hs))) end → g.K.EventSink.takes l.fn.sink (at_time None (lasts_told 0 hs)) end;
-  failed : (window : ℕ) (hs : List History) → FollowAll window l.self.items hs → (end : g.row.K.Denot)
-      → g.K.EventSink.fails l.sink (at_time None (lasts_told l.venue-index (drop l.venue-index hs))) end → g.K.EventSink.fails l.fn.sink (at_time None (lasts_told 0 hs)) end;
+      → g.K.EventSink.takes l.sink (at_time None (lasts_told l.venue-index (drop l.venue-index hs)))
+      end → g.K.EventSink.takes l.fn.sink (at_time None (lasts_told 0 hs)) end;
+  failed : (window : ℕ) (hs : List History) → FollowAll window l.self.items hs
+      → (end : g.row.K.Denot)
+      → g.K.EventSink.fails l.sink (at_time None (lasts_told l.venue-index (drop l.venue-index hs)))
+      end → g.K.EventSink.fails l.fn.sink (at_time None (lasts_told 0 hs)) end;
 }

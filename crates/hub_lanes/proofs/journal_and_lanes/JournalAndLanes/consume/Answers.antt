@@ -11,7 +11,8 @@ use Rattle.hub_lanes.proofs.journal_and_lanes.JournalAndLanes.consume.Goals.{Aft
 
 pub returns-in-Err-clause-consume : goal.returns-in-Err-clause-consume
 returns-in-Err-clause-consume g c =
-    let known = subst (λ (s : HubState). c.args.venue < s.journal.venues) (sym c.self.view_is) c.requires in
+    let known = subst (λ (s : HubState). c.args.venue < s.journal.venues)
+    (sym c.self.view_is) c.requires in
     let count = c.self.invariant.venues in
     let there = get_within c.self.inside.from_venues.items c.args.venue (omega arith) in
     subst (λ (s : HubState). Consumes c.args.venue (Err c.in-Err.fault) s
@@ -21,30 +22,35 @@ returns-in-Err-clause-consume g c =
       senders = c.self.inside.to_subscribers.items;
       spare = c.self.inside.spare_lanes.items;
     })) c.self.view_is
-    (consume_refused c.args.venue _ there.0 there.1 c.in-Err.fault c.reserve_one.new.self c.in-Err.ensures)
+    (consume_refused c.args.venue _ there.0 there.1 c.in-Err.fault
+    c.reserve_one.new.self c.in-Err.ensures)
 
 -- the receiving end that is taken from is the venue's
 receiver_at : (g : Over) (c : After-index_mut-receiver g)
     → slice_get c.self.inside.from_venues.items c.args.venue ≡ Some c.index_mut-receiver.result.now
 receiver_at g c =
-    let known = subst (λ (s : HubState). c.args.venue < s.journal.venues) (sym c.self.view_is) c.requires in
+    let known = subst (λ (s : HubState). c.args.venue < s.journal.venues)
+    (sym c.self.view_is) c.requires in
     let count = c.self.invariant.venues in
     let index = c.index.ensures.value in
-    at_index c.self.inside.from_venues.items c.index.result c.args.venue c.index_mut-receiver.result.now index
+    at_index c.self.inside.from_venues.items c.index.result c.args.venue
+    c.index_mut-receiver.result.now index
     (omega arith) c.index_mut-receiver.ensures.value
 
 pub invariant_of-self-in_default : goal.invariant_of-self-in_default
 invariant_of-self-in_default g c =
     let index = c.index.ensures.value in
     let at = receiver_at g (goal.at.invariant_of-self-in_default g c).After-index_mut-receiver in
-    rw index (consume_none_kept c.args.venue _ c.index_mut-receiver.result.now at c.reserve_one.new.self
+    rw index (consume_none_kept c.args.venue _ c.index_mut-receiver.result.now
+    at c.reserve_one.new.self
     c.pop.new.self c.in-Ok.ensures.0 c.in-Ok.ensures.1
     g.G.Genuine g.N.FeedName.lanes c.self.invariant c.in_default.ensures.popped)
 
 pub returns-in_default-clause-consume : goal.returns-in_default-clause-consume
 returns-in_default-clause-consume g c =
     let index = c.index.ensures.value in
-    let at = receiver_at g (goal.at.returns-in_default-clause-consume g c).After-index_mut-receiver in
+    let at = receiver_at g (goal.at.returns-in_default-clause-consume g c).After-index_mut-receiver
+    in
     subst (λ (x : HubState × ℕ). ConsumesOne c.args.venue (Ok None) x.0 (record {
       journal = c.reserve_one.new.self;
       receivers = slice_set c.self.inside.from_venues.items x.1 c.pop.new.self;
@@ -52,15 +58,18 @@ returns-in_default-clause-consume g c =
       spare = c.self.inside.spare_lanes.items;
     }))
     (λ i. (c.self.view_is i, sym index i))
-    (consume_none c.args.venue _ c.index_mut-receiver.result.now at c.reserve_one.new.self c.pop.new.self
+    (consume_none c.args.venue _ c.index_mut-receiver.result.now at
+    c.reserve_one.new.self c.pop.new.self
     c.in-Ok.ensures.0 c.in-Ok.ensures.1 c.in_default.ensures.popped)
 
 pub invariant_of-self-2 : goal.invariant_of-self-2
 invariant_of-self-2 g c =
     let index = c.index.ensures.value in
     let at = receiver_at g (goal.at.invariant_of-self-2 g c).After-index_mut-receiver in
-    rw index (consume_one_kept c.args.venue _ c.index_mut-receiver.result.now at c.reserve_one.new.self
-    c.pop.new.self c.in-Ok.ensures.0 c.in-Ok.ensures.1 c.in-Some.numbered c.record.new.self c.record.result
+    rw index (consume_one_kept c.args.venue _ c.index_mut-receiver.result.now
+    at c.reserve_one.new.self
+    c.pop.new.self c.in-Ok.ensures.0 c.in-Ok.ensures.1 c.in-Some.numbered
+    c.record.new.self c.record.result
     c.in-Some.ensures.popped c.record.ensures.journals
     g.G.Genuine g.N.FeedName.lanes c.self.invariant c.in-Some.ensures.rule)
 
@@ -76,6 +85,8 @@ returns-clause-consume g c =
       spare = c.self.inside.spare_lanes.items;
     }))
     (λ i. (c.self.view_is i, sym index i))
-    (consume_one c.args.venue _ c.index_mut-receiver.result.now at c.reserve_one.new.self c.pop.new.self
-    c.in-Ok.ensures.0 c.in-Ok.ensures.1 c.in-Some.numbered c.record.new.self c.record.result c.in-Some.ensures.popped
+    (consume_one c.args.venue _ c.index_mut-receiver.result.now at
+    c.reserve_one.new.self c.pop.new.self
+    c.in-Ok.ensures.0 c.in-Ok.ensures.1 c.in-Some.numbered c.record.new.self c.record.result
+    c.in-Some.ensures.popped
     c.record.ensures.journals c.record.ensures.position)

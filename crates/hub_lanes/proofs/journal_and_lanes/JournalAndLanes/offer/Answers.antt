@@ -18,21 +18,24 @@ use Rattle.hub_lanes.proofs.journal_and_lanes.JournalAndLanes.offer.Goals.{After
 lane_there : (g : Over) (c : After-seek_offer g)
     → (e : LaneEnd Notice) × (slice_get c.self.inside.to_subscribers.items c.args.id ≡ Some e)
 lane_there g c =
-    let known = subst (λ (s : HubState). c.args.id < length s.journal.cursors) (sym c.self.view_is) c.requires in
+    let known = subst (λ (s : HubState). c.args.id < length s.journal.cursors)
+    (sym c.self.view_is) c.requires in
     let count = c.self.invariant.subscribers in
     get_within c.self.inside.to_subscribers.items c.args.id (omega arith)
 
 pub invariant_of-self : goal.invariant_of-self
 invariant_of-self g c =
     let there = lane_there g (goal.at.invariant_of-self g c).After-seek_offer in
-    passes_kept g.G.Genuine g.N.FeedName.lanes _ c.args.id c.saturating_sub-most.result there.0 c.seek_offer.new.self
+    passes_kept g.G.Genuine g.N.FeedName.lanes _ c.args.id c.saturating_sub-most.result
+    there.0 c.seek_offer.new.self
     c.self.invariant there.1 c.in-Err.ensures.unfinished
 
 pub returns-in-Err-clause-looks : goal.returns-in-Err-clause-looks
 returns-in-Err-clause-looks g c =
     let passes = c.in-Err.ensures.unfinished in
     let seen : c.seen.result ≡ passes.cursor.seen =
-    subst (λ (o : Option Cursor). IfSome o (λ cursor. c.seen.result ≡ cursor.seen)) passes.at c.seen.ensures in
+    subst (λ (o : Option Cursor). IfSome o (λ cursor. c.seen.result ≡ cursor.seen))
+    passes.at c.seen.ensures in
     subst (λ (x : HubState). LooksOn c.args.id c.args.to x (record {
       journal = c.seek_offer.new.self;
       receivers = c.self.inside.from_venues.items;
@@ -55,14 +58,16 @@ returns-in-Err-clause-kept g c =
       senders = c.self.inside.to_subscribers.items;
       spare = c.self.inside.spare_lanes.items;
     }))
-    c.self.view_is (offer_keeps _ c.args.id (passes.cursor.seen + c.saturating_sub-most.result) passes.cursor new _
+    c.self.view_is (offer_keeps _ c.args.id (passes.cursor.seen + c.saturating_sub-most.result)
+    passes.cursor new _
     passes.at passes.moved)
 
 pub invariant_of-self-in_default : goal.invariant_of-self-in_default
 invariant_of-self-in_default g c =
     let goes = c.in-Ok.ensures.goes in
     let there = lane_there g (goal.at.invariant_of-self-in_default g c).After-seek_offer in
-    looks_only g.G.Genuine g.N.FeedName.lanes _ c.args.id goes.place c.self.invariant there.0 there.1 goes.cursor
+    looks_only g.G.Genuine g.N.FeedName.lanes _ c.args.id goes.place c.self.invariant
+    there.0 there.1 goes.cursor
     goes.at goes.next c.seek_offer.new.self goes.moved
 
 pub returns-in_default-clause-offer : goal.returns-in_default-clause-offer
@@ -76,24 +81,28 @@ returns-in_default-clause-offer g c =
       senders = c.self.inside.to_subscribers.items;
       spare = c.self.inside.spare_lanes.items;
     })) c.self.view_is
-    (offer_nothing g.G.Genuine g.N.FeedName.lanes _ c.args.id goes.place c.self.invariant there.0 there.1 goes.cursor
+    (offer_nothing g.G.Genuine g.N.FeedName.lanes _ c.args.id goes.place c.self.invariant
+    there.0 there.1 goes.cursor
     goes.at goes.next c.seek_offer.new.self (sym c.in_default.is ∙ goes.found_is))
 
 -- the sending end that is pushed into is the subscriber's
 sender_at : (g : Over) (c : After-index_mut-sender g)
     → slice_get c.self.inside.to_subscribers.items c.args.id ≡ Some c.index_mut-sender.result.now
 sender_at g c =
-    let known = subst (λ (s : HubState). c.args.id < length s.journal.cursors) (sym c.self.view_is) c.requires in
+    let known = subst (λ (s : HubState). c.args.id < length s.journal.cursors)
+    (sym c.self.view_is) c.requires in
     let count = c.self.invariant.subscribers in
     let index = c.index.ensures.value in
-    at_index c.self.inside.to_subscribers.items c.index.result c.args.id c.index_mut-sender.result.now index
+    at_index c.self.inside.to_subscribers.items c.index.result c.args.id
+    c.index_mut-sender.result.now index
     (omega arith) c.index_mut-sender.ensures.value
 
 pub push-requires : goal.push-requires
 push-requires g c =
     let goes = c.in-Ok.ensures.goes in
     let from = sender_at g (goal.at.push-requires g c).After-index_mut-sender in
-    offer_may g.G.Genuine g.N.FeedName.lanes _ c.args.id goes.place c.self.invariant c.index_mut-sender.result.now from
+    offer_may g.G.Genuine g.N.FeedName.lanes _ c.args.id goes.place c.self.invariant
+    c.index_mut-sender.result.now from
     goes.cursor goes.at goes.next c.in-Some.notice (sym c.in-Some.is ∙ goes.found_is)
 
 pub invariant_of-self-in-Ok-push : goal.invariant_of-self-in-Ok-push
@@ -102,7 +111,8 @@ invariant_of-self-in-Ok-push g c =
     let index = c.index.ensures.value in
     let from = sender_at g (goal.at.invariant_of-self-in-Ok-push g c).After-index_mut-sender in
     rw index (offers_kept g.G.Genuine g.N.FeedName.lanes _ c.args.id goes.place c.self.invariant
-    c.index_mut-sender.result.now from goes.cursor goes.at goes.next c.advance_cursor.new.self c.push.new.self
+    c.index_mut-sender.result.now from goes.cursor goes.at goes.next
+    c.advance_cursor.new.self c.push.new.self
     c.in-Some.notice (sym c.in-Some.is ∙ goes.found_is)
     (goes_past c.self.inside.kept c.seek_offer.new.self c.advance_cursor.new.self c.args.id _ goes
     c.advance_cursor.ensures) c.in-Ok-push.ensures)
@@ -113,7 +123,8 @@ invariant_of-self-in-Err-push g c =
     let index = c.index.ensures.value in
     let from = sender_at g (goal.at.invariant_of-self-in-Err-push g c).After-index_mut-sender in
     rw index (looks_kept g.G.Genuine g.N.FeedName.lanes _ c.args.id goes.place c.self.invariant
-    c.index_mut-sender.result.now from goes.cursor goes.at goes.next c.seek_offer.new.self c.push.new.self
+    c.index_mut-sender.result.now from goes.cursor goes.at goes.next
+    c.seek_offer.new.self c.push.new.self
     goes.moved c.in-Err-push.ensures.1)
 
 pub returns-in-Ok-push-clause-offer : goal.returns-in-Ok-push-clause-offer
@@ -129,7 +140,8 @@ returns-in-Ok-push-clause-offer g c =
       spare = c.self.inside.spare_lanes.items;
     }))
     (λ i. (c.self.view_is i, sym index i))
-    (offer_one g.G.Genuine g.N.FeedName.lanes _ c.args.id goes.place c.self.invariant c.index_mut-sender.result.now from
+    (offer_one g.G.Genuine g.N.FeedName.lanes _ c.args.id goes.place c.self.invariant
+    c.index_mut-sender.result.now from
     goes.cursor goes.at goes.next c.advance_cursor.new.self c.in-Some.notice c.push.new.self
     c.in-Some.notice.number (sym c.in-Some.is ∙ goes.found_is) refl c.in-Ok-push.ensures)
 
@@ -146,7 +158,8 @@ returns-in-Err-push-clause-offer g c =
       spare = c.self.inside.spare_lanes.items;
     }))
     (λ i. (c.self.view_is i, sym index i))
-    (offer_full g.G.Genuine g.N.FeedName.lanes _ c.args.id goes.place c.self.invariant c.index_mut-sender.result.now
+    (offer_full g.G.Genuine g.N.FeedName.lanes _ c.args.id goes.place c.self.invariant
+    c.index_mut-sender.result.now
     from goes.cursor goes.at goes.next c.seek_offer.new.self c.in-Some.notice c.push.new.self
     (sym c.in-Some.is ∙ goes.found_is) c.in-Err-push.ensures.1 c.in-Err-push.ensures.2)
 
@@ -166,7 +179,8 @@ pub returns-in-Ok-push-clause-kept : goal.returns-in-Ok-push-clause-kept
 returns-in-Ok-push-clause-kept g c =
     let goes = c.in-Ok.ensures.goes in
     let new = c.advance_cursor.new.self in
-    let past = goes_past c.self.inside.kept c.seek_offer.new.self new c.args.id _ goes c.advance_cursor.ensures in
+    let past = goes_past c.self.inside.kept c.seek_offer.new.self new c.args.id _ goes
+    c.advance_cursor.ensures in
     subst (λ (x : HubState). KeepsButOffers x (record {
       journal = new;
       receivers = c.self.inside.from_venues.items;

@@ -3,7 +3,8 @@ use Rattle.journal_book.proofs.item_counts.ItemCounts.count.Goals as goal
 
 pub count_entry-requires : goal.count_entry-requires
 count_entry-requires c =
-    counts_small c.self.inside.counts c.self.inside.past.items 4294967295 c.self.invariant (rw (← c.self.view_is) at c.requires)
+    counts_small c.self.inside.counts c.self.inside.past.items 4294967295 c.self.invariant
+    (rw (← c.self.view_is) at c.requires)
 
 pub invariant_of-self : goal.invariant_of-self
 invariant_of-self c =

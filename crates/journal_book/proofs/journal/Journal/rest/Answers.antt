@@ -12,7 +12,8 @@ returns c =
     let known : c.args.id < length old.cursors.items = rw (← c.self.view_is) at c.requires in
     let here : cursor ≡ get_or old.cursors.items c.args.id cursor =
     c.index-2.ensures ∙ ap (λ (i : ℕ). get_or old.cursors.items i cursor) c.index.ensures.value in
-    let within = one_within old.first (length all) old.cursors.items c.args.id cursor known c.self.invariant.seen here in
+    let within = one_within old.first (length all) old.cursors.items c.args.id cursor known
+    c.self.invariant.seen here in
     let run = c.as_slice.ensures.value ∙ c.self.invariant.run in
     let count = ap length run ∙ length-drop old.first all in
     rw (← c.self.view_is) (record {

@@ -11,7 +11,8 @@ invariant_of-result g c = record {
     end_small = λ e is. absurd cc;
     known_at_end = λ e is. absurd cc;
     front_known = omega arith;
-    held_known = λ m some. absurd (false≢true (subst (λ (o : Option Item). IsSome o) (c.in-Ok.ensures.empty m) some));
+    held_known = λ m some. absurd
+        (false≢true (subst (λ (o : Option Item). IsSome o) (c.in-Ok.ensures.empty m) some));
     stop = c.in-Ok.ensures.empty 1;
     sent_or_end = inl (let base = c.in-Ok.ensures.base in omega arith);
     few = search rules;

@@ -15,7 +15,8 @@ returns-clause-stream g c packets fits =
     ∙ sym (get_past (closed_of packets) (part_of packets) (sent + 1 - opens_of packets))
 
 pub returns-clause-genuine : goal.returns-clause-genuine
-returns-clause-genuine g c packets fits all = rw c.ready.ensures.value (next_allowed g.G.Genuine.carries g.G.Genuine.ends _ _ _ packets (stands_of fits) all)
+returns-clause-genuine g c packets fits all = rw c.ready.ensures.value
+    (next_allowed g.G.Genuine.carries g.G.Genuine.ends _ _ _ packets (stands_of fits) all)
 
 pub returns-clause-over : goal.returns-clause-over
 returns-clause-over g c ended = c.ready.ensures.value ∙ none_after_end _ c.ready.ensures.sound ended

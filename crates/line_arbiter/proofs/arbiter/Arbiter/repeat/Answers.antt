@@ -7,12 +7,14 @@ use Rattle.line_arbiter.proofs.arbiter.Arbiter.repeat.Goals as goal
 
 pub returns-then-is_sent-clause-answer : goal.returns-then-is_sent-clause-answer
 returns-then-is_sent-clause-answer g c packets fits =
-    let step = sent_step A c.args.self.now c.args.packet.now c.repeat_of.result c.if-is_sent.ensures (c.repeat_of.ensures.step A) in
+    let step = sent_step A c.args.self.now c.args.packet.now c.repeat_of.result c.if-is_sent.ensures
+    (c.repeat_of.ensures.step A) in
     packet_answer _ _ _ packets _ _ c.number-number.ensures.content (stands_of fits) step
 
 pub returns-then-is_sent-clause-fits : goal.returns-then-is_sent-clause-fits
 returns-then-is_sent-clause-fits g c packets line fits =
-    let step = sent_step line c.args.self.now c.args.packet.now c.repeat_of.result c.if-is_sent.ensures (c.repeat_of.ensures.step line) in
+    let step = sent_step line c.args.self.now c.args.packet.now c.repeat_of.result
+    c.if-is_sent.ensures (c.repeat_of.ensures.step line) in
     fits_of (packet_fits _ _ packets _ _ _ c.number-number.ensures.content (stands_of fits) step)
 
 pub returns-then-is_sent-clause-exact : goal.returns-then-is_sent-clause-exact

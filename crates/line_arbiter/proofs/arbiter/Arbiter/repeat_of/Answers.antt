@@ -9,4 +9,5 @@ returns-clause-step g c line =
     let within = rw (← c.self.view_is) at c.requires.within in
     let before = rw (← c.self.view_is) at c.requires.before in
     let some = messages_some _ _ c.requires.kind c.count.ensures.content.fits in
-    rw (← c.self.view_is, c.count.ensures.value) (repeats line _ c.args.packet.now c.self.invariant.sound some there agrees within before)
+    rw (← c.self.view_is, c.count.ensures.value) (repeats line _ c.args.packet.now
+    c.self.invariant.sound some there agrees within before)

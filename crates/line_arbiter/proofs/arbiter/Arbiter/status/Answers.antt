@@ -11,5 +11,6 @@ returns-clause-packets g c packets fits =
     let front = ap (λ (s : State). s.front) view ∙ fits.front in
     let known = ap (λ (s : State). s.known) view ∙ fits.known in
     let end = ap (λ (s : State). s.end) view ∙ fits.end in
-    let held = c.count.ensures ∙ ap (λ (s : State). count_held (held_of s)) view ∙ count-held _ packets fits in
+    let held = c.count.ensures ∙ ap (λ (s : State). count_held (held_of s)) view
+    ∙ count-held _ packets fits in
     λ i. record { sent = sent i; front = front i; known = known i; end = end i; held = held i }

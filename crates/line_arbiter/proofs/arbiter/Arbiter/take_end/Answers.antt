@@ -8,6 +8,7 @@ returns-then-self-number g c = (
   search rules,
   elim c.then-self-number.branch [
     | then-self-number-via-then-self-number w ↦ inl (rw (← c.self.view_is) w.if-self-number.true)
-    | then-self-number-via-else-self-number+then-holds_from w ↦ inr (rw (← c.self.view_is) w.if-holds_from.ensures)
+    | then-self-number-via-else-self-number+then-holds_from w ↦ inr
+        (rw (← c.self.view_is) w.if-holds_from.ensures)
   ],
 )

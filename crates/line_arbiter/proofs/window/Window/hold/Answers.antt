@@ -12,7 +12,8 @@ invariant_of-self c =
     let within = rw (← c.self.view_is) at c.requires.within in
     rw (c.put.ensures.items, c.put.ensures.capacity) (record {
       held = IsHeld-put _ c.args.number _ c.args.item held past within c.ranges.number.fits free;
-      marks = IsBitmap-put c.args.number c.args.item (window_inside c.self.inside) _ _ _ c.self.invariant.marks past
+      marks = IsBitmap-put c.args.number c.args.item (window_inside c.self.inside) _ _ _
+          c.self.invariant.marks past
           (omega arith) c.mark.ensures.words c.mark.ensures.here c.mark.ensures.others refl
           (held_at-put (window_inside c.self.inside) c.args.number c.args.item past free);
     })

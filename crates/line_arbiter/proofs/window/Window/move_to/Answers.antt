@@ -12,4 +12,5 @@ invariant_of-self c =
 
 pub returns-clause-empty : goal.returns-clause-empty
 returns-clause-empty c =
-    let none = rw (← c.self.view_is) at c.requires in empty_moved (window_inside c.self.inside) c.args.number none
+    let none = rw (← c.self.view_is) at c.requires
+    in empty_moved (window_inside c.self.inside) c.args.number none

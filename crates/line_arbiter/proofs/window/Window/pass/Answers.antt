@@ -11,10 +11,12 @@ use Rattle.line_arbiter.proofs.window.Window.pass.Goals as goal
 use Rattle.line_arbiter.proofs.window.Window.pass.Goals.{After-from}
 
 -- what is no longer counted
-first_counts : (c : After-from) → c.from.result ≡ one_if (is_some (in_place c.self.inside.places.items 0))
+first_counts : (c : After-from)
+    → c.from.result ≡ one_if (is_some (in_place c.self.inside.places.items 0))
 first_counts c =
     c.from.ensures ∙ byte_is c.is_held.result ∙ ap one_if c.is_held.ensures
-    ∙ ap (λ (o : Option (Option Item)). one_if (is_some (option_and_then (λ (place : Option Item). place) o)))
+    ∙ ap (λ (o : Option (Option Item)). one_if
+    (is_some (option_and_then (λ (place : Option Item). place) o)))
     c.pop_front-first.ensures.value
 
 pub invariant_of-self : goal.invariant_of-self
@@ -29,10 +31,12 @@ invariant_of-self c =
     rw c.pop_front-first.ensures.items (record {
       held = IsHeld-pass c.self.inside.held_items _ _ held
           (omega (arith, some_first c.self.inside.places.items)) small;
-      marks = IsBitmap-pass _ _ _ c.self.invariant.marks (omega arith) c.unmark.ensures.words c.unmark.ensures.here
+      marks = IsBitmap-pass _ _ _ c.self.invariant.marks (omega arith)
+          c.unmark.ensures.words c.unmark.ensures.here
           c.unmark.ensures.others;
     })
 
 pub returns-clause-held : goal.returns-clause-held
 returns-clause-held c m =
-    rw (← c.self.view_is, c.pop_front-first.ensures.items) (held_at-pass (window_inside c.self.inside) m)
+    rw (← c.self.view_is, c.pop_front-first.ensures.items)
+    (held_at-pass (window_inside c.self.inside) m)

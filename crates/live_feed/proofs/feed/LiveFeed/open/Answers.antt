@@ -18,18 +18,21 @@ new-core-requires g c =
       spare = inside.spare_lanes.items;
     }))
     (sym c.in-Ok-Ok-Ok-Ok.ensures'.items)
-    (fresh inside.starts.items inside.from_venues.items inside.kept inside.spare_lanes.items _ lanes c.self.invariant
+    (fresh inside.starts.items inside.from_venues.items inside.kept inside.spare_lanes.items
+    _ lanes c.self.invariant
     (c.self.view_is ∙ c.requires) premise)
 
 pub open-venues-requires-clause-lanes : goal.open-venues-requires-clause-lanes
 open-venues-requires-clause-lanes g c =
     have_lanes c.self.inside.starts.items c.self.inside.from_venues.items c.self.inside.kept
-    c.self.inside.spare_lanes.items _ g.N.FeedName.lanes c.self.invariant (c.self.view_is ∙ c.requires)
+    c.self.inside.spare_lanes.items _ g.N.FeedName.lanes c.self.invariant
+    (c.self.view_is ∙ c.requires)
 
 pub open-venues-requires-clause-count : goal.open-venues-requires-clause-count
 open-venues-requires-clause-count g c =
     starts_count c.self.inside.starts.items c.self.inside.from_venues.items c.self.inside.kept
-    c.self.inside.spare_lanes.items _ g.N.FeedName.lanes c.self.invariant (c.self.view_is ∙ c.requires)
+    c.self.inside.spare_lanes.items _ g.N.FeedName.lanes c.self.invariant
+    (c.self.view_is ∙ c.requires)
 
 pub new-log_size-requires : goal.new-log_size-requires
 new-log_size-requires g c = ap (λ (l : FeedLanes). l.setting.log) (c.self.view_is ∙ c.requires)

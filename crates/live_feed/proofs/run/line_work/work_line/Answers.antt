@@ -29,7 +29,8 @@ loop-preserved g c =
     let one = subst (λ found. g.S.LineSource.brings waited (brought_by (Ok found))
     c.next-in-loop.new.self) c.in-Ok-Some.field-0-is c.in-Ok-Some.ensures.brings in
     let waits = still first c.loop.source waited so_far.0 so_far.2 c.is_next_there.ensures.brings in
-    let read = laws.brings_more first waited c.next-in-loop.new.self so_far.0 (bytes ∷ []) waits one in (
+    let read = laws.brings_more first waited c.next-in-loop.new.self so_far.0 (bytes ∷ []) waits one
+    in (
       tt,
       tt,
       search rules,
@@ -60,25 +61,32 @@ returns g c =
     let before = c.loop.source in elim c.match-next.branch [
       | in-None w ↦
           rw w.seat-is (rw w.source-is (rw w.datagrams-is (rw w.fault-is (rw i.7
-          (ended old first before before so_far.0 c.loop.datagrams None i.3 i.4 so_far.3 so_far.1 so_far.2
+          (ended old first before before so_far.0 c.loop.datagrams None i.3 i.4
+          so_far.3 so_far.1 so_far.2
           (laws.brings_nothing before) i.6)))))
       | in-Some+then-not-is_next_there w ↦
           rw w.seat-is (rw w.source-is (rw w.datagrams-is (rw w.fault-is (rw i.7
-          (ended old first before w.is_next_there.new.source so_far.0 c.loop.datagrams None i.3 i.4 so_far.3
-          so_far.1 so_far.2 w.is_next_there.ensures.brings (w.is_next_there.ensures.sound ∙ i.6))))))
+          (ended old first before w.is_next_there.new.source so_far.0 c.loop.datagrams None i.3 i.4
+          so_far.3
+          so_far.1 so_far.2 w.is_next_there.ensures.brings
+          (w.is_next_there.ensures.sound ∙ i.6))))))
       | in-Some+else-not-is_next_there+in-Ok-None w ↦
           let waited = w.is_next_there.new.source in
           let waits = still first before waited so_far.0 so_far.2 w.is_next_there.ensures.brings in
-          let nothing = subst (λ found. brings waited (brought_by (Ok found)) w.next-in-loop.new.self)
+          let nothing = subst (λ found. brings waited (brought_by (Ok found))
+          w.next-in-loop.new.self)
           w.in-Ok-None.field-0-is w.in-Ok-None.ensures.brings in
           rw w.seat-is (rw w.source-is (rw w.datagrams-is (rw w.fault-is (rw i.7
-          (ended old first waited w.next-in-loop.new.self so_far.0 c.loop.datagrams None i.3 i.4 so_far.3
-          so_far.1 waits nothing (w.in-Ok-None.ensures.sound ∙ w.is_next_there.ensures.sound ∙ i.6))))))
+          (ended old first waited w.next-in-loop.new.self so_far.0 c.loop.datagrams None i.3 i.4
+          so_far.3
+          so_far.1 waits nothing (w.in-Ok-None.ensures.sound ∙ w.is_next_there.ensures.sound
+          ∙ i.6))))))
       | in-Some+else-not-is_next_there+in-Err w ↦
           let waited = w.is_next_there.new.source in
           let waits = still first before waited so_far.0 so_far.2 w.is_next_there.ensures.brings in
           rw w.seat-is (rw w.source-is (rw w.datagrams-is (rw w.fault-is
-          (ended old first waited w.next-in-loop.new.self so_far.0 c.loop.datagrams (Some w.in-Err.failed) i.3
+          (ended old first waited w.next-in-loop.new.self so_far.0 c.loop.datagrams
+          (Some w.in-Err.failed) i.3
           i.4 so_far.3 so_far.1 waits w.in-Err.ensures.brings (w.in-Err.ensures.failed
           ∙ ap (λ n. failures_after n w.in-Err.failed) (w.is_next_there.ensures.sound ∙ i.6))))))
       | in-Some+else-not-is_next_there+in-Ok-Some+in-Err-request_due w ↦
@@ -89,16 +97,20 @@ returns g c =
           let stays = seat_stays g.G.Genuine
           g.N.FeedName.lanes bytes old answer.result answer.new.seat answer.ensures.taken in
           let took = taken_more g.G.Genuine
-          g.N.FeedName.lanes so_far.0 bytes answer.result c.args.line.seat old answer.new.seat so_far.1
+          g.N.FeedName.lanes so_far.0 bytes answer.result c.args.line.seat old
+          answer.new.seat so_far.1
           answer.ensures.taken in
           let one = subst (λ found. brings waited (brought_by (Ok found)) w.next-in-loop.new.self)
           w.in-Ok-Some.field-0-is w.in-Ok-Some.ensures.brings in
-          let read = laws.brings_more first waited w.next-in-loop.new.self so_far.0 (bytes ∷ []) waits one in
+          let read = laws.brings_more first waited w.next-in-loop.new.self so_far.0
+          (bytes ∷ []) waits one in
           let failed = w.in-Err-request_due in
           rw w.seat-is (rw w.source-is (rw w.datagrams-is (rw w.fault-is
           (ended answer.new.seat first w.next-in-loop.new.self w.request_due.new.source
-          (so_far.0 ++ bytes ∷ []) w.saturating_add-datagrams.result (Some failed.failed) (stays.0 ∙ i.3)
-          (stays.1 ∙ i.4) (read_more so_far.0 bytes c.loop.datagrams _ so_far.3 w.saturating_add-datagrams.ensures)
+          (so_far.0 ++ bytes ∷ []) w.saturating_add-datagrams.result
+          (Some failed.failed) (stays.0 ∙ i.3)
+          (stays.1 ∙ i.4) (read_more so_far.0 bytes c.loop.datagrams _ so_far.3
+          w.saturating_add-datagrams.ensures)
           took read w.request_due.ensures.brings (failed.ensures.failed
           ∙ ap (λ n. failures_after n failed.failed)
           (w.in-Ok-Some.ensures.sound ∙ w.is_next_there.ensures.sound ∙ i.6))))))

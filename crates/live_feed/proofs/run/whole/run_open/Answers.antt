@@ -22,11 +22,13 @@ returns-clause-whole g c =
     (new_seat (source.venue_of task.source) task.line) task.source)
     (λ task line ended given so.
     ended_of takes source.brings source.failures line.seat
-    (new_seat (source.venue_of task.source) task.line) line.source task.source ended given.0 given.1 so)
+    (new_seat (source.venue_of task.source) task.line) line.source task.source
+    ended given.0 given.1 so)
     c.args.task.lines.items begun.0.items report.lines.items c.in-Ok.ensures.lines
     (at_ok _ ran.result.0 report c.in-Ok-ran.is ran.ensures.lines) in
     let polled =
-    pairwise_length (λ given back. HasPolled given.log back.log) begun.2.items report.subscribers.items
+    pairwise_length (λ given back. HasPolled given.log back.log) begun.2.items
+    report.subscribers.items
     (at_ok _ ran.result.0 report c.in-Ok-ran.is ran.ensures.subscribers) in
     let logs = map (λ s. s.log) report.subscribers.items in
     both_ok (λ whole reported settled. record {

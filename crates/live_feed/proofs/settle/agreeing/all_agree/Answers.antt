@@ -11,7 +11,8 @@ loop-place-preserved g c =
     let place = c.loop-place.place in
     let x = c.index-venues-place.result in
     let at = at_index all place place x refl c.loop-place-test.true c.index-venues-place.is in
-    let here = subst (λ v. AgreesWithSeats c.args.seats.now place v.cell) (sym c.index-venues-place.is)
+    let here = subst (λ v. AgreesWithSeats c.args.seats.now place v.cell)
+    (sym c.index-venues-place.is)
     (c.if-not-agrees.ensures refl) in
     one_more (AgreesWithSeats c.args.seats.now) place (map (λ v. v.cell) all) x.cell
     (at_map (λ v. v.cell) all place x at) here c.loop-place.invariant
@@ -22,4 +23,5 @@ returns g c = λ yes.
     let place = c.loop-place.place in
     let past = c.loop-place-test.false in
     let long = length-map all (λ v. v.cell) in
-    all_places (AgreesWithSeats c.args.seats.now) place (map (λ v. v.cell) all) (omega arith) c.loop-place.invariant)
+    all_places (AgreesWithSeats c.args.seats.now) place (map (λ v. v.cell) all) (omega arith)
+    c.loop-place.invariant)

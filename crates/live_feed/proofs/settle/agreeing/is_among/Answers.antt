@@ -8,8 +8,10 @@ pub loop-place-preserved : goal.loop-place-preserved
 loop-place-preserved g c =
     let all = c.args.seats.now in
     let place = c.loop-place.place in
-    let at = at_index all place place c.index-seats-place.result refl c.loop-place-test.true c.index-seats-place.is in
-    any_more (is_seat_of c.args.venue c.args.line) all place c.index-seats-place.result _ at (sym c.if-is_of.ensures)
+    let at = at_index all place place c.index-seats-place.result refl c.loop-place-test.true
+    c.index-seats-place.is in
+    any_more (is_seat_of c.args.venue c.args.line) all place c.index-seats-place.result _ at
+    (sym c.if-is_of.ensures)
     c.loop-place.invariant
 
 pub returns : goal.returns

@@ -22,7 +22,8 @@ loop-place-preserved c =
     let here = subst (λ (id : ℕ). HasSubscriberRoom journal id x room) (c.at.ensures ∙ sym i.count)
     c.in_ok-room.ensures in
     record {
-      count = (let long = ap length grown in let both = length-append old (room ∷ []) in let count = i.count in
+      count = (let long = ap length grown in let both = length-append old (room ∷ [])
+          in let count = i.count in
           omega arith);
       rooms = match_more (HasSubscriberRoom journal) all old c.push.new.self.items x room
           (ap (slice_get all) i.count ∙ at) grown here i.rooms;

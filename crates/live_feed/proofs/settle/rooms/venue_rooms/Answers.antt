@@ -19,11 +19,14 @@ loop-place-preserved g c =
     let old = c.loop-place.rooms.items in
     let room = c.in_ok-room.room in
     let grown = c.in_ok-push.ensures.items in
-    let here = subst (λ v. HasVenueRoom entries v.cell room) (sym c.index-venues-place.is) c.in_ok-room.ensures in
+    let here = subst (λ v. HasVenueRoom entries v.cell room) (sym c.index-venues-place.is)
+    c.in_ok-room.ensures in
     record {
-      count = (let long = ap length grown in let both = length-append old (room ∷ []) in let count = i.count in
+      count = (let long = ap length grown in let both = length-append old (room ∷ [])
+          in let count = i.count in
           omega arith);
-      rooms = match_more (λ (venue : ℕ) (cell : CellState) (r : VenueRoom). HasVenueRoom entries cell r) cells old
+      rooms = match_more (λ (venue : ℕ) (cell : CellState) (r : VenueRoom). HasVenueRoom
+          entries cell r) cells old
           c.push.new.self.items x.cell room
           (ap (slice_get cells) i.count ∙ at_map (λ v. v.cell) all place x at) grown here i.rooms;
     }

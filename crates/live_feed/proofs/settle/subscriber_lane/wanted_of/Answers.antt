@@ -13,12 +13,14 @@ loop-place-preserved c =
     let at = at_index notices place place x refl c.loop-place-test.true c.index-notices-place.is in
     let pushed = c.push_wanted.ensures in
     record {
-      items = wanted_more (meets c.args.terms.now) notices place x c.loop-place.room.items c.push_wanted.new.room.items
+      items = wanted_more (meets c.args.terms.now) notices place x c.loop-place.room.items
+          c.push_wanted.new.room.items
           _ at pushed.items i.items;
       few = (let one = pushed.count in let few = i.few in omega arith);
       room = pushed.capacity ∙ i.room;
     }
 
 pub returns : goal.returns
-returns c = wanted_all (meets c.args.terms.now) c.args.notices.now c.loop-place.place c.loop-place.room.items _
+returns c = wanted_all (meets c.args.terms.now) c.args.notices.now c.loop-place.place
+    c.loop-place.room.items _
     c.loop-place-test.false c.loop-place.invariant.items

@@ -4,7 +4,8 @@ use Rattle.live_feed.proofs.settle.subscriber_lane.wanted_of.Given as goal
 
 abbrev pub invariant-loop-place : goal.invariant-loop-place
 invariant-loop-place l = record {
-  items : l.room.items ++ filter (meets l.terms) (drop l.place l.notices) ≡ filter (meets l.terms) l.notices;
+  items : l.room.items ++ filter (meets l.terms) (drop l.place l.notices) ≡ filter
+      (meets l.terms) l.notices;
   few : vec_len l.room ≤ l.place;
   room : vec_capacity l.room ≡ vec_capacity l.fn.room;
 }

@@ -14,7 +14,8 @@ push_item-requires c =
     let same = i.room in
     let all = items_in entries c.args.venue in
     let at = at_index entries place place x refl c.loop-place-test.true c.index-entries-place.is in
-    let fits = room_more c.args.venue entries place x c.loop-place.room.items all (vec_capacity c.loop-place.room) at
+    let fits = room_more c.args.venue entries place x c.loop-place.room.items all
+    (vec_capacity c.loop-place.room) at
     i.items (omega arith) in
     let long = c.loop-place.room.ok.0 in
     omega arith
@@ -27,8 +28,10 @@ loop-place-preserved c =
     let x = c.index-entries-place.result in
     let pushed = c.push_item.ensures in
     record {
-      items = items_more c.args.venue entries place x c.loop-place.room.items c.push_item.new.room.items _
-          (at_index entries place place x refl c.loop-place-test.true c.index-entries-place.is) pushed.items i.items;
+      items = items_more c.args.venue entries place x c.loop-place.room.items
+          c.push_item.new.room.items _
+          (at_index entries place place x refl c.loop-place-test.true c.index-entries-place.is)
+          pushed.items i.items;
       room = pushed.capacity ∙ i.room;
     }
 

@@ -4,6 +4,7 @@ use Rattle.live_feed.proofs.settle.venue_lane.count_items.Given as goal
 
 abbrev pub invariant-loop-place : goal.invariant-loop-place
 invariant-loop-place l = record {
-  items : l.count + length (items_in (drop l.place l.entries) l.venue) ≡ length (items_in l.entries l.venue);
+  items : l.count + length (items_in (drop l.place l.entries) l.venue) ≡ length
+      (items_in l.entries l.venue);
   few : l.count ≤ l.place;
 }

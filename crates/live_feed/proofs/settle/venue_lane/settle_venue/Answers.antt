@@ -28,11 +28,13 @@ settle-inside-requires g c =
     let parts = c.into_parts-lines.ensures.parts in
     let k = c.into_parts-lines.ensures.kept in
     let cell = c.args.cell in
-    ap (λ (e : LaneEnd Numbered). e.lane) parts.1 ∙ one_there (slice_get g.N.FeedName.lanes.venues cell.arbiter.venue)
+    ap (λ (e : LaneEnd Numbered). e.lane) parts.1
+    ∙ one_there (slice_get g.N.FeedName.lanes.venues cell.arbiter.venue)
     cell.lane.lane c.args.receiver.lane k.lane c.requires.consumed.lane
 
 pub consumed_of-consumed-requires : goal.consumed_of-consumed-requires
-consumed_of-consumed-requires g c = rw (c.entries.ensures.value, c.venue.ensures) c.requires.room.consumed
+consumed_of-consumed-requires g c = rw (c.entries.ensures.value, c.venue.ensures)
+    c.requires.room.consumed
 
 pub returns : goal.returns
 returns g c =
@@ -46,21 +48,27 @@ returns g c =
     let packets = k.history.present.packets in
     let inside = c.settle-inside.result in
     let received = c.args.receiver.items in
-    let consumed = c.consumed_of-consumed.ensures ∙ (λ i. items_in (c.entries.ensures.value i) (c.venue.ensures i)) in
+    let consumed = c.consumed_of-consumed.ensures
+    ∙ (λ i. items_in (c.entries.ensures.value i) (c.venue.ensures i)) in
     let same = c.requires.consumed.items in
-    let keeps = subst (λ (e : LaneEnd Numbered). Keeps may e.tag e.capacity e.items received inside) parts.1
+    let keeps = subst (λ (e : LaneEnd Numbered). Keeps may e.tag e.capacity e.items received inside)
+    parts.1
     c.settle-inside.ensures in
     let ready = c.take_ready-ready.ensures.ready packets
     (subst (λ (a : State). Fits a packets) (sym parts.0) k.fits.history.present) in
-    let wins = c.all_wins-wins.ensures.value ∙ c.take_ready-ready.ensures.wins ∙ (λ i. (parts.0 i).wins) in
-    let whole = settled g.G.Genuine g.N.FeedName.lanes may cell k received inside c.take_ready-ready.result.items
+    let wins = c.all_wins-wins.ensures.value ∙ c.take_ready-ready.ensures.wins
+    ∙ (λ i. (parts.0 i).wins) in
+    let whole = settled g.G.Genuine g.N.FeedName.lanes may cell k received inside
+    c.take_ready-ready.result.items
     c.all_wins-wins.result keeps
     (ready ∙ (λ i. drop (place_of packets (parts.0 i).sent) (stream_of packets))) wins in
     subst (λ (v : VenueEndState). IsClosedVenue g.G.Genuine g.N.FeedName.lanes journal cell v)
     (sym c.new.ensures) (record {
       kept = k;
-      settled = subst (λ (x : List Numbered × (List Numbered × PerLine Brought)). IsSettled premise cell.arbiter.venue
-          g.N.FeedName.lanes.setting.window cell.lane.items x.0 x.1.0 c.take_ready-ready.result.items
+      settled = subst (λ (x : List Numbered × (List Numbered × PerLine Brought)). IsSettled
+          premise cell.arbiter.venue
+          g.N.FeedName.lanes.setting.window cell.lane.items x.0 x.1.0
+          c.take_ready-ready.result.items
           c.all_wins-wins.result x.1.1)
           (λ i. (same i, (sym c.drained-in_lane.ensures i, sym parts.2 i))) whole;
       consumed = consumed;

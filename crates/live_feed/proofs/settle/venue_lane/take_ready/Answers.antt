@@ -23,11 +23,14 @@ loop-next-preserved g c =
     record {
       fits = λ packets f. c.advance.ensures.fits packets (i.fits packets f);
       items = λ packets f. ready_more (place_of packets c.loop-next.lines.sent)
-          (place_of packets c.advance.new.self.sent) packets c.loop-next.room.items c.push_reserved.new.self.items _
+          (place_of packets c.advance.new.self.sent) packets c.loop-next.room.items
+          c.push_reserved.new.self.items _
           c.in-Some.next (c.in-Some.ensures.stream packets (i.fits packets f))
-          (ap (place_of packets) after.sent ∙ place_next (i.fits packets f)) c.push_reserved.ensures.items
+          (ap (place_of packets) after.sent ∙ place_next (i.fits packets f))
+          c.push_reserved.ensures.items
           (i.items packets f);
-      count = (let len = c.push_reserved.ensures.len in let further = after.sent in let count = i.count in omega arith);
+      count = (let len = c.push_reserved.ensures.len in let further = after.sent in let count =
+          i.count in omega arith);
       wins = after.kept.wins ∙ i.wins;
       room = c.push_reserved.ensures.capacity ∙ i.room;
     }
@@ -35,5 +38,6 @@ loop-next-preserved g c =
 pub returns-clause-ready : goal.returns-clause-ready
 returns-clause-ready g c = λ packets f. ready_all (place_of packets c.loop-next.lines.sent) packets
     c.loop-next.room.items _
-    (sym c.in_default.is ∙ c.next_ready.ensures.stream packets (c.loop-next.invariant.fits packets f))
+    (sym c.in_default.is ∙ c.next_ready.ensures.stream packets
+    (c.loop-next.invariant.fits packets f))
     (c.loop-next.invariant.items packets f)

@@ -19,13 +19,19 @@ update_ranks-requires c =
     let k : BookSide = c.args.self.now in
     let below : v < 16 = omega (arith, c.index.ensures.in_range, c.index.ensures.value) in
     let differs : is_same_side (venue_side_at k.venue_sides v).quote st.quote ≡ false =
-    ap (λ (t : BookSide). is_same_side (venue_side_at t.venue_sides v).quote st.quote) (sym c.self.view_is)
-    ∙ ap (λ (s : VenueSide). is_same_side s.quote st.quote) (sym c.venue_side_at-shown.ensures.value)
+    ap (λ (t : BookSide). is_same_side (venue_side_at t.venue_sides v).quote st.quote)
+    (sym c.self.view_is)
+    ∙ ap (λ (s : VenueSide). is_same_side s.quote st.quote)
+    (sym c.venue_side_at-shown.ensures.value)
     ∙ ap (λ o. is_same_side o st.quote) (sym c.quote.ensures)
-    ∙ ap (is_same_side c.quote.result) (sym c.quote-2.ensures) ∙ sym c.is_same.ensures ∙ c.if-is_same.false in
+    ∙ ap (is_same_side c.quote.result) (sym c.quote-2.ensures) ∙ sym c.is_same.ensures
+    ∙ c.if-is_same.false in
     subst (λ (t : BookSide). CanRank c.args.side v Quoted t)
     (ap (λ (t : BookSide). with_set t v st) (sym c.self.view_is)
-    ∙ ap (λ (n : ℕ). record { venue_sides = set c.self.inside.venue_sides n st; ranks = c.self.inside.ranks })
+    ∙ ap (λ (n : ℕ). record {
+      venue_sides = set c.self.inside.venue_sides n st;
+      ranks = c.self.inside.ranks;
+    })
     (sym c.index.ensures.value))
     (record {
       others = others_stay c.args.side k v st c.requires.ranked;
@@ -48,10 +54,13 @@ returns-clause-side c =
     let under : v < length k.venue_sides =
     omega (arith, c.index.ensures.in_range, c.index.ensures.value, c.requires.ranked.count) in
     let differs : is_same_side (venue_side_at k.venue_sides v).quote st.quote ≡ false =
-    ap (λ (t : BookSide). is_same_side (venue_side_at t.venue_sides v).quote st.quote) (sym c.self.view_is)
-    ∙ ap (λ (s : VenueSide). is_same_side s.quote st.quote) (sym c.venue_side_at-shown.ensures.value)
+    ap (λ (t : BookSide). is_same_side (venue_side_at t.venue_sides v).quote st.quote)
+    (sym c.self.view_is)
+    ∙ ap (λ (s : VenueSide). is_same_side s.quote st.quote)
+    (sym c.venue_side_at-shown.ensures.value)
     ∙ ap (λ o. is_same_side o st.quote) (sym c.quote.ensures)
-    ∙ ap (is_same_side c.quote.result) (sym c.quote-2.ensures) ∙ sym c.is_same.ensures ∙ c.if-is_same.false in
+    ∙ ap (is_same_side c.quote.result) (sym c.quote-2.ensures) ∙ sym c.is_same.ensures
+    ∙ c.if-is_same.false in
     c.update_ranks.ensures.side
     ∙ ap (λ (n : ℕ). side_rechecked c.args.side v may
     (record { venue_sides = set c.self.inside.venue_sides n st; ranks = c.self.inside.ranks }))

@@ -20,17 +20,21 @@ returns-clause-ranks c =
     ap (λ (t : List Best). remove t c.len-from.result)
     (c.as_mut_slice-ranks.ensures.value ∙ c.push.ensures.items
     ∙ ap (λ (t : List Best). t ++ x ∷ []) c.self.view_is)
-    ∙ ap (remove (xs ++ x ∷ [])) (c.len-from.ensures.value ∙ ap length c.self.view_is) ∙ remove_last xs x in
-    let place : IsPlace order x xs to = subst (λ (t : List Best). IsPlace order x t to) rest c.move_to_rank.ensures.place in
+    ∙ ap (remove (xs ++ x ∷ [])) (c.len-from.ensures.value ∙ ap length c.self.view_is)
+    ∙ remove_last xs x in
+    let place : IsPlace order x xs to = subst (λ (t : List Best). IsPlace order x t to) rest
+    c.move_to_rank.ensures.place in
     let newest : order.cause ≡ Quoted → IsNewest ages x xs = λ quoted.
     subst (λ (t : List Best). IsNewest ages x t) c.requires.absent
-    (subst (λ (u : Cause). IsCause u order.side ages x xs) quoted (c.requires.ready.caused x refl)).0 in
+    (subst (λ (u : Cause). IsCause u order.side ages x xs) quoted
+    (c.requires.ready.caused x refl)).0 in
     refill_whole c.push.new.self.items c.move_to_rank.new.ranks
     (c.move_to_rank.auto.ranks ∙ ap length c.as_mut_slice-ranks.ensures.value)
     ∙ c.move_to_rank.ensures.ranks
     ∙ ap (λ (t : List Best). insert t to x) rest
     ∙ walked_here order.cause order.side ages x xs to place.within place.before place.at
-    (subst (λ (t : List Best). InRank order.side ages t) c.requires.absent c.requires.ready.others) newest
+    (subst (λ (t : List Best). InRank order.side ages t) c.requires.absent c.requires.ready.others)
+    newest
 
 pub move_to_rank-requires : goal.move_to_rank-requires
 move_to_rank-requires c =
@@ -39,17 +43,21 @@ move_to_rank-requires c =
     let xs : List Best = c.self.inside.best_first.items in
     let from : ℕ = c.len-from.result in
     let none : HasNone x.venue xs =
-    subst (λ (t : List Best). HasNone x.venue t) (c.requires.absent ∙ sym c.self.view_is) c.requires.ready.once in
+    subst (λ (t : List Best). HasNone x.venue t) (c.requires.absent ∙ sym c.self.view_is)
+    c.requires.ready.once in
     record {
       below = search rules;
       few = search rules;
       venue = search rules;
       noted = subst (λ (t : List Best). AreNoted (set P c.index.result from) t)
-          (sym (ap (λ (t : List Best). set t from x) (c.as_mut_slice-ranks.ensures.value ∙ c.push.ensures.items)
+          (sym (ap (λ (t : List Best). set t from x) (c.as_mut_slice-ranks.ensures.value
+          ∙ c.push.ensures.items)
           ∙ ap (λ (n : ℕ). set (xs ++ x ∷ []) n x) c.len-from.ensures.value ∙ set_the_end xs x))
           (subst (λ (i : ℕ). AreNoted (set P i from) (xs ++ x ∷ [])) (sym c.index.ensures.value)
-          (subst (λ (n : ℕ). AreNoted (set P x.venue n) (xs ++ x ∷ [])) (sym c.len-from.ensures.value)
-          (noted_pushed P xs x (omega (arith, c.index.ensures.value, c.index.ensures.in_range)) none c.self.invariant)));
+          (subst (λ (n : ℕ). AreNoted (set P x.venue n) (xs ++ x ∷ []))
+          (sym c.len-from.ensures.value)
+          (noted_pushed P xs x (omega (arith, c.index.ensures.value, c.index.ensures.in_range))
+          none c.self.invariant)));
     }
 
 pub invariant_of-self : goal.invariant_of-self

@@ -13,7 +13,8 @@ returns-in-Some-clause-moved c =
     let xs : List Best = c.args.self.now in
     let d : Best = record { venue = 0; price = 0; size = 0 } in
     let seen : c.as_slice.result.now ≡ xs = c.as_slice.ensures.value ∙ c.self.view_is in
-    let found : at < length xs = subst (λ (t : List Best). at < length t) seen c.in-Some.ensures.found in
+    let found : at < length xs = subst (λ (t : List Best). at < length t) seen
+    c.in-Some.ensures.found in
     let own : (get_or xs at d).venue ≡ v =
     subst (λ (t : List Best). (get_or t at d).venue ≡ v) seen (c.in-Some.ensures.own d) in
     let there : without v xs ≡ remove xs at =

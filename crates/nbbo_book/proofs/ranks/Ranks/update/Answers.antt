@@ -20,16 +20,19 @@ returns-in-Quoted-clause-ranks c =
     let from : ℕ = c.in-Some-place_of.from in
     let to : ℕ = c.move_to_rank-to.result in
     let there : without v xs ≡ remove xs from =
-    subst (λ (t : List Best). without v t ≡ remove t from) (c.as_slice.ensures.value ∙ c.self.view_is)
+    subst (λ (t : List Best). without v t ≡ remove t from)
+    (c.as_slice.ensures.value ∙ c.self.view_is)
     c.in-Some-place_of.ensures.there in
     let rest : remove c.as_mut_slice-ranks.result.now from ≡ without v xs =
-    ap (λ (t : List Best). remove t from) (c.as_mut_slice-ranks.ensures.value ∙ c.self.view_is) ∙ sym there in
+    ap (λ (t : List Best). remove t from) (c.as_mut_slice-ranks.ensures.value ∙ c.self.view_is)
+    ∙ sym there in
     let place : IsPlace order x (without v xs) to =
     subst (λ (t : List Best). IsPlace order x t to) rest c.move_to_rank-to.ensures.place in
     let own : x.venue ≡ v = c.requires.own x c.in-Some.is in
     let newest : IsNewest ages x (without v xs) =
     subst (λ (n : ℕ). IsNewest ages x (without n xs)) own
-    (subst (λ (u : Cause). IsCause u order.side ages x xs) c.in-Quoted.is (c.requires.caused x c.in-Some.is)).0 in
+    (subst (λ (u : Cause). IsCause u order.side ages x xs) c.in-Quoted.is
+    (c.requires.caused x c.in-Some.is)).0 in
     refill_whole c.self.inside.best_first.items c.move_to_rank-to.new.ranks
     (c.move_to_rank-to.auto.ranks ∙ ap length c.as_mut_slice-ranks.ensures.value)
     ∙ c.move_to_rank-to.ensures.ranks
@@ -48,18 +51,22 @@ returns-in-Quoted-clause-moved c =
     let from : ℕ = c.in-Some-place_of.from in
     let to : ℕ = c.move_to_rank-to.result in
     let seen : c.as_slice.result.now ≡ xs = c.as_slice.ensures.value ∙ c.self.view_is in
-    let lent : c.as_mut_slice-ranks.result.now ≡ xs = c.as_mut_slice-ranks.ensures.value ∙ c.self.view_is in
+    let lent : c.as_mut_slice-ranks.result.now ≡ xs = c.as_mut_slice-ranks.ensures.value
+    ∙ c.self.view_is in
     let own : x.venue ≡ v = c.requires.own x c.in-Some.is in
-    let found : from < length xs = subst (λ (t : List Best). from < length t) seen c.in-Some-place_of.ensures.found in
+    let found : from < length xs = subst (λ (t : List Best). from < length t) seen
+    c.in-Some-place_of.ensures.found in
     let its : (get_or xs from x).venue ≡ x.venue =
-    subst (λ (t : List Best). (get_or t from x).venue ≡ v) seen (c.in-Some-place_of.ensures.own x) ∙ sym own in
+    subst (λ (t : List Best). (get_or t from x).venue ≡ v) seen (c.in-Some-place_of.ensures.own x)
+    ∙ sym own in
     let there : without v xs ≡ remove xs from =
     subst (λ (t : List Best). without v t ≡ remove t from) seen c.in-Some-place_of.ensures.there in
     let none : HasNone x.venue (remove xs from) =
     subst (λ (n : ℕ). HasNone n (remove xs from)) (sym own)
     (subst (λ (t : List Best). HasNone v t) there c.requires.once) in
     let place : IsPlace order x (remove xs from) to =
-    subst (λ (t : List Best). IsPlace order x (remove t from) to) lent c.move_to_rank-to.ensures.place in
+    subst (λ (t : List Best). IsPlace order x (remove t from) to) lent
+    c.move_to_rank-to.ensures.place in
     let new : IsIn xs x → ⊥ = (subst (λ (u : Cause). IsCause u order.side ages x xs) c.in-Quoted.is
     (c.requires.caused x c.in-Some.is)).1 in
     moved_moves xs x from to found place.within its none new
@@ -78,12 +85,15 @@ returns-in-Rechecked-clause-ranks c =
     let from : ℕ = c.in-Some-place_of.from in
     let seen : c.as_slice.result.now ≡ xs = c.as_slice.ensures.value ∙ c.self.view_is in
     let own : x.venue ≡ v = c.requires.own x c.in-Some.is in
-    let found : from < length xs = subst (λ (t : List Best). from < length t) seen c.in-Some-place_of.ensures.found in
+    let found : from < length xs = subst (λ (t : List Best). from < length t) seen
+    c.in-Some-place_of.ensures.found in
     let its : (get_or xs from x).venue ≡ x.venue =
-    subst (λ (t : List Best). (get_or t from x).venue ≡ v) seen (c.in-Some-place_of.ensures.own x) ∙ sym own in
+    subst (λ (t : List Best). (get_or t from x).venue ≡ v) seen (c.in-Some-place_of.ensures.own x)
+    ∙ sym own in
     let cause = subst (λ (u : Cause). IsCause u order.side ages x xs) c.in-Rechecked.is
     (c.requires.caused x c.in-Some.is) in
-    let among : IsIn xs x = subst (λ (t : Best). IsIn xs t) (cause.1 (get_or xs from x) (in_at xs from x found) its)
+    let among : IsIn xs x = subst (λ (t : Best). IsIn xs t) (cause.1 (get_or xs from x)
+    (in_at xs from x found) its)
     (in_at xs from x found) in
     sym (ap (λ o. placed order.side ages o (without v xs)) c.in-Some.is
     ∙ ap (λ (n : ℕ). with_rank order.side ages x (without n xs)) (sym own)
@@ -95,7 +105,8 @@ move_to_rank-to-requires c =
     let xs : List Best = c.self.inside.best_first.items in
     let from : ℕ = c.in-Some-place_of.from in
     let found : from < length xs =
-    subst (λ (t : List Best). from < length t) c.as_slice.ensures.value c.in-Some-place_of.ensures.found in
+    subst (λ (t : List Best). from < length t) c.as_slice.ensures.value
+    c.in-Some-place_of.ensures.found in
     let its : (get_or xs from x).venue ≡ x.venue =
     subst (λ (t : List Best). (get_or t from x).venue ≡ c.args.venue) c.as_slice.ensures.value
     (c.in-Some-place_of.ensures.own x) ∙ sym (c.requires.own x c.in-Some.is) in

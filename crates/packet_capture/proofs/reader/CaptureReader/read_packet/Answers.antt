@@ -14,5 +14,6 @@ returns-in-Some-clause-piece c =
     is_block_piece c.args.section c.args.self.now c.args.bytes.now block.order block.bytes.now
     c.as_slice.result.now c.self.inside.interfaces.items (frame_came (frame_of c.in-Some.frame))
     (piece_of (record { len = length block.bytes.now; frame = Some c.in-Some.frame }))
-    (value ∙ ap (λ (x : Context). x.interfaces) c.self.view_is) c.in-Ok.ensures.block c.in-Some.ensures
+    (value ∙ ap (λ (x : Context). x.interfaces) c.self.view_is)
+    c.in-Ok.ensures.block c.in-Some.ensures
     (sym value) (omega (arith, long, c.as_slice.ensures.fits)) refl refl

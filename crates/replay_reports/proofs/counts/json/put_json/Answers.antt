@@ -21,7 +21,8 @@ returns c =
     put_two out c.args.text.now.items begun end (codes "{\"venues\":[")
     (venues ++ (states ++ (more ++ codes "}\n"))) c.in_ok-extend_from_slice.ensures.items
     (put_two out begun mid end venues (states ++ (more ++ codes "}\n"))
-    (c.in_ok-put_venues.ensures ∙ ap (λ (vs : List VenueStats). begun ++ venues_json vs (length vs)) c.venues.ensures)
+    (c.in_ok-put_venues.ensures ∙ ap (λ (vs : List VenueStats). begun ++ venues_json vs (length vs))
+    c.venues.ensures)
     (put_two out mid told end states (more ++ codes "}\n")
     (subst P c.states.ensures c.in_ok-put_states.ensures)
     (put_two out told longer end more (codes "}\n") c.in_ok-extend_from_slice-2.ensures.items

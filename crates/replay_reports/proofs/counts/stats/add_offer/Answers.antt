@@ -17,13 +17,16 @@ returns-then-place-venues c =
     let venues = c.args.venues.now in
     let place = c.index-place.result in
     let new = c.lead_offer.new.self in
-    subst (λ (best : Option Best). slice_set venues place new ≡ each_venue (offer_led best) 0 venues) (sym c.in-Some.is)
-    (turned_there Leads (λ s. refl) c.in-Some.best.venue place venues nothing_at new c.index-place.ensures.value
+    subst (λ (best : Option Best). slice_set venues place new ≡ each_venue (offer_led best) 0
+    venues) (sym c.in-Some.is)
+    (turned_there Leads (λ s. refl) c.in-Some.best.venue place venues nothing_at new
+    c.index-place.ensures.value
     c.if-place-venues.true c.lead_offer.ensures)
 
 pub returns-else-place-venues : goal.returns-else-place-venues
 returns-else-place-venues c =
     let venues = c.args.venues.now in
     subst (λ (best : Option Best). venues ≡ each_venue (offer_led best) 0 venues) (sym c.in-Some.is)
-    (turned_nowhere Leads (λ s. refl) c.in-Some.best.venue c.index-place.result venues c.index-place.ensures.value
+    (turned_nowhere Leads (λ s. refl) c.in-Some.best.venue c.index-place.result venues
+    c.index-place.ensures.value
     c.if-place-venues.false)

@@ -12,7 +12,8 @@ Adds event b s = own_after s (cond b (event ∷ []) [])
 pub returns-then-place-venues : goal.returns-then-place-venues
 returns-then-place-venues c =
     let event = told_by c.args.event.now in
-    turned_there (Adds event) (λ s. refl) c.args.venue c.index-place.result c.args.venues.now nothing_at c.add_event.new.self
+    turned_there (Adds event) (λ s. refl) c.args.venue c.index-place.result c.args.venues.now
+    nothing_at c.add_event.new.self
     c.index-place.ensures.value c.if-place-venues.true c.add_event.ensures
     ∙ own_same event c.args.venue c.args.venues.now c.requires
 

@@ -4,5 +4,11 @@ use Rattle.replay_reports.proofs.counts.table.put_heading.Goals as goal
 
 pub returns : goal.returns
 returns c =
-    put_two c.extend_from_slice.result c.args.text.now.items c.put_pieces.new.text.items c.extend_from_slice.new.self.items _ (codes "\n                                      line A        line B      recovery") c.in_ok-put_pieces.ensures
-    (put_last c.extend_from_slice.result c.put_pieces.new.text.items c.extend_from_slice.new.self.items (codes "\n                                      line A        line B      recovery") c.extend_from_slice.ensures.items)
+    put_two c.extend_from_slice.result c.args.text.now.items c.put_pieces.new.text.items
+    c.extend_from_slice.new.self.items _
+    (codes "\n                                      line A        line B      recovery")
+    c.in_ok-put_pieces.ensures
+    (put_last c.extend_from_slice.result c.put_pieces.new.text.items
+    c.extend_from_slice.new.self.items
+    (codes "\n                                      line A        line B      recovery")
+    c.extend_from_slice.ensures.items)

@@ -13,6 +13,8 @@ returns c =
     let mid = c.put_venues.new.text.items in
     let end = c.put_changes.new.text.items in
     let P : StateStats → Type 0 = λ s. OnOk c.put_changes.result (end ≡ mid ++ changes_table s) in
-    put_two c.put_changes.result old mid end (venues_table stats.venues (length stats.venues)) (changes_table stats.states)
-    (c.in_ok-put_venues.ensures ∙ ap (λ (vs : List VenueStats). old ++ venues_table vs (length vs)) c.venues.ensures)
+    put_two c.put_changes.result old mid end (venues_table stats.venues (length stats.venues))
+    (changes_table stats.states)
+    (c.in_ok-put_venues.ensures ∙ ap (λ (vs : List VenueStats). old ++ venues_table vs (length vs))
+    c.venues.ensures)
     (subst P c.states.ensures c.put_changes.ensures)

@@ -4,7 +4,9 @@ use Rattle.replay_reports.proofs.rows.quoting.put_quoted.Goals as goal
 
 pub returns : goal.returns
 returns c =
-    quoted_placed c.args.escape c.loop-byte.byte-index c.args.name.now c.args.text.now c.loop-byte.text
+    quoted_placed c.args.escape c.loop-byte.byte-index c.args.name.now
+    c.args.text.now c.loop-byte.text
     c.put_bytes-2.new.text c.loop-byte-test.false
     (omega (arith, c.loop-byte.auto.byte-index-end, c.requires.short))
-    c.loop-byte.invariant.put c.loop-byte.invariant.short c.loop-byte.invariant.size c.put_bytes-2.ensures
+    c.loop-byte.invariant.put c.loop-byte.invariant.short
+    c.loop-byte.invariant.size c.put_bytes-2.ensures

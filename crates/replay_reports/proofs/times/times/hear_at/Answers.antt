@@ -16,11 +16,13 @@ returns-then-place-len-clause-timed c = λ window time events at lacking timed.
     let new = c.hear.new.self in
     let outcome = c.args.outcome.now in
     let lacks = lacking venue (omega (arith, value, within)) (eq-eqb venue venue refl) in
-    one_touched window venue place (timed_event time (told_packet venue p.line p.number p.count (Ok outcome))) events vs
+    one_touched window venue place (timed_event time (told_packet venue p.line p.number p.count
+    (Ok outcome))) events vs
     old new value
     (slice_get_read vs (length vs) place old refl within c.index_mut.ensures.value)
     (λ n apart. heard_elsewhere venue p.line p.number p.count n time outcome events apart)
-    (λ was. heard_here venue p.line p.number p.count window p.time time outcome events old new c.args.is_missing at
+    (λ was. heard_here venue p.line p.number p.count window p.time time outcome events old
+    new c.args.is_missing at
     (sym lacks) c.hear.ensures.leads c.hear.ensures.missing was)
     timed
 
@@ -29,8 +31,16 @@ returns-else-place-len-clause-timed c = λ window time events at lacking timed.
     let p = c.args.packet in
     let venue = c.args.venue in
     let outcome = c.args.outcome.now in
-    all_untouched window (timed_event time (told_packet venue p.line p.number p.count (Ok outcome))) events
+    all_untouched window (timed_event time (told_packet venue p.line p.number p.count (Ok outcome)))
+    events
     c.args.venues.now.items
     (λ n within. heard_elsewhere venue p.line p.number p.count n time outcome events
-    (λ is. absurd (omega (arith, is, within, c.if-place-len.false, c.len.ensures, c.index-place.ensures.value))))
+    (λ is. absurd (omega (
+      arith,
+      is,
+      within,
+      c.if-place-len.false,
+      c.len.ensures,
+      c.index-place.ensures.value,
+    ))))
     timed

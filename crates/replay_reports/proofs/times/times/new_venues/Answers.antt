@@ -11,9 +11,11 @@ loop-place-preserved c =
     let new = c.in_ok-new.field-0 in
     let is = c.in_ok-push.ensures.items in
     record {
-      count = ap length is ∙ length-append old (new ∷ []) ∙ ap (λ (n : ℕ). n + 1) c.loop-place.invariant.count;
+      count = ap length is ∙ length-append old (new ∷ [])
+          ∙ ap (λ (n : ℕ). n + 1) c.loop-place.invariant.count;
       timed = λ some place v got.
-          elim (got_pushed old new v place (subst (λ (vs : List VenueTiming). slice_get vs place ≡ Some v) is got)) [
+          elim (got_pushed old new v place
+          (subst (λ (vs : List VenueTiming). slice_get vs place ≡ Some v) is got)) [
             | inl before ↦ c.loop-place.invariant.timed some place v before
             | inr last ↦
                 subst (λ (u : VenueTiming). IsVenueTimed c.args.window place [] u) last.0

@@ -14,15 +14,19 @@ loop-place-preserved c =
     let is = c.in_ok-push.ensures.items in
     let v = c.index-venues-place.result in
     record {
-      count = ap length is ∙ length-append old (new ∷ []) ∙ ap (λ (n : ℕ). n + 1) c.loop-place.invariant.count;
+      count = ap length is ∙ length-append old (new ∷ [])
+          ∙ ap (λ (n : ℕ). n + 1) c.loop-place.invariant.count;
       times = λ window events timed place t got.
-          elim (got_pushed old new t place (subst (λ (ts : List VenueTimes). slice_get ts place ≡ Some t) is got)) [
+          elim (got_pushed old new t place
+          (subst (λ (ts : List VenueTimes). slice_get ts place ≡ Some t) is got)) [
             | inl before ↦ c.loop-place.invariant.times window events timed place t before
             | inr last ↦
-                subst (λ (k : ℕ). AreVenueTimes window k events t) (sym (last.1 ∙ c.loop-place.invariant.count))
+                subst (λ (k : ℕ). AreVenueTimes window k events t)
+                (sym (last.1 ∙ c.loop-place.invariant.count))
                 (subst (λ (u : VenueTimes). AreVenueTimes window at events u) last.0
                 (c.times.ensures window at events (timed at v
-                (slice_get_read c.args.venues.now (length c.args.venues.now) at v refl c.loop-place-test.true
+                (slice_get_read c.args.venues.now (length c.args.venues.now) at v
+                refl c.loop-place-test.true
                 c.index-venues-place.is))))
           ];
     }

@@ -12,9 +12,11 @@ returns c =
     let begun = c.put_rates.new.text.items in
     let told = c.put_venues.new.text.items in
     let venues = venues_times_table f.venues.items (length f.venues.items) in
-    put_two r c.args.text.now.items begun end (rates_table f.in_second f.in_millisecond) (venues ++ codes "\n")
+    put_two r c.args.text.now.items begun end (rates_table f.in_second f.in_millisecond) (venues
+    ++ codes "\n")
     c.in_ok-put_rates.ensures
     (put_two r begun told end venues (codes "\n")
     (c.in_ok-put_venues.ensures
-    ∙ ap (λ (vs : List VenueTimes). begun ++ venues_times_table vs (length vs)) c.as_slice.ensures.value)
+    ∙ ap (λ (vs : List VenueTimes). begun ++ venues_times_table vs (length vs))
+    c.as_slice.ensures.value)
     (put_last r told end (codes "\n") c.extend_from_slice.ensures.items))

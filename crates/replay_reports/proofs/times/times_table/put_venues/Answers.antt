@@ -5,5 +5,6 @@ use Rattle.replay_reports.proofs.times.times_table.put_venues.Goals as goal
 
 pub loop-place-preserved : goal.loop-place-preserved
 loop-place-preserved c =
-    venue_put venue_times_table no_times c.args.venues.now c.loop-place.place c.args.text.now.items c.loop-place.text.items
+    venue_put venue_times_table no_times c.args.venues.now c.loop-place.place c.args.text.now.items
+    c.loop-place.text.items
     c.put_venue.new.text.items c.loop-place.invariant c.in_ok-put_venue.ensures

@@ -11,13 +11,16 @@ use Rattle.udp_listening.proofs.attendance.Attendance.attend.Goals.{in-None, in-
 use Rattle.udp_listening.proofs.attendance.Attendance.attend.Goals as goal
 
 -- what a desk has printed, where only standard error differs
-shown_beside : {W E : Type 0} (w : Writing W) (first : W) (log longer : SubscriberLogState) (before after : Desk W E)
+shown_beside : {W E : Type 0} (w : Writing W) (first : W) (log longer : SubscriberLogState)
+    (before after : Desk W E)
     → longer ≡ log → after ≡ record before { errors = after.errors }
     → HasFollowed w first log.lines before.following log.forgotten before.output
     → HasFollowed w first longer.lines after.following longer.forgotten after.output
 shown_beside w first log longer before after same_log same shown =
-    subst (λ desk. HasFollowed w first longer.lines desk.following longer.forgotten desk.output) (sym same)
-    (subst (λ (l : SubscriberLogState). HasFollowed w first l.lines before.following l.forgotten before.output) (sym same_log) shown)
+    subst (λ desk. HasFollowed w first longer.lines desk.following longer.forgotten desk.output)
+    (sym same)
+    (subst (λ (l : SubscriberLogState). HasFollowed w first l.lines before.following l.forgotten
+    before.output) (sym same_log) shown)
 
 -- what standard error has without counts, after the news of one more turn
 turned : {E : Type 0} (w : Writing E) (run now : WatchedRun) (s t u : E)
@@ -30,24 +33,49 @@ turned w run now s t u counts after same before news kept = (
 
 pub loop-init : goal.loop-init
 loop-init g c =
-    let w : Writing g.row.E.Denot = record { adds = g.E.TextOut.adds; failures = g.E.TextOut.failures } in
-    let s = c.args.self in
-    (tt, tt, λ first h. h, refl, λ none. (no_run_news w (watched_run s.watches) s.desk.errors, none))
+    let w : Writing g.row.E.Denot = record {
+      adds = g.E.TextOut.adds;
+      failures =
+          g.E.TextOut.failures;
+    } in
+    let s = c.args.self in (
+      tt,
+      tt,
+      λ first h. h,
+      refl,
+      λ none. (
+        no_run_news w (watched_run s.watches) s.desk.errors,
+        none,
+      ),
+    )
 
 pub loop-preserved-in-Stop : goal.loop-preserved-in-Stop
 loop-preserved-in-Stop g c =
-    let w : Writing g.row.E.Denot = record { adds = g.E.TextOut.adds; failures = g.E.TextOut.failures } in (
+    let w : Writing g.row.E.Denot = record {
+      adds = g.E.TextOut.adds;
+      failures =
+          g.E.TextOut.failures;
+    } in (
       tt,
       tt,
       λ first h. c.turn.ensures.shows first (c.loop.invariant.2 first h),
       c.turn.ensures.run ∙ c.loop.invariant.3,
-      λ none. turned w _ _ _ _ _ _ _ c.loop.invariant.3 (c.loop.invariant.4 none) c.turn.ensures.news c.turn.ensures.counts,
+      λ none. turned w _ _ _ _ _ _ _ c.loop.invariant.3 (c.loop.invariant.4 none)
+          c.turn.ensures.news c.turn.ensures.counts,
     )
 
 pub loop-preserved : goal.loop-preserved
 loop-preserved g c =
-    let out : Writing g.row.W.Denot = record { adds = g.W.TextOut.adds; failures = g.W.TextOut.failures } in
-    let w : Writing g.row.E.Denot = record { adds = g.E.TextOut.adds; failures = g.E.TextOut.failures } in
+    let out : Writing g.row.W.Denot = record {
+      adds = g.W.TextOut.adds;
+      failures =
+          g.W.TextOut.failures;
+    } in
+    let w : Writing g.row.E.Denot = record {
+      adds = g.E.TextOut.adds;
+      failures =
+          g.E.TextOut.failures;
+    } in
     let at = c.turn.new.self in
     let now = c.give_up_gaps.new.self in
     let before = c.turn.ensures.run ∙ c.loop.invariant.3 in (
@@ -60,15 +88,24 @@ loop-preserved g c =
       c.give_up_gaps.ensures.run ∙ before,
       λ none.
           let news =
-          turned w _ _ _ _ _ _ _ c.loop.invariant.3 (c.loop.invariant.4 none) c.turn.ensures.news c.turn.ensures.counts in
+          turned w _ _ _ _ _ _ _ c.loop.invariant.3 (c.loop.invariant.4 none) c.turn.ensures.news
+          c.turn.ensures.counts in
           turned w _ _ _ _ _ _ _ before news c.give_up_gaps.ensures.news
           (ap (λ attendant. attendant.counts) c.give_up_gaps.ensures.attendant),
     )
 
 pub loop-preserved-in-Tell : goal.loop-preserved-in-Tell
 loop-preserved-in-Tell g c =
-    let out : Writing g.row.W.Denot = record { adds = g.W.TextOut.adds; failures = g.W.TextOut.failures } in
-    let w : Writing g.row.E.Denot = record { adds = g.E.TextOut.adds; failures = g.E.TextOut.failures } in
+    let out : Writing g.row.W.Denot = record {
+      adds = g.W.TextOut.adds;
+      failures =
+          g.W.TextOut.failures;
+    } in
+    let w : Writing g.row.E.Denot = record {
+      adds = g.E.TextOut.adds;
+      failures =
+          g.E.TextOut.failures;
+    } in
     let at = c.turn.new.self in
     let run = watched_run c.args.self.watches in (
       tt,
@@ -77,12 +114,15 @@ loop-preserved-in-Tell g c =
           shown_beside out first at.log c.tell_each.new.self.log at.desk c.tell_each.new.self.desk
           c.tell_each.ensures.log c.tell_each.ensures.desk
           (c.turn.ensures.shows first (c.loop.invariant.2 first h)),
-      ap (λ watches. watched_run watches) c.tell_each.ensures.watches ∙ c.turn.ensures.run ∙ c.loop.invariant.3,
+      ap (λ watches. watched_run watches) c.tell_each.ensures.watches
+          ∙ c.turn.ensures.run ∙ c.loop.invariant.3,
       λ none.
           let news =
-          turned w _ _ _ _ _ _ _ c.loop.invariant.3 (c.loop.invariant.4 none) c.turn.ensures.news c.turn.ensures.counts in
+          turned w _ _ _ _ _ _ _ c.loop.invariant.3 (c.loop.invariant.4 none) c.turn.ensures.news
+          c.turn.ensures.counts in
           let told = c.tell_each.ensures.quiet news.1 in (
-            subst (λ (errors : g.row.E.Denot). SaysRunNews w run c.args.self.desk.errors errors) (sym told.0) news.0,
+            subst (λ (errors : g.row.E.Denot). SaysRunNews w run c.args.self.desk.errors errors)
+                (sym told.0) news.0,
             told.1,
           ),
     )
@@ -98,16 +138,22 @@ returns-clause-run g c =
 pub returns-clause-quiet : goal.returns-clause-quiet
 returns-clause-quiet g c =
     λ none.
-    let w : Writing g.row.E.Denot = record { adds = g.E.TextOut.adds; failures = g.E.TextOut.failures } in
+    let w : Writing g.row.E.Denot = record {
+      adds = g.E.TextOut.adds;
+      failures =
+          g.E.TextOut.failures;
+    } in
     let before = c.loop.invariant.4 none in
     elim c.match-next.branch [
       | in-None w' ↦ rw w'.attendance-is before
       | in-Some+in-Over w' ↦
           rw w'.attendance-is (
-          turned w _ _ _ _ _ _ _ c.loop.invariant.3 before w'.turn.ensures.news w'.turn.ensures.counts
+          turned w _ _ _ _ _ _ _ c.loop.invariant.3 before
+          w'.turn.ensures.news w'.turn.ensures.counts
           )
       | in-Some+in-GiveUp w' ↦
           rw w'.attendance-is (
-          turned w _ _ _ _ _ _ _ c.loop.invariant.3 before w'.turn.ensures.news w'.turn.ensures.counts
+          turned w _ _ _ _ _ _ _ c.loop.invariant.3 before
+          w'.turn.ensures.news w'.turn.ensures.counts
           )
     ]

@@ -12,5 +12,6 @@ invariant-loop g l =
     × (watched_run l.attendance.watches ≡ watched_run l.initial.attendance.watches)
     × (l.initial.attendance.attendant.counts ≡ None
     → SaysRunNews (record { adds = g.E.TextOut.adds; failures = g.E.TextOut.failures })
-    (watched_run l.initial.attendance.watches) l.initial.attendance.desk.errors l.attendance.desk.errors
+    (watched_run l.initial.attendance.watches) l.initial.attendance.desk.errors
+    l.attendance.desk.errors
     × (l.attendance.attendant.counts ≡ None))

@@ -4,19 +4,29 @@ use Rattle.udp_listening.proofs.desk.Desk.follow.Goals as goal
 
 pub returns-then-eq-clause-shows : goal.returns-then-eq-clause-shows
 returns-then-eq-clause-shows g c =
-    let w : Writing g.row.W.Denot = record { adds = g.W.TextOut.adds; failures = g.W.TextOut.failures } in
+    let w : Writing g.row.W.Denot = record {
+      adds = g.W.TextOut.adds;
+      failures =
+          g.W.TextOut.failures;
+    } in
     let desk = c.args.self.now in
     let polled = c.poll_some-has_taken in
     λ first h.
     c.print_rest.ensures.shows first
-    (polled_longer w first c.args.log.now polled.new.log desk.following desk.output polled.ensures.lines
+    (polled_longer w first c.args.log.now polled.new.log desk.following
+    desk.output polled.ensures.lines
     polled.ensures.forgotten h)
 
 pub returns-else-eq-clause-shows : goal.returns-else-eq-clause-shows
 returns-else-eq-clause-shows g c =
-    let w : Writing g.row.W.Denot = record { adds = g.W.TextOut.adds; failures = g.W.TextOut.failures } in
+    let w : Writing g.row.W.Denot = record {
+      adds = g.W.TextOut.adds;
+      failures =
+          g.W.TextOut.failures;
+    } in
     let desk = c.args.self.now in
     let polled = c.poll_some-has_taken in
     λ first h.
-    polled_longer w first c.args.log.now polled.new.log desk.following desk.output polled.ensures.lines
+    polled_longer w first c.args.log.now polled.new.log desk.following
+    desk.output polled.ensures.lines
     polled.ensures.forgotten h

@@ -4,6 +4,10 @@ use Rattle.udp_listening.proofs.desk.Desk.new.Goals as goal
 
 pub returns-clause-unprinted : goal.returns-clause-unprinted
 returns-clause-unprinted g c =
-    let w : Writing g.row.W.Denot = record { adds = g.W.TextOut.adds; failures = g.W.TextOut.failures } in
+    let w : Writing g.row.W.Denot = record {
+      adds = g.W.TextOut.adds;
+      failures =
+          g.W.TextOut.failures;
+    } in
     λ log.
     nothing_printed w g.met.W.TextOut.adds_none log c.args.following c.args.output c.requires

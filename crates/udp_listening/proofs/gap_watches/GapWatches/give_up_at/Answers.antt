@@ -14,7 +14,11 @@ returns-in-Some-clause-venues g c =
 
 pub returns-in-Some-clause-says : goal.returns-in-Some-clause-says
 returns-in-Some-clause-says g c =
-    let w : Writing g.row.E.Denot = record { adds = g.E.TextOut.adds; failures = g.E.TextOut.failures } in
+    let w : Writing g.row.E.Denot = record {
+      adds = g.E.TextOut.adds;
+      failures =
+          g.E.TextOut.failures;
+    } in
     let items = c.args.self.now.gaps.items in
     let venues = watched_venues c.args.self.now in
     let old = c.in-Some.gap.now in

@@ -7,7 +7,11 @@ use Rattle.udp_listening.proofs.line_watch.LineWatch.write_news.Goals as goal
 
 pub returns-clause-news : goal.returns-clause-news
 returns-clause-news g c =
-    let w : Writing g.row.E.Denot = record { adds = g.E.TextOut.adds; failures = g.E.TextOut.failures } in
+    let w : Writing g.row.E.Denot = record {
+      adds = g.E.TextOut.adds;
+      failures =
+          g.E.TextOut.failures;
+    } in
     let now = c.new_passed-passed.new.self in
     let same : watched now ≡ watched c.args.self.now =
     c.new_passed-passed.ensures ∙ c.new_unsent-unsent.ensures ∙ c.new_end-end.ensures in

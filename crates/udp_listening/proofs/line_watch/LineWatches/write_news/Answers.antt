@@ -7,11 +7,16 @@ use Rattle.udp_listening.proofs.line_watch.LineWatches.write_news.Goals as goal
 
 pub loop-place-preserved : goal.loop-place-preserved
 loop-place-preserved g c =
-    let w : Writing g.row.E.Denot = record { adds = g.E.TextOut.adds; failures = g.E.TextOut.failures } in
+    let w : Writing g.row.E.Denot = record {
+      adds = g.E.TextOut.adds;
+      failures =
+          g.E.TextOut.failures;
+    } in
     let same = c.loop-place.invariant.0 in
     let told = c.write_news_at.new.errors in (
       c.write_news_at.ensures.lines ∙ same,
       more_news w (watched_lines c.args.self.now) c.args.errors.now c.loop-place.errors told
           c.loop-place.invariant.1
-          (subst (λ lines. SaysNews w lines c.loop-place.errors told) same c.write_news_at.ensures.news),
+          (subst (λ lines. SaysNews w lines c.loop-place.errors told) same
+          c.write_news_at.ensures.news),
     )

@@ -13,7 +13,11 @@ returns-in-Some-clause-lines g c =
 
 pub returns-in-Some-clause-news : goal.returns-in-Some-clause-news
 returns-in-Some-clause-news g c =
-    let w : Writing g.row.E.Denot = record { adds = g.E.TextOut.adds; failures = g.E.TextOut.failures } in
+    let w : Writing g.row.E.Denot = record {
+      adds = g.E.TextOut.adds;
+      failures =
+          g.E.TextOut.failures;
+    } in
     let items = c.args.self.now.lines.items in
     let lines = watched_lines c.args.self.now in
     let old = c.in-Some.line.now in

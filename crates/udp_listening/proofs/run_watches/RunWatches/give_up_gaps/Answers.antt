@@ -5,6 +5,10 @@ use Rattle.udp_listening.proofs.run_watches.RunWatches.give_up_gaps.Goals as goa
 
 pub returns-clause-news : goal.returns-clause-news
 returns-clause-news g c =
-    let w : Writing g.row.E.Denot = record { adds = g.E.TextOut.adds; failures = g.E.TextOut.failures } in
+    let w : Writing g.row.E.Denot = record {
+      adds = g.E.TextOut.adds;
+      failures =
+          g.E.TextOut.failures;
+    } in
     run_news_of_gaps w (watched_run c.args.self.now) c.args.errors.now c.give_up.new.errors
     c.give_up.ensures.says

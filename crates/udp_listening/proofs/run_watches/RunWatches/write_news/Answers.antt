@@ -5,6 +5,10 @@ use Rattle.udp_listening.proofs.run_watches.RunWatches.write_news.Goals as goal
 
 pub returns-clause-news : goal.returns-clause-news
 returns-clause-news g c =
-    let w : Writing g.row.E.Denot = record { adds = g.E.TextOut.adds; failures = g.E.TextOut.failures } in
+    let w : Writing g.row.E.Denot = record {
+      adds = g.E.TextOut.adds;
+      failures =
+          g.E.TextOut.failures;
+    } in
     run_news_of_lines w (watched_run c.args.self.now) c.args.errors.now c.write_news.new.errors
     c.write_news.ensures.news

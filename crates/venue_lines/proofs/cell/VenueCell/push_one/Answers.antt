@@ -13,13 +13,16 @@ pub returns-in_default-clause-push : goal.returns-in_default-clause-push
 returns-in_default-clause-push g c = λ h fits.
     let f = subst (λ (v : CellState). CellFitsHistory v h) (sym c.self.view_is) fits in
     subst (λ (v : CellState). PushesOne (Err unsent.Nothing) h v v) c.self.view_is
-    (push_nothing _ h f (sym c.in_default.is ∙ c.next_ready.ensures.stream h.present.packets f.history.present))
+    (push_nothing _ h f (sym c.in_default.is ∙ c.next_ready.ensures.stream
+    h.present.packets f.history.present))
 
 pub push-requires : goal.push-requires
 push-requires g c =
     let k = c.self.invariant in
-    subst (λ (t : ℕ). AreInSequence g.G.Genuine t (c.self.inside.items.items ++ c.in-Some.ready ∷ [])) (sym k.tag)
-    (may_push c.self.inside.items.items (place_of k.history.present.packets c.self.inside.lines.sent) k.history
+    subst (λ (t : ℕ). AreInSequence g.G.Genuine t (c.self.inside.items.items
+    ++ c.in-Some.ready ∷ [])) (sym k.tag)
+    (may_push c.self.inside.items.items (place_of k.history.present.packets
+    c.self.inside.lines.sent) k.history
     k.fits.sent g.G.Genuine
     c.self.inside.lines.venue c.self.inside.lines.window c.in-Some.ready k.given
     (c.in-Some.ensures.stream k.history.present.packets k.fits.history.present))
@@ -28,9 +31,12 @@ pub invariant_of-self : goal.invariant_of-self
 invariant_of-self g c =
     let k = c.self.invariant in
     let packets = k.history.present.packets in
-    push_kept g.G.Genuine g.N.FeedName.lanes _ _ c.in-Some.ready k c.in-Ok.ensures c.advance.ensures.after
-    (push_fits _ k.history k.fits _ c.in-Some.ready (c.in-Some.ensures.stream packets k.fits.history.present)
-    c.in-Ok.ensures refl c.advance.ensures.after (c.advance.ensures.fits packets k.fits.history.present))
+    push_kept g.G.Genuine g.N.FeedName.lanes _ _ c.in-Some.ready k c.in-Ok.ensures
+    c.advance.ensures.after
+    (push_fits _ k.history k.fits _ c.in-Some.ready (c.in-Some.ensures.stream packets
+    k.fits.history.present)
+    c.in-Ok.ensures refl c.advance.ensures.after (c.advance.ensures.fits packets
+    k.fits.history.present))
 
 pub returns-in-Ok-clause-push : goal.returns-in-Ok-clause-push
 returns-in-Ok-clause-push g c = λ h fits.

@@ -9,7 +9,8 @@ pub invariant_of-self : goal.invariant_of-self
 invariant_of-self g c =
     let k = c.self.invariant in
     let e = c.in-Ok.ensures in
-    let named = subst (λ (v : CellState). g.G.Genuine.sessions v.arbiter.venue (ordinal_of v.arbiter + 1)
+    let named = subst (λ (v : CellState). g.G.Genuine.sessions v.arbiter.venue
+    (ordinal_of v.arbiter + 1)
     c.args.session) (sym c.self.view_is) c.requires in
     renewed_kept _ _ k.history c.args.session k.fits e.ok e.fits
     (e.complete k.history.present.packets k.fits.history.present) refl refl
@@ -25,6 +26,8 @@ returns-in-Ok-clause-renew g c = λ h fits.
       pace = c.new-self-inside.result;
       brought = c.self.inside.counted;
     } in
-    subst (λ (v : CellState). RenewsSession c.args.session (Ok c.in-Ok.ordinal) h v new) c.self.view_is
-    (renews _ new h c.args.session f e.ok e.fits (e.complete h.present.packets f.history.present) refl refl
+    subst (λ (v : CellState). RenewsSession c.args.session (Ok c.in-Ok.ordinal) h v new)
+    c.self.view_is
+    (renews _ new h c.args.session f e.ok e.fits (e.complete h.present.packets f.history.present)
+    refl refl
     c.in-Ok.ordinal e.answer)

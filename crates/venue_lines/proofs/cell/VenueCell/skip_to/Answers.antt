@@ -12,7 +12,8 @@ invariant_of-self g c =
     let fits = k.fits.history.present in
     let right = e.answer packets fits in
     skip_kept g.G.Genuine g.N.FeedName.lanes _ _ c.args.number k right.1 e.ok refl
-    (skipped_fits _ _ k.history c.args.number k.fits tt right e.ok (e.fits packets fits) (e.grows packets fits) refl
+    (skipped_fits _ _ k.history c.args.number k.fits tt right e.ok (e.fits packets fits)
+    (e.grows packets fits) refl
     refl)
 
 pub returns-in-Ok-clause-skip : goal.returns-in-Ok-clause-skip
@@ -27,5 +28,6 @@ returns-in-Ok-clause-skip g c = λ h fits.
       brought = c.self.inside.counted;
     } in
     subst (λ (v : CellState). SkipsGap c.args.number (Ok tt) h v new) c.self.view_is
-    (skips _ new h c.args.number f tt (e.answer packets f.history.present) e.ok (e.fits packets f.history.present)
+    (skips _ new h c.args.number f tt (e.answer packets f.history.present) e.ok
+    (e.fits packets f.history.present)
     (e.grows packets f.history.present) refl refl)

@@ -17,14 +17,19 @@ push-requires g c =
     let k = c.self.invariant in
     let packets = k.history.present.packets in
     let venue = c.requires.venue ∙ ap (λ (v : CellState). v.arbiter.venue) (sym c.self.view_is) in
-    let genuine = subst (λ (n : ℕ). IsGenuinePacket g.G.Genuine n c.args.packet.now) venue c.requires.genuine in
+    let genuine = subst (λ (n : ℕ). IsGenuinePacket g.G.Genuine n c.args.packet.now)
+    venue c.requires.genuine in
     let line = c.args.seat.now.line in
-    let brings = brings_one c.self.inside.lines packets c.args.packet.now c.in_ok-next.next c.in_ok-next.ensures.item
+    let brings = brings_one c.self.inside.lines packets c.args.packet.now c.in_ok-next.next
+    c.in_ok-next.ensures.item
     line (c.is_next.ensures.brings packets line k.fits.history.present cc) in
-    let given = given_after g.G.Genuine g.N.FeedName.lanes _ line c.args.packet.now (Ok (Taken 1 0)) k
+    let given = given_after g.G.Genuine g.N.FeedName.lanes _ line c.args.packet.now (Ok (Taken 1 0))
+    k
     c.is_next.ensures.content brings.answer genuine in
-    subst (λ (t : ℕ). AreInSequence g.G.Genuine t (c.self.inside.items.items ++ c.in_ok-next.next ∷ [])) (sym k.tag)
-    (may_pass _ k.history line c.args.packet.now c.in_ok-next.next k.fits brings g.G.Genuine c.self.inside.lines.venue
+    subst (λ (t : ℕ). AreInSequence g.G.Genuine t (c.self.inside.items.items
+    ++ c.in_ok-next.next ∷ [])) (sym k.tag)
+    (may_pass _ k.history line c.args.packet.now c.in_ok-next.next k.fits brings g.G.Genuine
+    c.self.inside.lines.venue
     c.self.inside.lines.window given)
 
 module _ (g : Over) (c : After-count-2 g) where
@@ -37,16 +42,21 @@ module _ (g : Over) (c : After-count-2 g) where
   }
 
   answer : c.take_next-outcome.result ≡ Taken 1 0
-  answer = taken_one c.self.inside.lines [] c.args.packet.now c.in_ok-next.next c.in_ok-next.ensures.item _
+  answer = taken_one c.self.inside.lines [] c.args.packet.now c.in_ok-next.next
+      c.in_ok-next.ensures.item _
       c.take_next-outcome.ensures.answer
 
-  brought : c.count.new.self ≡ brought_after c.line-line.result c.args.packet.now (Ok c.take_next-outcome.result)
+  brought : c.count.new.self ≡ brought_after c.line-line.result c.args.packet.now
+      (Ok c.take_next-outcome.result)
       c.self.inside.counted
-  brought = counted_on c.line-line.result c.line-line.result c.args.packet.now c.take_next-outcome.result
-      c.new-accepted.result c.self.inside.counted c.count.new.self c.count.ensures c.new-accepted.ensures refl
+  brought = counted_on c.line-line.result c.line-line.result c.args.packet.now
+      c.take_next-outcome.result
+      c.new-accepted.result c.self.inside.counted c.count.new.self c.count.ensures
+      c.new-accepted.ensures refl
 
   sent : c.take_next-outcome.new.self.sent ≡ c.self.inside.lines.sent + 1
-  sent = sent_one c.self.inside.lines [] c.args.packet.now c.in_ok-next.next c.in_ok-next.ensures.item _
+  sent = sent_one c.self.inside.lines [] c.args.packet.now c.in_ok-next.next
+      c.in_ok-next.ensures.item _
       (c.is_next.ensures.next cc) c.take_next-outcome.ensures.sent
 
 pub invariant_of-self-2 : goal.invariant_of-self-2
@@ -55,12 +65,16 @@ invariant_of-self-2 g c =
     let e = c.take_next-outcome.ensures in
     let packets = k.history.present.packets in
     let venue = c.requires.venue ∙ ap (λ (v : CellState). v.arbiter.venue) (sym c.self.view_is) in
-    let genuine = subst (λ (n : ℕ). IsGenuinePacket g.G.Genuine n c.args.packet.now) venue c.requires.genuine in
+    let genuine = subst (λ (n : ℕ). IsGenuinePacket g.G.Genuine n c.args.packet.now)
+    venue c.requires.genuine in
     let line = c.line-line.result in
-    let brings = brings_one c.self.inside.lines packets c.args.packet.now c.in_ok-next.next c.in_ok-next.ensures.item
+    let brings = brings_one c.self.inside.lines packets c.args.packet.now c.in_ok-next.next
+    c.in_ok-next.ensures.item
     line (c.is_next.ensures.brings packets line k.fits.history.present cc) in
-    more_kept g.G.Genuine g.N.FeedName.lanes _ (new g c) line c.args.packet.now (Ok (Taken 1 0)) k e.kept
-    (ap (λ (e : LaneEnd Numbered). e.tag) c.in-Ok.ensures) (ap (λ (e : LaneEnd Numbered). e.lane) c.in-Ok.ensures)
+    more_kept g.G.Genuine g.N.FeedName.lanes _ (new g c) line c.args.packet.now
+    (Ok (Taken 1 0)) k e.kept
+    (ap (λ (e : LaneEnd Numbered). e.tag) c.in-Ok.ensures)
+    (ap (λ (e : LaneEnd Numbered). e.lane) c.in-Ok.ensures)
     (ap (λ (e : LaneEnd Numbered). e.capacity) c.in-Ok.ensures)
     (pass_fits _ k.history line c.args.packet.now c.in_ok-next.next k.fits brings
     (new g c) c.take_next-outcome.result (answer g c) c.in-Ok.ensures (sent g c) e.kept
@@ -73,10 +87,13 @@ returns-clause-packet g c = λ h fits.
     let e = c.take_next-outcome.ensures in
     let packets = h.present.packets in
     let line = c.line-line.result in
-    let brings = brings_one c.self.inside.lines packets c.args.packet.now c.in_ok-next.next c.in_ok-next.ensures.item
+    let brings = brings_one c.self.inside.lines packets c.args.packet.now c.in_ok-next.next
+    c.in_ok-next.ensures.item
     line (c.is_next.ensures.brings packets line f.history.present cc) in
-    subst (λ (x : LineId × CellState). TakesAndPushes x.0 c.args.packet.now c.take_next-outcome.result h x.1
+    subst (λ (x : LineId × CellState). TakesAndPushes x.0 c.args.packet.now
+    c.take_next-outcome.result h x.1
     (new g c)) (λ i. (c.line-line.ensures i, c.self.view_is i))
-    (passes _ h line c.args.packet.now c.in_ok-next.next f brings (new g c) c.take_next-outcome.result
+    (passes _ h line c.args.packet.now c.in_ok-next.next f brings (new g c)
+    c.take_next-outcome.result
     (answer g c) c.in-Ok.ensures (sent g c) e.kept (e.fits packets f.history.present) (brought g c)
     (first_number _ _ _ c.in_ok-next.ensures.item))

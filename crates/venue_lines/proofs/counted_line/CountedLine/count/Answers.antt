@@ -5,7 +5,12 @@ use Rattle.venue_lines.proofs.counted_line.CountedLine.count.Goals as goal
 
 pub invariant_of-self : goal.invariant_of-self
 invariant_of-self c =
-    c.count.ensures (record { accepted = c.self.inside.packets.items; refused = c.self.inside.faults.items })
+    c.count.ensures (record {
+      accepted = c.self.inside.packets.items;
+      refused =
+          c.self.inside.faults.items;
+    })
     c.self.invariant
-    ∙ ap (λ (xs : List AcceptedPacket). counts_of (record { accepted = xs; refused = c.self.inside.faults.items }))
+    ∙ ap (λ (xs : List AcceptedPacket). counts_of
+    (record { accepted = xs; refused = c.self.inside.faults.items }))
     (sym c.with-self-inside.ensures)

@@ -26,7 +26,8 @@ module _ (g : Over) (c : After-line_counts-3 g) where
 pub returns-clause-shows : goal.returns-clause-shows
 returns-clause-shows g c = λ h fits.
     let packets = h.present.packets in
-    let arbiter : c.arbiter-arbiter.result.now ≡ c.args.guarded.now.cell.arbiter = c.arbiter-arbiter.ensures in
+    let arbiter : c.arbiter-arbiter.result.now ≡ c.args.guarded.now.cell.arbiter =
+    c.arbiter-arbiter.ensures in
     let here = subst (λ (s : State). Fits s packets) (sym arbiter) fits.history.present in
     let sent = sym c.status.ensures.cursors.sent in
     let name = ap (λ (s : State). s.session) arbiter ∙ fits.history.session in
@@ -34,14 +35,17 @@ returns-clause-shows g c = λ h fits.
       ordinal = search;
       session = search;
       cursors = c.status.ensures.packets packets here ∙ ap (λ (n : ℕ). cursors_of n packets) sent;
-      gap = c.gap.ensures packets here ∙ (λ i. gap_of (name i) ((arbiter i).window) (sent i) packets);
+      gap = c.gap.ensures packets here
+          ∙ (λ i. gap_of (name i) ((arbiter i).window) (sent i) packets);
       lines = on_each
-          (λ line. ShowsLine h line (on_line line c.args.guarded.now.cell.brought) (status_on line (shown_so g c)))
+          (λ line. ShowsLine h line (on_line line c.args.guarded.now.cell.brought)
+          (status_on line (shown_so g c)))
           (c.line_counts.ensures.shows h fits) (c.line_counts-2.ensures.shows h fits)
           (c.line_counts-3.ensures.shows h fits);
     }
 
 pub returns-clause-counts : goal.returns-clause-counts
 returns-clause-counts g c =
-    on_each (λ line. ShowsBrought (on_line line c.args.guarded.now.cell.brought) (status_on line (shown_so g c)))
+    on_each (λ line. ShowsBrought (on_line line c.args.guarded.now.cell.brought)
+    (status_on line (shown_so g c)))
     c.line_counts.ensures.counts c.line_counts-2.ensures.counts c.line_counts-3.ensures.counts

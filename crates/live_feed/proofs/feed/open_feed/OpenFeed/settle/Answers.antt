@@ -6,10 +6,12 @@ use Rattle.live_feed.proofs.Settled.{settlement}
 use Rattle.live_feed.proofs.feed.open_feed.OpenFeed.settle.Goals as goal
 
 pub closed-requires-clause-venues : goal.closed-requires-clause-venues
-closed-requires-clause-venues g c = λ venue cell at. (c.in-Ok-room_for.ensures.agree venue cell at).venue_is
+closed-requires-clause-venues g c = λ venue cell at. (c.in-Ok-room_for.ensures.agree
+    venue cell at).venue_is
 
 pub closed-requires-clause-order : goal.closed-requires-clause-order
-closed-requires-clause-order g c = subst (λ l. AreInOrder (map (λ s. s.log) l)) c.as_slice-4.ensures.value
+closed-requires-clause-order g c = subst (λ l. AreInOrder (map (λ s. s.log) l))
+    c.as_slice-4.ensures.value
     c.in-Ok-room_for.ensures.order
 
 pub returns-in-Ok-room_for-clause-settled : goal.returns-in-Ok-room_for-clause-settled
@@ -18,12 +20,14 @@ returns-in-Ok-room_for-clause-settled g c =
     let logs = map (λ s. s.log) c.args.subscribers.items in
     let agree = subst (λ (l : List SeatState). AllAgree l cells) c.as_slice-3.ensures.value
     c.in-Ok-room_for.ensures.agree in
-    let order = subst (λ l. AreInOrder (map (λ s. s.log) l)) c.as_slice-4.ensures.value c.in-Ok-room_for.ensures.order in
+    let order = subst (λ l. AreInOrder (map (λ s. s.log) l)) c.as_slice-4.ensures.value
+    c.in-Ok-room_for.ensures.order in
     let counts = c.in-Ok-room_for.ensures.counts in
     let venues = length-map c.in-Ok.unlocked.venues.items (λ v. v.cell) in
     let subscribers = length-map c.args.subscribers.items (λ s. s.log) in
     let many = ap length c.as_slice-4.ensures.value in
     let first = counts.0 in
     let second = counts.1 in
-    settlement g.G.Genuine g.N.FeedName.lanes c.args.seats.items cells c.in-Ok.unlocked.hub.core logs c.closed.result
+    settlement g.G.Genuine g.N.FeedName.lanes c.args.seats.items cells
+    c.in-Ok.unlocked.hub.core logs c.closed.result
     c.closed.ensures agree order (omega arith) (omega arith)

@@ -9,47 +9,57 @@ use Rattle.replay_reports.proofs.counts.stats.Stats.add.Goals as goal
 
 pub returns-in-Packet : goal.returns-in-Packet
 returns-in-Packet c =
-    own_counted c.args.self.now c.add_at.new.self c.args.event.now _ c.in-Packet.is refl refl c.add_at.ensures.venues
+    own_counted c.args.self.now c.add_at.new.self c.args.event.now _ c.in-Packet.is refl refl
+    c.add_at.ensures.venues
     c.add_at.ensures.states
 
 pub returns-in-Refusal : goal.returns-in-Refusal
 returns-in-Refusal c =
-    own_counted c.args.self.now c.add_at-in-Refusal.new.self c.args.event.now _ c.in-Refusal.is refl refl c.add_at-in-Refusal.ensures.venues
+    own_counted c.args.self.now c.add_at-in-Refusal.new.self c.args.event.now _ c.in-Refusal.is refl
+    refl c.add_at-in-Refusal.ensures.venues
     c.add_at-in-Refusal.ensures.states
 
 pub returns-in-Item : goal.returns-in-Item
 returns-in-Item c =
-    own_counted c.args.self.now c.add_at-in-Item.new.self c.args.event.now _ c.in-Item.is refl refl c.add_at-in-Item.ensures.venues
+    own_counted c.args.self.now c.add_at-in-Item.new.self c.args.event.now _ c.in-Item.is refl refl
+    c.add_at-in-Item.ensures.venues
     c.add_at-in-Item.ensures.states
 
 pub returns-in-Renewal : goal.returns-in-Renewal
 returns-in-Renewal c =
-    own_counted c.args.self.now c.add_at-in-Renewal.new.self c.args.event.now _ c.in-Renewal.is refl refl c.add_at-in-Renewal.ensures.venues
+    own_counted c.args.self.now c.add_at-in-Renewal.new.self c.args.event.now _ c.in-Renewal.is refl
+    refl c.add_at-in-Renewal.ensures.venues
     c.add_at-in-Renewal.ensures.states
 
 pub returns-in-Skip : goal.returns-in-Skip
 returns-in-Skip c =
-    own_counted c.args.self.now c.add_at-in-Skip.new.self c.args.event.now _ c.in-Skip.is refl refl c.add_at-in-Skip.ensures.venues
+    own_counted c.args.self.now c.add_at-in-Skip.new.self c.args.event.now _ c.in-Skip.is refl refl
+    c.add_at-in-Skip.ensures.venues
     c.add_at-in-Skip.ensures.states
 
 pub returns-in-Declaration : goal.returns-in-Declaration
 returns-in-Declaration c =
-    own_counted c.args.self.now c.add_at-in-Declaration.new.self c.args.event.now _ c.in-Declaration.is refl refl c.add_at-in-Declaration.ensures.venues
+    own_counted c.args.self.now c.add_at-in-Declaration.new.self c.args.event.now _
+    c.in-Declaration.is refl refl c.add_at-in-Declaration.ensures.venues
     c.add_at-in-Declaration.ensures.states
 
 pub returns-in-Gap : goal.returns-in-Gap
 returns-in-Gap c =
-    subst (λ (e : Event). c.args.self.now ≡ counted_after c.args.self.now (told_by e ∷ [])) (sym c.in-Gap.is)
+    subst (λ (e : Event). c.args.self.now ≡ counted_after c.args.self.now (told_by e ∷ []))
+    (sym c.in-Gap.is)
     (sym (counted_none c.args.self.now))
 
 pub returns-in-Last : goal.returns-in-Last
 returns-in-Last c =
-    subst (λ (e : Event). c.args.self.now ≡ counted_after c.args.self.now (told_by e ∷ [])) (sym c.in-Last.is)
+    subst (λ (e : Event). c.args.self.now ≡ counted_after c.args.self.now (told_by e ∷ []))
+    (sym c.in-Last.is)
     (sym (counted_none c.args.self.now))
 
 pub returns-in-Best : goal.returns-in-Best
 returns-in-Best c =
     let notice = notice_of c.in-Best.number c.in-Best.change.now in
-    subst (λ (e : Event). c.add_state.new.self ≡ counted_after c.args.self.now (told_by e ∷ [])) (sym c.in-Best.is)
-    (best_counted c.args.self.now c.add_leaders.new.self c.add_state.new.self notice c.add_leaders.ensures.venues
+    subst (λ (e : Event). c.add_state.new.self ≡ counted_after c.args.self.now (told_by e ∷ []))
+    (sym c.in-Best.is)
+    (best_counted c.args.self.now c.add_leaders.new.self c.add_state.new.self notice
+    c.add_leaders.ensures.venues
     c.add_leaders.ensures.states c.add_state.ensures.venues c.add_state.ensures.states)

@@ -8,7 +8,8 @@ use Rattle.replay_reports.proofs.counts.venue_stats.VenueStats.add_item.Goals as
 pub returns : goal.returns
 returns c = λ venue.
     let old = c.args.self.now in
-    ap (λ (x : ItemStats). record old { items = x; session = c.add_item.new.self }) (c.add.ensures venue)
+    ap (λ (x : ItemStats). record old { items = x; session = c.add_item.new.self })
+    (c.add.ensures venue)
     ∙ ap (λ (x : SessionStats). record old {
       items = items_after old.items (told_item venue c.args.numbered.now ∷ []);
       session = x;

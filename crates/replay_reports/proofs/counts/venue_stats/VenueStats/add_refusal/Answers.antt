@@ -13,5 +13,6 @@ returns-in-B c = λ venue.
 
 pub returns-in-Recovery : goal.returns-in-Recovery
 returns-in-Recovery c = λ venue.
-    refused_recovery c.args.self.now c.args.line venue c.args.fault c.add_refusal-in-Recovery.new.self
+    refused_recovery c.args.self.now c.args.line venue c.args.fault
+    c.add_refusal-in-Recovery.new.self
     c.in-Recovery.is (c.add_refusal-in-Recovery.ensures c.args.line venue)

@@ -9,6 +9,8 @@ pub returns-in_err-write_full-in-Best-clause-failed :
     goal.returns-in_err-write_full-in-Best-clause-failed
 returns-in_err-write_full-in-Best-clause-failed g c =
     let p = err_from_is_err_and c.from_residual.result c.from_residual.ensures.1 in
-    rw p.1 (fails_before_text (event_row c.args.self.now.style) g.W.TextOut.adds g.W.TextOut.failures
-    c.args.self.now.page c.write_full.new.self (timed_event c.args.time (told_by c.args.event.now) ∷ [])
+    rw p.1 (fails_before_text (event_row c.args.self.now.style)
+    g.W.TextOut.adds g.W.TextOut.failures
+    c.args.self.now.page c.write_full.new.self (timed_event c.args.time (told_by c.args.event.now)
+    ∷ [])
     c.in_err-write_full-in-Best.ensures.part)

@@ -11,5 +11,6 @@ returns c =
       count = refl;
       longest = refl;
       size = ap length items ∙ length-replicate {A = ℕ} 976 0;
-      each = λ place small. ap (λ (xs : List ℕ). slice_index xs place) items ∙ get_or-replicate {A = ℕ} 976 place 0 0 small;
+      each = λ place small. ap (λ (xs : List ℕ). slice_index xs place) items
+          ∙ get_or-replicate {A = ℕ} 976 place 0 0 small;
     }

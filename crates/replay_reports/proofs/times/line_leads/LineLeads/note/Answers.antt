@@ -14,13 +14,21 @@ returns-in_default-lead-clause-leads c = λ window came before_a before_b leads.
     let items = old.arrivals.items in
     let place = c.args.place in
     let held = c.in-Some.first.now in
-    let size : max (length items) 1 ≡ window = ap (λ (n : ℕ). max n 1) leads.size ∙ max_one window leads.some in
-    let new : LineLeads = record { arrivals = with_item old.arrivals place c.after.result; a = old.a; b = old.b } in
-    noted_none window c.args.line c.args.number c.args.time came before_a before_b old new held place c.requires.line c.requires.number leads
+    let size : max (length items) 1 ≡ window = ap (λ (n : ℕ). max n 1) leads.size
+    ∙ max_one window leads.some in
+    let new : LineLeads = record {
+      arrivals = with_item old.arrivals place c.after.result;
+      a = old.a;
+      b = old.b;
+    } in
+    noted_none window c.args.line c.args.number c.args.time came before_a before_b old new held
+    place c.requires.line c.requires.number leads
     (c.requires.place ∙ ap (λ (k : ℕ). c.args.number % k) size)
-    (slice_get_read items (length items) place held refl (ltb-true place (length items) (sym c.in-Some.ensures.item.0))
+    (slice_get_read items (length items) place held refl (ltb-true place (length items)
+    (sym c.in-Some.ensures.item.0))
     c.in-Some.ensures.item.1)
-    (ap (λ (h : FirstArrival). slice_set items place h) c.after.ensures) (sym c.in_default-lead.is ∙ c.lead.ensures) refl refl
+    (ap (λ (h : FirstArrival). slice_set items place h) c.after.ensures) (sym c.in_default-lead.is
+    ∙ c.lead.ensures) refl refl
 
 pub returns-in-B-clause-leads : goal.returns-in-B-clause-leads
 returns-in-B-clause-leads c = λ window came before_a before_b leads.
@@ -28,11 +36,19 @@ returns-in-B-clause-leads c = λ window came before_a before_b leads.
     let items = old.arrivals.items in
     let place = c.args.place in
     let held = c.in-Some.first.now in
-    let size : max (length items) 1 ≡ window = ap (λ (n : ℕ). max n 1) leads.size ∙ max_one window leads.some in
-    let new : LineLeads = record { arrivals = with_item old.arrivals place c.after.result; a = old.a; b = c.add.new.self } in
-    noted_b window c.args.line c.args.number c.args.time came before_a before_b old new held place c.requires.line c.requires.number leads
+    let size : max (length items) 1 ≡ window = ap (λ (n : ℕ). max n 1) leads.size
+    ∙ max_one window leads.some in
+    let new : LineLeads = record {
+      arrivals = with_item old.arrivals place c.after.result;
+      a =
+          old.a;
+      b = c.add.new.self;
+    } in
+    noted_b window c.args.line c.args.number c.args.time came before_a before_b old new held place
+    c.requires.line c.requires.number leads
     (c.requires.place ∙ ap (λ (k : ℕ). c.args.number % k) size)
-    (slice_get_read items (length items) place held refl (ltb-true place (length items) (sym c.in-Some.ensures.item.0))
+    (slice_get_read items (length items) place held refl (ltb-true place (length items)
+    (sym c.in-Some.ensures.item.0))
     c.in-Some.ensures.item.1)
     (ap (λ (h : FirstArrival). slice_set items place h) c.after.ensures) c.in-Some-lead.took
     (sym c.in-Some-lead.is ∙ c.lead.ensures) c.in-B.is c.add.ensures refl
@@ -43,12 +59,20 @@ returns-in_default-line-clause-leads c = λ window came before_a before_b leads.
     let items = old.arrivals.items in
     let place = c.args.place in
     let held = c.in-Some.first.now in
-    let size : max (length items) 1 ≡ window = ap (λ (n : ℕ). max n 1) leads.size ∙ max_one window leads.some in
+    let size : max (length items) 1 ≡ window = ap (λ (n : ℕ). max n 1) leads.size
+    ∙ max_one window leads.some in
     let after = c.add-in_default-line.new.self in
-    let new : LineLeads = record { arrivals = with_item old.arrivals place c.after.result; a = after; b = old.b } in
-    noted_a window c.args.line c.args.number c.args.time came before_a before_b old new held place c.requires.line c.requires.number leads
+    let new : LineLeads = record {
+      arrivals = with_item old.arrivals place c.after.result;
+      a = after;
+      b = old.b;
+    } in
+    noted_a window c.args.line c.args.number c.args.time came before_a before_b old new held place
+    c.requires.line c.requires.number leads
     (c.requires.place ∙ ap (λ (k : ℕ). c.args.number % k) size)
-    (slice_get_read items (length items) place held refl (ltb-true place (length items) (sym c.in-Some.ensures.item.0))
+    (slice_get_read items (length items) place held refl (ltb-true place (length items)
+    (sym c.in-Some.ensures.item.0))
     c.in-Some.ensures.item.1)
     (ap (λ (h : FirstArrival). slice_set items place h) c.after.ensures) c.in-Some-lead.took
-    (sym c.in-Some-lead.is ∙ c.lead.ensures) c.in_default-line.not-B c.add-in_default-line.ensures refl
+    (sym c.in-Some-lead.is ∙ c.lead.ensures) c.in_default-line.not-B c.add-in_default-line.ensures
+    refl

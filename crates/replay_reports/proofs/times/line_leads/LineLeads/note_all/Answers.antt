@@ -15,7 +15,8 @@ loop-offset-preserved c =
           ∙ ap (λ (n : ℕ). n % c.max-size.result) (omega arith);
       line = was.line;
       leads = λ window came before_a before_b before.
-          subst (λ (k : ℕ). AreLeadsOf window (come_from c.args.line c.args.number k c.args.time came) before_a before_b c.note.new.self) next
+          subst (λ (k : ℕ). AreLeadsOf window (come_from c.args.line c.args.number k c.args.time
+          came) before_a before_b c.note.new.self) next
           (c.note.ensures.leads window (come_from c.args.line c.args.number place c.args.time came)
           before_a before_b (was.leads window came before_a before_b before));
     }
@@ -23,8 +24,15 @@ loop-offset-preserved c =
 pub returns : goal.returns
 returns c = λ window came before_a before_b leads.
     let all : c.loop-offset.offset ≡ c.args.count =
-    omega (arith, c.loop-offset-test.false, c.loop-offset.auto.offset-end, c.from-offset-end.ensures) in
+    omega (
+      arith,
+      c.loop-offset-test.false,
+      c.loop-offset.auto.offset-end,
+      c.from-offset-end.ensures,
+    ) in
     subst (λ (ms : List MessageOn). AreLeadsOf window ms before_a before_b c.loop-offset.self)
-    (come_on_two c.args.line c.args.number c.args.count c.args.time came c.loop-offset.invariant.line)
-    (subst (λ (k : ℕ). AreLeadsOf window (come_from c.args.line c.args.number k c.args.time came) before_a before_b
+    (come_on_two c.args.line c.args.number c.args.count c.args.time came
+    c.loop-offset.invariant.line)
+    (subst (λ (k : ℕ). AreLeadsOf window (come_from c.args.line c.args.number k c.args.time came)
+    before_a before_b
     c.loop-offset.self) all (c.loop-offset.invariant.leads window came before_a before_b leads))

@@ -13,5 +13,6 @@ returns c = λ window came before_a before_b leads.
     (lt-ltb 0 p.number (omega (arith, c.if-packet-eq0.false)))
     (lt-ltb (p.number + p.count) 18446744073709551617
     (omega (arith, c.if-packet-eq0.false, c.if-packet-from.false, c.from.ensures))) in
-    subst (λ (b : Bool). AreLeadsOf window (cond b (come_on p.line p.number p.count p.time came) came) before_a before_b
+    subst (λ (b : Bool). AreLeadsOf window (cond b (come_on p.line p.number p.count p.time came)
+    came) before_a before_b
     c.note_all.new.self) (sym has) (c.note_all.ensures window came before_a before_b leads)

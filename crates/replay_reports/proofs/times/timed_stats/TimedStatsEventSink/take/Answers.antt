@@ -7,7 +7,8 @@ returns-clause-took c = record {
   counts = c.add.ensures;
   times = λ window earlier timed.
       timed_more window earlier (timed_event c.args.time (told_by c.args.event.now)) c.args.self.now
-      (record { stats = c.add.new.self; times = c.take.new.self }) c.lacks-is_missing.result timed c.add.ensures
+      (record { stats = c.add.new.self; times = c.take.new.self }) c.lacks-is_missing.result timed
+      c.add.ensures
       c.lacks-is_missing.ensures
       c.take.ensures.count (c.take.ensures.times window earlier);
 }

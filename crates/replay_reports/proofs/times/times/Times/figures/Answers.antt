@@ -9,5 +9,6 @@ returns c = λ window events timed. record {
   second = c.most.ensures 1000000000 (flat_map messages_told events) timed.second;
   millisecond = c.most-2.ensures 1000000 (flat_map messages_told events) timed.millisecond;
   venues = c.in_ok-venue_times.ensures window events
-      (subst (λ (vs : List VenueTiming). AreVenuesTimed window events vs) (sym c.as_slice.ensures.value) timed.venues);
+      (subst (λ (vs : List VenueTiming). AreVenuesTimed window events vs)
+      (sym c.as_slice.ensures.value) timed.venues);
 }

@@ -8,7 +8,8 @@ use Rattle.replay_reports.proofs.times.times.Times.take.Goals as goal
 pub returns-in-Packet-clause-times : goal.returns-in-Packet-clause-times
 returns-in-Packet-clause-times c = λ window events lacking timed.
     let p = c.in-Packet in
-    subst (λ (e : Event). AreTimesOf window (timed_event c.args.time (told_by e) ∷ events) c.hear.new.self) (sym p.is)
+    subst (λ (e : Event). AreTimesOf window (timed_event c.args.time (told_by e) ∷ events)
+    c.hear.new.self) (sym p.is)
     (c.hear.ensures.times window c.args.time events (sym c.unwrap_or.ensures)
     (subst (λ (e : Event). IsLacking (length c.args.self.now.venues.items) c.args.is_missing
     (timed_event c.args.time (told_by e)) events) p.is lacking)
@@ -16,12 +17,14 @@ returns-in-Packet-clause-times c = λ window events lacking timed.
 
 pub returns-in-Renewal-clause-times : goal.returns-in-Renewal-clause-times
 returns-in-Renewal-clause-times c = λ window events lacking timed.
-    subst (λ (e : Event). AreTimesOf window (timed_event c.args.time (told_by e) ∷ events) c.renew.new.self)
+    subst (λ (e : Event). AreTimesOf window (timed_event c.args.time (told_by e)
+    ∷ events) c.renew.new.self)
     (sym c.in-Renewal.is) (c.renew.ensures.times window c.args.time events timed)
 
 pub returns-in-Refusal-clause-times : goal.returns-in-Refusal-clause-times
 returns-in-Refusal-clause-times c = λ window events lacking timed.
-    idle_timed window c.args.time events c.args.self.now c.args.event.now _ c.in-Refusal.is (record {
+    idle_timed window c.args.time events c.args.self.now c.args.event.now _
+    c.in-Refusal.is (record {
       came = λ n clock came. refl;
       begins = λ n. refl;
       accepted = λ n. refl;
@@ -66,7 +69,8 @@ returns-in-Skip-clause-times c = λ window events lacking timed.
 
 pub returns-in-Declaration-clause-times : goal.returns-in-Declaration-clause-times
 returns-in-Declaration-clause-times c = λ window events lacking timed.
-    idle_timed window c.args.time events c.args.self.now c.args.event.now _ c.in-Declaration.is (record {
+    idle_timed window c.args.time events c.args.self.now c.args.event.now _
+    c.in-Declaration.is (record {
       came = λ n clock came. refl;
       begins = λ n. refl;
       accepted = λ n. refl;
