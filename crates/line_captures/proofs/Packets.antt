@@ -16,8 +16,9 @@ use Rattle.feed_text.specs.declared.record_format.Step.{Step}
 use Rattle.feed_text.specs.declared.record_format.Step.TheVariants.{Came, Passed, Wants, Bad}
 use Rattle.feed_text.specs.Formats.{TimedRecord, TakesPiece, StepsTo, timed_record}
 use Rattle.run_settings.specs.declared.captured_line.CapturedLine.{CapturedLine}
-use Rattle.line_captures.specs.declared.passed_over.Progress.{Progress}
-use Rattle.line_captures.specs.Counts.{CountsFrame, CountsPieces, IsFate, count_after, passed_after, falls_after, last_after, timed_after, times_of}
+use Rattle.line_captures.specs.declared.progress.Progress.{Progress}
+use Rattle.line_captures.specs.Counts.{CountsFrame, CountsPieces, IsFate, counts_after, falls_after, last_after, piece_after, timed_after, times_of}
+use Rattle.line_captures.specs.FullCounts.{count_after}
 use Rattle.run_settings.specs.Lists.{AreOfVenues}
 use Rattle.line_captures.specs.Records.{AreOfFrame, IsOfLine}
 use Rattle.line_captures.specs.PacketFormats.{PacketState, AreTimed, ReadsPackets, IsStepOf, IsStopStep, wants_packets, is_bad_packets}
@@ -62,39 +63,40 @@ silent_timed lines p unframed = subst (λ (o : Option FrameContent). AreTimed li
 -- ---- counts
 
 -- what one piece counts, with a frame
-pub counts_frame : (lines : List CapturedLine) (before byted timed after : Progress)
-    (p : PieceContent) (f : FrameContent)
-    → byted ≡ record before { position = count_after before.position p.len }
-    → timed ≡ timed_after byted f.time → after ≡ record timed { passed = after.passed }
-    → CountsFrame lines f timed.passed after.passed → p.frame ≡ Some f
+pub counts_frame : (lines : List CapturedLine) (before pieced timed after : Progress)
+    (p : PieceContent) (f : FrameContent) → pieced ≡ piece_after before p
+    → timed ≡ timed_after pieced f.time → after ≡ record timed { counts = after.counts }
+    → CountsFrame lines f timed.counts after.counts → p.frame ≡ Some f
     → CountsPieces lines before (p ∷ []) after
-counts_frame lines before byted timed after p f bytes time last counts framed =
+counts_frame lines before pieced timed after p f piece time last counts framed =
     let frames : frames_of (p ∷ []) ≡ f
     ∷ [] = ap (λ (o : Option FrameContent). list_of o ++ []) framed in
     let times : times_of (frames_of (p ∷ [])) ≡ option_to_list f.time = ap times_of frames
     ∙ append-nil (option_to_list f.time) in
     let Z : List FrameContent → Type 0 = λ fs. AllZip (IsFate lines) fs (counts.fate ∷ []) in
     let sum : p.len ≡ sum_by (λ (piece : PieceContent). piece.len) (p ∷ []) = omega arith in
-    let start : timed ≡ timed_after (record before { position = count_after before.position p.len })
-    f.time = time ∙ ap (λ (x : Progress). timed_after x f.time) bytes in
+    let start : timed ≡ timed_after (piece_after before p) f.time = time
+    ∙ ap (λ (x : Progress). timed_after x f.time) piece in
     record {
       fates = counts.fate ∷ [];
       are = subst Z (sym frames) (counts.is, tt);
       position = ap (λ (x : Progress). x.position) last ∙ ap (λ (x : Progress). x.position) start
           ∙ ap (count_after before.position) sum;
+      second_start = ap (λ (x : Progress). x.second_start) last
+          ∙ ap (λ (x : Progress). x.second_start) start;
       last_time = ap (λ (x : Progress). x.last_time) last ∙ ap (λ (x : Progress). x.last_time) start
           ∙ ap (last_after before.last_time) (sym times);
-      passed = counts.after_is
-          ∙ ap (λ (x : Progress). passed_after x.passed (counts.fate ∷ []) 0) start
-          ∙ ap (λ n. passed_after before.passed (counts.fate ∷ []) (falls_after before.last_time n))
+      counts = counts.after_is
+          ∙ ap (λ (x : Progress). counts_after x.counts (counts.fate ∷ []) 0) start
+          ∙ ap (λ n. counts_after before.counts (counts.fate ∷ []) (falls_after before.last_time n))
           (sym times);
+      drops = ap (λ (x : Progress). x.drops) last ∙ ap (λ (x : Progress). x.drops) start;
     }
 
 -- and without one
 pub counts_silent : (lines : List CapturedLine) (before after : Progress) (p : PieceContent)
-    → after ≡ record before { position = count_after before.position p.len } → p.frame ≡ None
-    → CountsPieces lines before (p ∷ []) after
-counts_silent lines before after p bytes unframed =
+    → after ≡ piece_after before p → p.frame ≡ None → CountsPieces lines before (p ∷ []) after
+counts_silent lines before after p piece unframed =
     let frames : frames_of (p ∷ []) ≡ [] = ap (λ (o : Option FrameContent). list_of o ++ [])
     unframed in
     let times : times_of (frames_of (p ∷ [])) ≡ [] = ap times_of frames in
@@ -103,11 +105,13 @@ counts_silent lines before after p bytes unframed =
     record {
       fates = [];
       are = subst Z (sym frames) tt;
-      position = ap (λ (x : Progress). x.position) bytes ∙ ap (count_after before.position) sum;
-      last_time = ap (λ (x : Progress). x.last_time) bytes
+      position = ap (λ (x : Progress). x.position) piece ∙ ap (count_after before.position) sum;
+      second_start = ap (λ (x : Progress). x.second_start) piece;
+      last_time = ap (λ (x : Progress). x.last_time) piece
           ∙ ap (last_after before.last_time) (sym times);
-      passed = ap (λ (x : Progress). x.passed) bytes
-          ∙ ap (λ n. passed_after before.passed [] (falls_after before.last_time n)) (sym times);
+      counts = ap (λ (x : Progress). x.counts) piece
+          ∙ ap (λ n. counts_after before.counts [] (falls_after before.last_time n)) (sym times);
+      drops = ap (λ (x : Progress). x.drops) piece;
     }
 
 -- ---- steps

@@ -1,5 +1,5 @@
 -- Laws of counts: pieces after pieces are counted one after the other.
-use Rattle.std.proofs.Common.{◌≡◌, ℕ, zero, suc, ◌+◌, List, [], ◌∷◌, ◌++◌, refl, sym, ap, subst, ◌∙◌, arith}
+use Rattle.std.proofs.Common.{◌≡◌, ℕ, zero, suc, ◌+◌, List, [], ◌∷◌, ◌++◌, Option, refl, sym, ap, subst, ◌∙◌, arith}
 use Rattle.std.specs.List.{AllZip, count_by, sum_by}
 use Rattle.std.proofs.lemmas.List.Sums.{sum_by-append}
 use Rattle.std.proofs.lemmas.Grind.{flat_map-append}
@@ -7,9 +7,12 @@ use Rattle.std.specs.Prelude.{Bool, cond}
 use Rattle.packet_capture.specs.Captures.{PieceContent, frames_in, frames_of}
 use Rattle.packet_capture.specs.Frames.{FrameContent}
 use Rattle.run_settings.specs.declared.captured_line.CapturedLine.{CapturedLine}
-use Rattle.line_captures.specs.declared.passed_over.PassedOver.{PassedOver}
-use Rattle.line_captures.specs.declared.passed_over.Progress.{Progress}
-use Rattle.line_captures.specs.Counts.{FrameFate, IsFate, CountsPieces, count_after, passed_after, falls_after, last_after, times_in, times_of, is_without, is_fragment, is_cut, is_malformed, is_unreadable, goes_elsewhere, goes_to_line}
+use Rattle.line_captures.specs.declared.frame_counts.FrameCounts.{FrameCounts}
+use Rattle.line_captures.specs.declared.progress.Progress.{Progress}
+use Rattle.line_captures.specs.Counts.{FrameFate, IsFate, CountsPieces, counts_after, falls_after, last_after, second_after, second_of, times_in, times_of, is_without, is_no_ip, is_no_udp, is_fragment, is_cut, is_malformed, is_unreadable, goes_elsewhere, goes_to_line}
+use Rattle.line_captures.specs.FullCounts.{count_after}
+use Rattle.line_captures.specs.declared.drop_counts.DropCounts.{DropCounts}
+use Rattle.line_captures.specs.DropCounts.{drops_after, drops_of}
 
 -- a count that is count_after twice
 raised_twice : (count m n : ℕ) → count_after (count_after count m) n ≡ count_after count (m + n)
@@ -35,17 +38,49 @@ counted_both kind count xs ys =
     raised_both count (count_by kind xs) (count_by kind ys) (count_by kind (xs ++ ys))
     (sum_by-append (λ x. cond (kind x) 1 0) xs ys)
 
-passed_twice : (passed : PassedOver) (xs ys : List FrameFate) (m n : ℕ)
-    → passed_after (passed_after passed xs m) ys n ≡ passed_after passed (xs ++ ys) (m + n)
-passed_twice passed xs ys m n =
-    let a = counted_both (is_without is_fragment) passed.fragments xs ys in
-    let b = counted_both (is_without is_cut) passed.cut xs ys in
-    let c = counted_both (is_without is_malformed) passed.malformed xs ys in
-    let d = counted_both (is_without is_unreadable) passed.not_read xs ys in
-    let e = raised_twice passed.disordered m n in
-    let f = counted_both goes_elsewhere passed.elsewhere xs ys in
-    let g = counted_both goes_to_line passed.to_lines xs ys in
-    cc
+counts_twice : (counts : FrameCounts) (xs ys : List FrameFate) (m n : ℕ)
+    → counts_after (counts_after counts xs m) ys n ≡ counts_after counts (xs ++ ys) (m + n)
+counts_twice counts xs ys m n =
+    let a = counted_both goes_to_line counts.to_lines xs ys in
+    let b = counted_both goes_elsewhere counts.elsewhere xs ys in
+    let c = counted_both (is_without is_no_ip) counts.no_ip xs ys in
+    let d = counted_both (is_without is_no_udp) counts.no_udp xs ys in
+    let e = counted_both (is_without is_fragment) counts.fragments xs ys in
+    let f = counted_both (is_without is_cut) counts.cut xs ys in
+    let g = counted_both (is_without is_malformed) counts.malformed xs ys in
+    let h = counted_both (is_without is_unreadable) counts.not_read xs ys in
+    let k = raised_twice counts.disordered m n in
+    λ i. record {
+      to_lines = a i;
+      elsewhere = b i;
+      no_ip = c i;
+      no_udp = d i;
+      fragments = e i;
+      cut = f i;
+      malformed = g i;
+      not_read = h i;
+      disordered = k i;
+    }
+
+second_both : (found : Option ℕ) (position : ℕ) (ps qs : List PieceContent)
+    → second_of found position (ps ++ qs)
+    ≡ second_of (second_of found position ps)
+    (count_after position (sum_by (λ piece. piece.len) ps)) qs
+second_both found position [] qs = refl
+second_both found position (p ∷ ps) qs =
+    let len : PieceContent → ℕ = λ piece. piece.len in
+    let later : Option ℕ = second_after found position p.frame in
+    let alone : 0 + p.len ≡ p.len = omega arith in
+    let sum : sum_by len (p ∷ ps) ≡ p.len + sum_by len ps =
+    sum_by-append len (p ∷ []) ps ∙ ap (λ (n : ℕ). n + sum_by len ps) alone in
+    second_both later (count_after position p.len) ps qs
+    ∙ ap (λ (n : ℕ). second_of (second_of later (count_after position p.len) ps) n qs)
+    (raised_both position p.len (sum_by len ps) (sum_by len (p ∷ ps)) sum)
+
+drops_both : (d : DropCounts) (ps qs : List PieceContent)
+    → drops_of d (ps ++ qs) ≡ drops_of (drops_of d ps) qs
+drops_both d [] qs = refl
+drops_both d (p ∷ ps) qs = drops_both (drops_after d p.dropped) ps qs
 
 falls_both : (last : ℕ) (xs ys : List ℕ)
     → falls_after last (xs ++ ys) ≡ falls_after last xs + falls_after (last_after last xs) ys
@@ -74,8 +109,10 @@ counts_none lines progress = record {
   fates = [];
   are = tt;
   position = refl;
+  second_start = refl;
   last_time = refl;
-  passed = refl;
+  counts = refl;
+  drops = refl;
 }
 
 -- the falls of pieces after pieces
@@ -107,14 +144,19 @@ counts_then lines a b c ps qs x y =
       position = y.position ∙ ap (λ n. count_after n (sum_by (λ piece. piece.len) qs)) x.position
           ∙ raised_both a.position (sum_by (λ piece. piece.len) ps) (sum_by (λ piece. piece.len) qs)
           (sum_by (λ piece. piece.len) (ps ++ qs)) (sum_by-append (λ piece. piece.len) ps qs);
+      second_start = y.second_start
+          ∙ ap (λ n. second_of n b.position qs) x.second_start
+          ∙ ap (λ n. second_of (second_of a.second_start a.position ps) n qs) x.position
+          ∙ sym (second_both a.second_start a.position ps qs);
       last_time = y.last_time ∙ ap (λ n. last_after n (times_of (frames_of qs))) x.last_time
           ∙ sym (last_both a.last_time (times_of (frames_of ps)) (times_of (frames_of qs)))
           ∙ ap (last_after a.last_time) (sym times);
-      passed = y.passed
-          ∙ ap (λ (p : PassedOver). passed_after p y.fates
-          (falls_after b.last_time (times_of (frames_of qs)))) x.passed
-          ∙ passed_twice a.passed x.fates y.fates
+      counts = y.counts
+          ∙ ap (λ (p : FrameCounts). counts_after p y.fates
+          (falls_after b.last_time (times_of (frames_of qs)))) x.counts
+          ∙ counts_twice a.counts x.fates y.fates
           (falls_after a.last_time (times_of (frames_of ps)))
           (falls_after b.last_time (times_of (frames_of qs)))
-          ∙ ap (λ n. passed_after a.passed (x.fates ++ y.fates) n) (falls_of a b ps qs x times);
+          ∙ ap (λ n. counts_after a.counts (x.fates ++ y.fates) n) (falls_of a b ps qs x times);
+      drops = y.drops ∙ ap (λ d. drops_of d qs) x.drops ∙ sym (drops_both a.drops ps qs);
     }

@@ -1,16 +1,18 @@
 -- What is counted of the frames of a packet capture. A count stays at 2^64 - 1 once it is there.
-use Rattle.std.specs.Prelude.{◌≡◌, ℕ, zero, suc, ◌+◌, Bool, true, false, List, [], ◌∷◌, nat_lt, if◌then◌else◌, min, flat_map, Option}
+use Rattle.std.specs.Prelude.{◌≡◌, ℕ, ◌+◌, ◌==◌, ◌&&◌, Bool, true, false, List, [], ◌∷◌, length, nat_lt, if◌then◌else◌, min, flat_map, Option, Some, None}
 use Rattle.std.specs.List.{AllZip, count_by, sum_by}
 use Rattle.std.specs.Option.{option_to_list}
 use Rattle.packet_capture.specs.declared.fault.FrameFault.{FrameFault}
-use Rattle.packet_capture.specs.declared.fault.FrameFault.TheVariants.{UnknownLink, ShortFrame, BadIpHeader, Fragment, ExtensionHeader, BadUdpLength}
+use Rattle.packet_capture.specs.declared.fault.FrameFault.TheVariants.{UnknownLink, NotIp, ShortFrame, BadIpHeader, NotUdp, Fragment, ExtensionHeader, BadUdpLength}
 use Rattle.packet_capture.specs.Captures.{PieceContent, frames_of}
 use Rattle.packet_capture.specs.Datagrams.{DatagramContent, CarriesDatagram}
 use Rattle.packet_capture.specs.FrameFaults.{HasFrameFault}
 use Rattle.packet_capture.specs.Frames.{FrameContent}
 use Rattle.run_settings.specs.declared.captured_line.CapturedLine.{CapturedLine}
-use Rattle.line_captures.specs.declared.passed_over.PassedOver.{PassedOver}
-use Rattle.line_captures.specs.declared.passed_over.Progress.{Progress}
+use Rattle.line_captures.specs.declared.frame_counts.FrameCounts.{FrameCounts}
+use Rattle.line_captures.specs.declared.progress.Progress.{Progress}
+use Rattle.line_captures.specs.FullCounts.{count_after}
+use Rattle.line_captures.specs.DropCounts.{drops_after, drops_of, no_drops}
 use Rattle.line_captures.specs.Lines.{GoesTo, GoesToNone}
 
 -- what becomes of a frame: its datagram goes to a line, or to none, or it carries no datagram
@@ -41,7 +43,15 @@ is_without kind to_line = false
 is_without kind elsewhere = false
 is_without kind (no_datagram fault) = kind fault
 
--- the kinds of faults that are counted together
+-- the kinds of faults that are counted together: each fault is of one
+abbrev pub is_no_ip : FrameFault → Bool
+is_no_ip NotIp = true
+is_no_ip _ = false
+
+abbrev pub is_no_udp : FrameFault → Bool
+is_no_udp NotUdp = true
+is_no_udp _ = false
+
 abbrev pub is_fragment : FrameFault → Bool
 is_fragment Fragment = true
 is_fragment _ = false
@@ -60,11 +70,6 @@ is_unreadable UnknownLink = true
 is_unreadable ExtensionHeader = true
 is_unreadable _ = false
 
--- a count after this many more
-abbrev pub count_after : ℕ → ℕ → ℕ
-count_after count zero = count
-count_after count (suc more) = min (count + suc more) 18446744073709551615
-
 -- the times of the frames that have one
 abbrev pub times_in : FrameContent → List ℕ
 times_in frame = option_to_list frame.time
@@ -82,57 +87,96 @@ last_after last [] = last
 last_after last (time ∷ times) = last_after time times
 
 -- the counts after frames with these fates, and after this many that are out of time order
-abbrev pub passed_after : PassedOver → List FrameFate → ℕ → PassedOver
-passed_after passed fates falls = record {
-  fragments = count_after passed.fragments (count_by (is_without is_fragment) fates);
-  cut = count_after passed.cut (count_by (is_without is_cut) fates);
-  malformed = count_after passed.malformed (count_by (is_without is_malformed) fates);
-  not_read = count_after passed.not_read (count_by (is_without is_unreadable) fates);
-  disordered = count_after passed.disordered falls;
-  elsewhere = count_after passed.elsewhere (count_by goes_elsewhere fates);
-  to_lines = count_after passed.to_lines (count_by goes_to_line fates);
+abbrev pub counts_after : FrameCounts → List FrameFate → ℕ → FrameCounts
+counts_after counts fates falls = record {
+  to_lines = count_after counts.to_lines (count_by goes_to_line fates);
+  elsewhere = count_after counts.elsewhere (count_by goes_elsewhere fates);
+  no_ip = count_after counts.no_ip (count_by (is_without is_no_ip) fates);
+  no_udp = count_after counts.no_udp (count_by (is_without is_no_udp) fates);
+  fragments = count_after counts.fragments (count_by (is_without is_fragment) fates);
+  cut = count_after counts.cut (count_by (is_without is_cut) fates);
+  malformed = count_after counts.malformed (count_by (is_without is_malformed) fates);
+  not_read = count_after counts.not_read (count_by (is_without is_unreadable) fates);
+  disordered = count_after counts.disordered falls;
 }
 
--- What was counted of these pieces: their bytes, the last time, and the fates of their frames.
+-- how many frames there are
+abbrev pub total_of : FrameCounts → ℕ
+total_of c =
+    min (c.to_lines + c.elsewhere + (c.no_ip + c.no_udp + c.fragments)
+    + (c.cut + c.malformed + c.not_read)) 18446744073709551615
+
+-- a frame that has no byte, and had none on the wire
+abbrev pub is_empty : FrameContent → Bool
+is_empty frame = (length frame.bytes == 0) && (frame.wire_len == 0)
+
+-- at which byte the first piece with such a frame begins, where one of this frame begins at this
+-- byte
+abbrev pub second_after : Option ℕ → ℕ → Option FrameContent → Option ℕ
+second_after (Some at) position frame = Some at
+second_after None position None = None
+second_after None position (Some frame) = if is_empty frame then Some position else None
+
+-- the same for pieces from this byte on
+abbrev pub second_of : Option ℕ → ℕ → List PieceContent → Option ℕ
+second_of found position [] = found
+second_of found position (piece ∷ pieces) =
+    second_of (second_after found position piece.frame) (count_after position piece.len) pieces
+
+-- What was counted of these pieces: their bytes, where a second capture seems to begin, the last
+-- time, the fates of their frames, and what they say of dropped ones.
 pub record CountsPieces (lines : List CapturedLine) (before : Progress) (pieces : List PieceContent)
     (after : Progress) : Type 0 where
   pub fates : List FrameFate
   pub are : AllZip (IsFate lines) (frames_of pieces) fates
   pub position : after.position ≡ count_after before.position (sum_by (λ piece. piece.len) pieces)
+  pub second_start : after.second_start ≡ second_of before.second_start before.position pieces
   pub last_time : after.last_time ≡ last_after before.last_time (times_of (frames_of pieces))
-  pub passed : after.passed
-      ≡ passed_after before.passed fates
+  pub counts : after.counts
+      ≡ counts_after before.counts fates
       (falls_after before.last_time (times_of (frames_of pieces)))
+  pub drops : after.drops ≡ drops_of before.drops pieces
 
 -- before the first piece
 abbrev pub new_progress : Progress
 new_progress = record {
   position = 0;
+  second_start = None;
   last_time = 0;
-  passed = record {
+  counts = record {
+    to_lines = 0;
+    elsewhere = 0;
+    no_ip = 0;
+    no_udp = 0;
     fragments = 0;
     cut = 0;
     malformed = 0;
     not_read = 0;
     disordered = 0;
-    elsewhere = 0;
-    to_lines = 0;
   };
+  drops = no_drops;
 }
 
 -- ---- one frame. Only private clauses cite this part.
 
 -- a frame is counted by its fate
 pub record CountsFrame (lines : List CapturedLine) (frame : FrameContent)
-    (before after : PassedOver) : Type 0 where
+    (before after : FrameCounts) : Type 0 where
   pub fate : FrameFate
   pub is : IsFate lines frame fate
-  pub after_is : after ≡ passed_after before (fate ∷ []) 0
+  pub after_is : after ≡ counts_after before (fate ∷ []) 0
+
+-- the progress after a piece, but for the frame in it
+abbrev pub piece_after : Progress → PieceContent → Progress
+piece_after progress piece = record progress {
+  position = count_after progress.position piece.len;
+  second_start = second_after progress.second_start progress.position piece.frame;
+  drops = drops_after progress.drops piece.dropped;
+}
 
 -- the progress after the time of a frame, if it has one
 abbrev pub timed_after : Progress → Option ℕ → Progress
-timed_after progress time = record {
-  position = progress.position;
+timed_after progress time = record progress {
   last_time = last_after progress.last_time (option_to_list time);
-  passed = passed_after progress.passed [] (falls_after progress.last_time (option_to_list time));
+  counts = counts_after progress.counts [] (falls_after progress.last_time (option_to_list time));
 }

@@ -1,5 +1,7 @@
 pub mod Lines
 pub mod Records
+pub mod FullCounts
+pub mod DropCounts
 pub mod Counts
 pub mod CountLaws
 pub mod PacketFormats

@@ -11,7 +11,7 @@ use Rattle.feed_text.specs.declared.record_format.Step.{Step}
 use Rattle.feed_text.specs.declared.record_format.Step.TheVariants.{Came, Passed, Wants, Bad}
 use Rattle.feed_text.specs.Formats.{TimedRecord, Parsing, timed_record}
 use Rattle.run_settings.specs.declared.captured_line.CapturedLine.{CapturedLine}
-use Rattle.line_captures.specs.declared.passed_over.Progress.{Progress}
+use Rattle.line_captures.specs.declared.progress.Progress.{Progress}
 use Rattle.line_captures.specs.Counts.{CountsPieces, new_progress}
 use Rattle.line_captures.specs.Records.{AreOfFrame}
 

@@ -7,18 +7,25 @@
 //!
 //! Contract: what it read are whole pieces, and their records are those of their frames, in file
 //! order, each frame's datagram for the first line that takes it, at the frame's own time, and
-//! nothing else; and all frames are counted, by what became of them (`specs/PacketFormats.antt`,
-//! over `specs/Records.antt`, `specs/Lines.antt` and `specs/Counts.antt`). [`convert`] writes the
-//! records of any format in the project's own (`specs/Conversions.antt`).
+//! nothing else; each frame is counted once, by what became of it, which [`each_frame_is_counted`]
+//! says, too; and so are frames that were dropped before, as the capture says itself
+//! (`specs/PacketFormats.antt`, over `specs/Records.antt`, `specs/Lines.antt`, `specs/Counts.antt`
+//! and `specs/DropCounts.antt`). [`convert`] writes the records of any format in the project's own
+//! (`specs/Conversions.antt`).
 //!
 //! Begin at `packet_format.rt`.
 #![tactic(auto)]
 
 mod captured_line;
 mod conversion;
+mod drop_counts;
+mod frame_counts;
+mod laws;
 mod packet_format;
-mod passed_over;
+mod progress;
 
 pub use conversion::convert;
+pub use drop_counts::DroppedFrames;
+pub use frame_counts::FrameCounts;
+pub use laws::each_frame_is_counted;
 pub use packet_format::PacketFormat;
-pub use passed_over::PassedOver;

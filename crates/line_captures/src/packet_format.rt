@@ -5,13 +5,16 @@ ghost use Rattle.packet_capture.specs.Frames.{frame_of};
 ghost use Rattle.feed_text.specs.Capture.{record_of};
 ghost use Rattle.feed_text.specs.Formats.{CameOf};
 ghost use Rattle.line_captures.specs.Counts.{CountsFrame, CountsPieces};
+ghost use Rattle.line_captures.specs.DropCounts.{dropped_of};
 ghost use Rattle.run_settings.specs.Lists.{AreOfVenues};
 ghost use Rattle.line_captures.specs.Records.{AreOfFrame, IsOfLine};
 ghost use Rattle.line_captures.specs.PacketFormats.{IsStepOf, IsStopStep, ReadsPackets, new_packets, wants_packets, is_bad_packets, is_whole_packets};
 ghost use Rattle.line_captures.specs.PacketFormatLaws.{packets_none, packets_more, packets_longer, packets_venues};
 
 use crate::captured_line::line_to;
-use crate::passed_over::{PassedOver, Progress};
+use crate::drop_counts::DroppedFrames;
+use crate::frame_counts::FrameCounts;
+use crate::progress::Progress;
 use feed_text::{Record, RecordFormat, Step};
 use packet_capture::{
     CaptureFault, CaptureReader, Frame, Piece, Stop, read_as_bytes_come, read_datagram,
@@ -55,15 +58,22 @@ impl<'a> PacketFormat<'a> {
             lines,
             venues,
             capture: CaptureReader::new(),
-            progress: Progress::default(),
+            progress: Progress::new(),
         }
     }
 
     /// Returns how many frames of the pieces that were read are of each kind.
-    pub fn passed_over(&self) -> PassedOver
-        ensures { result ≡ self.now.progress.passed }
+    pub fn counts(&self) -> FrameCounts
+        ensures { result ≡ self.now.progress.counts }
     {
-        self.progress.passed
+        self.progress.counts
+    }
+
+    /// Returns how many frames were dropped, as the pieces that were read say.
+    pub fn dropped(&self) -> DroppedFrames
+        ensures { result ≡ dropped_of self.now.progress.drops }
+    {
+        self.progress.drops.dropped()
     }
 
     /// Returns at which byte of the capture the next piece begins, counted from 0.
@@ -71,6 +81,15 @@ impl<'a> PacketFormat<'a> {
         ensures { result ≡ self.now.progress.position }
     {
         self.progress.position
+    }
+
+    /// Returns at which byte a second capture seems to begin, counted from 0, if one does: at the
+    /// first record whose frame has no byte and had none on the wire, as the header of a savefile
+    /// that follows another one.
+    pub fn second_start(&self) -> Option<u64>
+        ensures { result ≡ self.now.progress.second_start }
+    {
+        self.progress.second_start
     }
 }
 
@@ -80,18 +99,18 @@ impl<'a> PacketFormat<'a> {
 fn record_in<'b>(
     lines: &[CapturedLine],
     frame: Frame<'b>,
-    passed: &mut PassedOver,
+    counts: &mut FrameCounts,
 ) -> Option<Record<'b>>
     ensures some { IfSome result (λ r.
         AreOfFrame lines.now (frame_of frame.entry) (record_of r ∷ [])) }
     ensures of_line { IfSome result (λ r. IsOfLine lines.now (record_of r)) }
     ensures none { IfNone result (AreOfFrame lines.now (frame_of frame.entry) []) }
-    ensures counts { CountsFrame lines.now (frame_of frame.entry) passed.old passed.new }
+    ensures counts { CountsFrame lines.now (frame_of frame.entry) counts.old counts.new }
 {
     match read_datagram(frame.link, frame.bytes) {
         Ok(datagram) => match line_to(lines, &datagram) {
             Some(line) => {
-                passed.add_to_line();
+                counts.add_to_line();
                 Some(Record::Datagram {
                     venue: line.venue,
                     line: line.line,
@@ -99,12 +118,12 @@ fn record_in<'b>(
                 })
             }
             None => {
-                passed.add_elsewhere();
+                counts.add_elsewhere();
                 None
             }
         },
         Err(fault) => {
-            passed.add_fault(fault);
+            counts.add_fault(fault);
             None
         }
     }
@@ -122,13 +141,13 @@ fn step_of<'b>(
     ensures came { (venues : ℕ) → AreOfVenues venues lines.now → CameOf venues result }
 {
     let len = piece.len;
-    progress.add_bytes(len);
+    progress.add_piece(&piece);
     let Some(frame) = piece.frame else {
         return Step::Passed(len);
     };
     let time = frame.time;
     progress.add_time(time);
-    match record_in(lines, frame, &mut progress.passed) {
+    match record_in(lines, frame, &mut progress.counts) {
         Some(record) => Step::Came { record, time, len },
         None => Step::Passed(len),
     }

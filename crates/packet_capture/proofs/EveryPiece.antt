@@ -6,6 +6,7 @@ use Rattle.packet_capture.specs.declared.fields.ByteOrder.{ByteOrder}
 use Rattle.packet_capture.specs.declared.fields.ByteOrder.TheVariants.{Big}
 use Rattle.packet_capture.specs.declared.content.BlockKind.{BlockKind}
 use Rattle.packet_capture.specs.declared.content.BlockKind.TheVariants.{SectionHeader, Description, Enhanced, Old, Simple, Unread}
+use Rattle.packet_capture.specs.declared.drop_report.DropReport.TheVariants.{Silent}
 use Rattle.packet_capture.specs.declared.fault.CaptureFault.{CaptureFault}
 use Rattle.packet_capture.specs.declared.fault.CaptureFault.TheVariants.{NotCapture, UnknownVersion, TooLong, BadByteOrder, BadBlockLength, LengthsDiffer, ShortBlock, UnknownInterface, FramePastBlock, OptionPastBlock, TooManyInterfaces}
 use Rattle.packet_capture.specs.declared.interface.Interface.{Interface}
@@ -21,6 +22,7 @@ use Rattle.packet_capture.specs.Savefiles.{magic_at, savefile_at, BeginsSavefile
 use Rattle.packet_capture.specs.Blocks.{order_at, IsBlockLen, IsBlock}
 use Rattle.packet_capture.specs.Interfaces.{OptionField, IsAtFront, after_option, AreOptions, CutAfter, with_options, bare_interface, options_in}
 use Rattle.packet_capture.specs.Contents.{block_kind, fixed_len, IsPacketKind, IsSectionVersion, interface_in, captured_in, frame_in, BlockEvent, section_begins, interface_added, frame_came, passed_over, BlockSays, HasBlockFault}
+use Rattle.packet_capture.specs.DropReports.{report_of}
 use Rattle.packet_capture.specs.Stops.{StopsInHeader, StopsInRecord, StopsInBlock}
 use Rattle.packet_capture.specs.Captures.{Context, PieceContent, IsBlockPiece, IsPieceIn, IsPiece, frame_in_event, interfaces_after, StopsInSection, StopsIn, StopsReading}
 use Rattle.packet_capture.proofs.Deciding.{option_cases}
@@ -321,10 +323,11 @@ event_or_fault_of is order block Unread kind there = inl (passed_over, kind)
 event_or_fault : (is : List Interface) (order : ByteOrder) (block : List ℕ)
     → EventOrFault is order block
 unfolding EventOrFault
-event_or_fault is order block = elim (cases_lt (length block) (fixed_len (block_kind order block))) [
-  | inl short ↦ inr (ShortBlock, inl (short, refl))
-  | inr there ↦ event_or_fault_of is order block (block_kind order block) refl there
-]
+event_or_fault is order block =
+    let least = fixed_len (block_kind order block) in elim (cases_lt (length block) least) [
+      | inl short ↦ inr (ShortBlock, inl (short, refl))
+      | inr there ↦ event_or_fault_of is order block (block_kind order block) refl there
+    ]
 
 -- a section's blocks
 section_piece_or_stop : (section : ByteOrder) (before : Context) (bytes : List ℕ)
@@ -358,7 +361,11 @@ section_piece_or_stop section before bytes few = elim (block_or_stop section byt
         → ((piece : PieceContent) × (after : Context) × IsBlockPiece section before bytes piece
         after) ⊎ ((stop : Stop) × StopsInSection section before bytes stop)
     piece_of_block section before bytes order block event few whole says = inl (
-      record { len = length block; frame = frame_in_event event },
+      record {
+        len = length block;
+        frame = frame_in_event event;
+        dropped = report_of order block;
+      },
       record { format = InSection order; interfaces = interfaces_after before.interfaces event },
       record {
         order = order;
@@ -370,6 +377,7 @@ section_piece_or_stop section before bytes few = elim (block_or_stop section byt
             few;
         len = refl;
         frame = refl;
+        dropped = refl;
         after_is = refl;
       },
     )
@@ -420,7 +428,7 @@ piece_or_stop_in Start before bytes few = elim (cases_lt (length bytes) 4) [
   | inr there ↦ elim (option_cases (magic_at bytes)) [
     | inr (magic, is) ↦ elim (header_or_stop bytes magic is) [
       | inl (s, begins) ↦ inl (
-        record { len = 24; frame = None },
+        record { len = 24; frame = None; dropped = Silent },
         record {
           format = InSavefile s;
           interfaces = [];
@@ -431,6 +439,7 @@ piece_or_stop_in Start before bytes few = elim (cases_lt (length bytes) 4) [
           begins = begins;
           len = refl;
           frame = refl;
+          dropped = refl;
           after_is = refl;
         }),
       )
@@ -451,9 +460,16 @@ piece_or_stop_in Start before bytes few = elim (cases_lt (length bytes) 4) [
 ]
 piece_or_stop_in (InSavefile s) before bytes few = elim (record_or_stop s bytes) [
   | inl (f, is) ↦ inl (
-    record { len = 16 + captured_at s bytes; frame = Some f },
+    record { len = 16 + captured_at s bytes; frame = Some f; dropped = Silent },
     before,
-    record { frame = f; is_record = is; len = refl; frame_is = refl; after_is = refl },
+    record {
+      frame = f;
+      is_record = is;
+      len = refl;
+      frame_is = refl;
+      dropped = refl;
+      after_is = refl;
+    },
   )
   | inr stop ↦ inr stop
 ]

@@ -7,16 +7,18 @@ use Rattle.packet_capture.specs.declared.fields.ByteOrder.TheVariants.{Big}
 use Rattle.packet_capture.specs.declared.link.IpVersion.{IpVersion}
 use Rattle.packet_capture.specs.declared.link.IpVersion.TheVariants.{V4, V6}
 use Rattle.packet_capture.specs.declared.link.LinkType.TheVariants.{Ethernet}
+use Rattle.packet_capture.specs.declared.link.TypedHeader.{TypedHeader}
 use Rattle.packet_capture.specs.declared.fault.FrameFault.TheVariants.{Fragment}
 use Rattle.packet_capture.specs.declared.datagram.Address.{Address}
 use Rattle.packet_capture.specs.declared.datagram.Address.TheVariants as addresses
 use Rattle.packet_capture.specs.Fields.{u16_in, bytes_at}
-use Rattle.packet_capture.specs.Links.{tags_of, packet_in, is_tag, by_ether_type}
+use Rattle.packet_capture.specs.Links.{is_tag, with_tag, with_tags, tagged, ethernet, link_len, by_ether_type, packet_in}
 use Rattle.packet_capture.specs.Packets.{IsIp, IsUdp, header_len, packet_len, obstacle_in, destination_in, segment_in}
 use Rattle.packet_capture.specs.Datagrams.{HasUdp, HasPacket, CarriesDatagram, datagram_in}
 use Rattle.packet_capture.specs.Written.{u16_bytes}
 use Rattle.packet_capture.proofs.WrittenBack.{two_back}
-use Rattle.packet_capture.specs.WrittenFrames.{WrittenDatagram, udp_bytes, WrittenIpv4, IsWrittenIpv4, ipv4_bytes, WrittenIpv6, IsWrittenIpv6, ipv6_bytes, Tag, tag_bytes, ethernet_bytes, IsWrittenEthernet}
+use Rattle.packet_capture.proofs.Tags.{untagged}
+use Rattle.packet_capture.specs.WrittenFrames.{WrittenDatagram, udp_bytes, WrittenIpv4, IsWrittenIpv4, ipv4_bytes, WrittenIpv6, IsWrittenIpv6, ipv6_bytes, TagKind, customer, service, doubled, tag_type, Tag, tag_bytes, ethernet_bytes}
 
 -- what follows a part of a known length
 skip : (xs ys : List ℕ) (n m : ℕ) → length xs ≡ n → drop (n + m) (xs ++ ys) ≡ drop m ys
@@ -235,93 +237,105 @@ number_after xs ys n k len =
     ap (λ (x : ℕ). x * 256 + slice_index (xs ++ ys) (n + k + 1)) (at k)
     ∙ ap (λ (x : ℕ). slice_index ys k * 256 + x) next
 
+first_type : (xs ys : List ℕ) (n : ℕ) → length xs ≡ n → u16_in Big (xs ++ ys) n ≡ u16_in Big ys 0
+first_type xs ys n len =
+    let same : n ≡ n + 0 = omega arith in
+    ap (λ (k : ℕ). u16_in Big (xs ++ ys) k) same ∙ number_after xs ys n 0 len
+
 -- the types that are no tags
 record IsType (type : ℕ) (version : IpVersion) : Type 0 where
-  small : type < 65536
   no_tag : is_tag type ≡ false
   version_is : by_ether_type type ≡ Some version
 
--- what follows the addresses says
-record SaysType (rest : List ℕ) (count : ℕ) (type : ℕ) (packet : List ℕ) : Type 0 where
-  tags : (if is_tag (u16_in Big rest 0) then (if is_tag (u16_in Big rest 4) then 2 else 1) else
-      0) ≡ count
-  type_is : u16_in Big rest (4 * count) ≡ type
-  packet_is : drop (2 + 4 * count) rest ≡ packet
-  long : 2 + 4 * count ≤ length rest
+tag_type_is : (kind : TagKind)
+    → is_tag (tag_type kind / 256 * 256 + tag_type kind % 256) ≡ true
+tag_type_is customer = refl
+tag_type_is service = refl
+tag_type_is doubled = refl
 
-tag_is : (service : Bool)
-    → is_tag ((if service then 34984 else 33024) / 256 * 256 + (if service then 34984
-    else 33024) % 256) ≡ true
-tag_is true = refl
-tag_is false = refl
+length-tags : (tags : List Tag) → length (flat_map tag_bytes tags) ≡ 4 * length tags
+length-tags [] = refl
+length-tags (a ∷ tags) = let h = length-tags tags in omega (arith, h)
 
-says_type : (tags : List Tag) (type : ℕ) (version : IpVersion) (packet : List ℕ) → length tags ≤ 2
-    → IsType type version → SaysType (flat_map tag_bytes tags ++ (u16_bytes Big type ++ packet))
-    (length tags) type packet
+-- a header after this many bytes, where tags and then a type that is none follow them
+tags_back : (tags : List Tag) (type : ℕ) (packet before : List ℕ) (most n len end : ℕ)
+    → is_tag type ≡ false → length before ≡ n → len ≡ n + 2 → end ≡ n + 4 * length tags
+    → length tags ≤ most
+    → with_tags most (record { type_at = n; len = len })
+    (before ++ (flat_map tag_bytes tags ++ (u16_bytes Big type ++ packet)))
+    ≡ record { type_at = end; len = end + 2 }
 unfolding u16_in
-says_type [] type version packet few h =
-    let none : is_tag (type / 256 * 256 + type % 256) ≡ false = ap is_tag (two_back type) ∙ h.no_tag
-    in
-    record {
-      tags = ap (λ (b : Bool). if b then (if is_tag (u16_in Big (u16_bytes Big type ++ packet) 4)
-          then 2 else 1) else 0) none;
-      type_is = two_back type;
-      packet_is = refl;
-      long = omega arith;
+tags_back [] type packet before most n len end none at two last few =
+    let frame : List ℕ = before ++ (u16_bytes Big type ++ packet) in
+    let same : n ≡ end = omega (arith, last) in
+    let type_is : u16_in Big frame n ≡ type = first_type before (u16_bytes Big type ++ packet) n at
+    ∙ two_back type in
+    untagged most (record { type_at = n; len = len }) frame (ap is_tag type_is ∙ none)
+    ∙ λ i. record {
+      type_at = same i;
+      len = (two ∙ ap (λ (k : ℕ). k + 2) same) i;
     }
-says_type (a ∷ []) type version packet few h =
-    let none : is_tag (type / 256 * 256 + type % 256) ≡ false = ap is_tag (two_back type) ∙ h.no_tag
-    in
-    record {
-      tags = ap (λ (b : Bool). if b then (if is_tag (type / 256 * 256 + type % 256) then 2 else 1)
-          else 0) (tag_is a.service)
-          ∙ ap (λ (b : Bool). if b then 2 else 1) none;
-      type_is = two_back type;
-      packet_is = refl;
-      long = omega arith;
-    }
-says_type (a ∷ b ∷ []) type version packet few h =
-    let second : Bool → ℕ = λ t. if t then 2 else 1 in
-    record {
-      tags = ap
-          (λ (t : Bool). if t then
-          (if is_tag ((if b.service then 34984 else 33024) / 256 * 256 + (if b.service then 34984
-          else 33024) % 256) then 2 else 1) else 0) (tag_is a.service)
-          ∙ ap second (tag_is b.service);
-      type_is = two_back type;
-      packet_is = refl;
-      long = omega arith;
-    }
-says_type (a ∷ b ∷ c ∷ tags) type version packet few h = absurd (omega arith)
+tags_back (a ∷ tags) type packet before zero n len end none at two last few = absurd (omega arith)
+tags_back (a ∷ tags) type packet before (suc most) n len end none at two last few =
+    let rest : List ℕ = flat_map tag_bytes tags ++ (u16_bytes Big type ++ packet) in
+    let frame : List ℕ = before ++ (tag_bytes a ++ rest) in
+    let longer : List ℕ = before ++ tag_bytes a in
+    let joined : frame ≡ longer ++ rest = sym (append_assoc before (tag_bytes a) rest) in
+    let first : is_tag (u16_in Big frame n) ≡ true =
+    ap is_tag (first_type before (tag_bytes a ++ rest) n at) ∙ tag_type_is a.kind in
+    let h : TypedHeader = with_tag (record { type_at = n; len = len }) in
+    let next : h ≡ record { type_at = n + 4; len = n + 6 } =
+    let e : len + 2 ≡ n + 4 = omega (arith, two) in let f : len + 4 ≡ n + 6 = omega (arith, two) in
+    λ i. record { type_at = e i; len = f i } in
+    ap (λ (b : Bool). if b then with_tags most h frame
+    else (record { type_at = n; len = len })) first
+    ∙ ap (λ (x : TypedHeader). with_tags most x frame) next
+    ∙ ap (λ (x : List ℕ). with_tags most (record { type_at = n + 4; len = n + 6 }) x) joined
+    ∙ tags_back tags type packet longer most (n + 4) (n + 6) end none
+    (omega (arith, length-append before (tag_bytes a), at)) (omega arith) (omega (arith, last))
+    (omega (arith, few))
 
 ethernet_back : (heads : List ℕ) (tags : List Tag) (type : ℕ) (version : IpVersion)
-    (packet : List ℕ) → IsWrittenEthernet heads tags → IsType type version
+    (packet : List ℕ) → length heads ≡ 12 → IsType type version
     → let frame = heads ++ (flat_map tag_bytes tags ++ (u16_bytes Big type ++ packet))
     in HasPacket Ethernet frame version × (packet_in Ethernet frame ≡ packet)
-ethernet_back heads tags type version packet h t =
-    let rest : List ℕ = flat_map tag_bytes tags ++ (u16_bytes Big type ++ packet) in
-    let says = says_type tags type version packet h.few t in
+unfolding u16_in
+ethernet_back heads tags type version packet twelve t =
+    let between : List ℕ = flat_map tag_bytes tags in
+    let rest : List ℕ = between ++ (u16_bytes Big type ++ packet) in
     let frame : List ℕ = heads ++ rest in
-    let first : u16_in Big frame 12 ≡ u16_in Big rest 0 = number_after heads rest 12 0 h.twelve in
-    let second : u16_in Big frame 16 ≡ u16_in Big rest 4 = number_after heads rest 12 4 h.twelve in
-    let count : tags_of frame ≡ length tags =
-    ap (λ (x : ℕ). if is_tag x then (if is_tag (u16_in Big frame 16) then 2 else 1) else 0) first
-    ∙ ap (λ (x : ℕ). if is_tag (u16_in Big rest 0) then (if is_tag x then 2 else 1) else 0) second
-    ∙ says.tags in
-    let len : length frame ≡ 12 + length rest = length-append heads rest
-    ∙ ap (λ (n : ℕ). n + length rest) h.twelve in
-    let long = says.long in
-    let type_at : u16_in Big frame (12 + 4 * tags_of frame) ≡ type =
-    ap (λ (n : ℕ). u16_in Big frame (12 + 4 * n)) count
-    ∙ number_after heads rest 12 (4 * length tags) h.twelve ∙ says.type_is in
-    let where_packet : 14 + 4 * tags_of frame ≡ 12 + (2 + 4 * length tags) = omega arith in (
-      record { there = omega arith; version_is = ap by_ether_type type_at ∙ t.version_is },
-      ap (λ (n : ℕ). drop n frame) where_packet ∙ skip heads rest 12 (2 + 4 * length tags) h.twelve
-          ∙ says.packet_is,
+    let count : length between ≡ 4 * length tags = length-tags tags in
+    let len : length frame ≡ 12 + (4 * length tags + (2 + length packet)) =
+    omega (
+      arith,
+      length-append heads rest,
+      length-append between (u16_bytes Big type ++ packet),
+      twelve,
+      count,
+    ) in
+    let end : ℕ = 12 + 4 * length tags in
+    let header : tagged ethernet frame ≡ record { type_at = end; len = end + 2 } =
+    tags_back tags type packet heads (length frame) 12 14 end t.no_tag twelve refl refl
+    (omega (arith, len)) in
+    let long : link_len Ethernet frame ≡ end + 2 = ap (λ (h : TypedHeader). h.len) header in
+    let at_end : u16_in Big frame end ≡ type =
+    number_after heads rest 12 (4 * length tags) twelve
+    ∙ first_type between (u16_bytes Big type ++ packet) (4 * length tags) count ∙ two_back type in
+    let type_is : u16_in Big frame (tagged ethernet frame).type_at ≡ type =
+    ap (λ (h : TypedHeader). u16_in Big frame h.type_at) header ∙ at_end in
+    let where_packet : link_len Ethernet frame ≡ 12 + (4 * length tags + 2) =
+    long ∙ omega arith in (
+      record {
+        there = omega (arith, long, len);
+        version_is = ap by_ether_type type_is ∙ t.version_is;
+      },
+      ap (λ (n : ℕ). drop n frame) where_packet
+          ∙ skip heads rest 12 (4 * length tags + 2) twelve
+          ∙ skip between (u16_bytes Big type ++ packet) (4 * length tags) 2 count,
     )
 
 carried : (heads : List ℕ) (tags : List Tag) (type : ℕ) (version : IpVersion) (packet : List ℕ)
-    (address : Address) (d : WrittenDatagram) → IsWrittenEthernet heads tags → IsType type version
+    (address : Address) (d : WrittenDatagram) → length heads ≡ 12 → IsType type version
     → ReadsAs version packet address d
     → CarriesDatagram 1 (heads ++ (flat_map tag_bytes tags ++ (u16_bytes Big type ++ packet)))
     (record { address = address; port = d.port; bytes = d.bytes })
@@ -338,25 +352,17 @@ carried heads tags type version packet address d h t reads =
     }
 
 pub ipv4_back : (heads : List ℕ) (tags : List Tag) (p : WrittenIpv4) (d : WrittenDatagram)
-    (filling : List ℕ) → IsWrittenEthernet heads tags → IsWrittenIpv4 p d
+    (filling : List ℕ) → length heads ≡ 12 → IsWrittenIpv4 p d
     → CarriesDatagram 1 (ethernet_bytes heads tags 2048 (ipv4_bytes p d) filling)
     (record { address = addresses.V4 p.destination; port = d.port; bytes = d.bytes })
 ipv4_back heads tags p d filling h k = carried heads tags 2048 V4 (ipv4_bytes p d ++ filling)
-    (addresses.V4 p.destination) d h (record {
-      small = omega arith;
-      no_tag = refl;
-      version_is =
-          refl;
-    }) (four_back p d filling k)
+    (addresses.V4 p.destination) d h (record { no_tag = refl; version_is = refl })
+    (four_back p d filling k)
 
 pub ipv6_back : (heads : List ℕ) (tags : List Tag) (p : WrittenIpv6) (d : WrittenDatagram)
-    (filling : List ℕ) → IsWrittenEthernet heads tags → IsWrittenIpv6 p d
+    (filling : List ℕ) → length heads ≡ 12 → IsWrittenIpv6 p d
     → CarriesDatagram 1 (ethernet_bytes heads tags 34525 (ipv6_bytes p d) filling)
     (record { address = addresses.V6 p.destination; port = d.port; bytes = d.bytes })
 ipv6_back heads tags p d filling h k = carried heads tags 34525 V6 (ipv6_bytes p d ++ filling)
-    (addresses.V6 p.destination) d h (record {
-      small = omega arith;
-      no_tag = refl;
-      version_is =
-          refl;
-    }) (six_back p d filling k)
+    (addresses.V6 p.destination) d h (record { no_tag = refl; version_is = refl })
+    (six_back p d filling k)

@@ -9,8 +9,11 @@ pub mod OneDatagram
 pub mod OnePiece
 pub mod OneReading
 pub mod OneRecord
+pub mod OptionNumbers
 pub mod OptionSteps
 pub mod Powers
 pub mod ReadBlocks
 pub mod SectionsBack
+pub mod SilentPackets
+pub mod Tags
 pub mod WrittenBack

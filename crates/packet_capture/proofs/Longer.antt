@@ -191,6 +191,7 @@ block_piece_longer section before after xs more p h = record {
   few = h.few;
   len = h.len;
   frame = h.frame;
+  dropped = h.dropped;
   after_is = h.after_is;
 }
 
@@ -203,6 +204,7 @@ record_piece_longer s before after xs more p h =
       is_record = record_longer s xs more h.frame h.is_record;
       len = h.len ∙ ap (λ (n : ℕ). 16 + n) (sym (u32_longer s.magic.order xs more 8 (omega arith)));
       frame_is = h.frame_is;
+      dropped = h.dropped;
       after_is = h.after_is;
     }
 
@@ -214,6 +216,7 @@ piece_longer_in Start before after xs more p (inl h) = inl (record {
   begins = begins_longer xs more h.savefile h.begins;
   len = h.len;
   frame = h.frame;
+  dropped = h.dropped;
   after_is = h.after_is;
 })
 piece_longer_in Start before after xs more p (inr h) = inr (record {

@@ -13,20 +13,23 @@ use Rattle.packet_capture.specs.declared.stop.Stop.{Stop}
 use Rattle.packet_capture.specs.declared.stop.Stop.TheVariants.{Bad}
 use Rattle.packet_capture.specs.Frames.{FrameContent}
 use Rattle.packet_capture.specs.Contents.{BlockEvent, interface_added, BlockSays, HasBlockFault}
+use Rattle.packet_capture.specs.DropReports.{report_of}
 use Rattle.packet_capture.specs.Captures.{Context, PieceContent, IsHeaderPiece, IsRecordPiece, frame_in_event, interfaces_after, IsBlockPiece, IsPieceIn, IsPiece, IsOneTooMany, StopsInSection, StopsAtStart, StopsIn, StopsReading}
 use Rattle.packet_capture.proofs.OneRecord.{same_savefile, no_header_stop, same_header_stop, same_record, no_record_stop, same_record_stop}
 use Rattle.packet_capture.proofs.OneBlock.{same_order, same_block, same_block_stop, no_block_stop, same_event, same_block_fault, no_fault_with_event, block_len}
 
 -- pieces and contexts by their parts
-piece_is : (p q : PieceContent) → p.len ≡ q.len → p.frame ≡ q.frame → p ≡ q
-piece_is p q a b = λ i. record { len = a i; frame = b i }
+piece_is : (p q : PieceContent) → p.len ≡ q.len → p.frame ≡ q.frame → p.dropped ≡ q.dropped → p ≡ q
+piece_is p q a b c = λ i. record { len = a i; frame = b i; dropped = c i }
 
 same_header : (bytes : List ℕ) (p q : PieceContent) (a b : Context) → IsHeaderPiece bytes p a
     → IsHeaderPiece bytes q b → (p ≡ q) × (a ≡ b)
 same_header bytes p q a b h k =
     let s : h.savefile ≡ k.savefile = same_savefile bytes h.savefile k.savefile h.begins k.begins in
-    let C : Savefile → Context = λ x. record { format = InSavefile x; interfaces = [] } in
-    (piece_is p q (h.len ∙ sym k.len) (h.frame ∙ sym k.frame), h.after_is ∙ ap C s ∙ sym k.after_is)
+    let C : Savefile → Context = λ x. record { format = InSavefile x; interfaces = [] } in (
+      piece_is p q (h.len ∙ sym k.len) (h.frame ∙ sym k.frame) (h.dropped ∙ sym k.dropped),
+      h.after_is ∙ ap C s ∙ sym k.after_is,
+    )
 
 same_record_piece : (s : Savefile) (before : Context) (bytes : List ℕ) (p q : PieceContent)
     (a b : Context) → IsRecordPiece s before bytes p a → IsRecordPiece s before bytes q b → (p ≡ q)
@@ -34,7 +37,8 @@ same_record_piece : (s : Savefile) (before : Context) (bytes : List ℕ) (p q : 
 same_record_piece s before bytes p q a b h k =
     let f : h.frame ≡ k.frame = same_record s bytes h.frame k.frame h.is_record k.is_record in
     let S : FrameContent → Option FrameContent = λ x. Some x in (
-      piece_is p q (h.len ∙ sym k.len) (h.frame_is ∙ ap S f ∙ sym k.frame_is),
+      piece_is p q (h.len ∙ sym k.len) (h.frame_is ∙ ap S f ∙ sym k.frame_is)
+          (h.dropped ∙ sym k.dropped),
       h.after_is ∙ sym k.after_is,
     )
 
@@ -70,7 +74,9 @@ same_block_piece section before bytes p q a b h k =
           interfaces_after before.interfaces s;
     } in (
       piece_is p q (h.len ∙ ap (λ (x : List ℕ). length x) block ∙ sym k.len) (h.frame
-          ∙ ap frame_in_event event ∙ sym k.frame),
+          ∙ ap frame_in_event event ∙ sym k.frame) (h.dropped
+          ∙ ap (λ (r : ByteOrder). report_of r h.block) order
+          ∙ ap (λ (x : List ℕ). report_of k.order x) block ∙ sym k.dropped),
       h.after_is ∙ ap (λ (r : ByteOrder). C r h.event) order
           ∙ ap (λ (s : BlockEvent). C k.order s) event ∙ sym k.after_is,
     )

@@ -7,6 +7,7 @@ use Rattle.packet_capture.specs.declared.reader.Format.TheVariants.{InSection}
 use Rattle.packet_capture.specs.declared.stop.Stop.TheVariants.{Bad}
 use Rattle.packet_capture.specs.Blocks.{IsBlock}
 use Rattle.packet_capture.specs.Contents.{BlockEvent, BlockSays, HasBlockFault}
+use Rattle.packet_capture.specs.DropReports.{report_of}
 use Rattle.packet_capture.specs.Captures.{Context, PieceContent, frame_in_event, interfaces_after, IsBlockPiece, IsOneTooMany, StopsInSection}
 
 pub stops_in_block : (section : ByteOrder) (before : Context) (bytes : List ℕ) (order : ByteOrder)
@@ -45,10 +46,11 @@ pub is_block_piece : (section : ByteOrder) (before : Context) (bytes : List ℕ)
     (block : List ℕ) (is later : List Interface) (event : BlockEvent) (piece : PieceContent)
     → is ≡ before.interfaces → IsBlock section bytes order block → BlockSays is order block event
     → later ≡ interfaces_after is event → length later ≤ 256 → piece.len ≡ length block
-    → piece.frame ≡ frame_in_event event → IsBlockPiece section before bytes piece
+    → piece.frame ≡ frame_in_event event → piece.dropped ≡ report_of order block
+    → IsBlockPiece section before bytes piece
     (record { format = InSection order; interfaces = later })
 is_block_piece section before bytes order block is later event piece same whole
-    says after few len frame =
+    says after few len frame dropped =
     let P : List Interface → Type 0 = λ x. BlockSays x order block event in
     let next : later ≡ interfaces_after before.interfaces event = after
     ∙ ap (λ (x : List Interface). interfaces_after x event) same in
@@ -62,5 +64,6 @@ is_block_piece section before bytes order block is later event piece same whole
       few = subst Q next few;
       len = len;
       frame = frame;
+      dropped = dropped;
       after_is = λ i. record { format = InSection order; interfaces = next i };
     }

@@ -15,6 +15,7 @@ use Rattle.packet_capture.specs.Interfaces.{time_of, AreOptions, options_in, bar
 use Rattle.packet_capture.specs.Savefiles.{magic_at}
 use Rattle.packet_capture.specs.Blocks.{BeginsSection, order_at, IsBlock}
 use Rattle.packet_capture.specs.Contents.{block_kind, HasFrame, BlockEvent, section_begins, interface_added, frame_came, BlockSays}
+use Rattle.packet_capture.specs.DropReports.{report_of}
 use Rattle.packet_capture.specs.Captures.{Context, new_context, PieceContent, frame_in_event, IsPiece, ArePieces, frames_of, IsCapture}
 use Rattle.packet_capture.specs.Written.{u16_bytes, u32_bytes}
 use Rattle.packet_capture.specs.WrittenSections.{block_bytes, section_header, interface_bytes, WrittenPacket, IsWrittenPacket, packet_bytes, section_bytes, written_interface, packet_frame}
@@ -134,11 +135,15 @@ with_interface order link snap_len = record {
       written_interface link snap_len ∷ [];
 }
 
-abbrev block_piece : List ℕ → BlockEvent → PieceContent
-block_piece block event = record { len = length block; frame = frame_in_event event }
+abbrev block_piece : ByteOrder → List ℕ → BlockEvent → PieceContent
+block_piece order block event = record {
+  len = length block;
+  frame = frame_in_event event;
+  dropped = report_of order block;
+}
 
 abbrev packet_piece : ByteOrder → ℕ → ℕ → WrittenPacket → PieceContent
-packet_piece order link snap_len p = block_piece (packet_bytes order p)
+packet_piece order link snap_len p = block_piece order (packet_bytes order p)
     (frame_came (packet_frame link snap_len p))
 
 -- the header
@@ -171,7 +176,7 @@ no_magic Big rest = (refl, refl)
 no_magic Little rest = (refl, refl)
 
 first_piece : (order : ByteOrder) (rest : List ℕ) → IsPiece new_context (section_header order
-    ++ rest) (block_piece (section_header order) section_begins) (section_begun order)
+    ++ rest) (block_piece order (section_header order) section_begins) (section_begun order)
 first_piece order rest = inr (record {
   there = omega (arith, length-append (section_header order) rest, length-section order);
   no_savefile = (no_magic order rest).0;
@@ -185,6 +190,7 @@ first_piece order rest = inr (record {
     few = omega arith;
     len = refl;
     frame = refl;
+    dropped = refl;
     after_is = refl;
   };
 })
@@ -238,7 +244,7 @@ interface_body Little link snap_len rest = is_block Little Little 1 (u16_bytes L
 
 interface_piece : (order : ByteOrder) (link snap_len : ℕ) (rest : List ℕ) → snap_len < 2 ^ 32
     → IsPiece (section_begun order) (interface_bytes order link snap_len ++ rest)
-    (block_piece (interface_bytes order link snap_len)
+    (block_piece order (interface_bytes order link snap_len)
     (interface_added (written_interface link snap_len))) (with_interface order link snap_len)
 interface_piece order link snap_len rest small = record {
   order = order;
@@ -260,6 +266,7 @@ interface_piece order link snap_len rest small = record {
   few = omega arith;
   len = refl;
   frame = refl;
+  dropped = refl;
   after_is = refl;
 }
 
@@ -381,6 +388,7 @@ packet_is order link snap_len p rest h = record {
   few = omega arith;
   len = refl;
   frame = refl;
+  dropped = refl;
   after_is = refl;
 }
 
@@ -416,7 +424,7 @@ section_back order link snap_len ps small each =
     let last : Context = with_interface order link snap_len in
     let P : List ℕ → Type 0 = λ x. ArePieces last x pieces last [] in
     let interface_first : ArePieces (section_begun order) second
-    (block_piece (interface_bytes order link snap_len)
+    (block_piece order (interface_bytes order link snap_len)
     (interface_added (written_interface link snap_len)) ∷ pieces) last [] = (
       last,
       interface_piece order link snap_len packets small,
@@ -424,11 +432,11 @@ section_back order link snap_len ps small each =
           (packets_are order link snap_len ps each),
     ) in
     let Q : List ℕ → Type 0 = λ x. ArePieces (section_begun order) x
-    (block_piece (interface_bytes order link snap_len)
+    (block_piece order (interface_bytes order link snap_len)
     (interface_added (written_interface link snap_len)) ∷ pieces) last [] in
     record {
-      first = block_piece (section_header order) section_begins;
-      others = block_piece (interface_bytes order link snap_len)
+      first = block_piece order (section_header order) section_begins;
+      others = block_piece order (interface_bytes order link snap_len)
           (interface_added (written_interface link snap_len)) ∷ pieces;
       after = last;
       are = (

@@ -6,6 +6,7 @@ use Rattle.std.proofs.Math.Seq.{take-append_seam, drop-append_seam}
 use Rattle.std.specs.List.{AllByRecursion}
 use Rattle.packet_capture.specs.declared.fields.ByteOrder.{ByteOrder}
 use Rattle.packet_capture.specs.declared.fields.ByteOrder.TheVariants.{Big, Little}
+use Rattle.packet_capture.specs.declared.drop_report.DropReport.TheVariants.{Silent}
 use Rattle.packet_capture.specs.declared.savefile.Savefile.{Savefile}
 use Rattle.packet_capture.specs.declared.reader.Format.TheVariants.{InSavefile}
 use Rattle.packet_capture.specs.Fields.{u16_in, u32_in}
@@ -99,7 +100,7 @@ begins Little false longest link rest small = record {
 }
 
 header_piece : PieceContent
-header_piece = record { len = 24; frame = None }
+header_piece = record { len = 24; frame = None; dropped = Silent }
 
 after_header : (order : ByteOrder) (nanoseconds : Bool) (longest link : ℕ) (rest : List ℕ)
     → drop 24 (header_bytes order nanoseconds longest link ++ rest) ≡ rest
@@ -112,6 +113,7 @@ record_piece f nanoseconds link = record {
   len = 16 + length f.bytes;
   frame =
       Some (written_frame nanoseconds link f);
+  dropped = Silent;
 }
 
 field : (order : ByteOrder) (f : WrittenFrame) (rest : List ℕ) → IsWrittenFrame f
@@ -178,6 +180,7 @@ is_piece order nanoseconds link f rest h = record {
   is_record = is_record order nanoseconds link f rest h;
   len = ap (λ (n : ℕ). 16 + n) (sym (field order f rest h).2);
   frame_is = refl;
+  dropped = refl;
   after_is = refl;
 }
 
@@ -233,6 +236,7 @@ savefile_back order nanoseconds longest link fs small each =
           begins = begun;
           len = refl;
           frame = refl;
+          dropped = refl;
           after_is = refl;
         }),
         subst P (sym (after_header order nanoseconds longest link body))

@@ -5,6 +5,8 @@ use Rattle.packet_capture.specs.declared.fields.ByteOrder.{ByteOrder}
 use Rattle.packet_capture.specs.declared.fields.ByteOrder.TheVariants.{Big}
 use Rattle.packet_capture.specs.declared.fault.CaptureFault.{CaptureFault}
 use Rattle.packet_capture.specs.declared.fault.CaptureFault.TheVariants.{NotCapture, TooManyInterfaces}
+use Rattle.packet_capture.specs.declared.drop_report.DropReport.{DropReport}
+use Rattle.packet_capture.specs.declared.drop_report.DropReport.TheVariants.{Silent}
 use Rattle.packet_capture.specs.declared.frame.Frame.{Frame}
 use Rattle.packet_capture.specs.declared.interface.Interface.{Interface}
 use Rattle.packet_capture.specs.declared.reader.Format.{Format}
@@ -18,6 +20,7 @@ use Rattle.packet_capture.specs.Frames.{FrameContent, frame_of}
 use Rattle.packet_capture.specs.Savefiles.{magic_at, BeginsSavefile, IsPacketRecord, captured_at}
 use Rattle.packet_capture.specs.Blocks.{BeginsSection, IsBlock}
 use Rattle.packet_capture.specs.Contents.{BlockEvent, section_begins, interface_added, frame_came, passed_over, BlockSays, HasBlockFault}
+use Rattle.packet_capture.specs.DropReports.{report_of}
 use Rattle.packet_capture.specs.Stops.{StopsInHeader, StopsInRecord, StopsInBlock}
 
 -- what the pieces before say of the next one: the format of the capture, and in a section its
@@ -30,17 +33,19 @@ pub record Context : Type 0 where
 abbrev pub new_context : Context
 new_context = record { format = Start; interfaces = [] }
 
--- how many bytes a piece has, and its frame, if it has one
+-- how many bytes a piece has, its frame, if it has one, and what it says of frames that were
+-- dropped
 pub record PieceContent : Type 0 where
   pub len : ℕ
   pub frame : Option FrameContent
+  pub dropped : DropReport
 
 abbrev pub frame_in_piece : Option Frame → Option FrameContent
 frame_in_piece None = None
 frame_in_piece (Some f) = Some (frame_of f)
 
 abbrev pub piece_of : Piece → PieceContent
-piece_of p = record { len = p.len; frame = frame_in_piece p.frame }
+piece_of p = record { len = p.len; frame = frame_in_piece p.frame; dropped = p.dropped }
 
 abbrev pub list_of : Option FrameContent → List FrameContent
 list_of None = []
@@ -53,6 +58,7 @@ pub record IsHeaderPiece (bytes : List ℕ) (piece : PieceContent) (after : Cont
   pub begins : BeginsSavefile bytes savefile
   pub len : piece.len ≡ 24
   pub frame : piece.frame ≡ None
+  pub dropped : piece.dropped ≡ Silent
   pub after_is : after ≡ record { format = InSavefile savefile; interfaces = [] }
 
 -- a packet record of a savefile
@@ -62,6 +68,7 @@ pub record IsRecordPiece (s : Savefile) (before : Context) (bytes : List ℕ) (p
   pub is_record : IsPacketRecord s bytes frame
   pub len : piece.len ≡ 16 + captured_at s bytes
   pub frame_is : piece.frame ≡ Some frame
+  pub dropped : piece.dropped ≡ Silent
   pub after_is : after ≡ before
 
 -- the frame of a block, if it has one
@@ -89,6 +96,7 @@ pub record IsBlockPiece (section : ByteOrder) (before : Context) (bytes : List �
   pub few : length (interfaces_after before.interfaces event) ≤ 256
   pub len : piece.len ≡ length block
   pub frame : piece.frame ≡ frame_in_event event
+  pub dropped : piece.dropped ≡ report_of order block
   pub after_is : after ≡ record {
     format = InSection order;
     interfaces = interfaces_after before.interfaces event;

@@ -2,6 +2,7 @@ pub mod Blocks
 pub mod Captures
 pub mod Contents
 pub mod Datagrams
+pub mod DropReports
 pub mod Faults
 pub mod Fields
 pub mod FrameFaults

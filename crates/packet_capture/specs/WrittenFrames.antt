@@ -78,23 +78,29 @@ ipv6_bytes p d =
     ++ (17 ∷ p.hops ∷ []
     ++ (p.source ++ (p.destination ++ udp_bytes d)))))
 
--- a VLAN tag, of a service or of a customer
+-- a VLAN tag: a customer's, a service's, or one that was doubled before the standard said how
+pub data TagKind : Type 0 where
+  customer : TagKind
+  service : TagKind
+  doubled : TagKind
+
+abbrev pub tag_type : TagKind → ℕ
+tag_type customer = 33024
+tag_type service = 34984
+tag_type doubled = 37120
+
 pub record Tag : Type 0 where
-  pub service : Bool
+  pub kind : TagKind
   pub vlan : ℕ
 
 abbrev pub tag_bytes : Tag → List ℕ
-tag_bytes tag = u16_bytes Big (if tag.service then 34984 else 33024) ++ u16_bytes Big tag.vlan
+tag_bytes tag = u16_bytes Big (tag_type tag.kind) ++ u16_bytes Big tag.vlan
 
--- an Ethernet frame: two addresses of six bytes, VLAN tags, the EtherType, a packet and what fills
--- the frame
+-- an Ethernet frame: two addresses, of twelve bytes in all, VLAN tags, the EtherType, a packet and
+-- what fills the frame
 abbrev pub ethernet_bytes : List ℕ → List Tag → ℕ → List ℕ → List ℕ → List ℕ
 ethernet_bytes addresses tags type packet filling =
     addresses ++ (flat_map tag_bytes tags ++ (u16_bytes Big type ++ (packet ++ filling)))
-
-pub record IsWrittenEthernet (addresses : List ℕ) (tags : List Tag) : Type 0 where
-  pub twelve : length addresses ≡ 12
-  pub few : length tags ≤ 2
 
 -- the datagram that was written, which goes to this address
 abbrev pub sent_to : Address → WrittenDatagram → DatagramContent

@@ -1,7 +1,9 @@
 //! The contents of the blocks of a pcapng file.
-ghost use Rattle.std.specs.Prelude.{◌≡◌, ◌≤◌, ◌+◌, ◌⊎◌, Some, IfSome, IfOk, IfErr, IsTrue, ◌↔◌, length, slice_get};
+ghost use Rattle.std.specs.Prelude.{◌≡◌, ◌≤◌, ◌+◌, ◌⊎◌, Some, IfSome, IfOk, IfErr, OnOk, IsTrue, ◌↔◌, length, slice_get};
+ghost use Rattle.packet_capture.specs.declared.drop_report.DropReport.TheVariants.{Silent};
 ghost use Rattle.packet_capture.specs.Fields.{u32_in};
 ghost use Rattle.packet_capture.specs.Frames.{frame_of};
+ghost use Rattle.packet_capture.specs.DropReports.{report_of};
 ghost use Rattle.packet_capture.specs.Contents.{kind_of, block_kind, fixed_len, IsPacketKind, IsSectionVersion, interface_in, wire_len_in, up_to_limit, captured_in, frame_start, time_in, frame_in, HasFrame, BlockSays, block_event_of, HasBlockFault};
 
 use crate::block::{Block, SECTION_HEADER};
@@ -41,7 +43,7 @@ pub(crate) enum BlockContent<'a> {
 }
 
 #[inline(always)]
-fn kind_of(block_type: u32) -> BlockKind
+pub(crate) fn kind_of(block_type: u32) -> BlockKind
     ensures { result ≡ kind_of block_type }
 {
     match block_type {
@@ -164,6 +166,7 @@ fn read_frame<'a>(
     requires kind { kind ≡ block_kind order block.now }
     requires is_packet { IsPacketKind kind }
     ensures frame { IfOk result (λ f. HasFrame interfaces.now order block.now (frame_of f)) }
+    ensures there { OnOk result (fixed_len kind ≤ length block.now) }
     ensures fault { IfErr result (HasBlockFault interfaces.now order block.now) }
 {
     if block.len() < fixed_len(kind) {
@@ -195,6 +198,8 @@ pub(crate) fn read_content<'a>(
     requires { 12 ≤ length block.bytes.now }
     ensures says { IfOk result (λ c.
         BlockSays interfaces.now block.entry.order block.entry.bytes.now (block_event_of c)) }
+    ensures there { OnOk result (fixed_len (block_kind block.entry.order block.entry.bytes.now)
+        ≤ length block.entry.bytes.now) }
     ensures fault { IfErr result
         (HasBlockFault interfaces.now block.entry.order block.entry.bytes.now) }
 {
@@ -218,16 +223,40 @@ pub(crate) fn read_content<'a>(
     }
 }
 
-/// Returns the frame of an enhanced packet's block, or `None` where it is another, or has a fault.
+/// The number of bytes of an enhanced packet's block beside its frame, and an option at least.
+const WITH_AN_OPTION: usize = 36;
+
+/// The frame of an enhanced packet's block, or `None` where it has a fault, or room for an option.
+#[inline(always)]
+fn read_without_option<'a>(
+    interfaces: &[Interface],
+    order: ByteOrder,
+    bytes: &'a [u8],
+) -> Option<Frame<'a>>
+    requires least { 12 ≤ length bytes.now }
+    requires kind { BlockKind.Enhanced ≡ block_kind order bytes.now }
+    ensures frame { IfSome result (λ f. HasFrame interfaces.now order bytes.now (frame_of f)) }
+    ensures silent { IfSome result (λ f. report_of order bytes.now ≡ Silent) }
+{
+    match read_frame(BlockKind::Enhanced, interfaces, order, bytes) {
+        Ok(frame) if bytes.len() < WITH_AN_OPTION + frame.bytes.len() => Some(frame),
+        _ => None,
+    }
+}
+
+/// Returns the frame of an enhanced packet's block with no room for an option, or `None` where it
+/// is another, or has a fault.
 #[inline(always)]
 pub(crate) fn read_enhanced<'a>(interfaces: &[Interface], block: Block<'a>) -> Option<Frame<'a>>
     requires { 12 ≤ length block.bytes.now }
-    ensures { IfSome result
+    ensures frame { IfSome result
         (λ f. HasFrame interfaces.now block.entry.order block.entry.bytes.now (frame_of f)) }
+    ensures silent { IfSome result
+        (λ f. report_of block.entry.order block.entry.bytes.now ≡ Silent) }
 {
     let Block { order, bytes } = block;
     match kind_of(read_u32(order, bytes, 0)) {
-        BlockKind::Enhanced => read_frame(BlockKind::Enhanced, interfaces, order, bytes).ok(),
+        BlockKind::Enhanced => read_without_option(interfaces, order, bytes),
         _ => None,
     }
 }

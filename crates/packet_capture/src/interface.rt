@@ -21,7 +21,7 @@ pub(crate) struct Interface {
 
 /// The front of a list of options.
 #[derive(Clone, Copy, Debug, PartialEq, Eq)]
-enum FrontOption<'a> {
+pub(crate) enum FrontOption<'a> {
     /// Nothing, or the end of the list.
     End,
     /// An option that runs past the bytes.
@@ -31,7 +31,7 @@ enum FrontOption<'a> {
 }
 
 /// Reads the option at the front.
-fn front_option(order: ByteOrder, bytes: &[u8]) -> FrontOption<'_>
+pub(crate) fn front_option(order: ByteOrder, bytes: &[u8]) -> FrontOption<'_>
     ensures { StandsThere order bytes.now result }
 {
     if bytes.len() < 4 {

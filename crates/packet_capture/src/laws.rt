@@ -13,7 +13,7 @@ ghost use Rattle.packet_capture.specs.Frames.{FrameContent};
 ghost use Rattle.packet_capture.specs.Captures.{Context, PieceContent, IsPiece, StopsReading, IsCapture};
 ghost use Rattle.packet_capture.specs.Written.{WrittenFrame, IsWrittenFrame, savefile_bytes, written_frame};
 ghost use Rattle.packet_capture.specs.WrittenSections.{WrittenPacket, IsWrittenPacket, section_bytes, packet_frame};
-ghost use Rattle.packet_capture.specs.WrittenFrames.{WrittenDatagram, WrittenIpv4, IsWrittenIpv4, ipv4_bytes, WrittenIpv6, IsWrittenIpv6, ipv6_bytes, Tag, IsWrittenEthernet, ethernet_bytes, sent_to};
+ghost use Rattle.packet_capture.specs.WrittenFrames.{WrittenDatagram, WrittenIpv4, IsWrittenIpv4, ipv4_bytes, WrittenIpv6, IsWrittenIpv6, ipv6_bytes, Tag, ethernet_bytes, sent_to};
 
 /// A frame carries one datagram and has no fault, or it has one fault: with
 /// [`read_datagram`](crate::read_datagram), that one answer. The function does nothing: its
@@ -72,18 +72,18 @@ pub fn read_as_bytes_come()
         → StopsReading before bytes (Bad f) → StopsReading before (bytes ++ more) (Bad f) }
 {}
 
-/// A datagram that was written into an Ethernet frame, with up to two VLAN tags, in a packet of
+/// A datagram that was written into an Ethernet frame, with any number of VLAN tags, in a packet of
 /// IPv4 with or without options or of IPv6, reads back, whatever fills the frame. The function does
 /// nothing: its contract is a law.
 pub fn frames_read_back()
     ensures ipv4 { (heads : List ℕ) (tags : List Tag) (packet : WrittenIpv4)
         (d : WrittenDatagram) (filling : List ℕ)
-        → IsWrittenEthernet heads tags → IsWrittenIpv4 packet d
+        → length heads ≡ 12 → IsWrittenIpv4 packet d
         → CarriesDatagram 1 (ethernet_bytes heads tags 2048 (ipv4_bytes packet d) filling)
         (sent_to (addresses.V4 packet.destination) d) }
     ensures ipv6 { (heads : List ℕ) (tags : List Tag) (packet : WrittenIpv6)
         (d : WrittenDatagram) (filling : List ℕ)
-        → IsWrittenEthernet heads tags → IsWrittenIpv6 packet d
+        → length heads ≡ 12 → IsWrittenIpv6 packet d
         → CarriesDatagram 1 (ethernet_bytes heads tags 34525 (ipv6_bytes packet d) filling)
         (sent_to (addresses.V6 packet.destination) d) }
 {}

@@ -3,8 +3,9 @@
 //! from the capture's, and a datagram from its frame's.
 //!
 //! [`CaptureReader::next_piece`] reads a capture piece by piece, whatever bytes come: exactly the
-//! header, packet record or block at the front, and the frame in it, or exactly why none is read
-//! (`specs/Captures.antt`). [`read_datagram`] returns exactly the datagram that a frame carries, or
+//! header, packet record or block at the front, the frame in it, and what it says of frames that
+//! were dropped, or exactly why none is read (`specs/Captures.antt`, `specs/DropReports.antt`).
+//! [`read_datagram`] returns exactly the datagram that a frame carries, or
 //! its first fault (`specs/Datagrams.antt`, `specs/FrameFaults.antt`). Both definitions follow the
 //! offsets that the formats' documents give.
 //!
@@ -20,6 +21,7 @@
 mod block;
 mod content;
 mod datagram;
+mod drop_report;
 mod fault;
 mod fields;
 mod frame;
@@ -32,6 +34,7 @@ mod savefile;
 mod stop;
 
 pub use datagram::{Address, Datagram, read_datagram};
+pub use drop_report::DropReport;
 pub use fault::{CaptureFault, FrameFault};
 pub use fields::ByteOrder;
 pub use frame::Frame;

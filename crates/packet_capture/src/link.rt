@@ -1,10 +1,11 @@
 //! The headers of the link layer.
-ghost use Rattle.std.specs.Prelude.{◌≡◌, ◌≤◌, ◌<◌, IfSome, IfNone, IfOk, IfErr, true, length};
+ghost use Rattle.std.specs.Prelude.{◌≡◌, ◌+◌, ◌≤◌, ◌<◌, ◌⊎◌, Some, None, IfSome, IfNone, IfOk, IfErr, true, length, drop};
+ghost use Rattle.packet_capture.specs.declared.fault.FrameFault.TheVariants.{NotIp, ShortFrame};
 ghost use Rattle.packet_capture.specs.declared.fields.ByteOrder.TheVariants.{Big};
 ghost use Rattle.packet_capture.specs.Fields.{u16_in};
 ghost use Rattle.packet_capture.specs.Datagrams.{HasPacket};
 ghost use Rattle.packet_capture.specs.FrameFaults.{HasLinkFault};
-ghost use Rattle.packet_capture.specs.Links.{number_of, is_tag, by_ether_type, by_family, by_first_byte, either_of, tags_of, link_len, version_in, packet_in};
+ghost use Rattle.packet_capture.specs.Links.{number_of, is_tag, by_ether_type, by_family, by_first_byte, by_header, tagged, version_in, packet_in};
 
 use crate::fault::FrameFault;
 use crate::fields::{ByteOrder, read_u16, read_u32};
@@ -15,19 +16,20 @@ pub enum LinkType {
     /// Number 0, of a loopback interface: the address family in four bytes, in the byte order of
     /// the machine.
     Null,
-    /// Number 1: two addresses, up to two VLAN tags, and the EtherType.
+    /// Number 1: two addresses, any number of VLAN tags, and the EtherType.
     Ethernet,
     /// Number 101: an IP packet of either version.
     Raw,
     /// Number 108: the address family in four bytes, the highest first.
     Loop,
-    /// Number 113: 16 bytes, of which the last two are the EtherType.
+    /// Number 113: 14 bytes, any number of VLAN tags, and the EtherType.
     LinuxCooked,
     /// Number 228: an IPv4 packet.
     Ipv4,
     /// Number 229: an IPv6 packet.
     Ipv6,
-    /// Number 276: 20 bytes, of which the first two are the EtherType.
+    /// Number 276: 20 bytes, of which the first two are the EtherType. Where that is a VLAN tag's,
+    /// tags follow, of which each ends with the EtherType of what follows it.
     LinuxCooked2,
 }
 
@@ -37,6 +39,33 @@ pub enum IpVersion {
     V4,
     V6,
 }
+
+/// The header of a frame up to its content.
+#[derive(Clone, Copy, Debug, PartialEq, Eq)]
+struct TypedHeader {
+    /// The offset of the EtherType of the content.
+    type_at: usize,
+    /// Its number of bytes.
+    len: usize,
+}
+
+/// The header of an Ethernet frame without tags.
+const ETHERNET: TypedHeader = TypedHeader {
+    type_at: 12,
+    len: 14,
+};
+
+/// Linux's cooked header without tags.
+const COOKED: TypedHeader = TypedHeader {
+    type_at: 14,
+    len: 16,
+};
+
+/// The second version of Linux's cooked header, without tags.
+const COOKED_2: TypedHeader = TypedHeader {
+    type_at: 0,
+    len: 20,
+};
 
 impl LinkType {
     /// Returns the link type of this number, or `None` where it isn't one that is read.
@@ -63,7 +92,7 @@ impl LinkType {
 fn is_tag(ether_type: u16) -> bool
     ensures { result ≡ is_tag ether_type }
 {
-    ether_type == 0x8100 || ether_type == 0x88a8
+    ether_type == 0x8100 || ether_type == 0x88a8 || ether_type == 0x9100
 }
 
 #[inline(always)]
@@ -99,33 +128,28 @@ fn by_first_byte(byte: u8) -> Option<IpVersion>
     }
 }
 
-/// The number of VLAN tags after the addresses, or `None` where the frame ends before its
-/// EtherType.
-#[inline(always)]
-fn tags_of(frame: &[u8]) -> Option<usize>
-    ensures found { IfSome result (λ tags. tags ≡ tags_of frame.now) }
-    ensures whole { IfSome result (λ tags. link_len LinkType.Ethernet
-        frame.now ≤ length frame.now) }
-    ensures cut { IfNone result (length frame.now < link_len LinkType.Ethernet frame.now) }
+/// The header with its VLAN tags, or `None` where the frame ends before its content.
+fn tagged(bare: TypedHeader, frame: &[u8]) -> Option<TypedHeader>
+    requires some { 0 < bare.len }
+    requires within { bare.type_at + 2 ≤ bare.len }
+    ensures found { IfSome result (λ h. h ≡ tagged bare frame.now) }
+    ensures typed { IfSome result (λ h. h.type_at + 2 ≤ h.len) }
+    ensures whole { IfSome result (λ h. h.len ≤ length frame.now) }
+    ensures cut { IfNone result (length frame.now < (tagged bare frame.now).len) }
 {
-    if frame.len() < 14 {
-        return None;
+    let mut header = bare;
+    'tags: loop {
+        if frame.len() < header.len {
+            return None;
+        }
+        if !is_tag(read_u16(ByteOrder::Big, frame, header.type_at)) {
+            return Some(header);
+        }
+        header = TypedHeader {
+            type_at: header.len + 2,
+            len: header.len + 4,
+        };
     }
-    if !is_tag(read_u16(ByteOrder::Big, frame, 12)) {
-        return Some(0);
-    }
-    if frame.len() < 18 {
-        return None;
-    }
-    let tags = if is_tag(read_u16(ByteOrder::Big, frame, 16)) {
-        2
-    } else {
-        1
-    };
-    if frame.len() < 14 + 4 * tags {
-        return None;
-    }
-    Some(tags)
 }
 
 /// The version by a family that is read in either byte order.
@@ -140,46 +164,55 @@ fn by_null_family(frame: &[u8]) -> Option<IpVersion>
     }
 }
 
-/// The number of bytes before the packet, or `None` where the frame ends before that.
+/// The version that the first byte says, if there is one.
 #[inline(always)]
-fn link_len(link: LinkType, frame: &[u8]) -> Option<usize>
-    ensures found { IfSome result (λ len. len ≡ link_len link frame.now) }
-    ensures whole { IfSome result (λ len. len ≤ length frame.now) }
-    ensures cut { IfNone result (length frame.now < link_len link frame.now) }
+fn by_start(frame: &[u8]) -> Option<IpVersion>
+    ensures { result ≡ version_in LinkType.Raw frame.now }
 {
-    let len = match link {
-        LinkType::Raw | LinkType::Ipv4 | LinkType::Ipv6 => 0,
-        LinkType::Null | LinkType::Loop => 4,
-        LinkType::LinuxCooked => 16,
-        LinkType::LinuxCooked2 => 20,
-        LinkType::Ethernet => match tags_of(frame) {
-            Some(tags) => 14 + 4 * tags,
-            None => return None,
-        },
-    };
-    if frame.len() < len { None } else { Some(len) }
+    match frame {
+        [first, ..] => by_first_byte(*first),
+        [] => None,
+    }
 }
 
-/// The version of the IP packet that the frame carries, if any. `len` is the number of bytes before
-/// it.
+/// The packet after a header of this length, of this version, or `NotIp` where there is none.
 #[inline(always)]
-fn version_in(link: LinkType, frame: &[u8], len: usize) -> Option<IpVersion>
-    requires len { len ≡ link_len link frame.now }
-    requires there { len ≤ length frame.now }
-    ensures { result ≡ version_in link frame.now }
+fn packet_after(
+    len: usize,
+    version: Option<IpVersion>,
+    frame: &[u8],
+) -> Result<(IpVersion, &[u8]), FrameFault>
+    requires { len ≤ length frame.now }
+    ensures found { IfOk result (λ r. version ≡ Some r.0) }
+    ensures packet { IfOk result (λ r. r.1.now ≡ drop len frame.now) }
+    ensures none { IfErr result (λ f. version ≡ None) }
+    ensures fault { IfErr result (λ f. f ≡ NotIp) }
 {
-    match link {
-        LinkType::Ipv4 => Some(IpVersion::V4),
-        LinkType::Ipv6 => Some(IpVersion::V6),
-        LinkType::Raw => match frame {
-            [first, ..] => by_first_byte(*first),
-            [] => None,
-        },
-        LinkType::Null => by_null_family(frame),
-        LinkType::Loop => by_family(read_u32(ByteOrder::Big, frame, 0)),
-        LinkType::Ethernet => by_ether_type(read_u16(ByteOrder::Big, frame, len - 2)),
-        LinkType::LinuxCooked => by_ether_type(read_u16(ByteOrder::Big, frame, 14)),
-        LinkType::LinuxCooked2 => by_ether_type(read_u16(ByteOrder::Big, frame, 0)),
+    match version {
+        Some(version) => Ok((version, &frame[len..])),
+        None => Err(FrameFault::NotIp),
+    }
+}
+
+/// The packet after a header with its VLAN tags, or why there is none.
+#[inline(always)]
+fn read_tagged(bare: TypedHeader, frame: &[u8]) -> Result<(IpVersion, &[u8]), FrameFault>
+    requires some { 0 < bare.len }
+    requires within { bare.type_at + 2 ≤ bare.len }
+    ensures there { IfOk result (λ r. (tagged bare frame.now).len ≤ length frame.now) }
+    ensures version { IfOk result (λ r. by_header bare frame.now ≡ Some r.0) }
+    ensures packet { IfOk result (λ r. r.1.now ≡ drop (tagged bare frame.now).len frame.now) }
+    ensures fault { IfErr result (λ f.
+        ((length frame.now < (tagged bare frame.now).len) × (f ≡ ShortFrame))
+        ⊎ (((tagged bare frame.now).len ≤ length frame.now)
+        × (by_header bare frame.now ≡ None) × (f ≡ NotIp))) }
+{
+    match tagged(bare, frame) {
+        Some(header) => {
+            let version = by_ether_type(read_u16(ByteOrder::Big, frame, header.type_at));
+            packet_after(header.len, version, frame)
+        }
+        None => Err(FrameFault::ShortFrame),
     }
 }
 
@@ -200,12 +233,17 @@ fn read_any(link: LinkType, frame: &[u8]) -> Result<(IpVersion, &[u8]), FrameFau
     ensures packet { IfOk result (λ r. r.1.now ≡ packet_in link frame.now) }
     ensures fault { IfErr result (HasLinkFault link frame.now) }
 {
-    let Some(len) = link_len(link, frame) else {
-        return Err(FrameFault::ShortFrame);
-    };
-    match version_in(link, frame, len) {
-        Some(version) => Ok((version, &frame[len..])),
-        None => Err(FrameFault::NotIp),
+    match link {
+        LinkType::Ethernet => read_tagged(ETHERNET, frame),
+        LinkType::LinuxCooked => read_tagged(COOKED, frame),
+        LinkType::LinuxCooked2 => read_tagged(COOKED_2, frame),
+        LinkType::Null if frame.len() < 4 => Err(FrameFault::ShortFrame),
+        LinkType::Null => packet_after(4, by_null_family(frame), frame),
+        LinkType::Loop if frame.len() < 4 => Err(FrameFault::ShortFrame),
+        LinkType::Loop => packet_after(4, by_family(read_u32(ByteOrder::Big, frame, 0)), frame),
+        LinkType::Raw => packet_after(0, by_start(frame), frame),
+        LinkType::Ipv4 => packet_after(0, Some(IpVersion::V4), frame),
+        LinkType::Ipv6 => packet_after(0, Some(IpVersion::V6), frame),
     }
 }
 

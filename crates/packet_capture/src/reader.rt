@@ -7,6 +7,7 @@ ghost use Rattle.packet_capture.specs.Stops.{StopsInHeader, StopsInRecord};
 
 use crate::block::{SECTION_HEADER, read_block};
 use crate::content::{BlockContent, read_content, read_enhanced};
+use crate::drop_report::{DropReport, read_report};
 use crate::fault::CaptureFault;
 use crate::fields::{ByteOrder, read_u32};
 use crate::frame::Frame;
@@ -39,6 +40,8 @@ pub struct Piece<'a> {
     pub len: usize,
     /// Its frame, if it has one.
     pub frame: Option<Frame<'a>>,
+    /// What it says of frames that were dropped.
+    pub dropped: DropReport,
 }
 
 /// Updates the interfaces after a block, and returns its frame, if it has one. Where there would be
@@ -124,6 +127,7 @@ impl CaptureReader {
                 Ok(Piece {
                     len: SAVEFILE_HEADER,
                     frame: None,
+                    dropped: DropReport::Silent,
                 })
             }
             Err(stop) => Err(stop),
@@ -141,6 +145,7 @@ impl CaptureReader {
             Ok(frame) => Ok(Piece {
                 len: RECORD_HEADER + frame.bytes.len(),
                 frame: Some(frame),
+                dropped: DropReport::Silent,
             }),
             Err(stop) => Err(stop),
         }
@@ -192,8 +197,8 @@ impl CaptureReader {
         }
     }
 
-    /// Reads the next block where it is a whole one of an enhanced packet with no fault, as nearly
-    /// all blocks are. Where it isn't, nothing changes.
+    /// Reads the next block where it is a whole one of an enhanced packet with no fault and no
+    /// option, as nearly all blocks are. Where it isn't, nothing changes.
     #[inline(always)]
     fn read_packet<'a>(&mut self, section: ByteOrder, bytes: &'a [u8]) -> Option<Piece<'a>>
         ensures piece { IfSome result (λ p.
@@ -209,6 +214,7 @@ impl CaptureReader {
                 Some(Piece {
                     len: block.bytes.len(),
                     frame: Some(frame),
+                    dropped: DropReport::Silent,
                 })
             }
             None => None,
@@ -238,6 +244,7 @@ impl CaptureReader {
                 Ok(Piece {
                     len: block.bytes.len(),
                     frame,
+                    dropped: read_report(block.order, block.bytes),
                 })
             }
             Err(fault) => Err(Stop::Bad(fault)),

@@ -2,7 +2,7 @@ use Rattle.std.proofs.Common.{refl, ap}
 use Rattle.packet_capture.specs.Captures.{frame_in_piece, piece_of}
 use Rattle.packet_capture.specs.Frames.{frame_of}
 use Rattle.feed_text.specs.Capture.{record_of}
-use Rattle.line_captures.specs.declared.passed_over.Progress.{Progress}
+use Rattle.line_captures.specs.declared.progress.Progress.{Progress}
 use Rattle.line_captures.proofs.Packets.{counts_frame, record_ok}
 use Rattle.line_captures.proofs.packet_format.step_of.Goals as goal
 
@@ -12,11 +12,13 @@ returns-in-Some-record_in-clause-counts c =
       position = c.add_time.new.self.position;
       last_time =
           c.add_time.new.self.last_time;
-      passed = c.record_in.new.passed;
+      second_start = c.add_time.new.self.second_start;
+      counts = c.record_in.new.counts;
+      drops = c.add_time.new.self.drops;
     } in
-    counts_frame c.args.lines.now c.args.progress.now c.add_bytes.new.self c.add_time.new.self after
+    counts_frame c.args.lines.now c.args.progress.now c.add_piece.new.self c.add_time.new.self after
     (piece_of c.args.piece) (frame_of c.in-Some.frame)
-    c.add_bytes.ensures c.add_time.ensures refl c.record_in.ensures.counts
+    c.add_piece.ensures c.add_time.ensures refl c.record_in.ensures.counts
     (ap frame_in_piece c.in-Some.is)
 
 pub returns-in-None-clause-counts : goal.returns-in-None-clause-counts
@@ -25,11 +27,13 @@ returns-in-None-clause-counts c =
       position = c.add_time.new.self.position;
       last_time =
           c.add_time.new.self.last_time;
-      passed = c.record_in.new.passed;
+      second_start = c.add_time.new.self.second_start;
+      counts = c.record_in.new.counts;
+      drops = c.add_time.new.self.drops;
     } in
-    counts_frame c.args.lines.now c.args.progress.now c.add_bytes.new.self c.add_time.new.self after
+    counts_frame c.args.lines.now c.args.progress.now c.add_piece.new.self c.add_time.new.self after
     (piece_of c.args.piece) (frame_of c.in-Some.frame)
-    c.add_bytes.ensures c.add_time.ensures refl c.record_in.ensures.counts
+    c.add_piece.ensures c.add_time.ensures refl c.record_in.ensures.counts
     (ap frame_in_piece c.in-Some.is)
 
 pub returns-in-Some-record_in-clause-came : goal.returns-in-Some-record_in-clause-came

@@ -1,4 +1,5 @@
 use Rattle.std.proofs.Common.{List, length, Some, refl, sym, ap, ◌∙◌, arith}
+use Rattle.packet_capture.specs.declared.drop_report.DropReport.TheVariants.{Silent}
 use Rattle.packet_capture.specs.declared.interface.Interface.{Interface}
 use Rattle.packet_capture.specs.Captures.{Context, piece_of}
 use Rattle.packet_capture.specs.Contents.{frame_came}
@@ -13,7 +14,12 @@ returns-in-Some-clause-piece c =
     let long = ap (λ (xs : List Interface). length xs) value in
     is_block_piece c.args.section c.args.self.now c.args.bytes.now block.order block.bytes.now
     c.as_slice.result.now c.self.inside.interfaces.items (frame_came (frame_of c.in-Some.frame))
-    (piece_of (record { len = length block.bytes.now; frame = Some c.in-Some.frame }))
+    (piece_of (record {
+      len = length block.bytes.now;
+      frame = Some c.in-Some.frame;
+      dropped = Silent;
+    }))
     (value ∙ ap (λ (x : Context). x.interfaces) c.self.view_is)
-    c.in-Ok.ensures.block c.in-Some.ensures
+    c.in-Ok.ensures.block c.in-Some.ensures.frame
     (sym value) (omega (arith, long, c.as_slice.ensures.fits)) refl refl
+    (sym c.in-Some.ensures.silent)

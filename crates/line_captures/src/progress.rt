@@ -1,0 +1,73 @@
+//! How far a capture was read.
+ghost use Rattle.std.specs.Prelude.{◌≡◌};
+ghost use Rattle.packet_capture.specs.Captures.{piece_of};
+ghost use Rattle.packet_capture.specs.Frames.{frame_of};
+ghost use Rattle.line_captures.specs.Counts.{is_empty, new_progress, piece_after, timed_after};
+
+use crate::drop_counts::DropCounts;
+use crate::frame_counts::FrameCounts;
+use packet_capture::{Frame, Piece};
+
+/// How far a capture was read.
+#[derive(Clone, Copy, Debug, PartialEq, Eq)]
+pub(crate) struct Progress {
+    /// How many bytes the pieces had that were read.
+    pub(crate) position: u64,
+    /// At which byte the first record began whose frame has no byte and had none on the wire. The
+    /// header of a savefile behind another one is such a record.
+    pub(crate) second_start: Option<u64>,
+    /// The time of the last frame that had one.
+    pub(crate) last_time: u64,
+    pub(crate) counts: FrameCounts,
+    pub(crate) drops: DropCounts,
+}
+
+/// Whether the frame has no byte and had none on the wire.
+#[inline(always)]
+fn is_empty(frame: &Frame<'_>) -> bool
+    ensures { result ≡ is_empty (frame_of frame.now) }
+{
+    frame.bytes.len() == 0 && frame.wire_len == 0
+}
+
+impl Progress {
+    /// Returns the progress before the first piece.
+    pub(crate) fn new() -> Progress
+        ensures { result ≡ new_progress }
+    {
+        Progress {
+            position: 0,
+            second_start: None,
+            last_time: 0,
+            counts: FrameCounts::default(),
+            drops: DropCounts::new(),
+        }
+    }
+
+    /// Counts the bytes of a piece, and takes what it says of dropped frames, and whether it seems
+    /// to be where a second capture begins.
+    #[inline(always)]
+    pub(crate) fn add_piece(&mut self, piece: &Piece<'_>)
+        ensures { self.new ≡ piece_after self.old (piece_of piece.now) }
+    {
+        if let Some(frame) = &piece.frame {
+            if is_empty(frame) && self.second_start.is_none() {
+                self.second_start = Some(self.position);
+            }
+        }
+        self.position = self.position.saturating_add(piece.len as u64);
+        self.drops.add(piece.dropped);
+    }
+
+    /// Counts a frame where its time is before that of the frame before.
+    pub(crate) fn add_time(&mut self, time: Option<u64>)
+        ensures { self.new ≡ timed_after self.old time }
+    {
+        if let Some(time) = time {
+            if time < self.last_time {
+                self.counts.add_disordered();
+            }
+            self.last_time = time;
+        }
+    }
+}
