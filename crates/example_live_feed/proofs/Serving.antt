@@ -1,7 +1,6 @@
 -- What a settlement says of each subscriber.
-use Rattle.std.proofs.Common.{◌≡◌, ℕ, zero, suc, ◌<◌, List, [], ◌∷◌, length, refl, sym, subst, arith}
-use Rattle.std.specs.Prelude.{Option, Some, None, Result, Ok, Err, IfOk, IfSome, slice_get}
-use Rattle.std.specs.Result.{result_ok}
+use Rattle.std.proofs.Common.{◌≡◌, ℕ, zero, suc, ◌<◌, List, [], ◌∷◌, length, refl, subst, arith}
+use Rattle.std.specs.Prelude.{Option, Some, None, Result, Ok, IfOk, IfSome, slice_get}
 use Rattle.std.proofs.lemmas.Option.{slice_get_within}
 use Rattle.live_feed.specs.settle.Settlements.{IsServed, IsSettlement, SettlementState, SubscriberEndState}
 
@@ -26,8 +25,6 @@ each_served {logs = logs} s is id = by (slice_get s.subscribers id) refl
         let log = there logs id (omega (arith, all, below)) in
         (is.subscribers id log.0 end log.1 at).served
 
--- what is so of a result's value, of the option of it
-pub at_ok : {A E : Type 0} {P Q : A → Type 0} → ((a : A) → P a → Q a)
-    → (r : Result A E) (o : Option A) → o ≡ result_ok r → IfOk r P → IfSome o Q
-at_ok {A} {E} {P} {Q} f (Ok a) o e p = subst (λ (q : Option A). IfSome q Q) (sym e) (f a p)
-at_ok {A} {E} {P} {Q} f (Err x) o e p = subst (λ (q : Option A). IfSome q Q) (sym e) tt
+-- what is so of a result's value, where the value is known
+pub at_ok : {A E : Type 0} (P : A → Type 0) (r : Result A E) (x : A) → r ≡ Ok x → IfOk r P → P x
+at_ok {A} {E} P r x is p = subst (λ (q : Result A E). IfOk q P) is p

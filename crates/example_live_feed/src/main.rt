@@ -1,23 +1,23 @@
 //! An example of linking the crates, by threads: a live feed of two venues, each with two lines,
-//! and two subscribers with filters and strategies of their own; and the same lines again, with a
-//! thread beside the run that reads the feed. docs/LINKING.md goes through it.
+//! and two subscribers with filters and strategies of their own; and the same lines again, with an
+//! attendant beside the run that polls a subscriber of its own and looks at the venues.
+//! docs/LINKING.md goes through it.
 #![tactic(auto)]
 
-ghost use Rattle.std.specs.Prelude.{◌≡◌, ◌≤◌, ℕ, IfSome, IsSome, slice_get};
+ghost use Rattle.std.specs.Prelude.{◌≡◌, ℕ, IfSome, slice_get};
 ghost use Rattle.live_feed.specs.Allowed.{IsAllowed};
 ghost use Rattle.live_feed.specs.settle.Settlements.{IsServed};
 
 use live_feed::{
-    Advice, Anything, Datagram, FeedConfig, FeedFault, FeedName, Filter, Limits, Line, LineEnd,
-    LineId, LineSeat, LineSource, LiveFeed, National, Notice, Request, Settlement, Shareable,
-    SourceFault, Strategy, SubscriberId, SymbolName, Terms, VenueId, VenueStatus,
+    Advice, Anything, Attendant, Datagram, FeedConfig, FeedEnd, FeedName, FeedTask, Filter, Limits,
+    LineId, LineSource, LineTask, LiveFeed, National, Notice, OwnLog, Request, RunView, Settlement,
+    SourceFault, Strategy, SubscriberId, Subscription, SymbolName, Terms, Unattended, VenueId,
 };
 use std::alloc::{AllocError, Global};
 use std::collections::VecDeque;
 use std::marker::Brand;
 use std::sync::Wait;
 use std::thread::Threads;
-use std::time::{Clock, Duration};
 use std::{io, thread};
 
 const SESSION: [u8; 10] = *b"0000000001";
@@ -55,11 +55,6 @@ const LINES: [(usize, LineId, u64); 4] = [
     (1, LineId::A, 1),
     (1, LineId::B, 4),
 ];
-
-/// The most looks at a feed that runs, and the milliseconds between two of them.
-const MOST_LOOKS: u32 = 10_000;
-
-const PAUSE_MS: u64 = 1;
 
 /// A packet of one quotation.
 fn datagram_of(
@@ -144,19 +139,12 @@ fn source_of(alloc: Global, place: usize, lost: u64) -> Option<Recorded> {
     })
 }
 
-/// The lines of both venues. `seat_of` hands out the seat of a venue's line. None where memory was
-/// refused.
-fn lines_of<N, S>(alloc: Global, seat_of: S) -> Option<Vec<Line<Anything, N, Recorded>>>
-where
-    N: FeedName,
-    S: Fn(VenueId, LineId) -> Option<LineSeat<Anything, N>>,
-    requires { S.IsAlwaysCallable seat_of }
-{
+/// The lines of both venues. None where memory was refused.
+fn lines_of(alloc: Global) -> Option<Vec<LineTask<Recorded>>> {
     let mut lines = Vec::with_capacity(alloc, LINES.len()).ok()?;
     for (place, line, lost) in LINES {
         let source = source_of(alloc, place, lost)?;
-        let seat = seat_of(source.place, line)?;
-        lines.push(Line::new(seat, source).ok()?).ok()?;
+        lines.push(LineTask { line, source }).ok()?;
     }
     Some(lines)
 }
@@ -189,24 +177,11 @@ fn hit_bid(notice: &Notice) -> Advice
     }
 }
 
-/// The seats of lines that have ended.
-fn seats_of<N: FeedName>(
-    alloc: Global,
-    ends: Vec<LineEnd<Anything, N, Recorded>>,
-) -> Option<Vec<LineSeat<Anything, N>>> {
-    let mut seats = Vec::with_capacity(alloc, ends.len()).ok()?;
-    for end in ends {
-        seats.push(end.seat).ok()?;
-    }
-    Some(seats)
-}
-
-/// Opens the feed, whose lanes N names, runs it until all lines have ended, and settles it: each
+/// Runs the feed, whose lanes N names, until all lines have ended, and settles it: each
 /// subscriber's log, then what is left for it, are then what it wants of the journal. None where
 /// memory was refused.
 ///
-/// The closures are made where the feed is opened, and the feed goes nowhere else: docs/LINKING.md
-/// says why.
+/// The closures are made where the feed is run: docs/LINKING.md says why.
 fn run_feed<N, R>(rt: &R, alloc: Global, closed: LiveFeed<Anything>) -> Option<Settlement>
 where
     N: FeedName + Send + Sync,
@@ -215,7 +190,6 @@ where
     ensures { IfSome result (λ settlement. (id : ℕ) → IfSome (slice_get settlement.subscribers id)
         (λ end. IsServed settlement.journal id end.log end.queued end.unoffered)) }
 {
-    let feed = closed.open::<N>(alloc).ok()?;
     let buy = Box::new(
         alloc,
         |notice: &Notice| -> Advice
@@ -232,90 +206,122 @@ where
     );
     let buyer = Strategy::new(Limits { max_size: 200 }, buy.ok()?);
     let seller = Strategy::new(Limits { max_size: 200 }, sell.ok()?);
-    let acme_only = Filter::of(Terms::Symbol(SymbolName::from_field(&SYMBOLS[0])?));
-    let large_only = Filter::of(Terms::MinSize(1_000));
-    let first = feed.subscribe(rt, alloc, acme_only, buyer).ok()?;
-    let second = feed.subscribe(rt, alloc, large_only, seller).ok()?;
-    let subscribers = Vec::from_array(alloc, [first, second]).ok()?;
-    let lines = lines_of(alloc, |venue, line| feed.line_seat(rt, venue, line).ok())?;
-    let report = feed.run(rt, alloc, lines, subscribers).ok()?;
-    let seats = seats_of(alloc, report.lines)?;
-    feed.settle(rt, alloc, seats, report.subscribers).ok()
+    let subscriptions = [
+        Subscription {
+            filter: Filter::of(Terms::Symbol(symbol_at(0)?)),
+            strategy: buyer,
+        },
+        Subscription {
+            filter: Filter::of(Terms::MinSize(1_000)),
+            strategy: seller,
+        },
+    ];
+    let task = FeedTask {
+        lines: lines_of(alloc)?,
+        attended: None,
+        subscriptions: Vec::from_array(alloc, subscriptions).ok()?,
+    };
+    let FeedEnd {
+        outcome,
+        attendant: _,
+    } = closed.run_whole::<N, Recorded, Unattended, R>(rt, alloc, task, Unattended);
+    match outcome {
+        Ok(report) => Some(report.settlement),
+        Err(_) => None,
+    }
 }
 
-/// What a look at a venue and its symbol found.
-#[derive(Drop)]
+/// How far a venue was whole after a notice, and the national best that this said.
+#[derive(Clone, Copy)]
 struct Look {
-    status: VenueStatus,
+    front: u64,
     national: National,
 }
 
-/// The look that found these, where `last` is taken, the quotation of the venue's last message, and
-/// leads its symbol's offers; else None.
-fn last_look(
-    last: Quotation,
-    status: Result<VenueStatus, FeedFault>,
-    national: Option<National>,
-) -> Option<Look>
-    ensures { IfSome result (λ look. (4 ≤ look.status.cursors.front)
-        × IsSome look.national.offer × IfSome look.national.offer (λ offer. offer.price ≡ last.1)) }
-{
-    let (status, national) = (status.ok()?, national?);
-    let offer = national.offer?;
-    if status.cursors.front < LAST || offer.price != last.1 {
-        return None;
-    }
-    Some(Look { status, national })
+/// An attendant that looks at the venue of each notice. It has a subscriber of its own, to which
+/// all notices are offered.
+#[derive(Drop)]
+struct Watcher {
+    /// The last look at each venue.
+    looks: [Option<Look>; 2],
 }
 
-/// Looks until `look` has found what it looks for, and returns that. None where it has looked in
-/// vain long enough.
-fn look_until<R, L>(rt: &R, look: L) -> Option<[Look; 2]>
-where
-    R: Wait + Clock,
-    L: Fn() -> Option<[Look; 2]>,
-    requires { L.IsAlwaysCallable look }
-{
-    for _ in 0..MOST_LOOKS {
-        let looks = look();
-        if looks.is_some() {
-            return looks;
+impl Watcher {
+    /// Looks at the venue that leads the offers of the notice.
+    fn look<N, W>(&mut self, rt: &W, run: &RunView<'_, Anything, N>, notice: &Notice)
+    where
+        N: FeedName,
+        W: Wait,
+    {
+        let Some(offer) = notice.national.offer else {
+            return;
+        };
+        let (venue, place) = (offer.venue, offer.venue.index());
+        let Ok(status) = run.status(rt, venue) else {
+            return;
+        };
+        let found = Look {
+            front: status.cursors.front,
+            national: notice.national,
+        };
+        if let Some(look) = self.looks.get_mut(place) {
+            *look = Some(found);
         }
-        thread::sleep(rt, Duration::from_millis(PAUSE_MS));
     }
-    None
 }
 
-/// Opens the feed, whose lanes N names, and runs it until all lines have ended, while a second
-/// thread looks until it has found the last quotation of each venue, and returns those looks. None
-/// where memory was refused, or the thread has looked in vain long enough.
-///
-/// The prover has to be shown that the second thread may have the feed: `show_shareable` does.
-fn watch_feed<N, R>(rt: &R, alloc: Global, closed: LiveFeed<Anything>) -> Option<[Look; 2]>
+impl<N: FeedName> Attendant<Anything, N, OwnLog<N>> for Watcher {
+    ghost use Rattle.std.specs.Prelude.{◌≡◌, is_some};
+
+    // Its subscriber is there as before.
+    ghost attends = { λ _ log _ later. is_some later ≡ is_some log };
+
+    fn attend<W: Wait>(
+        self,
+        rt: &W,
+        run: &RunView<'_, Anything, N>,
+        log: OwnLog<N>,
+    ) -> (Watcher, OwnLog<N>) {
+        let mut watcher = self;
+        let Some(mut log) = log else {
+            return (watcher, None);
+        };
+        for _ in rt.forever() {
+            let is_over = run.is_over();
+            if let Ok(Some(_)) = log.poll_holding(rt) {
+                if let Some(logged) = log.log().last() {
+                    watcher.look(rt, run, &logged.notice);
+                }
+            } else if is_over {
+                break;
+            } else {
+                thread::yield_now();
+            }
+        }
+        (watcher, Some(log))
+    }
+}
+
+/// Runs the feed, whose lanes N names, until all lines have ended, with an attendant beside it, and
+/// returns this. None where memory was refused.
+fn watch_feed<N, R>(rt: &R, alloc: Global, closed: LiveFeed<Anything>) -> Option<Watcher>
 where
     N: FeedName + Send + Sync,
-    R: Threads + Wait + Clock + Sync,
+    R: Threads + Wait + Sync,
     requires { closed ≡ N.lanes }
 {
-    let feed = closed.open::<N>(alloc).ok()?;
-    let lines = lines_of(alloc, |venue, line| feed.line_seat(rt, venue, line).ok())?;
-    feed.show_shareable();
-    let (looks, _report) = thread::join(
-        rt,
-        || {
-            let (north, south) = (VenueId::from_index(0)?, VenueId::from_index(1)?);
-            let (acme, bolt) = (symbol_at(0)?, symbol_at(1)?);
-            look_until(rt, || {
-                let first = (feed.status(rt, north), feed.national(rt, &acme));
-                let second = (feed.status(rt, south), feed.national(rt, &bolt));
-                let first = last_look(QUOTATIONS[0][3], first.0, first.1)?;
-                let second = last_look(QUOTATIONS[1][3], second.0, second.1)?;
-                Some([first, second])
-            })
-        },
-        || feed.run(rt, alloc, lines, Vec::new(alloc)).ok(),
-    );
-    looks
+    let own = Subscription {
+        filter: Filter::of(Terms::All),
+        strategy: Strategy::holding(),
+    };
+    let task = FeedTask {
+        lines: lines_of(alloc)?,
+        attended: Some(own),
+        subscriptions: Vec::new(alloc),
+    };
+    let watcher = Watcher { looks: [None; 2] };
+    let end = closed.run_whole::<N, Recorded, Watcher, R>(rt, alloc, task, watcher);
+    Some(end.attendant)
 }
 
 /// The name of the symbol that the venue of this number quotes.
@@ -355,16 +361,14 @@ fn print_log(rt: &HostRuntime, settlement: &Settlement, place: u8) -> io::Result
     Ok(())
 }
 
-/// Prints what a look beside the run found of the venue of this number.
-fn print_look(rt: &HostRuntime, place: usize, look: &Look) -> io::Result<()> {
-    let (Some(symbol), Some(bid), Some(offer)) = (
-        symbol_at(place),
-        look.national.bid,
-        look.national.offer,
-    ) else {
+/// Prints what the last look at the venue of this number found, if there was one.
+fn print_look(rt: &HostRuntime, place: usize, look: Option<Look>) -> io::Result<()> {
+    let (Some(Look { front, national }), Some(symbol)) = (look, symbol_at(place)) else {
         return Ok(());
     };
-    let front = look.status.cursors.front;
+    let (Some(bid), Some(offer)) = (national.bid, national.offer) else {
+        return Ok(());
+    };
     println!(rt; "beside the run: venue {place} at {front}, {symbol} bid {bid} offer {offer}")
 }
 
@@ -374,9 +378,8 @@ fn settled<R: Threads + Wait + Sync>(rt: &R, alloc: Global) -> Option<Settlement
     run_feed::<Brand, R>(rt, alloc, closed)
 }
 
-/// Runs the feed of both venues again, with a thread beside the run. None where memory was refused,
-/// or the thread saw less than all.
-fn watched<R: Threads + Wait + Clock + Sync>(rt: &R, alloc: Global) -> Option<[Look; 2]> {
+/// Runs the feed of both venues again, with an attendant. None where memory was refused.
+fn watched<R: Threads + Wait + Sync>(rt: &R, alloc: Global) -> Option<Watcher> {
     let closed = new_feed(alloc)?;
     watch_feed::<Brand, R>(rt, alloc, closed)
 }
@@ -387,21 +390,17 @@ fn print_settled(rt: &HostRuntime, settlement: &Settlement) -> io::Result<()> {
     print_log(rt, settlement, 1)
 }
 
-/// Prints the looks at both venues.
-fn print_looks(rt: &HostRuntime, looks: &[Look; 2]) -> io::Result<()> {
-    let [first, second] = looks;
-    print_look(rt, 0, first)?;
-    print_look(rt, 1, second)
-}
-
 fn main(rt: HostRuntime) -> io::Result<()> {
     let alloc: Global = rt.alloc();
     match settled(&rt, alloc) {
         Some(settlement) => print_settled(&rt, &settlement)?,
         None => println!(rt; "no memory for the run")?,
     }
-    match watched(&rt, alloc) {
-        Some(looks) => print_looks(&rt, &looks),
-        None => println!(rt; "the second thread saw less"),
+    let Some(watcher) = watched(&rt, alloc) else {
+        return println!(rt; "no memory for the second run");
+    };
+    for (place, look) in watcher.looks.iter().enumerate() {
+        print_look(&rt, place, *look)?;
     }
+    Ok(())
 }

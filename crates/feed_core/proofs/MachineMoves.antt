@@ -622,7 +622,7 @@ module _ (s : Setting) (m : MachineView) (w : World) (terms : Terms) (f : FitsWo
                     ∙ sym (length-append w.subscribers (fresh ∷ []));
                 known = length-append (subscriptions_of m.journal) (asked_for ∷ [])
                     ∙ ap (λ (k : ℕ). k + 1) k ∙ sym (length-append w.subscribers (fresh ∷ []));
-                each = λ i b c x p q r. elim (get_push (subscriptions_of m.journal) i asked_for b p) [
+                each = λ i b c x p q r. elim (get_push _ i asked_for b p) [
                   | inl last ↦ elim (get_push m.lanes i empty_lane c q) [
                     | inl lane_last ↦ elim (get_push w.subscribers i fresh x r) [
                       | inl all ↦ rw (last.1, lane_last.1, all.1)

@@ -34,7 +34,6 @@ mod subscriber;
 pub use feed::LiveFeed;
 pub use feed::open_feed::OpenFeed;
 pub use feed::sharing::Shareable;
-pub use hub_cell::HubCell;
 pub use laws::settled_items_are_the_sessions;
 pub use run::attendant::{Attendant, Attended, OwnLog, RunView, Unattended};
 pub use run::line::{Line, LineEnd};
@@ -52,13 +51,23 @@ pub use subscriber::log::SubscriberLog;
 pub use subscriber::logged::{Logged, PollFault};
 
 // The halves: a feed's venues, and its consolidator.
-pub use feed_steps::{FeedName, Unsent};
-pub use hub_lanes::{Consolidated, JournalAndLanes, SpareLane, journaled_items_are_the_sessions};
+pub use feed_steps::FeedName;
+pub use hub_lanes::{Consolidated, journaled_items_are_the_sessions};
 pub use venue_lines::{
-    Datagram, FeedFault, GapFault, LineCounts, LineSeat, RenewalFault, TakeFault, VenueCell,
-    VenueStatus, packets_of_the_sessions_are_accepted, sent_items_are_the_sessions,
+    Datagram, FeedFault, GapFault, LineCounts, LineSeat, RenewalFault, TakeFault, VenueStatus,
+    packets_of_the_sessions_are_accepted, sent_items_are_the_sessions,
     sent_items_are_the_sessions_parts, sent_items_skip_nothing,
 };
+
+// What the locks guard, which contracts and tests name, and no program.
+#[doc(hidden)]
+pub use feed_steps::Unsent;
+#[doc(hidden)]
+pub use hub_cell::HubCell;
+#[doc(hidden)]
+pub use hub_lanes::{JournalAndLanes, SpareLane};
+#[doc(hidden)]
+pub use venue_lines::VenueCell;
 
 // The types in the signatures of a feed's calls, so that a program names this crate alone.
 pub use feed_types::{

@@ -79,7 +79,7 @@ struct Joined<G: Genuine, N: FeedName, S: LineSource<G>, A> {
 }
 
 /// Takes the subscribers apart, in order.
-fn apart<N: FeedName>(
+fn split_subscribers<N: FeedName>(
     subscribers: Vec<Subscriber<N>>,
     mut logs: Vec<SubscriberLog<N>>,
     mut strategies: Vec<Mutex<Strategy>>,
@@ -140,7 +140,11 @@ where
     let log_threads = start_subscribers(rt, scope, signals, bells, logs, strategies, log_threads);
     let line_threads = start_lines(rt, scope, &feed.venues, signals, lines, line_threads);
     let consolidator = start_consolidator(rt, scope, feed, signals);
-    let attended = attended.attend(rt, &RunView { feed, signals });
+    let view = RunView {
+        venues: &feed.venues,
+        signals,
+    };
+    let attended = attended.attend(rt, &view);
     attended.set_polling(false);
     let stopped = join_consolidator(rt, consolidator, signals);
     let ends = join_each(rt, line_threads, ends);
@@ -154,7 +158,7 @@ where
 }
 
 /// Puts the subscribers together again, in order.
-fn reassembled<N: FeedName>(
+fn rejoin_subscribers<N: FeedName>(
     logs: Vec<SubscriberLog<N>>,
     strategies: Vec<Mutex<Strategy>>,
     mut subscribers: Vec<Subscriber<N>>,
@@ -256,7 +260,7 @@ impl<G: Genuine + Send + Sync, N: FeedName + Send + Sync> OpenFeed<G, N> {
             return (Err((lines, subscribers)), attended);
         };
         let signals = Signals::new(lines_count as u64);
-        let (logs, strategies) = apart(subscribers, logs, strategies);
+        let (logs, strategies) = split_subscribers(subscribers, logs, strategies);
         let parts = Parts {
             lines: LinesToRun {
                 lines,
@@ -276,7 +280,7 @@ impl<G: Genuine + Send + Sync, N: FeedName + Send + Sync> OpenFeed<G, N> {
             attended,
             stopped,
         } = run_scoped(rt, self, &signals, parts, &strategies);
-        let subscribers = reassembled(logs, strategies, back);
+        let subscribers = rejoin_subscribers(logs, strategies, back);
         let report = RunReport {
             lines: ends,
             subscribers,

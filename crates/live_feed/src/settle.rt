@@ -82,7 +82,7 @@ fn unlock<G: Genuine, N: FeedName>(
 }
 
 /// Puts the feed under locks again.
-fn locked<G: Genuine, N: FeedName>(unlocked: Unlocked<G, N>) -> OpenFeed<G, N>
+fn relock<G: Genuine, N: FeedName>(unlocked: Unlocked<G, N>) -> OpenFeed<G, N>
     requires room { (unlocked.locks.items ≡ [])
         × (vec_len unlocked.venues ≤ vec_capacity unlocked.locks) }
     requires count { length unlocked.venues.items ≡ length N.lanes.venues }
@@ -107,7 +107,7 @@ fn locked<G: Genuine, N: FeedName>(unlocked: Unlocked<G, N>) -> OpenFeed<G, N>
 }
 
 /// Returns what is missing of the seats that were handed out and of the subscribers, if anything.
-fn missing<G: Genuine, N: FeedName, W: Wait>(
+fn first_missing<G: Genuine, N: FeedName, W: Wait>(
     rt: &W,
     feed: &OpenFeed<G, N>,
     seats: &[LineSeat<G, N>],
@@ -158,7 +158,7 @@ fn room_for<G: Genuine, N: FeedName>(
 }
 
 /// Closes all lanes of the feed.
-fn closed<G: Genuine, N: FeedName, W: Wait>(
+fn close_lanes<G: Genuine, N: FeedName, W: Wait>(
     rt: &W,
     unlocked: Unlocked<G, N>,
     subscribers: Vec<Subscriber<N>>,
@@ -223,7 +223,7 @@ impl<G: Genuine, N: FeedName> OpenFeed<G, N> {
         ensures back { IfErr result (λ back. (back.seats.items ≡ seats.items)
             × (back.subscribers.items ≡ subscribers.items)) }
     {
-        if let Some(fault) = missing(rt, &self, seats.as_slice(), subscribers.as_slice()) {
+        if let Some(fault) = first_missing(rt, &self, seats.as_slice(), subscribers.as_slice()) {
             return Err(Unsettled {
                 fault,
                 feed: self,
@@ -243,10 +243,10 @@ impl<G: Genuine, N: FeedName> OpenFeed<G, N> {
             }
         };
         match room_for(alloc, &unlocked, seats.as_slice(), subscribers.as_slice()) {
-            Ok(room) => Ok(closed(rt, unlocked, subscribers, room)),
+            Ok(room) => Ok(close_lanes(rt, unlocked, subscribers, room)),
             Err(fault) => Err(Unsettled {
                 fault,
-                feed: locked(unlocked),
+                feed: relock(unlocked),
                 seats,
                 subscribers,
             }),

@@ -1,25 +1,26 @@
 //! Who stands beside a run.
 
-use crate::feed::open_feed::OpenFeed;
+ghost use Rattle.std.specs.Prelude.{◌≡◌, ◌≤◌, ◌↔◌, length, Err, IsErrOf};
+ghost use Rattle.venue_lines.specs.Sections.{IsSkippedBy};
+ghost use Rattle.venue_lines.specs.Statuses.{IsStatusOf};
+
 use crate::run::signals::Signals;
 use crate::subscriber::log::SubscriberLog;
 use feed_steps::FeedName;
-use feed_types::Genuine;
+use feed_types::{Genuine, VenueId};
 use std::sync::Wait;
+use venue_lines::{FeedFault, GapFault, VenueLocks, VenueStatus};
 
-/// A run as the thread beside it sees it.
+/// A run as the thread beside it sees it: whether it is over, and its venues. It shows nothing of
+/// the consolidator, beside whose lock the subscribers' filters lie: a program's own attendant may
+/// be handed no value through which a stored closure could be reached.
 #[derive(Drop)]
 pub struct RunView<'r, G: Genuine, N: FeedName> {
-    pub(crate) feed: &'r OpenFeed<G, N>,
+    pub(crate) venues: &'r VenueLocks<G, N>,
     pub(crate) signals: &'r Signals,
 }
 
 impl<'r, G: Genuine, N: FeedName> RunView<'r, G, N> {
-    /// The feed that is run.
-    pub fn feed(&self) -> &'r OpenFeed<G, N> {
-        self.feed
-    }
-
     /// Whether the run is over: its lines have ended, and all that is journaled and offered in it
     /// was journaled and offered before.
     pub fn is_over(&self) -> bool {
@@ -28,7 +29,26 @@ impl<'r, G: Genuine, N: FeedName> RunView<'r, G, N> {
 
     /// Has the lines read no further datagram, as [`crate::StopHandle::stop`] does.
     pub fn stop(&self) {
-        self.feed.venues.bells().end_runs();
+        self.venues.bells().end_runs();
+    }
+
+    /// Returns what the venue has come to at a moment of the call, as
+    /// [`crate::OpenFeed::status`] does.
+    pub fn status<W: Wait>(&self, rt: &W, venue: VenueId) -> Result<VenueStatus, FeedFault>
+        ensures status { IsStatusOf G.Genuine N.lanes venue result }
+        ensures unknown { length N.lanes.venues ≤ venue → result ≡ Err FeedFault.UnknownVenue }
+    {
+        self.venues.status(rt, venue)
+    }
+
+    /// Gives up the messages of the venue that are missing below `number`, as
+    /// [`crate::OpenFeed::skip_to`] does, with the same refusals.
+    pub fn skip_to<W: Wait>(&self, rt: &W, venue: VenueId, number: u64) -> Result<(), GapFault>
+        ensures skipped { IsSkippedBy G.Genuine N.lanes venue number result }
+        ensures unknown { IsErrOf result GapFault.UnknownVenue
+            ↔ (length N.lanes.venues ≤ venue) }
+    {
+        self.venues.skip_to(rt, venue, number)
     }
 }
 

@@ -2,7 +2,7 @@
 
 use crate::feed::open_feed::OpenFeed;
 use crate::feed::sharing::Shareable;
-use crate::run::idle::{is_tired, rest};
+use crate::run::idle::{back_off, should_sleep};
 use crate::run::report::Stop;
 use crate::run::signals::Signals;
 use feed_steps::{Bells, FeedName};
@@ -78,7 +78,7 @@ fn is_full_lane_polled(bells: &Bells) -> Option<bool> {
 
 /// Takes a turn: journals and offers, or, where the run stops early, offers alone. Returns what
 /// that came to.
-fn take_turn<G: Genuine, N: FeedName, W: Wait>(
+fn run_turn<G: Genuine, N: FeedName, W: Wait>(
     rt: &W,
     feed: &OpenFeed<G, N>,
     signals: &Signals,
@@ -123,7 +123,7 @@ fn work_once<G: Genuine, N: FeedName, W: Wait>(
     all: bool,
     stopped: &mut Option<Stop>,
 ) -> Look {
-    let done = take_turn(rt, feed, signals);
+    let done = run_turn(rt, feed, signals);
     let reason = done.refused.and_then(reason_of);
     if reason.is_some() {
         signals.stop();
@@ -160,7 +160,7 @@ fn is_room_wanted(signals: &Signals, bells: &Bells) -> bool {
 ///
 /// It sleeps after it has looked in vain for a while. The wait is announced before the last of
 /// these looks, so whatever comes after that look ends the sleep.
-fn consolidate<G: Genuine, N: FeedName, W: Wait>(
+fn run_consolidator<G: Genuine, N: FeedName, W: Wait>(
     rt: &W,
     feed: &OpenFeed<G, N>,
     signals: &Signals,
@@ -171,7 +171,7 @@ fn consolidate<G: Genuine, N: FeedName, W: Wait>(
     let mut before = Look::Worked;
     let mut looks: u32 = 0;
     for _ in rt.forever() {
-        let key = if is_tired(looks) {
+        let key = if should_sleep(looks) {
             Some(bells.work().prepare_wait())
         } else {
             None
@@ -184,7 +184,7 @@ fn consolidate<G: Genuine, N: FeedName, W: Wait>(
         match look {
             Look::Worked | Look::Unpolled => looks = 0,
             Look::Idle if last && !is_room_wanted(signals, bells) => break,
-            Look::Idle | Look::Behind | Look::InTheWay => looks = rest(rt, looks, key),
+            Look::Idle | Look::Behind | Look::InTheWay => looks = back_off(rt, looks, key),
         }
     }
     signals.end_offers();
@@ -209,10 +209,10 @@ where
     R: Threads + Wait + Sync,
 {
     feed.show_shareable();
-    match scope.spawn(move || consolidate(rt, feed, signals)) {
+    match scope.spawn(move || run_consolidator(rt, feed, signals)) {
         Ok(handle) => Ok(handle),
         Err(refused) => {
-            signals.lack_thread();
+            signals.note_spawn_failure();
             Err((refused.value)())
         }
     }
@@ -229,7 +229,7 @@ pub(crate) fn join_consolidator<R: Threads>(
         Ok(handle) => handle.join(rt),
         Err(stopped) => stopped,
     };
-    if signals.lacks_thread() {
+    if signals.has_spawn_failed() {
         Some(Stop::NoThread)
     } else {
         stopped

@@ -14,13 +14,13 @@ const MOST_PAUSES: u32 = 16;
 const LOOKS_AWAKE: u32 = 64;
 
 /// Returns whether a thread that has looked for work `looks` times sleeps next.
-pub(crate) fn is_tired(looks: u32) -> bool {
+pub(crate) fn should_sleep(looks: u32) -> bool {
     looks >= LOOKS_AWAKE
 }
 
 /// Waits a moment, or until the notification that the key waits for, and returns how often the
 /// thread has looked since it last worked or slept.
-pub(crate) fn rest<W: Wait>(rt: &W, looks: u32, key: Option<Key<'_>>) -> u32 {
+pub(crate) fn back_off<W: Wait>(rt: &W, looks: u32, key: Option<Key<'_>>) -> u32 {
     if let Some(key) = key {
         key.wait(rt);
         return 0;

@@ -48,7 +48,7 @@ where
     match scope.spawn_with(promise, job) {
         Ok(handle) => Ok(handle),
         Err(refused) => {
-            signals.lack_thread();
+            signals.note_spawn_failure();
             Err((refused.value)())
         }
     }

@@ -42,13 +42,13 @@ impl Signals {
     }
 
     /// Stops the run early, since a thread couldn't be started.
-    pub(crate) fn lack_thread(&self) {
+    pub(crate) fn note_spawn_failure(&self) {
         self.no_thread.store(true, Ordering::SeqCst);
         self.stop();
     }
 
     /// Whether a thread couldn't be started.
-    pub(crate) fn lacks_thread(&self) -> bool {
+    pub(crate) fn has_spawn_failed(&self) -> bool {
         self.no_thread.load(Ordering::SeqCst)
     }
 

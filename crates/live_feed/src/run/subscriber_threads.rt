@@ -47,7 +47,7 @@ where
         Err(refused) => {
             signals.set_polling(id, false);
             bells.set_polled(id, false);
-            signals.lack_thread();
+            signals.note_spawn_failure();
             Err((refused.value)())
         }
     }

@@ -2,7 +2,7 @@
 
 ghost use Rattle.live_feed.specs.run.Runs.{HasPolled};
 
-use crate::run::idle::{is_tired, rest};
+use crate::run::idle::{back_off, should_sleep};
 use crate::run::signals::Signals;
 use crate::subscriber::log::SubscriberLog;
 use feed_steps::{Bells, FeedName};
@@ -43,7 +43,7 @@ pub(crate) fn work_subscriber<N: FeedName, W: Wait>(
         if !signals.is_polling(id) {
             break;
         }
-        let key = if is_tired(looks) {
+        let key = if should_sleep(looks) {
             Some(bells.notices(id).prepare_wait())
         } else {
             None
@@ -55,7 +55,7 @@ pub(crate) fn work_subscriber<N: FeedName, W: Wait>(
                 if last {
                     break;
                 }
-                looks = rest(rt, looks, key);
+                looks = back_off(rt, looks, key);
             }
             Err(_) => break,
         }

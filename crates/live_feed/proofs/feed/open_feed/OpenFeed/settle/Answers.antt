@@ -5,12 +5,12 @@ use Rattle.live_feed.specs.settle.Settlements.{AllAgree, AreInOrder}
 use Rattle.live_feed.proofs.Settled.{settlement}
 use Rattle.live_feed.proofs.feed.open_feed.OpenFeed.settle.Goals as goal
 
-pub closed-requires-clause-venues : goal.closed-requires-clause-venues
-closed-requires-clause-venues g c = λ venue cell at. (c.in-Ok-room_for.ensures.agree
+pub close_lanes-requires-clause-venues : goal.close_lanes-requires-clause-venues
+close_lanes-requires-clause-venues g c = λ venue cell at. (c.in-Ok-room_for.ensures.agree
     venue cell at).venue_is
 
-pub closed-requires-clause-order : goal.closed-requires-clause-order
-closed-requires-clause-order g c = subst (λ l. AreInOrder (map (λ s. s.log) l))
+pub close_lanes-requires-clause-order : goal.close_lanes-requires-clause-order
+close_lanes-requires-clause-order g c = subst (λ l. AreInOrder (map (λ s. s.log) l))
     c.as_slice-4.ensures.value
     c.in-Ok-room_for.ensures.order
 
@@ -29,5 +29,5 @@ returns-in-Ok-room_for-clause-settled g c =
     let first = counts.0 in
     let second = counts.1 in
     settlement g.G.Genuine g.N.FeedName.lanes c.args.seats.items cells
-    c.in-Ok.unlocked.hub.core logs c.closed.result
-    c.closed.ensures agree order (omega arith) (omega arith)
+    c.in-Ok.unlocked.hub.core logs c.close_lanes.result
+    c.close_lanes.ensures agree order (omega arith) (omega arith)

@@ -11,7 +11,7 @@ use Rattle.live_feed.specs.settle.Settlements.{IsClosedVenue, SettlementState, S
 use Rattle.live_feed.specs.settle.Closings.{IsClosedFeed}
 use Rattle.feed_steps.specs.laws.Lists.{found_within}
 use Rattle.live_feed.proofs.Sides.{at_map, seen_zipped}
-use Rattle.live_feed.proofs.settle.closed.Goals as goal
+use Rattle.live_feed.proofs.settle.close_lanes.Goals as goal
 
 pub made_of_three-venue_ends-requires-clause-counts :
     goal.made_of_three-venue_ends-requires-clause-counts

@@ -1,5 +1,5 @@
 use Rattle.std.proofs.Common.{◌≡◌, map, length, vec_len, vec_capacity}
-use Rattle.live_feed.proofs.run.apart.Given as goal
+use Rattle.live_feed.proofs.run.split_subscribers.Given as goal
 
 abbrev pub invariant-loop-subscriber : goal.invariant-loop-subscriber
 invariant-loop-subscriber g l =
