@@ -76,14 +76,14 @@ module _ (config : ReplayConfig) where
   taken_more rs [] us old between mid left new x y =
       subst (λ (hs : List History). AreTakenOf config rs hs us left new) x.1
       (subst (λ (xs : List TimedRecord). AreTakenOf config xs mid us left new) x.0 y)
-  taken_more rs (t ∷ ts) us old between mid left new (others, emitted, first, next, tells, rest) y = (
+  taken_more rs (t ∷ ts) us old ys mid left new (others, emitted, first, next, tells, rest) y = (
     others,
     emitted,
     first,
     next,
     tells,
     taken_more others ts us first
-        between mid left new rest y,
+        ys mid left new rest y,
   )
 
   -- without a rule nothing is put in

@@ -19,7 +19,7 @@ pub struct FeedSettings {
     ghost some_venues: { 1 ≤ vec_len sessions },
     ghost few_venues: { vec_len sessions ≤ 16 },
     ghost few_symbols: { vec_len symbols ≤ 4096 },
-    ghost each_once: { IsDistinct bytes_eq symbols.items } by { IsDistinct-prop bytes_eq symbols.items },
+    ghost each_once: { IsDistinct bytes_eq symbols.items } by { IsDistinct-prop _ _ },
     ghost some_window: { 1 ≤ window },
     ghost window_in_range: { window ≤ 65535 },
 }
