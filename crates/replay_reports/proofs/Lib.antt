@@ -6,5 +6,6 @@ pub mod Leading
 pub mod Noting
 pub mod Sharing
 pub mod Places
+pub mod Losing
 pub mod Timed
 pub mod Putting

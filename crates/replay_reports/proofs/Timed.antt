@@ -1,5 +1,5 @@
 -- How the packets of venues run in time, after one event more.
-use Rattle.std.proofs.Common.{◌≡◌, ℕ, zero, suc, ◌+◌, ◌/◌, ◌<◌, ◌==◌, ◌⊎◌, inl, inr, Bool, true, false, cond, List, [], ◌∷◌, ◌++◌, Option, Some, Result, Ok, Err, length, replicate, reverse, slice_index_or, refl, sym, ap, subst, ◌∙◌, arith, eq-eqb}
+use Rattle.std.proofs.Common.{◌≡◌, ℕ, zero, suc, ◌+◌, ◌/◌, ◌<◌, ◌==◌, ◌⊎◌, inl, inr, Bool, true, false, cond, List, [], ◌∷◌, ◌++◌, Option, None, Some, Result, Ok, Err, length, replicate, reverse, slice_index_or, refl, sym, ap, subst, ◌∙◌, arith, eq-eqb}
 use Rattle.std.specs.Prelude.{◌&&◌, flat_map, nat_lt, slice_get, slice_set}
 use Rattle.std.proofs.lemmas.Bool.{and_left, cases_eq, ne_eqb}
 use Rattle.std.proofs.lemmas.List.{map-append, reverse-append}
@@ -18,19 +18,22 @@ use Rattle.replay_reports.specs.declared.times.timed_stats.TimedStats.{TimedStat
 use Rattle.replay_reports.specs.declared.counts.venue_stats.VenueStats.{VenueStats}
 use Rattle.replay_reports.specs.declared.times.venue_timing.VenueTiming.{VenueTiming}
 use Rattle.replay_reports.specs.counts.Counts.{missing_in}
-use Rattle.replay_reports.specs.times.Leads.{AreLeadsOf, MessageOn, come_on, leads_of}
+use Rattle.replay_reports.specs.times.Leads.{AreLeadsOf, MessageOn, leads_of}
 use Rattle.replay_reports.specs.times.Rates.{IsRateOf, MessagesAt, messages_at}
-use Rattle.replay_reports.specs.times.Spells.{AreSpellsOf, MissingAt, missing_at}
+use Rattle.replay_reports.specs.times.Spells.{AreLastHeard, AreSpellsOf, MissingAt}
 use Rattle.replay_reports.specs.counts.Stats.{Counted, counted_after, each_venue, nothing_at, nothing_counted, untimed, venue_after}
 use Rattle.replay_reports.specs.counts.StatsLaws.{counted_twice}
-use Rattle.replay_reports.specs.times.Timing.{AreTimesOf, AreVenuesTimed, IsLacking, IsTimed, IsVenueTimed, begins_session, came_after, came_at, clock_of, has_numbers, is_accepted, leads_before, messages_of, messages_told, missing_after, notes_told}
+use Rattle.replay_reports.specs.times.Heard.{begins_session, has_numbers, is_accepted, line_in}
+use Rattle.replay_reports.specs.times.Numbers.{HearsNumbers, RenewsNumbers}
+use Rattle.replay_reports.specs.times.Timing.{AreTimesOf, AreVenuesTimed, IsLacking, IsTimed, IsVenueTimed, came_after, came_at, come_by, leads_before, messages_of, messages_told, missing_after, note_by, notes_told}
+use Rattle.replay_reports.proofs.Losing.{numbers_elsewhere, numbers_heard, numbers_renewed}
 use Rattle.replay_reports.proofs.Noting.{got_other, got_same}
 
 -- ---- a venue to which the event didn't come
 
 -- nothing of it changes for the venue
 pub record IsElsewhere (n : ℕ) (e : TimedEvent) (events : List TimedEvent) : Type 0 where
-  pub came : came_after n (clock_of e.time) e.event (came_at n events) ≡ came_at n events
+  pub came : came_after n e.time e.event (came_at n events) ≡ came_at n events
   pub begins : begins_session n e.event ≡ false
   pub accepted : is_accepted n e.event ≡ false
 
@@ -45,8 +48,8 @@ before_same window one two n e events begins =
 notes_same : (n : ℕ) (e : TimedEvent) (events : List TimedEvent) → is_accepted n e.event ≡ false
     → notes_told n events ≡ notes_told n (e ∷ events)
 notes_same n e events accepted =
-    sym (ap (λ (b : Bool). cond b (missing_at (clock_of e.time)
-    (nat_lt 0 (missing_after n (e ∷ events))) ∷ []) []
+    sym (ap (λ (b : Bool). cond b (note_by e.time (line_in e.event)
+    (nat_lt 0 (missing_after n (e ∷ events)))) []
     ++ notes_told n events) accepted)
 
 untouched : (window n : ℕ) (e : TimedEvent) (events : List TimedEvent) (v : VenueTiming)
@@ -65,6 +68,10 @@ untouched window n e events v away timed = record {
   missing = subst (λ (notes : List MissingAt). AreSpellsOf notes v.missing)
       (notes_same n e events away.accepted)
       timed.missing;
+  heard = subst (λ (notes : List MissingAt). AreLastHeard notes v.heard)
+      (notes_same n e events away.accepted)
+      timed.heard;
+  numbers = numbers_elsewhere window n e events away.begins away.accepted v.numbers timed.numbers;
 }
 
 -- no venue of these
@@ -96,18 +103,34 @@ one_touched window venue place e events vs old new at was away more timed = λ n
 
 -- ---- a packet that wasn't refused
 
+-- one whose time isn't known brings no message in time
+same_way : {X : Type 0} (b : Bool) (x : X) → cond b x x ≡ x
+same_way true x = refl
+same_way false x = refl
+
+pub came_untimed : (line : LineId) (number count : ℕ) (outcome : Outcome) (came : List MessageOn)
+    → came_after 0 None (told_packet 0 line number count (Ok outcome)) came ≡ came
+came_untimed line number count (Taken new repeated) came =
+    same_way ((0 == 0) && has_numbers number count) came
+came_untimed line number count Heartbeat came = refl
+came_untimed line number count Ended came = refl
+came_untimed line number count Ahead came =
+    same_way ((0 == 0) && has_numbers number count) came
+
 module _ (venue : ℕ) (line : LineId) (number count : ℕ) where
   abbrev pub Heard : ℕ → Outcome → SinkEvent
   Heard at outcome = told_packet at line number count (Ok outcome)
 
-  came_elsewhere : (n clock : ℕ) (outcome : Outcome) (came : List MessageOn) → (venue == n) ≡ false
-      → came_after n clock (Heard venue outcome) came ≡ came
-  came_elsewhere n clock (Taken new repeated) came apart =
-      ap (λ (b : Bool). cond b (come_on line number count clock came) came)
+  came_elsewhere : (n : ℕ) (time : Option ℕ) (outcome : Outcome) (came : List MessageOn)
+      → (venue == n) ≡ false → came_after n time (Heard venue outcome) came ≡ came
+  came_elsewhere n time (Taken new repeated) came apart =
+      ap (λ (b : Bool). cond b (come_by line number count time came) came)
       (and_left (venue == n) (has_numbers number count) apart)
-  came_elsewhere n clock Heartbeat came apart = refl
-  came_elsewhere n clock Ended came apart = refl
-  came_elsewhere n clock Ahead came apart = refl
+  came_elsewhere n time Heartbeat came apart = refl
+  came_elsewhere n time Ended came apart = refl
+  came_elsewhere n time Ahead came apart =
+      ap (λ (b : Bool). cond b (come_by line number count time came) came)
+      (and_left (venue == n) (has_numbers number count) apart)
 
   pub heard_elsewhere : (n : ℕ) (time : Option ℕ) (outcome : Outcome) (events : List TimedEvent)
       → (n ≡ venue → ⊥)
@@ -115,45 +138,49 @@ module _ (venue : ℕ) (line : LineId) (number count : ℕ) where
   heard_elsewhere n time outcome events apart =
       let not : (venue == n) ≡ false = ne_eqb venue n (λ e. apart (sym e)) in
       record {
-        came = came_elsewhere n (clock_of time) outcome (came_at n events) not;
+        came = came_elsewhere n time outcome (came_at n events) not;
         begins = refl;
         accepted = not;
       }
 
-  came_here : (clock : ℕ) (outcome : Outcome) (came : List MessageOn)
-      → came_after 0 clock (Heard 0 outcome) came ≡ came_after venue clock
+  came_here : (time : Option ℕ) (outcome : Outcome) (came : List MessageOn)
+      → came_after 0 time (Heard 0 outcome) came ≡ came_after venue time
       (Heard venue outcome) came
-  came_here clock (Taken new repeated) came =
-      ap (λ (b : Bool). cond (b && has_numbers number count) (come_on line number count clock came)
+  came_here time (Taken new repeated) came =
+      ap (λ (b : Bool). cond (b && has_numbers number count) (come_by line number count time came)
       came)
       (sym (eq-eqb venue venue refl))
-  came_here clock Heartbeat came = refl
-  came_here clock Ended came = refl
-  came_here clock Ahead came = refl
+  came_here time Heartbeat came = refl
+  came_here time Ended came = refl
+  came_here time Ahead came =
+      ap (λ (b : Bool). cond (b && has_numbers number count) (come_by line number count time came)
+      came)
+      (sym (eq-eqb venue venue refl))
 
-  pub heard_here : (window clock : ℕ) (time : Option ℕ) (outcome : Outcome)
+  pub heard_here : (window : ℕ) (time : Option ℕ) (outcome : Outcome)
       (events : List TimedEvent)
-      (old new : VenueTiming) (is_missing : Bool) → clock_of time ≡ clock
+      (old new : VenueTiming) (is_missing : Bool)
       → nat_lt 0 (missing_after venue (timed_event time (Heard venue outcome)
       ∷ events)) ≡ is_missing
       → ((window : ℕ) (came : List MessageOn) (a b : List ℕ) → AreLeadsOf window came a b old.leads
-      → AreLeadsOf window (came_after 0 clock (Heard 0 outcome) came) a b new.leads)
+      → AreLeadsOf window (came_after 0 time (Heard 0 outcome) came) a b new.leads)
       → ((notes : List MissingAt) → AreSpellsOf notes old.missing
-      → AreSpellsOf (missing_at clock is_missing ∷ notes) new.missing)
+      → AreSpellsOf (note_by time line is_missing ++ notes) new.missing)
+      → ((notes : List MissingAt) → AreLastHeard notes old.heard
+      → AreLastHeard (note_by time line is_missing ++ notes) new.heard)
+      → HearsNumbers (Heard 0 outcome) old.numbers new.numbers
       → IsVenueTimed window venue events old
       → IsVenueTimed window venue (timed_event time (Heard venue outcome) ∷ events) new
-  heard_here window clock time outcome events old new is_missing at lacks leads missing timed =
+  heard_here window time outcome events old new is_missing lacks leads missing heard numbers timed =
       let e = timed_event time (Heard venue outcome) in
-      let came : came_after 0 clock (Heard 0 outcome) (came_at venue events) ≡ came_at venue (e
+      let came : came_after 0 time (Heard 0 outcome) (came_at venue events) ≡ came_at venue (e
       ∷ events) =
-      came_here clock outcome (came_at venue events)
-      ∙ ap (λ (t : ℕ). came_after venue t (Heard venue outcome) (came_at venue events)) (sym at) in
-      let notes : missing_at clock is_missing
-      ∷ notes_told venue events ≡ notes_told venue (e ∷ events) =
-      ap (λ (t : ℕ). missing_at t is_missing ∷ notes_told venue events) (sym at)
-      ∙ ap (λ (b : Bool). missing_at (clock_of time) b ∷ notes_told venue events) (sym lacks)
-      ∙ ap (λ (b : Bool). cond b (missing_at (clock_of time)
-      (nat_lt 0 (missing_after venue (e ∷ events))) ∷ []) []
+      came_here time outcome (came_at venue events) in
+      let notes : note_by time line is_missing
+      ++ notes_told venue events ≡ notes_told venue (e ∷ events) =
+      ap (λ (b : Bool). note_by time line b ++ notes_told venue events) (sym lacks)
+      ∙ ap (λ (b : Bool). cond b (note_by time line
+      (nat_lt 0 (missing_after venue (e ∷ events)))) []
       ++ notes_told venue events) (sym (eq-eqb venue venue refl)) in
       record {
         leads = subst (λ (c : List MessageOn). AreLeadsOf window c
@@ -163,6 +190,10 @@ module _ (venue : ℕ) (line : LineId) (number count : ℕ) where
             (leads_before window B A venue events) timed.leads);
         missing = subst (λ (ns : List MissingAt). AreSpellsOf ns new.missing) notes
             (missing (notes_told venue events) timed.missing);
+        heard = subst (λ (ns : List MissingAt). AreLastHeard ns new.heard) notes
+            (heard (notes_told venue events) timed.heard);
+        numbers = numbers_heard window venue line number count outcome time events
+            old.numbers new.numbers numbers timed.numbers;
       }
 
 -- ---- a next session
@@ -183,9 +214,10 @@ pub renewed_here : (window venue ordinal : ℕ) (time : Option ℕ) (events : Li
     → ((window : ℕ) (came : List MessageOn) (a b : List ℕ) → AreLeadsOf window came a b old.leads
     → AreLeadsOf window [] (leads_of window A B came ++ a) (leads_of window B A came ++ b)
     new.leads)
-    → new.missing ≡ old.missing → IsVenueTimed window venue events old
+    → new.missing ≡ old.missing → new.heard ≡ old.heard → RenewsNumbers old.numbers new.numbers
+    → IsVenueTimed window venue events old
     → IsVenueTimed window venue (timed_event time (told_renewal venue (Ok ordinal)) ∷ events) new
-renewed_here window venue ordinal time events old new leads missing timed =
+renewed_here window venue ordinal time events old new leads missing heard numbers timed =
     let so : true ≡ (venue == venue) = sym (eq-eqb venue venue refl) in
     let came = came_at venue events in
     let before = λ (one two : LineId) (b : Bool).
@@ -199,6 +231,9 @@ renewed_here window venue ordinal time events old new leads missing timed =
           (leads window came (leads_before window A B venue events)
           (leads_before window B A venue events) timed.leads);
       missing = subst (λ m. AreSpellsOf (notes_told venue events) m) (sym missing) timed.missing;
+      heard = subst (λ h. AreLastHeard (notes_told venue events) h) (sym heard) timed.heard;
+      numbers = numbers_renewed window venue ordinal time events old.numbers new.numbers numbers
+          timed.numbers;
     }
 
 -- ---- what is missing, by the counts
@@ -284,15 +319,15 @@ timed_more window events e old new is_missing timed counted lacks kept takes =
 
 -- an event that brings no packet and begins no session changes nothing
 pub record IsIdle (e : SinkEvent) : Type 0 where
-  pub came : (n clock : ℕ) (came : List MessageOn) → came_after n clock e came ≡ came
+  pub came : (n : ℕ) (time : Option ℕ) (came : List MessageOn) → came_after n time e came ≡ came
   pub begins : (n : ℕ) → begins_session n e ≡ false
   pub accepted : (n : ℕ) → is_accepted n e ≡ false
-  pub silent : (clock : ℕ) → messages_of clock e ≡ []
+  pub silent : (time : Option ℕ) → messages_of time e ≡ []
 
 -- an event that brings no packet leaves the rates
 pub rates_kept : (window : ℕ) (time : Option ℕ) (events : List TimedEvent)
     (e : SinkEvent) (old new : Times)
-    → ((clock : ℕ) → messages_of clock e ≡ []) → new.in_second ≡ old.in_second
+    → ((time : Option ℕ) → messages_of time e ≡ []) → new.in_second ≡ old.in_second
     → new.in_millisecond ≡ old.in_millisecond
     → (AreVenuesTimed window events old.venues.items
     → AreVenuesTimed window (timed_event time e ∷ events) new.venues.items)
@@ -303,7 +338,7 @@ rates_kept window time events e old new silent second millisecond venues timed =
     subst (λ (x : PeakRate). IsRateOf length (flat_map messages_told (timed_event time e ∷ events))
     x) (sym same)
     (subst (λ (ms : List MessagesAt). IsRateOf length (ms ++ flat_map messages_told events) r)
-    (sym (silent (clock_of time))) is) in
+    (sym (silent time)) is) in
     record {
       second = rate 1000000000 old.in_second new.in_second second timed.second;
       millisecond = rate 1000000 old.in_millisecond new.in_millisecond
@@ -320,27 +355,21 @@ idle_timed window time events t e k is idle timed =
     (rates_kept window time events (told_by k) t t idle.silent refl refl
     (all_untouched window (timed_event time (told_by k)) events t.venues.items
     (λ n within. record {
-      came = idle.came n (clock_of time) (came_at n events);
+      came = idle.came n time (came_at n events);
       begins = idle.begins n;
       accepted = idle.accepted n;
     })) timed)
 
 -- a rate after one packet more
-pub rate_more : (length : ℕ) (time : Option ℕ) (events : List TimedEvent) (e : SinkEvent)
-    (clock count messages : ℕ)
-    (old new : PeakRate) → messages_of (clock_of time) e ≡ messages_at (clock_of time) count ∷ []
-    → clock_of time ≡ clock → messages ≡ count
-    → ((l time : ℕ) (came : List MessagesAt) → clock / length ≡ time / l → IsRateOf l came old
-    → IsRateOf l (messages_at time messages ∷ came) new)
-    → IsRateOf length (flat_map messages_told events) old
-    → IsRateOf length (flat_map messages_told (timed_event time e ∷ events)) new
-rate_more length time events e clock count messages old new brings at same more is =
-    subst (λ (ms : List MessagesAt). IsRateOf length (ms ++ flat_map messages_told events) new)
-    (sym brings)
-    (subst (λ (m : ℕ). IsRateOf length (messages_at (clock_of time) m
-    ∷ flat_map messages_told events) new) same
-    (more length (clock_of time) (flat_map messages_told events)
-    (ap (λ (t : ℕ). t / length) (sym at)) is))
+pub rate_more : (length time count messages : ℕ)
+    (old new : PeakRate) → messages ≡ count
+    → ((l t : ℕ) (came : List MessagesAt) → time / length ≡ t / l → IsRateOf l came old
+    → IsRateOf l (messages_at t messages ∷ came) new)
+    → (came : List MessagesAt) → IsRateOf length came old
+    → IsRateOf length (messages_at time count ∷ came) new
+rate_more length time count messages old new same more came is =
+    subst (λ (m : ℕ). IsRateOf length (messages_at time m ∷ came) new) same
+    (more length time came refl is)
 
 -- ---- venues after a packet, or after a renewal, by its answer
 

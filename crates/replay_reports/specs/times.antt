@@ -5,9 +5,16 @@ pub mod Places
 pub mod Durations
 pub mod Leads
 pub mod Spells
+pub mod Heard
+pub mod Brought
+pub mod Extents
+pub mod Numbers
+pub mod Losses
 pub mod Timing
 pub mod TimedSinks
 pub mod TimedLaws
 pub mod TimeFigures
 pub mod TimesJson
 pub mod TimesTable
+pub mod LossesJson
+pub mod LossesTable

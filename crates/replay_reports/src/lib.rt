@@ -26,10 +26,17 @@ pub use rows::row_sink::BestRows;
 pub use rows::style::{RowStyle, has_times};
 pub use text::StatsSink;
 pub use times::durations::Durations;
-pub use times::figures::{DurationTimes, SpellTimes, TimeFigures, VenueTimes};
+pub use times::extent::Extent;
+pub use times::figures::{
+    DurationTimes, LineLosses, SpellTimes, TimeFigures, VenueLosses, VenueTimes,
+};
+pub use times::last_heard::LastHeard;
 pub use times::line_leads::LineLeads;
+pub use times::line_numbers::LineNumbers;
 pub use times::missing_spells::MissingSpells;
 pub use times::peak_rate::PeakRate;
+pub use times::spell_ends::SpellEnds;
 pub use times::timed_stats::TimedStats;
 pub use times::times::Times;
+pub use times::venue_numbers::VenueNumbers;
 pub use times::venue_timing::VenueTiming;

@@ -25,8 +25,13 @@ csv_time Absent = []
 csv_time (Given None) = codes ","
 csv_time (Given (Some time)) = codes "," ++ seconds_text time
 
--- one more member of an object, null where the time isn't known
+-- two more members of an object, in seconds and in nanoseconds
+abbrev pub json_known_time : ℕ → List ℕ
+json_known_time time =
+    codes ",\"time\":" ++ seconds_text time ++ codes ",\"time_ns\":" ++ decimal time
+
+-- the same, null where the time isn't known
 abbrev pub json_time : RowTime → List ℕ
 json_time Absent = []
-json_time (Given None) = codes ",\"time\":null"
-json_time (Given (Some time)) = codes ",\"time\":" ++ seconds_text time
+json_time (Given None) = codes ",\"time\":null,\"time_ns\":null"
+json_time (Given (Some time)) = json_known_time time

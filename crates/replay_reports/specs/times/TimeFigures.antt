@@ -8,8 +8,9 @@ use Rattle.replay_reports.specs.declared.times.figures.TimeFigures.{TimeFigures}
 use Rattle.replay_reports.specs.declared.times.figures.VenueTimes.{VenueTimes}
 use Rattle.replay_reports.specs.times.Durations.{IsShareBound}
 use Rattle.replay_reports.specs.times.Figures.{capped, longest_of}
+use Rattle.replay_reports.specs.times.Losses.{AreVenueLosses}
 use Rattle.replay_reports.specs.times.Rates.{most_in_period}
-use Rattle.replay_reports.specs.times.Spells.{MissingAt, missing_since, spells_of}
+use Rattle.replay_reports.specs.times.Spells.{AreEnds, AreLastHeard, MissingAt, longest_began, missing_since, spells_of, took_each}
 use Rattle.replay_reports.specs.times.Timing.{leads_told, messages_told, notes_told}
 
 -- how many durations there are, bounds of half of them and of 99 of a hundred, and the longest
@@ -19,19 +20,25 @@ pub record AreDurationTimes (durations : List ℕ) (t : DurationTimes) : Type 0 
   pub most : length durations < 2 ^ 64 → IsShareBound 99 durations t.most
   pub longest : t.longest ≡ longest_of durations
 
--- how many spells are over, how long they took together and the longest, and whether one is open
+-- how many spells are over, how long they took together and the longest, when that one began, how
+-- many each line ended, and whether one is open
 pub record AreSpellTimes (notes : List MissingAt) (t : SpellTimes) : Type 0 where
   pub count : t.count ≡ capped (length (spells_of notes))
-  pub total : t.total ≡ capped (sum (spells_of notes))
-  pub longest : t.longest ≡ longest_of (spells_of notes)
+  pub total : t.total ≡ capped (sum (took_each (spells_of notes)))
+  pub longest : t.longest ≡ longest_of (took_each (spells_of notes))
+  pub began : t.began ≡ longest_began (spells_of notes)
+  pub ends : AreEnds (spells_of notes) t.ends
   pub standing : t.standing ≡ (if is_some (missing_since notes) then 1 else 0)
 
--- of a venue: where A is first, where B is first, and its spells with messages missing
+-- of a venue: where A is first, where B is first, its spells with messages missing, when its lines
+-- were last heard, and what they lost
 pub record AreVenueTimes (window venue : ℕ) (events : List TimedEvent) (t : VenueTimes)
     : Type 0 where
   pub a : AreDurationTimes (leads_told window A B venue events) t.a
   pub b : AreDurationTimes (leads_told window B A venue events) t.b
   pub missing : AreSpellTimes (notes_told venue events) t.missing
+  pub heard : AreLastHeard (notes_told venue events) t.heard
+  pub losses : AreVenueLosses window venue events t.losses
 
 abbrev pub AreTimesOfEach : ℕ → List TimedEvent → List VenueTimes → Type 0
 AreTimesOfEach window events times =

@@ -1,6 +1,6 @@
 //! Labels and numbers, put one after another into a text.
 ghost use Rattle.std.specs.Prelude.{◌≡◌, ◌++◌, ◌≤◌, OnOk, flat_map};
-ghost use Rattle.replay_reports.specs.counts.Pieces.{piece_text, row_if_any, row_text};
+ghost use Rattle.replay_reports.specs.counts.Pieces.{optional_text, piece_text, row_if_any, row_text, venue_label};
 
 use itoa::Buffer;
 use std::alloc::AllocError;
@@ -28,6 +28,38 @@ fn put_piece(text: &mut Vec<u8>, columns: usize, label: &str, number: u64) -> Re
     text.extend_from_slice(label.as_bytes())?;
     text.extend_from_slice(filling)?;
     text.extend_from_slice(digits)
+}
+
+/// Returns the label of a venue's number in an object, after a comma where it isn't the first.
+pub(crate) fn venue_label(place: usize) -> &'static str
+    ensures { result.now ≡ venue_label place }
+{
+    if place == 0 {
+        "{\"venue\":"
+    } else {
+        ",{\"venue\":"
+    }
+}
+
+/// Appends a label and a number, or what stands in the place of one that isn't there.
+pub(crate) fn put_optional(
+    text: &mut Vec<u8>,
+    columns: usize,
+    none: &[u8],
+    label: &str,
+    number: Option<u64>,
+) -> Result<(), AllocError>
+    requires { columns ≤ 14 }
+    ensures { OnOk result (text.new.items
+        ≡ text.old.items ++ optional_text columns none.now label.now number) }
+{
+    match number {
+        Some(number) => put_piece(text, columns, label, number),
+        None => {
+            text.extend_from_slice(label.as_bytes())?;
+            text.extend_from_slice(none)
+        }
+    }
 }
 
 /// Appends labels and numbers, each number at the end of this many columns.

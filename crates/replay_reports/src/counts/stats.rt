@@ -3,7 +3,7 @@ ghost use Rattle.std.specs.Prelude.{◌≡◌, ◌==◌, ◌<◌, ℕ, ◌∷◌
 ghost use Rattle.feed_text.specs.SinkEvents.{told_by, told_best};
 ghost use Rattle.journal_book.specs.Changes.{notice_of};
 ghost use Rattle.replay_reports.specs.counts.Counts.{missing_in};
-ghost use Rattle.replay_reports.specs.times.Timing.{is_accepted};
+ghost use Rattle.replay_reports.specs.times.Heard.{is_accepted};
 ghost use Rattle.replay_reports.specs.counts.Stats.{bid_led, counted_after, each_venue, is_at_venue, nothing_at, nothing_counted, offer_led, own_at, states_after};
 
 use crate::counts::line_stats::raised;

@@ -1,6 +1,6 @@
 //! The counts of a venue.
 ghost use Rattle.std.specs.Prelude.{◌≡◌, ℕ, ◌∷◌, []};
-ghost use Rattle.line_captures.specs.Counts.{count_after};
+ghost use Rattle.line_captures.specs.FullCounts.{count_after};
 ghost use Rattle.feed_text.specs.SinkEvents.{told_by, told_item, told_packet, told_refusal};
 ghost use Rattle.replay_reports.specs.counts.Counts.{given_up_after, items_after, missing_in, own_after, session_after};
 

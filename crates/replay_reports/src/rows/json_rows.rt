@@ -3,7 +3,7 @@ ghost use Rattle.std.specs.Prelude.{◌≤◌};
 ghost use Rattle.journal_book.specs.Changes.{notice_of};
 ghost use Rattle.feed_text.specs.Pages.{Appends};
 ghost use Rattle.replay_reports.specs.rows.RowTexts.{json_row, json_side};
-ghost use Rattle.replay_reports.specs.rows.Times.{json_time};
+ghost use Rattle.replay_reports.specs.rows.Times.{json_known_time, json_time};
 
 use super::put_state;
 use super::quoting::put_quoted;
@@ -32,25 +32,33 @@ fn put_json_side(text: &mut LineBuffer, side: &Option<Best>)
     }
 }
 
-/// Appends a time as one more member.
+/// Appends a time that is known as two more members, in seconds and in nanoseconds.
+fn put_known_time(text: &mut LineBuffer, time: u64)
+    requires { 69 ≤ text.old.room }
+    ensures { Appends text.old (json_known_time time) 69 text.new }
+{
+    put_bytes(text, *b",\"time\":");
+    put_seconds(text, time);
+    put_bytes(text, *b",\"time_ns\":");
+    put_number(text, time);
+}
+
+/// Appends a time as two more members, null where it isn't known.
 fn put_json_time(text: &mut LineBuffer, time: RowTime)
-    requires { 38 ≤ text.old.room }
-    ensures { Appends text.old (json_time time) 38 text.new }
+    requires { 69 ≤ text.old.room }
+    ensures { Appends text.old (json_time time) 69 text.new }
 {
     match time {
         RowTime::Absent => {}
-        RowTime::Given(None) => put_bytes(text, *b",\"time\":null"),
-        RowTime::Given(Some(time)) => {
-            put_bytes(text, *b",\"time\":");
-            put_seconds(text, time);
-        }
+        RowTime::Given(None) => put_bytes(text, *b",\"time\":null,\"time_ns\":null"),
+        RowTime::Given(Some(time)) => put_known_time(text, time),
     }
 }
 
 /// Appends the object of a change of the national best, under this number, on a line.
 pub(crate) fn put_json(text: &mut LineBuffer, time: RowTime, number: u64, change: &Change)
-    requires { 326 ≤ text.old.room }
-    ensures { Appends text.old (json_row time (notice_of number change.now)) 326 text.new }
+    requires { 357 ≤ text.old.room }
+    ensures { Appends text.old (json_row time (notice_of number change.now)) 357 text.new }
 {
     put_bytes(text, *b"{\"notice\":");
     put_number(text, number);

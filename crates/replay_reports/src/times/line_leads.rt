@@ -1,8 +1,9 @@
 //! By how much which line of a venue is first.
-ghost use Rattle.std.specs.Prelude.{◌≡◌, ◌⊎◌, ℕ, ◌+◌, ◌%◌, ◌^◌, ◌<◌, ◌≤◌, List, [], IfOk, ◌∷◌, ◌++◌, Ok, length, max, if◌then◌else◌};
+ghost use Rattle.std.specs.Prelude.{◌≡◌, ◌⊎◌, ℕ, ◌+◌, ◌%◌, ◌^◌, ◌<◌, ◌≤◌, List, [], IfOk, ◌∷◌, ◌++◌, Ok, Some, length, max, if◌then◌else◌};
 ghost use Rattle.feed_types.specs.declared.line.LineId.TheVariants.{A, B};
 ghost use Rattle.feed_text.specs.SinkEvents.{told_packet};
-ghost use Rattle.replay_reports.specs.times.Timing.{came_after, has_numbers};
+ghost use Rattle.replay_reports.specs.times.Heard.{has_numbers};
+ghost use Rattle.replay_reports.specs.times.Timing.{came_after};
 ghost use Rattle.replay_reports.specs.times.Leads.{AreLeadsOf, MessageOn, come_on, held_after, lead_by, leads_of, message_on};
 
 use crate::times::durations::Durations;
@@ -135,15 +136,15 @@ impl LineLeads {
         }
     }
 
-    /// Notes the messages of a packet that was taken. Those of a packet with numbers that no
-    /// message has don't count.
+    /// Notes the messages of a packet that was taken, or is past the window. Those of a packet with
+    /// numbers that no message has don't count.
     #[inline(always)]
-    fn note_packet(&mut self, packet: HeardPacket)
+    fn note_packet(&mut self, time: u64, packet: HeardPacket)
         ensures { (window : ℕ) (came : List MessageOn) (before_a before_b : List ℕ)
             → AreLeadsOf window came before_a before_b self.old
             → AreLeadsOf window
             (if has_numbers packet.number packet.count
-            then come_on packet.line packet.number packet.count packet.time came else came)
+            then come_on packet.line packet.number packet.count time came else came)
             before_a before_b self.new }
     {
         if packet.number == 0 {
@@ -152,24 +153,24 @@ impl LineLeads {
         if packet.number - 1 > u64::MAX - u64::from(packet.count) {
             return;
         }
-        self.note_all(packet.line, packet.number, packet.count, packet.time);
+        self.note_all(packet.line, packet.number, packet.count, time);
     }
 
-    /// Notes the messages of a packet that was answered so.
+    /// Notes the messages of a packet that was answered so, at a time in nanoseconds.
     #[inline(always)]
-    pub(crate) fn note_answered(&mut self, packet: HeardPacket, outcome: &Outcome)
+    pub(crate) fn note_answered(&mut self, time: u64, packet: HeardPacket, outcome: &Outcome)
         ensures { (window : ℕ) (came : List MessageOn) (before_a before_b : List ℕ)
             → AreLeadsOf window came before_a before_b self.old
             → AreLeadsOf window
-            (came_after 0 packet.time
+            (came_after 0 (Some time)
             (told_packet 0 packet.line packet.number packet.count (Ok outcome.now)) came)
             before_a before_b self.new }
     {
         match outcome {
-            Outcome::Taken { .. } => self.note_packet(packet),
+            Outcome::Taken { .. } => self.note_packet(time, packet),
             Outcome::Heartbeat => {}
             Outcome::Ended => {}
-            Outcome::Ahead => {}
+            Outcome::Ahead => self.note_packet(time, packet),
         }
     }
 

@@ -8,25 +8,36 @@ use crate::times::times::Times;
 use feed_text::{Event, EventSink, SinkStop};
 use std::alloc::{AllocError, Global};
 
-/// The counts of a capture whose records have times, and how its packets run in time. As a sink of
-/// events it writes nothing, and no call of it fails. A time that isn't known counts as of 1970.
+/// The counts of a capture, and how its packets run by their numbers and in time. As a sink of
+/// events it writes nothing, and no call of it fails. A packet whose time isn't known has no part
+/// in the figures of times.
 #[derive(Drop)]
 pub struct TimedStats {
     pub stats: Stats,
     pub times: Times,
+    /// Whether the capture's records have times, so that their figures are told.
+    pub has_times: bool,
 }
 
 impl TimedStats {
     /// Of this many venues, to which nothing came. It keeps the first arrivals of `window` messages
-    /// of each, to tell which line is first. Its memory is asked for here and never again.
-    pub fn new(alloc: Global, venues: usize, window: usize) -> Result<TimedStats, AllocError>
+    /// of each, to tell which line is first, and this many numbers of each line. Its memory is
+    /// asked for here and never again.
+    pub fn new(
+        alloc: Global,
+        venues: usize,
+        window: usize,
+        has_times: bool,
+    ) -> Result<TimedStats, AllocError>
         ensures count { IfOk result (λ t. length t.times.venues.items ≡ venues) }
         ensures counts { IfOk result (λ t. t.stats ≡ nothing_counted venues) }
+        ensures has_times { IfOk result (λ t. t.has_times ≡ has_times) }
         ensures timed { IfOk result (λ t. 0 < window → IsTimed window [] t) }
     {
         Ok(TimedStats {
             stats: Stats::new(alloc, venues)?,
             times: Times::new(alloc, venues, window)?,
+            has_times,
         })
     }
 }

@@ -1,8 +1,9 @@
 //! How the packets of all venues run in time.
-ghost use Rattle.std.specs.Prelude.{◌≡◌, ◌<◌, ℕ, List, [], ◌∷◌, IfOk, Ok, Option, length};
+ghost use Rattle.std.specs.Prelude.{◌≡◌, ◌<◌, ℕ, List, [], ◌∷◌, ◌++◌, IfOk, Ok, Option, length};
 ghost use Rattle.feed_text.specs.SinkEvents.{TimedEvent, timed_event, told_by, told_packet, told_renewal};
+ghost use Rattle.replay_reports.specs.times.Rates.{IsRateOf, MessagesAt};
 ghost use Rattle.replay_reports.specs.times.TimeFigures.{AreFigures, AreTimesOfEach};
-ghost use Rattle.replay_reports.specs.times.Timing.{AreTimesOf, AreVenuesTimed, IsLacking, clock_of};
+ghost use Rattle.replay_reports.specs.times.Timing.{AreTimesOf, AreVenuesTimed, IsLacking, messages_by};
 
 use crate::times::figures::{TimeFigures, VenueTimes};
 use crate::times::peak_rate::PeakRate;
@@ -50,12 +51,11 @@ fn hear_at(
     is_missing: bool,
 )
     ensures length { length venues.new.items ≡ length venues.old.items }
-    ensures timed { (window : ℕ) (time : Option ℕ) (events : List TimedEvent)
-        → clock_of time ≡ packet.time
-        → IsLacking (length venues.old.items) is_missing (timed_event time
+    ensures timed { (window : ℕ) (events : List TimedEvent)
+        → IsLacking (length venues.old.items) is_missing (timed_event packet.time
         (told_packet venue packet.line packet.number packet.count (Ok outcome.now))) events
         → AreVenuesTimed window events venues.old.items
-        → AreVenuesTimed window (timed_event time
+        → AreVenuesTimed window (timed_event packet.time
         (told_packet venue packet.line packet.number packet.count (Ok outcome.now)) ∷ events)
         venues.new.items }
 {
@@ -105,6 +105,24 @@ impl Times {
         })
     }
 
+    /// Counts the messages of a packet, where its time is known.
+    #[inline(always)]
+    fn add_messages(&mut self, time: Option<u64>, count: u16)
+        ensures second { (came : List MessagesAt) → IsRateOf 1000000000 came self.old.in_second
+            → IsRateOf 1000000000 (messages_by time count ++ came) self.new.in_second }
+        ensures millisecond { (came : List MessagesAt)
+            → IsRateOf 1000000 came self.old.in_millisecond
+            → IsRateOf 1000000 (messages_by time count ++ came) self.new.in_millisecond }
+        ensures venues { self.new.venues ≡ self.old.venues }
+    {
+        let Some(time) = time else {
+            return;
+        };
+        self.in_second.add(time / SECOND, u64::from(count));
+        self.in_millisecond
+            .add(time / MILLISECOND, u64::from(count));
+    }
+
     /// Takes a packet of a venue that was answered so.
     #[inline(always)]
     fn hear(
@@ -115,18 +133,15 @@ impl Times {
         is_missing: bool,
     )
         ensures count { length self.new.venues.items ≡ length self.old.venues.items }
-        ensures times { (window : ℕ) (time : Option ℕ) (events : List TimedEvent)
-            → clock_of time ≡ packet.time
-            → IsLacking (length self.old.venues.items) is_missing (timed_event time
+        ensures times { (window : ℕ) (events : List TimedEvent)
+            → IsLacking (length self.old.venues.items) is_missing (timed_event packet.time
             (told_packet venue packet.line packet.number packet.count answer.now)) events
             → AreTimesOf window events self.old
-            → AreTimesOf window (timed_event time
+            → AreTimesOf window (timed_event packet.time
             (told_packet venue packet.line packet.number packet.count answer.now) ∷ events)
             self.new }
     {
-        let messages = u64::from(packet.count);
-        self.in_second.add(packet.time / SECOND, messages);
-        self.in_millisecond.add(packet.time / MILLISECOND, messages);
+        self.add_messages(packet.time, packet.count);
         match answer {
             Ok(outcome) => {
                 hear_at(&mut self.venues, venue, packet, outcome, is_missing);
@@ -172,7 +187,7 @@ impl Times {
                     line: *line,
                     number: *number,
                     count: *count,
-                    time: time.unwrap_or(0),
+                    time,
                 };
                 self.hear(*venue, packet, answer, is_missing);
             }

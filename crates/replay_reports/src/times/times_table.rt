@@ -1,9 +1,10 @@
 //! The times of a capture as a table.
 ghost use Rattle.std.specs.Prelude.{◌≡◌, ◌++◌, OnOk, length};
-ghost use Rattle.replay_reports.specs.times.TimesTable.{durations_table, rates_table, spells_table, times_heading, times_table, venue_times_table, venues_times_table};
+ghost use Rattle.replay_reports.specs.times.TimesTable.{durations_table, heard_table, rates_table, spells_table, time_table, times_heading, times_table, venue_times_table, venues_times_table};
 
-use crate::counts::pieces::{COLUMNS, put_pieces, put_rows};
+use crate::counts::pieces::{COLUMNS, put_optional, put_pieces, put_rows};
 use crate::times::figures::{DurationTimes, SpellTimes, TimeFigures, VenueTimes};
+use crate::times::last_heard::LastHeard;
 use std::alloc::AllocError;
 
 /// The heads of the columns.
@@ -26,17 +27,38 @@ fn put_durations(text: &mut Vec<u8>, label: &str, t: &DurationTimes) -> Result<(
     put_pieces(text, COLUMNS, &pieces)
 }
 
+/// Appends a time after this label.
+fn put_time(text: &mut Vec<u8>, label: &str, time: Option<u64>) -> Result<(), AllocError>
+    ensures { OnOk result (text.new.items ≡ text.old.items ++ time_table label.now time) }
+{
+    put_optional(text, COLUMNS, b"             -", label, time)
+}
+
 /// Appends the spells with messages missing.
 fn put_spells(text: &mut Vec<u8>, t: &SpellTimes) -> Result<(), AllocError>
     ensures { OnOk result (text.new.items ≡ text.old.items ++ spells_table t.now) }
 {
     let pieces = [
         ("\n  spells with gaps, over      ", t.count),
+        ("\n    ended by line A           ", t.ends.a),
+        ("\n    ended by line B           ", t.ends.b),
+        ("\n    ended by recovery         ", t.ends.recovery),
         ("\n    nanoseconds in all        ", t.total),
         ("\n    the longest               ", t.longest),
-        ("\n  spells with gaps, open      ", t.standing),
     ];
+    put_pieces(text, COLUMNS, &pieces)?;
+    put_time(text, "\n    the longest began at      ", t.began)?;
+    let pieces = [("\n  spells with gaps, open      ", t.standing)];
     put_pieces(text, COLUMNS, &pieces)
+}
+
+/// Appends when each line was last heard.
+fn put_heard(text: &mut Vec<u8>, h: &LastHeard) -> Result<(), AllocError>
+    ensures { OnOk result (text.new.items ≡ text.old.items ++ heard_table h.now) }
+{
+    put_time(text, "\n  line A was last heard at    ", h.a)?;
+    put_time(text, "\n  line B was last heard at    ", h.b)?;
+    put_time(text, "\n  recovery was last heard at  ", h.recovery)
 }
 
 /// Appends a venue's times.
@@ -46,7 +68,8 @@ fn put_venue(text: &mut Vec<u8>, place: usize, t: &VenueTimes) -> Result<(), All
     put_heading(text, place)?;
     put_durations(text, "\n  line B after line A         ", &t.a)?;
     put_durations(text, "\n  line A after line B         ", &t.b)?;
-    put_spells(text, &t.missing)
+    put_spells(text, &t.missing)?;
+    put_heard(text, &t.heard)
 }
 
 /// Appends the venues' times.

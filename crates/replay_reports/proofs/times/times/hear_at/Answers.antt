@@ -5,8 +5,9 @@ use Rattle.replay_reports.proofs.Timed.{all_untouched, heard_elsewhere, heard_he
 use Rattle.replay_reports.proofs.times.times.hear_at.Goals as goal
 
 pub returns-then-place-len-clause-timed : goal.returns-then-place-len-clause-timed
-returns-then-place-len-clause-timed c = λ window time events at lacking timed.
+returns-then-place-len-clause-timed c = λ window events lacking timed.
     let p = c.args.packet in
+    let time = p.time in
     let venue = c.args.venue in
     let vs = c.args.venues.now.items in
     let place = c.index-place.result in
@@ -21,14 +22,16 @@ returns-then-place-len-clause-timed c = λ window time events at lacking timed.
     old new value
     (slice_get_read vs (length vs) place old refl within c.index_mut.ensures.value)
     (λ n apart. heard_elsewhere venue p.line p.number p.count n time outcome events apart)
-    (λ was. heard_here venue p.line p.number p.count window p.time time outcome events old
-    new c.args.is_missing at
-    (sym lacks) c.hear.ensures.leads c.hear.ensures.missing was)
+    (λ was. heard_here venue p.line p.number p.count window time outcome events old
+    new c.args.is_missing
+    (sym lacks) c.hear.ensures.leads c.hear.ensures.missing c.hear.ensures.heard
+    c.hear.ensures.numbers was)
     timed
 
 pub returns-else-place-len-clause-timed : goal.returns-else-place-len-clause-timed
-returns-else-place-len-clause-timed c = λ window time events at lacking timed.
+returns-else-place-len-clause-timed c = λ window events lacking timed.
     let p = c.args.packet in
+    let time = p.time in
     let venue = c.args.venue in
     let outcome = c.args.outcome.now in
     all_untouched window (timed_event time (told_packet venue p.line p.number p.count (Ok outcome)))

@@ -18,7 +18,7 @@ returns-then-place-len-clause-timed c = λ window ordinal time events timed.
     (slice_get_read vs (length vs) place old refl within c.index_mut.ensures.value)
     (λ n apart. renewed_elsewhere venue ordinal n time events apart)
     (λ was. renewed_here window venue ordinal time events old new c.renew.ensures.leads
-    c.renew.ensures.missing was)
+    c.renew.ensures.missing c.renew.ensures.heard c.renew.ensures.numbers was)
     timed
 
 pub returns-else-place-len-clause-timed : goal.returns-else-place-len-clause-timed

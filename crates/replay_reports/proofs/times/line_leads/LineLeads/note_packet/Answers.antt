@@ -2,7 +2,7 @@ use Rattle.std.proofs.Common.{◌≡◌, ◌+◌, Bool, true, cond, subst, sym, 
 use Rattle.std.specs.Prelude.{nat_lt}
 use Rattle.std.proofs.lemmas.Bool.{and_from}
 use Rattle.replay_reports.specs.times.Leads.{AreLeadsOf, come_on}
-use Rattle.replay_reports.specs.times.Timing.{has_numbers}
+use Rattle.replay_reports.specs.times.Heard.{has_numbers}
 use Rattle.replay_reports.proofs.times.line_leads.LineLeads.note_packet.Goals as goal
 
 pub returns : goal.returns
@@ -13,6 +13,7 @@ returns c = λ window came before_a before_b leads.
     (lt-ltb 0 p.number (omega (arith, c.if-packet-eq0.false)))
     (lt-ltb (p.number + p.count) 18446744073709551617
     (omega (arith, c.if-packet-eq0.false, c.if-packet-from.false, c.from.ensures))) in
-    subst (λ (b : Bool). AreLeadsOf window (cond b (come_on p.line p.number p.count p.time came)
+    subst (λ (b : Bool). AreLeadsOf window
+    (cond b (come_on p.line p.number p.count c.args.time came)
     came) before_a before_b
     c.note_all.new.self) (sym has) (c.note_all.ensures window came before_a before_b leads)

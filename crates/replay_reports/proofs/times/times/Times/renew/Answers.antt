@@ -14,7 +14,7 @@ returns-in-Ok-clause-times c = λ window time events timed.
           c.args.self.now.in_millisecond;
       venues = c.renew_at.new.venues;
     })
-    (λ clock. refl) refl refl
+    (λ t. refl) refl refl
     (λ was. subst (λ (a : Result ℕ RenewFault).
     AreVenuesTimed window (timed_event time (told_renewal c.args.venue a) ∷ events)
     c.renew_at.new.venues.items) (sym c.in-Ok.is)
@@ -25,7 +25,7 @@ pub returns-in-Err-clause-times : goal.returns-in-Err-clause-times
 returns-in-Err-clause-times c = λ window time events timed.
     rates_kept window time events (told_renewal c.args.venue c.args.answer.now)
     c.args.self.now c.args.self.now
-    (λ clock. refl) refl refl
+    (λ t. refl) refl refl
     (λ was. subst (λ (a : Result ℕ RenewFault).
     AreVenuesTimed window (timed_event time (told_renewal c.args.venue a) ∷ events)
     c.args.self.now.venues.items)
