@@ -1,5 +1,5 @@
 -- The results of the options' values, and of an error of clap.
-use Rattle.std.proofs.Common.{codes, length, ◌≡◌, ◌^◌, ◌<◌, ◌⊎◌, inl, inr, ℕ, ◌∙◌, sym, ap, subst, List, Option, Some, None, Ok, Err, [], true, false, refl, arith}
+use Rattle.std.proofs.Common.{codes, get_or, length, ◌≡◌, ◌^◌, ◌<◌, ◌⊎◌, inl, inr, ℕ, ◌∙◌, sym, ap, subst, List, Option, Some, None, Ok, Err, [], true, false, refl, arith}
 use Rattle.std.specs.Prelude.{Bool, IfErr, IfOk, Result, is_some, unwrap_or}
 use Rattle.std.specs.Str.Parse.{IsNumeral, digits_value, without_leading_plus}
 use Rattle.clap.specs.Kinds.{IsAmong}
@@ -8,7 +8,7 @@ use Rattle.clap.specs.Faults.{fault_of}
 use Rattle.clap.specs.declared.error.kind.ErrorKind.{ErrorKind}
 use Rattle.clap.specs.declared.error.kind.ErrorKind.TheVariants.{DisplayHelp, DisplayVersion, OutOfMemory}
 use Rattle.command_words.specs.CapturedLines.{HasInputFault}
-use Rattle.command_words.specs.CommandLine.{GivesNoConversion, IsAccepted, IsCommand, IsRefused, RefusesBy, lines_refusal_by, values_of}
+use Rattle.command_words.specs.CommandLine.{GivesNoConversion, GivesNoDiscovery, IsAccepted, IsCommand, IsRefused, RefusesBy, lines_refusal_by, values_of}
 use Rattle.command_words.specs.FeedRequests.{GivesFeed}
 use Rattle.command_words.specs.ListenRequests.{GivesNoListening}
 use Rattle.command_words.specs.OptionValues.{IsCount, IsFlag, IsGivenCount, IsWindowOf}
@@ -21,7 +21,7 @@ use Rattle.command_words.specs.declared.addresses.LinesFault.TheVariants as line
 use Rattle.run_settings.specs.declared.feed_settings.FeedSettings.{FeedSettings}
 use Rattle.run_settings.specs.declared.run_output.RunOutput.{RunOutput}
 use Rattle.command_words.specs.declared.refusal.Refusal.{Refusal}
-use Rattle.command_words.specs.declared.refusal.Refusal.TheVariants.{Shown, Usage, NotText, BadLines, NoMemory}
+use Rattle.command_words.specs.declared.refusal.Refusal.TheVariants.{Shown, Usage, NotText, BadFormat, BadLines, NoMemory}
 
 not_some : {A : Type 0} (x : A) → Some x ≡ None → ⊥
 not_some x e = let bad : true ≡ false = ap is_some e in absurd (cc)
@@ -133,6 +133,24 @@ not_converting_and_counting : (words : List Text) → IsCommand (codes "convert"
 not_converting_and_counting words converts counts = let bad : Some (codes "convert") ≡ Some
     (codes "stats") = sym converts ∙ counts in absurd (cc)
 
+not_listening_and_discovering : (words : List Text) → IsCommand (codes "listen") words
+    → IsCommand (codes "lines") words → ⊥
+not_listening_and_discovering words listens finds = let bad : Some (codes "listen") ≡ Some
+    (codes "lines") = sym listens ∙ finds in absurd (cc)
+
+not_converting_and_discovering : (words : List Text) → IsCommand (codes "convert") words
+    → IsCommand (codes "lines") words → ⊥
+not_converting_and_discovering words converts finds = let bad : Some (codes "convert") ≡ Some
+    (codes "lines") = sym converts ∙ finds in absurd (cc)
+
+not_counting_and_discovering : (words : List Text) → IsCommand (codes "stats") words
+    → IsCommand (codes "lines") words → ⊥
+not_counting_and_discovering words counts finds =
+    let bad : Some (codes "stats") ≡ Some (codes "lines") = sym counts ∙ finds in
+    let heads : ◌≡◌ {A = ℕ} 115 108 =
+    ap (λ (name : Option Text). get_or (unwrap_or name []) 0 0) bad in
+    absurd (omega (arith, heads))
+
 -- the values of the options of listen are refused
 pub IsRefused-listening : (words : List Text) (refusal : Refusal) → IsAccepted words
     → IsCommand (codes "listen") words → GivesNoListening (values_of (codes "listen") words) refusal
@@ -146,7 +164,9 @@ IsRefused-listening words refusal taken listens none = record {
   listening = λ again. none;
   converting = λ converts. absurd (not_both words listens converts);
   counting = λ counts. absurd (not_listening_and_counting words listens counts);
-  replaying = λ not_listening not_converting not_counting. absurd (not_listening listens);
+  discovering = λ finds. absurd (not_listening_and_discovering words listens finds);
+  replaying = λ not_listening not_converting not_counting not_discovering.
+      absurd (not_listening listens);
 }
 
 -- the values of the option of convert are refused
@@ -158,7 +178,9 @@ IsRefused-converting words BadLines taken converts none = record {
   listening = λ listens. absurd (not_both words listens converts);
   converting = λ again. none;
   counting = λ counts. absurd (not_converting_and_counting words converts counts);
-  replaying = λ not_listening not_converting not_counting. absurd (not_converting converts);
+  discovering = λ finds. absurd (not_converting_and_discovering words converts finds);
+  replaying = λ not_listening not_converting not_counting not_discovering.
+      absurd (not_converting converts);
 }
 IsRefused-converting words NoMemory taken converts none = tt
 IsRefused-converting words _ taken converts none = absurd none
@@ -176,8 +198,25 @@ IsRefused-counting words refusal taken counts none = record {
   listening = λ listens. absurd (not_listening_and_counting words listens counts);
   converting = λ converts. absurd (not_converting_and_counting words converts counts);
   counting = λ again. none;
-  replaying = λ not_listening not_converting not_counting. absurd (not_counting counts);
+  discovering = λ finds. absurd (not_counting_and_discovering words counts finds);
+  replaying = λ not_listening not_converting not_counting not_discovering.
+      absurd (not_counting counts);
 }
+
+-- the value of the option of lines is refused
+pub IsRefused-discovering : (words : List Text) (refusal : Refusal) → IsAccepted words
+    → IsCommand (codes "lines") words → GivesNoDiscovery (values_of (codes "lines") words) refusal
+    → IsRefused words refusal
+IsRefused-discovering words BadFormat taken finds none = record {
+  taken = taken;
+  listening = λ listens. absurd (not_listening_and_discovering words listens finds);
+  converting = λ converts. absurd (not_converting_and_discovering words converts finds);
+  counting = λ counts. absurd (not_counting_and_discovering words counts finds);
+  discovering = λ again. none;
+  replaying = λ not_listening not_converting not_counting not_discovering.
+      absurd (not_discovering finds);
+}
+IsRefused-discovering words _ taken finds none = absurd none
 
 -- an error of clap by one of its kinds is the refusal
 pub IsRefused-by : (words : List Text) (kind : ErrorKind) (refusal : Refusal)

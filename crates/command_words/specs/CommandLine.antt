@@ -4,7 +4,7 @@
 -- words, subcommand_of is the subcommand with the values of its options, and fault_of what is wrong
 -- with the words.
 use Rattle.std.specs.Prelude.{◌≡◌, ◌≢◌, ◌⊎◌, [], ℕ, List, Some, codes, option_map, string_bytes}
-use Rattle.clap.specs.Walk.{Row, Text}
+use Rattle.clap.specs.Walk.{Row, Text, first_of}
 use Rattle.clap.specs.Simple.{subcommand_of}
 use Rattle.clap.specs.Faults.{fault_of}
 use Rattle.clap.specs.Kinds.{IsAmong}
@@ -18,16 +18,18 @@ use Rattle.command_words.specs.declared.sessions.SessionsFault.{SessionsFault}
 use Rattle.command_words.specs.declared.sessions.SessionsFault.TheVariants as sessions
 use Rattle.command_words.specs.declared.symbols.SymbolsFault.{SymbolsFault}
 use Rattle.command_words.specs.declared.symbols.SymbolsFault.TheVariants as symbols
+use Rattle.run_settings.specs.declared.formats.StatsFormat.{StatsFormat}
 use Rattle.run_settings.specs.declared.listen_settings.ListenSettings.{ListenSettings}
 use Rattle.run_settings.specs.declared.run_settings.RunSettings.{RunSettings}
 use Rattle.command_words.specs.declared.task.Task.{Task}
-use Rattle.command_words.specs.declared.task.Task.TheVariants.{Run, Convert, Listen}
+use Rattle.command_words.specs.declared.task.Task.TheVariants.{Run, Convert, Discover, Listen}
 use Rattle.command_words.specs.declared.refusal.Refusal.{Refusal}
 use Rattle.command_words.specs.declared.refusal.Refusal.TheVariants.{Shown, Usage, NotText, BadSession, TooManySessions, BadLines, BadRequest, BadFormat, BadEnd, KeptUnfollowed, BadSymbol, TooManySymbols, DuplicateSymbol, NoMemory}
 use Rattle.run_settings.specs.declared.captured_line.CapturedLine.{CapturedLine}
 use Rattle.command_words.specs.OptionValues.{lines_in, rows_of_command}
 use Rattle.command_words.specs.RunRequests.{Gives, GivesNoStats, GivesNone, GivesStats}
 use Rattle.command_words.specs.ListenRequests.{GivesListening, GivesNoListening}
+use Rattle.command_words.specs.StatsFormats.{NamesNoStatsFormat, NamesStatsFormat}
 
 -- The values of the option of convert give these lines.
 abbrev pub GivesConversion : List Row → List CapturedLine → Type 0
@@ -38,6 +40,11 @@ abbrev pub GivesNoConversion : List Row → Refusal → Type 0
 GivesNoConversion rows BadLines = HasAllLinesFault (lines_in rows) lines.BadLines
 GivesNoConversion rows NoMemory = Unit {0}
 GivesNoConversion rows _ = ⊥
+
+-- The values of the option of lines give no form.
+abbrev pub GivesNoDiscovery : List Row → Refusal → Type 0
+GivesNoDiscovery rows BadFormat = NamesNoStatsFormat (first_of (codes "format") rows)
+GivesNoDiscovery rows _ = ⊥
 
 abbrev pub refusal_by : SessionsFault → Refusal
 refusal_by sessions.BadSession = BadSession
@@ -99,15 +106,23 @@ pub record AsksConversion (words : List Text) (lines : List CapturedLine) : Type
   pub taken : IsAccepted words
   pub given : GivesConversion (values_of (codes "convert") words) lines
 
+-- The words ask for the lines of a packet capture, in this form.
+pub record AsksDiscovery (words : List Text) (format : StatsFormat) : Type 0 where
+  pub taken : IsAccepted words
+  pub command : IsCommand (codes "lines") words
+  pub given : NamesStatsFormat (first_of (codes "format") (values_of (codes "lines") words)) format
+
 -- The words ask to listen with these settings.
 pub record AsksListening (words : List Text) (settings : ListenSettings) : Type 0 where
   pub taken : IsAccepted words
   pub given : GivesListening (values_of (codes "listen") words) settings
 
--- The words ask for this task. Each needs values that the others' subcommands don't have.
+-- The words ask for this task. But for the lines of a capture, each needs values that the others'
+-- subcommands don't have.
 abbrev pub Asks : List Text → Task → Type 0
 Asks words (Run settings) = AsksRun words settings
 Asks words (Convert lines) = AsksConversion words lines.items
+Asks words (Discover format) = AsksDiscovery words format
 Asks words (Listen settings) = AsksListening words settings
 
 -- clap takes the words, and the values of their options give no settings of the subcommand
@@ -119,9 +134,11 @@ pub record GivesNoTask (words : List Text) (refusal : Refusal) : Type 0 where
       → GivesNoConversion (values_of (codes "convert") words) refusal
   pub counting : IsCommand (codes "stats") words
       → GivesNoStats (values_of (codes "stats") words) refusal
+  pub discovering : IsCommand (codes "lines") words
+      → GivesNoDiscovery (values_of (codes "lines") words) refusal
   pub replaying : (IsCommand (codes "listen") words → ⊥)
       → (IsCommand (codes "convert") words → ⊥) → (IsCommand (codes "stats") words → ⊥)
-      → GivesNone (values_of (codes "replay") words) refusal
+      → (IsCommand (codes "lines") words → ⊥) → GivesNone (values_of (codes "replay") words) refusal
 
 -- Why the words give no settings. Help and the version are among the faults that clap finds; memory
 -- may be refused at any time.

@@ -89,5 +89,12 @@ stats_skips_app = with_rule (with_rule counting_app join_rule) skip_gaps_rule
 abbrev pub stats_app : App
 stats_app = with_rule (with_rule stats_skips_app format_rule) symbols_rule
 
+abbrev pub reporting_app : App
+reporting_app = with_subcommand converting_app stats_app.top
+
+-- lines with its option
+abbrev pub discovering_app : App
+discovering_app = with_rule (new_app (codes "lines")) format_rule
+
 abbrev pub nbbo_app : App
-nbbo_app = with_subcommand converting_app stats_app.top
+nbbo_app = with_subcommand reporting_app discovering_app.top

@@ -5,12 +5,13 @@ ghost use Rattle.clap.specs.Simple.{subcommand_of, subcommand_rows_of};
 ghost use Rattle.clap.specs.Values.{kind_of};
 ghost use Rattle.clap.specs.Walk.{first_of, one_of, rows_of};
 ghost use Rattle.command_words.specs.Addresses.{HasLinesFault, NameLines, NamesNoRequest, NamesRequest};
-ghost use Rattle.command_words.specs.CommandLine.{Asks, GivesConversion, GivesNoConversion, IsRefused, IsAccepted, RefusesBy};
+ghost use Rattle.command_words.specs.CommandLine.{Asks, GivesConversion, GivesNoConversion, GivesNoDiscovery, IsRefused, IsAccepted, RefusesBy};
 ghost use Rattle.command_words.specs.FeedRequests.{GivesFeed, GivesNoFeed};
 ghost use Rattle.command_words.specs.ListenRequests.{GivesListening, GivesNoListening};
 ghost use Rattle.command_words.specs.OptionValues.{IsCount, IsFlag, IsGivenCount, IsWindowOf, lines_in, symbol_words_in};
 ghost use Rattle.command_words.specs.Commands.{nbbo_app};
 ghost use Rattle.command_words.specs.EndRules.{NamesEndRule, NamesNoEndRule};
+ghost use Rattle.command_words.specs.StatsFormats.{NamesStatsFormat};
 ghost use Rattle.command_words.specs.Symbols.{HasSymbolsFault, NameSymbols};
 
 use crate::addresses::{LinesFault, RequestFault, read_lines, read_request};
@@ -20,14 +21,14 @@ use crate::end_rule::{EndRuleFault, read_end_rule};
 use crate::limits::DEFAULT_WINDOW;
 use crate::listen_counts::{datagrams_of, kept_of, usual_journal};
 use crate::refusal::Refusal;
-use crate::run_words::{replay_of, stats_of};
+use crate::run_words::{replay_of, stats_format_of, stats_of};
 use crate::sessions::read_sessions;
 use crate::symbols::{SymbolsFault, read_symbols};
 use crate::task::Task;
 use clap::error::ErrorKind;
 use clap::{ArgMatches, Error};
 use feed_types::{MAX_WINDOW, SymbolName};
-use run_settings::{CapturedLine, EndRule, FeedSettings, ListenSettings};
+use run_settings::{CapturedLine, EndRule, FeedSettings, ListenSettings, StatsFormat};
 use std::alloc::Global;
 use std::net::SocketAddr;
 
@@ -189,6 +190,15 @@ fn conversion_of(alloc: Global, convert: &ArgMatches<'_>) -> Result<Vec<Captured
     Ok(read_all_lines(alloc, text_of(convert, "lines"))?)
 }
 
+/// The form that the option of `lines` gives.
+fn discovery_of(lines: &ArgMatches<'_>) -> Result<StatsFormat, Refusal>
+    ensures ok { IfOk result
+        (NamesStatsFormat (first_of (codes "format") (rows_of (found_of lines.now)))) }
+    ensures err { IfErr result (GivesNoDiscovery (rows_of (found_of lines.now))) }
+{
+    Ok(stats_format_of(lines)?)
+}
+
 /// The settings that the options of `listen` give.
 fn listening_of(alloc: Global, listen: &ArgMatches<'_>) -> Result<ListenSettings, Refusal>
     ensures ok { IfOk result (GivesListening (rows_of (found_of listen.now))) }
@@ -238,6 +248,9 @@ pub fn settings(alloc: Global, words: &[String]) -> Result<Task, Refusal>
     }
     if let Some(stats) = matches.subcommand_matches("stats") {
         return Ok(Task::Run(stats_of(alloc, stats)?));
+    }
+    if let Some(lines) = matches.subcommand_matches("lines") {
+        return Ok(Task::Discover(discovery_of(lines)?));
     }
     match matches.subcommand_matches("replay") {
         Some(replay) => Ok(Task::Run(replay_of(alloc, replay)?)),

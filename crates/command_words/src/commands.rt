@@ -2,9 +2,10 @@
 ghost use Rattle.std.specs.Prelude.{◌≡◌, IfOk, false};
 ghost use Rattle.clap.specs.Simple.{app_of};
 ghost use Rattle.clap.specs.declared.builder.command.Command.TheViews.{out-Command as fields_of};
-ghost use Rattle.command_words.specs.Commands.{converting_app, listening_app, nbbo_app, program_app, replaying_app};
+ghost use Rattle.command_words.specs.Commands.{converting_app, listening_app, nbbo_app, program_app, replaying_app, reporting_app};
 
 use crate::convert_command::convert_command;
+use crate::discovery_command::discovery_command;
 use crate::listen_command::listen_command;
 use crate::replay_command::replay_command;
 use crate::stats_command::stats_command;
@@ -22,6 +23,7 @@ const VERSION: &str = "0.1.0\nproved with the logic dac8208d650f15bf";
 
 const EXAMPLE: &str = "\
 Examples:
+  nbbo lines < day.pcap
   nbbo replay --sessions NORTH,SOUTH ACME < capture
   nbbo replay --sessions NORTH --lines 239.1.1.1:26400,239.1.1.2:26400 ACME < day.pcap
   nbbo stats --sessions NORTH,SOUTH ACME < capture
@@ -69,10 +71,18 @@ fn converting_command<'a>(alloc: Global) -> Result<Command<'a>, AllocError>
     listening_command(alloc)?.subcommand(convert_command(alloc)?)
 }
 
+/// The program with `replay`, `listen`, `convert` and `stats`.
+fn reporting_command<'a>(alloc: Global) -> Result<Command<'a>, AllocError>
+    ensures app { IfOk result (λ c. app_of c ≡ reporting_app) }
+    ensures local { IfOk result (λ c. (fields_of c).has_globals ≡ false) }
+{
+    converting_command(alloc)?.subcommand(stats_command(alloc)?)
+}
+
 /// The program, which does nothing without a subcommand.
 pub fn nbbo_command<'a>(alloc: Global) -> Result<Command<'a>, AllocError>
     ensures app { IfOk result (λ c. app_of c ≡ nbbo_app) }
     ensures local { IfOk result (λ c. (fields_of c).has_globals ≡ false) }
 {
-    converting_command(alloc)?.subcommand(stats_command(alloc)?)
+    reporting_command(alloc)?.subcommand(discovery_command(alloc)?)
 }

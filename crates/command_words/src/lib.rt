@@ -20,6 +20,7 @@ mod captured_lines;
 mod command_line;
 mod commands;
 mod convert_command;
+mod discovery_command;
 mod end_rule;
 mod limits;
 mod listen_command;

@@ -40,11 +40,12 @@ pub fn best_only_flag<'a>(alloc: Global) -> Arg<'a>
 
 const FORMAT_HELP: &str = "\
 The format of the best lines with --best-only: 'text', as without this option; 'csv', a
-line with the columns' names and then a row each; or 'json', an object on a line each. A
-side that there isn't is three empty values in csv and null in json. Prices have four
-places. With --lines each row and object ends with the time of the datagram that caused
-it, in seconds from 1970 on with nine places; an empty value or null where the packet
-capture has none. Without --best-only no format can be given";
+line with the columns' names and then a row each; or 'json', an object on a line each.
+Lines end in a line feed alone. A side that there isn't is three empty values in csv and
+null in json. Prices have four places. With --lines each row and object ends with the time
+of the datagram that caused it, in seconds from 1970 on with nine places, and an object
+also with 'time_ns', an integer of nanoseconds; empty or null where the packet capture
+has none. Without --best-only no format can be given";
 
 /// `--format FORMAT`.
 pub fn format_option<'a>(alloc: Global) -> Arg<'a>

@@ -40,8 +40,8 @@ fn output_of(replay: &ArgMatches<'_>) -> Result<RunOutput, FormatFault>
     read_output(flag_of(replay, "best-only"), replay.get_str("format"))
 }
 
-/// The form of the statistics.
-fn stats_format_of(stats: &ArgMatches<'_>) -> Result<StatsFormat, FormatFault>
+/// The form of statistics, or of the rows of `lines`.
+pub fn stats_format_of(stats: &ArgMatches<'_>) -> Result<StatsFormat, FormatFault>
     ensures ok { IfOk result
         (NamesStatsFormat (first_of (codes "format") (rows_of (found_of stats.now)))) }
     ensures err { IfErr result (λ _.

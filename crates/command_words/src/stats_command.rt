@@ -52,16 +52,22 @@ Printed for each venue, from 0:
                              those that have changed the other side alone
 and then the changes of national bests, by the state after.
 
+After these, by the numbers of the messages, of each venue: how many are known of, in each session
+from the lowest number that came to the highest that a packet told of; how many of them each line
+lost, as it never brought them; and how many it doubled. A message that comes more than --window
+late counts as lost and as doubled.
+
 With --lines there follows, by the times of the frames, in nanoseconds: the most messages of a
 second and of a millisecond, on all lines; of each venue how long the second line took with a
 message that the first one had brought: half of them within, 99 of a hundred within (a sixteenth
-more at most), and the longest; and how long messages were missing: the spells that are over, all
-together, the longest, and whether one is open. A frame without a time counts as of the time of the
-one before.
+more at most), and the longest; how long messages were missing: the spells that are over, how many
+each line ended, all together, the longest and when it began, and whether one is open; and when
+each line was last heard. A frame without a time has no part in this.
 
 In JSON a venue's 'lines' have 'A', 'B' and 'recovery', 'missing' is null where nothing is,
-'best_bids' and 'best_offers' are those changes, and 'in_time' is there with --lines. The words and
-numbers of refusals are those of 'nbbo replay --help'.
+'best_bids' and 'best_offers' are those changes, 'losses' has what lines lost, and 'in_time' is
+there with --lines, where times that there aren't are null. The words and numbers of refusals are
+those of 'nbbo replay --help'.
 
 Examples:
   nbbo stats --sessions NORTH,SOUTH ACME < capture

@@ -1,0 +1,97 @@
+//! `nbbo lines`: its texts and its option, whose rule stands in `specs/Options.antt`.
+ghost use Rattle.std.specs.Prelude.{◌≡◌, IfOk, false, codes};
+ghost use Rattle.clap.specs.Simple.{app_of, new_app};
+ghost use Rattle.clap.specs.Walk.{rule_of};
+ghost use Rattle.clap.specs.declared.builder.command.Command.TheViews.{out-Command as fields_of};
+ghost use Rattle.command_words.specs.Commands.{discovering_app};
+ghost use Rattle.command_words.specs.Options.{format_rule};
+
+use clap::{Arg, Command};
+use std::alloc::{AllocError, Global};
+
+/// `lines`, in one line.
+const ABOUT: &str = "Lists the lines that a packet capture has, and their sessions";
+
+const LONG_ABOUT: &str = "\
+Reads a packet capture (pcap or pcapng) from standard input, and prints a row for each address, port
+and session to which MoldUDP64 packets went: what to write after --lines and --sessions of
+'nbbo replay', 'nbbo stats' and 'nbbo listen'.";
+
+/// The usage of `lines`.
+const USAGE: &str = "nbbo lines [OPTIONS] < PCAP";
+
+/// An example, for the short help.
+const EXAMPLE: &str = "\
+Example:
+  nbbo lines < day.pcap
+
+'--help' also tells what is counted.";
+
+/// The part of the long help after the options.
+const END: &str = "\
+Printed, a row in the order in which each first came, up to 4096 of them:
+  address and port           where the datagrams went, as --lines takes it
+  session                    the ten bytes of the name, as --sessions takes it
+  packets, messages, bytes   each counted as often as it came; bytes without the UDP headers
+  first, last                the lowest and the highest number of a message that came, '-' where
+                             none came
+  other                      the other datagrams to that address and port
+  first time, last time      the earliest and the latest, in nanoseconds from 1970 on, '-' where the
+                             capture has none
+and then the other datagrams, how many addresses and ports these went to (up to 4096), the frames
+without a UDP datagram, and the datagrams that are in no row, since there were 4096 already.
+
+A datagram is a packet where its bytes spell one of MoldUDP64 and the session's name is printable
+ASCII (bytes 20 to 7e). Datagrams of another kind may look like one, as a heartbeat of no session.
+
+In JSON there is an object for each row, on a line of its own, and then one of the rest; null stands
+where nothing is known.
+
+Examples:
+  nbbo lines < day.pcap
+  zcat day.pcap.gz | nbbo lines --format json | jq -r 'select(.session) | .address'
+
+Status:
+  0  the packet capture was read to its end and its lines were printed, or help was shown
+  1  the input or the run was refused; the lines of the frames before were printed, unless it is
+     'write failed' or 'no memory'. Standard error says why: 'bad capture at byte N', 'short
+     record', 'read failed', 'write failed', 'too many turns' and 'no memory' as of
+     'nbbo replay --lines'
+  2  the command line was refused: 'bad format' where the format is none of those";
+
+const FORMAT_HELP: &str = "\
+The format of the rows: 'table', as without this option, or 'json', an object on a line of
+its own for each";
+
+/// `--format FORMAT`.
+fn rows_format_option<'a>(alloc: Global) -> Arg<'a>
+    ensures rule { rule_of result ≡ format_rule }
+    ensures local { result.global ≡ false }
+{
+    Arg::new(alloc, "format")
+        .long("format")
+        .value_name("FORMAT")
+        .help("The format of the rows: table or json")
+        .long_help(FORMAT_HELP)
+}
+
+/// The texts of `lines`, without its option.
+fn discovery_texts<'a>(alloc: Global) -> Command<'a>
+    ensures app { app_of result ≡ new_app (codes "lines") }
+    ensures local { (fields_of result).has_globals ≡ false }
+{
+    Command::new(alloc, "lines")
+        .about(ABOUT)
+        .long_about(LONG_ABOUT)
+        .override_usage(USAGE)
+        .after_help(EXAMPLE)
+        .after_long_help(END)
+}
+
+/// The whole of `lines`.
+pub fn discovery_command<'a>(alloc: Global) -> Result<Command<'a>, AllocError>
+    ensures app { IfOk result (λ c. app_of c ≡ discovering_app) }
+    ensures local { IfOk result (λ c. (fields_of c).has_globals ≡ false) }
+{
+    discovery_texts(alloc).arg(rows_format_option(alloc))
+}

@@ -1,0 +1,100 @@
+-- One piece of a packet capture: what it counts, and the step that it is.
+use Rattle.std.proofs.Common.{◌≡◌, ℕ, List, [], ◌∷◌, ◌++◌, Option, Some, None, drop, refl, sym, ap, subst, ◌∙◌, append-nil, arith}
+use Rattle.std.specs.Prelude.{flat_map, map}
+use Rattle.std.proofs.lemmas.List.{drop-append-le}
+use Rattle.std.specs.List.{AllZip}
+use Rattle.packet_capture.specs.declared.fault.CaptureFault.{CaptureFault}
+use Rattle.packet_capture.specs.declared.stop.Stop.{Stop}
+use Rattle.packet_capture.specs.declared.stop.Stop.TheVariants as stops
+use Rattle.packet_capture.specs.Captures.{Context, PieceContent, IsPiece, StopsReading, frames_in, frames_of, list_of}
+use Rattle.packet_capture.specs.Frames.{FrameContent}
+use Rattle.feed_text.specs.declared.record_format.Step.{Step}
+use Rattle.feed_text.specs.declared.record_format.Step.TheVariants.{Came, Passed, Wants, Bad}
+use Rattle.feed_text.specs.Formats.{TakesPiece, StepsTo}
+use Rattle.line_discovery.specs.declared.counts.SurveyCounts.{SurveyCounts}
+use Rattle.line_discovery.specs.declared.fate.Fate.{Fate}
+use Rattle.line_discovery.specs.declared.sighting.Sighting.{Sighting}
+use Rattle.line_discovery.specs.declared.survey.LineSurvey.{LineSurvey}
+use Rattle.line_discovery.specs.Sightings.{HasFate, blanks_in, others_in, packets_in}
+use Rattle.line_discovery.specs.Surveys.{CountsFate, CountsSightings, StopsSurvey, ReadsSurvey, is_bad_piece, wants_piece}
+use Rattle.line_discovery.proofs.Fronts.{piece_len, few_unread}
+
+-- ---- counts
+
+-- what one piece counts, with a frame
+pub counts_frame : (before mid after : SurveyCounts) (p : PieceContent) (f : FrameContent)
+    (fate : Fate) → mid ≡ record before { position = before.position ++ p.len ∷ [] }
+    → CountsFate fate mid after → HasFate f fate → p.frame ≡ Some f
+    → CountsSightings before (p ∷ []) after
+counts_frame before mid after p f fate bytes counted is framed =
+    let frames : frames_of (p ∷ []) ≡ f ∷ [] =
+    ap (λ (o : Option FrameContent). list_of o ++ []) framed in
+    let Z : List FrameContent → Type 0 = λ fs. AllZip HasFate fs (fate ∷ []) in
+    record {
+      fates = fate ∷ [];
+      are = subst Z (sym frames) (is, tt);
+      position = counted.position ∙ ap (λ (x : SurveyCounts). x.position) bytes;
+      blanks = counted.blanks
+          ∙ ap (λ (x : SurveyCounts). x.blanks ++ blanks_in fate) bytes
+          ∙ ap (λ (l : List ℕ). before.blanks ++ l) (sym (append-nil (blanks_in fate)));
+      lines = counted.lines
+          ∙ ap (λ (x : SurveyCounts). x.lines ++ packets_in fate) bytes
+          ∙ ap (λ (l : List Sighting). before.lines ++ l) (sym (append-nil (packets_in fate)));
+      others = counted.others
+          ∙ ap (λ (x : SurveyCounts). x.others ++ others_in fate) bytes
+          ∙ ap (λ (l : List Sighting). before.others ++ l) (sym (append-nil (others_in fate)));
+    }
+
+-- and without one
+pub counts_silent : (before after : SurveyCounts) (p : PieceContent)
+    → after ≡ record before { position = before.position ++ p.len ∷ [] } → p.frame ≡ None
+    → CountsSightings before (p ∷ []) after
+counts_silent before after p bytes unframed =
+    let frames : frames_of (p ∷ []) ≡ [] =
+    ap (λ (o : Option FrameContent). list_of o ++ []) unframed in
+    let Z : List FrameContent → Type 0 = λ fs. AllZip HasFate fs [] in
+    record {
+      fates = [];
+      are = subst Z (sym frames) tt;
+      position = ap (λ (x : SurveyCounts). x.position) bytes;
+      blanks = ap (λ (x : SurveyCounts). x.blanks) bytes ∙ sym (append-nil before.blanks);
+      lines = ap (λ (x : SurveyCounts). x.lines) bytes ∙ sym (append-nil before.lines);
+      others = ap (λ (x : SurveyCounts). x.others) bytes ∙ sym (append-nil before.others);
+    }
+
+-- ---- steps
+
+abbrev Lasts : Type 0
+Lasts = (before after : Context) (bytes more : List ℕ) (p : PieceContent)
+    → IsPiece before bytes p after → IsPiece before (bytes ++ more) p after
+
+pub piece_read : Lasts → (s t : LineSurvey) (bytes : List ℕ) (p : PieceContent)
+    → IsPiece s.capture bytes p t.capture → CountsSightings s.counts (p ∷ []) t.counts
+    → TakesPiece ReadsSurvey s bytes [] p.len t
+piece_read law s t bytes p is counts =
+    let len = piece_len s.capture bytes p t.capture is in
+    let left : (more : List ℕ) → drop p.len bytes ++ more ≡ drop p.len (bytes ++ more) =
+    λ more. sym (drop-append-le p.len bytes more len.1) in
+    record {
+      some = len.0;
+      within = len.1;
+      read = record {
+        pieces = p ∷ [];
+        are = λ more. (t.capture, law s.capture t.capture bytes more p is, (refl, left more));
+        none = refl;
+        counts = counts;
+      };
+    }
+
+pub stop_read : (s t : LineSurvey) (bytes : List ℕ) (stop : Stop) (step : Step CaptureFault)
+    → StopsReading s.capture bytes stop → t ≡ s → StopsSurvey stop step
+    → StepsTo ReadsSurvey wants_piece is_bad_piece s bytes step t
+stop_read s t bytes (stops.Wants n) Wants why same k = let few = few_unread s.capture bytes n why
+    in ((n, why), omega (arith, few), same)
+stop_read s t bytes (stops.Bad fault) (Bad told) why same k = (rw k why, same)
+stop_read s t bytes (stops.Wants n) (Came r time len) why same k = absurd k
+stop_read s t bytes (stops.Wants n) (Passed len) why same k = absurd k
+stop_read s t bytes (stops.Wants n) (Bad told) why same k = absurd k
+stop_read s t bytes (stops.Bad fault) (Came r time len) why same k = absurd k
+stop_read s t bytes (stops.Bad fault) (Passed len) why same k = absurd k
+stop_read s t bytes (stops.Bad fault) Wants why same k = absurd k

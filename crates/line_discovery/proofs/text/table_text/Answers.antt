@@ -1,0 +1,21 @@
+use Rattle.std.proofs.Common.{List, ℕ, [], ◌++◌, ap, ◌∙◌}
+use Rattle.line_discovery.specs.declared.line_row.LineRow.{LineRow}
+use Rattle.line_discovery.specs.declared.rest.SurveyRest.{SurveyRest}
+use Rattle.line_discovery.specs.SurveyTexts.{table_of, rest_of}
+use Rattle.line_discovery.specs.Tables.{rows_of}
+use Rattle.line_discovery.proofs.text.table_text.Goals as goal
+
+pub returns : goal.returns
+returns c =
+    let counts = c.args.counts.now in
+    let Text : List ℕ → List LineRow → List LineRow → SurveyRest → List ℕ =
+    λ t others rows rest. t ++ table_of others rows rest in
+    let others = rows_of counts.others in
+    let rows = rows_of counts.lines in
+    c.in_ok-put_table.ensures
+    ∙ ap (λ (t : List ℕ). Text t c.rows.result.now c.rows-2.result.now c.rest_of-rest.result)
+    c.new-text.ensures.items
+    ∙ ap (λ (rs : List LineRow). Text [] rs c.rows-2.result.now c.rest_of-rest.result)
+    c.rows.ensures
+    ∙ ap (λ (rs : List LineRow). Text [] others rs c.rest_of-rest.result) c.rows-2.ensures
+    ∙ ap (λ (rest : SurveyRest). Text [] others rows rest) c.rest_of-rest.ensures

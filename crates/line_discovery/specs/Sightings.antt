@@ -1,0 +1,95 @@
+-- The fates of frames: what a frame shows of the lines of a capture.
+use Rattle.std.specs.Prelude.{◌≡◌, ◌⊎◌, ℕ, Bool, true, ◌&&◌, nat_le, ◌==◌, List, [], ◌∷◌, length, Option, None, Some, if◌then◌else◌}
+use Rattle.std.specs.List.{list_all}
+use Rattle.packet_capture.specs.declared.fault.FrameFault.{FrameFault}
+use Rattle.packet_capture.specs.Datagrams.{DatagramContent, CarriesDatagram}
+use Rattle.packet_capture.specs.FrameFaults.{HasFrameFault}
+use Rattle.packet_capture.specs.Frames.{FrameContent}
+use Rattle.mold_packet.specs.declared.fault.PacketFault.{PacketFault}
+use Rattle.mold_packet.specs.Content.{Content, Spells, last_number}
+use Rattle.mold_packet.specs.Faults.{HasFault}
+use Rattle.line_discovery.specs.declared.fate.Fate.{Fate}
+use Rattle.line_discovery.specs.declared.fate.Fate.TheVariants.{Packet, Other, NoDatagram}
+use Rattle.line_discovery.specs.declared.line_key.LineKey.{LineKey}
+use Rattle.line_discovery.specs.declared.sighting.Sighting.{Sighting}
+use Rattle.line_discovery.specs.declared.span.Span.{Span}
+
+-- printable ASCII, as the names that a command line can have
+abbrev pub is_printable_name : List ℕ → Bool
+is_printable_name name = list_all (λ b. nat_le 32 b && nat_le b 126) name
+
+-- where a datagram goes, and its session, if it is a packet
+abbrev pub line_key : DatagramContent → Option (List ℕ) → LineKey
+line_key d session = record { address = d.address; port = d.port; session = session }
+
+-- the numbers of the first and the last message of a packet that has any
+abbrev pub numbers_of : Content → Option Span
+numbers_of p =
+    if length p.messages == 0 then None
+    else Some (record { low = p.number; high = last_number p })
+
+abbrev pub sighting_times : Option ℕ → Option Span
+sighting_times None = None
+sighting_times (Some time) = Some (record { low = time; high = time })
+
+-- a datagram that is a packet, and came at this time
+abbrev pub packet_sighting : DatagramContent → Option ℕ → Content → Sighting
+packet_sighting d time p = record {
+  key = line_key d (Some p.session);
+  messages = length p.messages;
+  bytes = length d.bytes;
+  numbers = numbers_of p;
+  times = sighting_times time;
+}
+
+-- a datagram that is none
+abbrev pub other_sighting : DatagramContent → Option ℕ → Sighting
+other_sighting d time = record {
+  key = line_key d None;
+  messages = 0;
+  bytes = length d.bytes;
+  numbers = None;
+  times = sighting_times time;
+}
+
+-- the bytes spell a packet of a session whose name is printable
+pub record IsPacket (bytes : List ℕ) (packet : Content) : Type 0 where
+  pub rest : List ℕ
+  pub spells : Spells bytes packet rest
+  pub named : is_printable_name packet.session ≡ true
+
+-- the bytes spell no packet, or one of a session whose name isn't printable
+abbrev pub IsNoPacket : List ℕ → Type 0
+IsNoPacket bytes =
+    ((fault : PacketFault) × HasFault bytes fault)
+    ⊎ ((packet : Content) × (rest : List ℕ) × Spells bytes packet rest
+    × (is_printable_name packet.session ≡ true → ⊥))
+
+-- what a datagram at this time shows: a packet, or another datagram
+abbrev pub IsShown : DatagramContent → Option ℕ → Fate → Type 0
+IsShown d time (Packet s) =
+    (packet : Content) × IsPacket d.bytes packet × (s ≡ packet_sighting d time packet)
+IsShown d time (Other s) = IsNoPacket d.bytes × (s ≡ other_sighting d time)
+IsShown d time NoDatagram = ⊥
+
+-- the fate of a frame: its datagram is shown, or it carries none
+abbrev pub HasFate : FrameContent → Fate → Type 0
+HasFate frame NoDatagram = (fault : FrameFault) × HasFrameFault frame.link frame.bytes fault
+HasFate frame fate =
+    (d : DatagramContent) × CarriesDatagram frame.link frame.bytes d × IsShown d frame.time fate
+
+-- the packets, the other datagrams, and a 1 for each frame without a datagram
+abbrev pub packets_in : Fate → List Sighting
+packets_in (Packet s) = s ∷ []
+packets_in (Other s) = []
+packets_in NoDatagram = []
+
+abbrev pub others_in : Fate → List Sighting
+others_in (Packet s) = []
+others_in (Other s) = s ∷ []
+others_in NoDatagram = []
+
+abbrev pub blanks_in : Fate → List ℕ
+blanks_in (Packet s) = []
+blanks_in (Other s) = []
+blanks_in NoDatagram = 1 ∷ []

@@ -1,0 +1,154 @@
+-- What was counted of a capture, as a table and as JSON (RFC 8259).
+use Rattle.std.specs.Prelude.{ℕ, ◌-◌, ◌==◌, ◌||◌, List, [], ◌∷◌, ◌++◌, codes, decimal, flat_map, length, sum, take, Option, None, Some, option_map, if◌then◌else◌}
+use Rattle.std.specs.Net.Addr.{segments_of}
+use Rattle.std.specs.Net.Text.{ipv4_text, ipv6_text, scope_text}
+use Rattle.packet_capture.specs.declared.datagram.Address.{Address}
+use Rattle.packet_capture.specs.declared.datagram.Address.TheVariants.{V4, V6}
+use Rattle.run_settings.specs.declared.formats.StatsFormat.{StatsFormat}
+use Rattle.run_settings.specs.declared.formats.StatsFormat.TheVariants.{Table, Json}
+use Rattle.line_discovery.specs.declared.counts.SurveyCounts.{SurveyCounts}
+use Rattle.line_discovery.specs.declared.line_key.LineKey.{LineKey}
+use Rattle.line_discovery.specs.declared.line_row.LineRow.{LineRow}
+use Rattle.line_discovery.specs.declared.rest.SurveyRest.{SurveyRest}
+use Rattle.line_discovery.specs.declared.span.Span.{Span}
+use Rattle.line_discovery.specs.Tables.{packets_at, rows_of, unlisted_of, up_to_most}
+
+-- ---- parts
+
+-- an address and port, as `--lines` takes them
+abbrev pub place_text : Address → ℕ → List ℕ
+place_text (V4 octets) port = ipv4_text octets ++ (codes ":" ++ decimal port)
+place_text (V6 octets) port =
+    codes "[" ++ (ipv6_text (segments_of octets) ++ (scope_text 0 ++ (codes "]:" ++ decimal port)))
+
+-- so many spaces, of 24 at most
+abbrev pub spaces : ℕ → List ℕ
+spaces n = take n (codes "                        ")
+
+abbrev pub place_cell : ℕ → LineKey → List ℕ
+place_cell columns key =
+    let place = place_text key.address key.port in place ++ spaces (columns - length place)
+
+-- a label, and a text at the end of this many columns
+abbrev pub filled_text : ℕ → List ℕ → List ℕ → List ℕ
+filled_text columns label value = label ++ (spaces (columns - length value) ++ value)
+
+-- a label, and a number, or `nothing` where it isn't known
+abbrev pub cell_text : ℕ → List ℕ → List ℕ → Option ℕ → List ℕ
+cell_text columns nothing label None = filled_text columns label nothing
+cell_text columns nothing label (Some number) = filled_text columns label (decimal number)
+
+abbrev pub cells_text : ℕ → List ℕ → List (List ℕ × Option ℕ) → List ℕ
+cells_text columns nothing cells = flat_map (λ c. cell_text columns nothing c.0 c.1) cells
+
+abbrev pub low_of : Option Span → Option ℕ
+low_of span = option_map (λ s. s.low) span
+
+abbrev pub high_of : Option Span → Option ℕ
+high_of span = option_map (λ s. s.high) span
+
+-- the key of the other datagrams to the same address and port
+abbrev pub other_key : LineKey → LineKey
+other_key key = record { address = key.address; port = key.port; session = None }
+
+abbrev pub session_name : Option (List ℕ) → List ℕ
+session_name None = []
+session_name (Some name) = name
+
+-- the other datagrams and where they went, frames without a datagram, and datagrams that are in no
+-- row
+abbrev pub rest_of : SurveyCounts → SurveyRest
+rest_of c = record {
+  others = up_to_most (length c.others);
+  addresses = length (rows_of c.others);
+  blanks = up_to_most (sum c.blanks);
+  unlisted = unlisted_of c.lines;
+  unlisted_others = unlisted_of c.others;
+}
+
+-- ---- the table
+
+abbrev pub table_head : List ℕ
+table_head =
+    codes "address and port         session          packets      messages         first          last         bytes         other           first time            last time\n"
+
+-- a line: where, its session, what was counted, and the other datagrams to that address and port
+abbrev pub table_row : List LineRow → LineRow → List ℕ
+table_row others r =
+    place_cell 24 r.key
+    ++ (codes " "
+    ++ (session_name r.key.session
+    ++ (cells_text 13 (codes "-") (
+    (codes " ", Some r.packets)
+    ∷ (codes " ", Some r.messages)
+    ∷ (codes " ", low_of r.numbers)
+    ∷ (codes " ", high_of r.numbers)
+    ∷ (codes " ", Some r.bytes)
+    ∷ (codes " ", Some (packets_at others (other_key r.key)))
+    ∷ [])
+    ++ (cells_text 20 (codes "-")
+    ((codes " ", low_of r.times) ∷ (codes " ", high_of r.times) ∷ [])
+    ++ codes "\n"))))
+
+abbrev pub table_rest : SurveyRest → List ℕ
+table_rest r =
+    cells_text 13 (codes "-") (
+    (codes "\ndatagrams that are no packets      ", Some r.others)
+    ∷ (codes "\n  addresses and ports they went to ", Some r.addresses)
+    ∷ (codes "\nframes without a UDP datagram      ", Some r.blanks)
+    ∷ (codes "\npackets past the first 4096 rows   ", Some r.unlisted)
+    ∷ (codes "\nothers past the first 4096 rows    ", Some r.unlisted_others)
+    ∷ [])
+    ++ codes "\n"
+
+abbrev pub table_of : List LineRow → List LineRow → SurveyRest → List ℕ
+table_of others rows rest = table_head ++ (flat_map (table_row others) rows ++ table_rest rest)
+
+-- ---- JSON: an object on a line of its own for each row, and then one of the rest
+
+-- a byte of a string of printable ASCII
+abbrev pub escaped_code : ℕ → List ℕ
+escaped_code b = if b == 34 || b == 92 then 92 ∷ b ∷ [] else b ∷ []
+
+-- where a line is, and its session
+abbrev pub json_head : LineKey → List ℕ
+json_head key =
+    codes "{\"address\":\""
+    ++ (place_cell 0 key
+    ++ (codes "\",\"session\":\"" ++ flat_map escaped_code (session_name key.session)))
+
+-- what was counted of it
+abbrev pub json_members : List LineRow → LineRow → List ℕ
+json_members others r =
+    cells_text 0 (codes "null") (
+    (codes "\",\"packets\":", Some r.packets)
+    ∷ (codes ",\"messages\":", Some r.messages)
+    ∷ (codes ",\"first\":", low_of r.numbers)
+    ∷ (codes ",\"last\":", high_of r.numbers)
+    ∷ (codes ",\"bytes\":", Some r.bytes)
+    ∷ (codes ",\"other_datagrams\":", Some (packets_at others (other_key r.key)))
+    ∷ (codes ",\"first_time_ns\":", low_of r.times)
+    ∷ (codes ",\"last_time_ns\":", high_of r.times)
+    ∷ [])
+    ++ codes "}\n"
+
+abbrev pub json_line : List LineRow → LineRow → List ℕ
+json_line others r = json_head r.key ++ json_members others r
+
+abbrev pub json_rest : SurveyRest → List ℕ
+json_rest r =
+    cells_text 0 (codes "null") (
+    (codes "{\"other_datagrams\":", Some r.others)
+    ∷ (codes ",\"other_addresses\":", Some r.addresses)
+    ∷ (codes ",\"frames_without_datagram\":", Some r.blanks)
+    ∷ (codes ",\"unlisted_packets\":", Some r.unlisted)
+    ∷ (codes ",\"unlisted_others\":", Some r.unlisted_others)
+    ∷ [])
+    ++ codes "}\n"
+
+abbrev pub json_of : List LineRow → List LineRow → SurveyRest → List ℕ
+json_of others rows rest = flat_map (json_line others) rows ++ json_rest rest
+
+abbrev pub text_of_survey : StatsFormat → SurveyCounts → List ℕ
+text_of_survey Table c = table_of (rows_of c.others) (rows_of c.lines) (rest_of c)
+text_of_survey Json c = json_of (rows_of c.others) (rows_of c.lines) (rest_of c)

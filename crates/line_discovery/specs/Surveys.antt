@@ -1,0 +1,78 @@
+-- Surveys of packet captures: a format without records, of which the frames are counted.
+use Rattle.std.specs.Prelude.{◌≡◌, ◌≢◌, ℕ, List, [], ◌∷◌, ◌++◌, map, flat_map}
+use Rattle.std.specs.List.{AllZip}
+use Rattle.packet_capture.specs.declared.fault.CaptureFault.{CaptureFault}
+use Rattle.packet_capture.specs.declared.reader.Format.TheVariants.{Start}
+use Rattle.packet_capture.specs.declared.stop.Stop.{Stop}
+use Rattle.packet_capture.specs.declared.stop.Stop.TheVariants as stops
+use Rattle.packet_capture.specs.Captures.{Context, PieceContent, ArePieces, StopsReading, frames_of, new_context}
+use Rattle.feed_text.specs.declared.record_format.Step.{Step}
+use Rattle.feed_text.specs.declared.record_format.Step.TheVariants.{Came, Passed, Wants, Bad}
+use Rattle.feed_text.specs.Formats.{TimedRecord, Parsing}
+use Rattle.line_discovery.specs.declared.counts.SurveyCounts.{SurveyCounts}
+use Rattle.line_discovery.specs.declared.fate.Fate.{Fate}
+use Rattle.line_discovery.specs.declared.survey.LineSurvey.{LineSurvey}
+use Rattle.line_discovery.specs.Sightings.{HasFate, blanks_in, others_in, packets_in}
+
+abbrev pub new_counts : SurveyCounts
+new_counts = record { position = []; blanks = []; lines = []; others = [] }
+
+-- before the first piece
+abbrev pub new_survey : LineSurvey
+new_survey = record { capture = new_context; counts = new_counts }
+
+-- These pieces were counted: their bytes, and their frames by their fates.
+pub record CountsSightings (before : SurveyCounts)
+    (pieces : List PieceContent) (after : SurveyCounts)
+    : Type 0 where
+  pub fates : List Fate
+  pub are : AllZip HasFate (frames_of pieces) fates
+  pub position : after.position ≡ before.position ++ map (λ piece. piece.len) pieces
+  pub blanks : after.blanks ≡ before.blanks ++ flat_map blanks_in fates
+  pub lines : after.lines ≡ before.lines ++ flat_map packets_in fates
+  pub others : after.others ≡ before.others ++ flat_map others_in fates
+
+-- The bytes begin with whole pieces, whatever follows, which are counted. There is no record.
+pub record ReadsSurvey (before : LineSurvey) (bytes : List ℕ) (records : List TimedRecord)
+    (after : LineSurvey) (rest : List ℕ) : Type 0 where
+  pub pieces : List PieceContent
+  pub are : (more : List ℕ)
+      → ArePieces before.capture (bytes ++ more) pieces after.capture (rest ++ more)
+  pub none : records ≡ []
+  pub counts : CountsSightings before.counts pieces after.counts
+
+-- less than a piece stands there
+abbrev pub wants_piece : LineSurvey → List ℕ → Type 0
+wants_piece s bytes = (n : ℕ) × StopsReading s.capture bytes (stops.Wants n)
+
+-- no piece stands there
+abbrev pub is_bad_piece : LineSurvey → List ℕ → CaptureFault → Type 0
+is_bad_piece s bytes fault = StopsReading s.capture bytes (stops.Bad fault)
+
+-- a piece at least was read
+abbrev pub is_begun : LineSurvey → Type 0
+is_begun s = s.capture.format ≢ Start
+
+-- how surveys go on
+abbrev pub survey_parsing : Parsing LineSurvey CaptureFault
+survey_parsing = record {
+  reads = ReadsSurvey;
+  wants = wants_piece;
+  is_bad = is_bad_piece;
+  is_whole = is_begun;
+}
+
+-- ---- one step. Only private clauses cite this part.
+
+-- the counts after a frame of this fate
+pub record CountsFate (fate : Fate) (before after : SurveyCounts) : Type 0 where
+  pub position : after.position ≡ before.position
+  pub blanks : after.blanks ≡ before.blanks ++ blanks_in fate
+  pub lines : after.lines ≡ before.lines ++ packets_in fate
+  pub others : after.others ≡ before.others ++ others_in fate
+
+-- the step where no piece is read
+abbrev pub StopsSurvey : Stop → Step CaptureFault → Type 0
+StopsSurvey (stops.Wants n) Wants = Unit {0}
+StopsSurvey (stops.Bad fault) (Bad told) = told ≡ fault
+StopsSurvey stop step = ⊥

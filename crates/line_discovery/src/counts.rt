@@ -1,0 +1,59 @@
+//! What was counted of the pieces of a capture.
+ghost use Rattle.std.specs.Prelude.{◌≡◌, IfOk, [], ◌∷◌};
+ghost use Rattle.packet_capture.specs.Captures.{piece_of};
+ghost use Rattle.line_discovery.specs.Surveys.{CountsFate, CountsSightings, new_counts};
+
+use crate::fate::{Fate, fate_of};
+use crate::table::Table;
+use crate::tally::Tally;
+use packet_capture::Piece;
+use std::alloc::{AllocError, Global};
+
+/// What was counted of the pieces of a capture.
+#[derive(Drop)]
+pub struct SurveyCounts {
+    /// The bytes of the pieces.
+    pub position: Tally,
+    /// A 1 for each frame that carries no UDP datagram.
+    pub blanks: Tally,
+    /// The packets.
+    pub lines: Table,
+    /// The other datagrams.
+    pub others: Table,
+}
+
+impl SurveyCounts {
+    /// Returns the counts of nothing. They take all their memory, some 1 MB.
+    pub(crate) fn new(alloc: Global) -> Result<SurveyCounts, AllocError>
+        ensures { IfOk result (λ c. c ≡ new_counts) }
+    {
+        Ok(SurveyCounts {
+            position: Tally::none(),
+            blanks: Tally::none(),
+            lines: Table::new(alloc)?,
+            others: Table::new(alloc)?,
+        })
+    }
+
+    /// Counts a frame by its fate.
+    fn count_fate(&mut self, fate: &Fate)
+        ensures { CountsFate fate.now self.old self.new }
+    {
+        match fate {
+            Fate::Packet(sighting) => self.lines.count(sighting),
+            Fate::Other(sighting) => self.others.count(sighting),
+            Fate::NoDatagram => self.blanks.add(1),
+        }
+    }
+
+    /// Counts a piece.
+    pub(crate) fn count_piece(&mut self, piece: &Piece<'_>)
+        ensures { CountsSightings self.old (piece_of piece.now ∷ []) self.new }
+    {
+        self.position.add(piece.len as u64);
+        let Some(frame) = piece.frame else {
+            return;
+        };
+        self.count_fate(&fate_of(&frame));
+    }
+}

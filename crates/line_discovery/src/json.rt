@@ -1,0 +1,148 @@
+//! What was counted of a capture, as JSON.
+ghost use Rattle.std.specs.Prelude.{◌≡◌, ◌++◌, IfOk, OnOk, flat_map};
+ghost use Rattle.line_discovery.specs.SurveyTexts.{escaped_code, json_head, json_members, json_of, json_rest, json_line, session_name, text_of_survey};
+
+use crate::counts::SurveyCounts;
+use crate::line_key::LineKey;
+use crate::line_row::LineRow;
+use crate::pieces::{CellStyle, put_cells, put_place};
+use crate::rest::{SurveyRest, rest_of};
+use crate::table::packets_at;
+use crate::text::{high_of, low_of, other_key, session_name};
+use run_settings::StatsFormat;
+use std::alloc::{AllocError, Global};
+
+/// How numbers are put.
+const NUMBERS: CellStyle = CellStyle {
+    columns: 0,
+    nothing: "null",
+};
+
+/// Appends printable ASCII as the inside of a string.
+fn put_escaped(text: &mut Vec<u8>, bytes: &[u8]) -> Result<(), AllocError>
+    ensures { OnOk result (text.new.items
+        ≡ text.old.items ++ flat_map escaped_code bytes.now) }
+{
+    for byte in bytes {
+        if *byte == b'"' || *byte == b'\\' {
+            text.extend_from_slice(&[b'\\', *byte])?;
+        } else {
+            text.extend_from_slice(&[*byte])?;
+        }
+    }
+    Ok(())
+}
+
+/// Appends the name of a session as the inside of a string.
+fn put_session(text: &mut Vec<u8>, session: &Option<[u8; 10]>) -> Result<(), AllocError>
+    ensures { OnOk result (text.new.items
+        ≡ text.old.items ++ flat_map escaped_code (session_name session.now)) }
+{
+    put_escaped(text, session_name(session))
+}
+
+/// Appends where a line is, and its session.
+fn put_head(alloc: Global, text: &mut Vec<u8>, key: &LineKey) -> Result<(), AllocError>
+    ensures { OnOk result (text.new.items ≡ text.old.items ++ json_head key.now) }
+{
+    text.extend_from_slice(b"{\"address\":\"")?;
+    put_place(alloc, text, 0, key)?;
+    text.extend_from_slice(b"\",\"session\":\"")?;
+    put_session(text, &key.session)
+}
+
+/// Appends what was counted of a line.
+fn put_members(text: &mut Vec<u8>, others: &[LineRow], row: &LineRow) -> Result<(), AllocError>
+    ensures { OnOk result (text.new.items ≡ text.old.items ++ json_members others.now row.now) }
+{
+    let members = [
+        ("\",\"packets\":", Some(row.packets)),
+        (",\"messages\":", Some(row.messages)),
+        (",\"first\":", low_of(row.numbers)),
+        (",\"last\":", high_of(row.numbers)),
+        (",\"bytes\":", Some(row.bytes)),
+        (
+            ",\"other_datagrams\":",
+            Some(packets_at(others, &other_key(&row.key))),
+        ),
+        (",\"first_time_ns\":", low_of(row.times)),
+        (",\"last_time_ns\":", high_of(row.times)),
+    ];
+    put_cells(text, NUMBERS, &members)?;
+    text.extend_from_slice(b"}\n")
+}
+
+/// Appends the row of a line as an object.
+fn put_row(
+    alloc: Global,
+    text: &mut Vec<u8>,
+    others: &[LineRow],
+    row: &LineRow,
+) -> Result<(), AllocError>
+    ensures { OnOk result (text.new.items ≡ text.old.items ++ json_line others.now row.now) }
+{
+    put_head(alloc, text, &row.key)?;
+    put_members(text, others, row)
+}
+
+/// Appends the rows of lines.
+fn put_rows(
+    alloc: Global,
+    text: &mut Vec<u8>,
+    others: &[LineRow],
+    rows: &[LineRow],
+) -> Result<(), AllocError>
+    ensures { OnOk result (text.new.items
+        ≡ text.old.items ++ flat_map (json_line others.now) rows.now) }
+{
+    for row in rows {
+        put_row(alloc, text, others, row)?;
+    }
+    Ok(())
+}
+
+/// Appends what is in no row as an object.
+fn put_rest(text: &mut Vec<u8>, rest: &SurveyRest) -> Result<(), AllocError>
+    ensures { OnOk result (text.new.items ≡ text.old.items ++ json_rest rest.now) }
+{
+    let members = [
+        ("{\"other_datagrams\":", Some(rest.others)),
+        (",\"other_addresses\":", Some(rest.addresses)),
+        (",\"frames_without_datagram\":", Some(rest.blanks)),
+        (",\"unlisted_packets\":", Some(rest.unlisted)),
+        (",\"unlisted_others\":", Some(rest.unlisted_others)),
+    ];
+    put_cells(text, NUMBERS, &members)?;
+    text.extend_from_slice(b"}\n")
+}
+
+/// Appends the objects.
+fn put_json(
+    alloc: Global,
+    text: &mut Vec<u8>,
+    others: &[LineRow],
+    rows: &[LineRow],
+    rest: &SurveyRest,
+) -> Result<(), AllocError>
+    ensures { OnOk result (text.new.items
+        ≡ text.old.items ++ json_of others.now rows.now rest.now) }
+{
+    put_rows(alloc, text, others, rows)?;
+    put_rest(text, rest)
+}
+
+/// Returns what was counted as JSON.
+pub(crate) fn json_text(alloc: Global, counts: &SurveyCounts) -> Result<Vec<u8>, AllocError>
+    ensures { IfOk result (λ text. text.items ≡ text_of_survey StatsFormat.Json counts.now) }
+{
+    let mut text = Vec::new(alloc);
+    let rest = rest_of(counts);
+    put_json(
+        alloc,
+        &mut text,
+        counts.others.rows(),
+        counts.lines.rows(),
+        &rest,
+    )?;
+    Ok(text)
+}

@@ -1,0 +1,40 @@
+//! The lines that a packet capture has: each address and port to which MoldUDP64 packets went, with
+//! their sessions, counted.
+//!
+//! A [`LineSurvey`] is a format of captures without records: what it reads it only counts. Each
+//! datagram is a [`Sighting`] with a [`LineKey`], its address, port and session, and each key has a
+//! [`LineRow`].
+//!
+//! Contract: of the pieces that were read each frame has its fate, and the sightings are those of
+//! the fates, in order (`specs/Surveys.antt`, over `specs/Sightings.antt`). The rows of a [`Table`]
+//! are those of its sightings: a filter by the key, then a count, a sum or a span
+//! (`specs/Tables.antt`). [`LineSurvey::text`] is exactly the table or the JSON of these rows
+//! (`specs/SurveyTexts.antt`).
+//!
+//! Begin at `survey.rt`, then `table.rt`.
+#![tactic(auto)]
+
+mod counts;
+mod fate;
+mod json;
+mod line_key;
+mod line_row;
+mod pieces;
+mod place;
+mod rest;
+mod sighting;
+mod span;
+mod survey;
+mod table;
+mod tally;
+mod text;
+
+pub use counts::SurveyCounts;
+pub use line_key::LineKey;
+pub use line_row::LineRow;
+pub use rest::SurveyRest;
+pub use sighting::Sighting;
+pub use span::Span;
+pub use survey::LineSurvey;
+pub use table::Table;
+pub use tally::Tally;

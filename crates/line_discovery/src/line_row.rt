@@ -1,0 +1,53 @@
+//! What was counted of a line.
+ghost use Rattle.std.specs.Prelude.{◌≡◌};
+ghost use Rattle.line_discovery.specs.Tables.{row_at_first, grown};
+
+use crate::line_key::{LineKey, is_same};
+use crate::sighting::Sighting;
+use crate::span::{Span, wider};
+
+/// What was counted of a line. A count stays at its largest number once it is there.
+#[derive(Clone, Copy, Debug, PartialEq, Eq)]
+pub struct LineRow {
+    pub key: LineKey,
+    /// How many datagrams came.
+    pub packets: u64,
+    /// How many messages they had, each counted as often as it came.
+    pub messages: u64,
+    /// How many bytes they had, without the UDP headers.
+    pub bytes: u64,
+    /// The lowest and the highest number of a message that came.
+    pub numbers: Option<Span>,
+    /// The earliest and the latest time, in nanoseconds from 1970 on.
+    pub times: Option<Span>,
+}
+
+impl LineRow {
+    /// Returns the row of a line of which nothing came.
+    pub(crate) fn empty(key: LineKey) -> LineRow
+        ensures { result ≡ row_at_first key }
+    {
+        LineRow {
+            key,
+            packets: 0,
+            messages: 0,
+            bytes: 0,
+            numbers: None,
+            times: None,
+        }
+    }
+
+    /// Counts a datagram, if it is of this line.
+    pub(crate) fn count(&mut self, sighting: &Sighting)
+        ensures { self.new ≡ grown sighting.now self.old }
+    {
+        if !is_same(&self.key, &sighting.key) {
+            return;
+        }
+        self.packets = self.packets.saturating_add(1);
+        self.messages = self.messages.saturating_add(sighting.messages);
+        self.bytes = self.bytes.saturating_add(sighting.bytes);
+        self.numbers = wider(self.numbers, sighting.numbers);
+        self.times = wider(self.times, sighting.times);
+    }
+}

@@ -1,0 +1,33 @@
+//! What of a capture is in no row.
+ghost use Rattle.std.specs.Prelude.{◌≡◌};
+ghost use Rattle.line_discovery.specs.SurveyTexts.{rest_of};
+
+use crate::counts::SurveyCounts;
+
+/// What of a capture is in no row of its table.
+#[derive(Clone, Copy, Debug, PartialEq, Eq)]
+pub struct SurveyRest {
+    /// How many datagrams are no packets.
+    pub others: u64,
+    /// To how many addresses and ports these went, as far as there are rows.
+    pub addresses: u64,
+    /// How many frames carry no UDP datagram.
+    pub blanks: u64,
+    /// How many packets are in no row, since there were 4,096.
+    pub unlisted: u64,
+    /// How many other datagrams are in none.
+    pub unlisted_others: u64,
+}
+
+/// Returns what of the counts is in no row.
+pub(crate) fn rest_of(counts: &SurveyCounts) -> SurveyRest
+    ensures { result ≡ rest_of counts.now }
+{
+    SurveyRest {
+        others: counts.others.total(),
+        addresses: counts.others.rows().len() as u64,
+        blanks: counts.blanks.sum(),
+        unlisted: counts.lines.unlisted(),
+        unlisted_others: counts.others.unlisted(),
+    }
+}

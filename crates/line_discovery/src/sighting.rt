@@ -1,0 +1,94 @@
+//! A datagram as it is counted.
+ghost use Rattle.std.specs.Prelude.{◌≡◌, IsTrue, ◌↔◌};
+ghost use Rattle.packet_capture.specs.Datagrams.{datagram_content};
+ghost use Rattle.line_discovery.specs.Sightings.{is_printable_name, line_key, numbers_of, other_sighting, packet_sighting, sighting_times};
+
+use crate::line_key::LineKey;
+use crate::span::Span;
+use mold_packet::Packet;
+use packet_capture::Datagram;
+
+/// A datagram as it is counted.
+#[derive(Clone, Copy, Debug, PartialEq, Eq)]
+pub struct Sighting {
+    pub key: LineKey,
+    /// How many messages it has, 0 where it is no packet.
+    pub messages: u64,
+    /// How many bytes it has, without the UDP header.
+    pub bytes: u64,
+    /// The numbers of its first and its last message, or `None` where it has none.
+    pub numbers: Option<Span>,
+    /// The time of its frame, in nanoseconds from 1970 on, or `None` where that isn't known.
+    pub times: Option<Span>,
+}
+
+/// Whether all bytes of a name are printable ASCII, as those of a session that can be named.
+pub(crate) fn is_printable_name(name: &[u8; 10]) -> bool
+    ensures { result ≡ is_printable_name name.now }
+{
+    name.iter().all(|b| b' ' <= *b && *b <= b'~')
+}
+
+/// The numbers of the first and the last message of a packet.
+fn numbers_of(packet: &Packet<'_>) -> Option<Span>
+    ensures { result ≡ numbers_of packet.now }
+{
+    if packet.count() == 0 {
+        return None;
+    }
+    Some(Span {
+        low: packet.number(),
+        high: packet.last_number(),
+    })
+}
+
+/// A time as a span.
+fn sighting_times(time: Option<u64>) -> Option<Span>
+    ensures { result ≡ sighting_times time }
+{
+    match time {
+        Some(time) => Some(Span {
+            low: time,
+            high: time,
+        }),
+        None => None,
+    }
+}
+
+/// A datagram that is a packet, and came at this time.
+pub(crate) fn packet_sighting(
+    datagram: &Datagram<'_>,
+    time: Option<u64>,
+    packet: &Packet<'_>,
+) -> Sighting
+    ensures { result ≡ packet_sighting (datagram_content datagram.now) time packet.now }
+{
+    Sighting {
+        key: LineKey {
+            address: datagram.address,
+            port: datagram.port,
+            session: Some(packet.session()),
+        },
+        messages: u64::from(packet.count()),
+        bytes: datagram.bytes.len() as u64,
+        numbers: numbers_of(packet),
+        times: sighting_times(time),
+    }
+}
+
+/// A datagram that is no packet, and came at this time.
+pub(crate) fn other_sighting(datagram: &Datagram<'_>, time: Option<u64>) -> Sighting
+    ensures { result ≡ other_sighting (datagram_content datagram.now) time }
+{
+    Sighting {
+        key: LineKey {
+            address: datagram.address,
+            port: datagram.port,
+            session: None,
+        },
+        messages: 0,
+        bytes: datagram.bytes.len() as u64,
+        numbers: None,
+        times: sighting_times(time),
+    }
+}

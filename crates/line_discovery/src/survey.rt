@@ -1,0 +1,101 @@
+//! Surveys of packet captures.
+ghost use Rattle.std.specs.Prelude.{◌≡◌, IfOk, length, sum};
+ghost use Rattle.line_discovery.specs.Surveys.{StopsSurvey, ReadsSurvey, is_bad_piece, is_begun, new_survey, wants_piece};
+ghost use Rattle.line_discovery.specs.SurveyLaws.{survey_longer, survey_more, survey_none, survey_venues};
+ghost use Rattle.line_discovery.specs.SurveyTexts.{text_of_survey};
+ghost use Rattle.line_discovery.specs.Tables.{up_to_most};
+
+use crate::counts::SurveyCounts;
+use crate::text::text_of;
+use feed_text::{RecordFormat, Step};
+use packet_capture::{CaptureFault, CaptureReader, Stop, read_as_bytes_come};
+use run_settings::StatsFormat;
+use std::alloc::{AllocError, Global};
+
+/// A packet capture (pcap or pcapng) of which the datagrams are counted. As a format it has no
+/// records.
+#[derive(Drop)]
+pub struct LineSurvey {
+    capture: CaptureReader,
+    counts: SurveyCounts,
+}
+
+impl LineSurvey {
+    /// Returns the survey of which nothing was read. It takes all its memory, some 1 MB.
+    pub fn new(alloc: Global) -> Result<LineSurvey, AllocError>
+        ensures { IfOk result (λ s. s ≡ new_survey) }
+    {
+        Ok(LineSurvey {
+            capture: CaptureReader::new(),
+            counts: SurveyCounts::new(alloc)?,
+        })
+    }
+
+    /// Returns at which byte of the capture the next piece begins, counted from 0.
+    pub fn position(&self) -> u64
+        ensures { result ≡ up_to_most (sum self.now.counts.position) }
+    {
+        self.counts.position.sum()
+    }
+
+    /// Returns how many packets there were.
+    pub fn packets(&self) -> u64
+        ensures { result ≡ up_to_most (length self.now.counts.lines) }
+    {
+        self.counts.lines.total()
+    }
+
+    /// Returns what was counted as a text in the format. Fails where memory is refused.
+    pub fn text(&self, alloc: Global, format: StatsFormat) -> Result<Vec<u8>, AllocError>
+        ensures { IfOk result (λ text. text.items ≡ text_of_survey format self.now.counts) }
+    {
+        text_of(alloc, &self.counts, format)
+    }
+}
+
+/// Returns the step where no piece is read.
+fn step_at<'b>(stop: Stop) -> Step<'b, CaptureFault>
+    ensures { StopsSurvey stop result }
+{
+    match stop {
+        Stop::Wants(_) => Step::Wants,
+        Stop::Bad(fault) => Step::Bad(fault),
+    }
+}
+
+impl RecordFormat for LineSurvey {
+    type Fault = CaptureFault;
+
+    ghost reads = { ReadsSurvey };
+
+    ghost wants = { wants_piece };
+
+    ghost is_bad = { is_bad_piece };
+
+    ghost is_whole = { is_begun };
+
+    ghost venues = { λ s. 0 };
+
+    ghost reads_none = { survey_none };
+
+    ghost reads_more = { survey_more };
+
+    ghost reads_longer = { survey_longer };
+
+    ghost reads_venues = { survey_venues };
+
+    fn next<'b>(&mut self, bytes: &'b [u8]) -> Step<'b, CaptureFault> {
+        read_as_bytes_come();
+        match self.capture.next_piece(bytes) {
+            Ok(piece) => {
+                self.counts.count_piece(&piece);
+                Step::Passed(piece.len)
+            }
+            Err(stop) => step_at(stop),
+        }
+    }
+
+    fn may_end(&self) -> bool {
+        !self.capture.is_at_start()
+    }
+}

@@ -1,0 +1,134 @@
+//! The table of the lines that were seen.
+ghost use Rattle.std.specs.Prelude.{◌≡◌, ◌≤◌, ◌<◌, [], ◌∷◌, ◌++◌, IfOk, length, map, vec_capacity, vec_len};
+ghost use Rattle.line_discovery.specs.Tables.{grown, has_row, listed_in, packets_at, rows_after, rows_of, unlisted_of, up_to_most};
+
+use crate::line_key::{LineKey, is_same};
+use crate::line_row::LineRow;
+use crate::sighting::Sighting;
+use feed_types::Past;
+use std::alloc::{AllocError, Global};
+use std::marker::Model;
+
+/// The most rows of a table.
+const MOST: usize = 4_096;
+
+/// A row for each line that was seen, in the order in which they first were, at most 4,096.
+/// Contracts see the datagrams.
+#[derive(Drop)]
+pub struct Table {
+    rows: Vec<LineRow>,
+    count: u64,
+    past: Past<Sighting>,
+}
+
+impl Model for Table {
+    ghost use Rattle.std.specs.Prelude.{List, ◌≤◌, vec_capacity};
+    ghost use Rattle.line_discovery.specs.declared.sighting.Sighting.{Sighting};
+    ghost use Rattle.line_discovery.specs.Tables.{IsLineTable};
+
+    ghost Value = { List Sighting };
+
+    ghost view = { λ t. t.past.items };
+
+    ghost invariant = { λ t.
+        IsLineTable t.rows.items t.count t.past.items × (4096 ≤ vec_capacity t.rows) };
+}
+
+/// Whether there is a row of this key.
+fn has_row(rows: &[LineRow], key: &LineKey) -> bool
+    ensures { result ≡ has_row rows.now key.now }
+{
+    rows.iter().any(|row| is_same(&row.key, key))
+}
+
+/// Counts a datagram in the row of its line, if there is one.
+fn count_row(rows: &mut [LineRow], sighting: &Sighting)
+    ensures { rows.new ≡ map (grown sighting.now) rows.old }
+{
+    for place in 0..rows.len() {
+        rows[place].count(sighting);
+    }
+}
+
+/// Counts a datagram in the row of its line, in a new one where there is none, unless there are
+/// 4,096.
+fn count_in(rows: &mut Vec<LineRow>, sighting: &Sighting)
+    requires room { 4096 ≤ vec_capacity rows.old }
+    requires few { length rows.old.items ≤ 4096 }
+    ensures rows { rows.new.items ≡ rows_after rows.old.items sighting.now }
+    ensures room { 4096 ≤ vec_capacity rows.new }
+{
+    let found = has_row(rows.as_slice(), &sighting.key);
+    count_row(rows.as_mut_slice(), sighting);
+    if !found && rows.len() < MOST {
+        let mut row = LineRow::empty(sighting.key);
+        row.count(sighting);
+        rows.push_reserved(row);
+    }
+}
+
+/// How many datagrams the rows have.
+fn listed_in(rows: &[LineRow]) -> u64
+    ensures { result ≡ listed_in rows.now }
+{
+    let mut listed: u64 = 0;
+    for row in rows {
+        listed = listed.saturating_add(row.packets);
+    }
+    listed
+}
+
+/// How many datagrams the row of this key has, 0 without one.
+pub(crate) fn packets_at(rows: &[LineRow], key: &LineKey) -> u64
+    ensures { result ≡ packets_at rows.now key.now }
+{
+    for row in rows {
+        if is_same(&row.key, key) {
+            return row.packets;
+        }
+    }
+    0
+}
+
+impl Table {
+    /// Returns the table of no datagram. It takes all its memory, some 500 kB.
+    pub(crate) fn new(alloc: Global) -> Result<Table, AllocError>
+        ensures { IfOk result (λ t. t ≡ []) }
+    {
+        Ok(Table {
+            rows: Vec::with_capacity(alloc, MOST)?,
+            count: 0,
+            past: Past::new(),
+        })
+    }
+
+    /// Counts one more datagram.
+    pub(crate) fn count(&mut self, sighting: &Sighting)
+        ensures { self.new ≡ self.old ++ sighting.now ∷ [] }
+    {
+        count_in(&mut self.rows, sighting);
+        self.count = self.count.saturating_add(1);
+        self.past = self.past.with(sighting);
+    }
+
+    /// Returns the rows.
+    pub fn rows(&self) -> &[LineRow]
+        ensures { result.now ≡ rows_of self.now }
+    {
+        self.rows.as_slice()
+    }
+
+    /// Returns how many datagrams came.
+    pub fn total(&self) -> u64
+        ensures { result ≡ up_to_most (length self.now) }
+    {
+        self.count
+    }
+
+    /// Returns how many datagrams are in no row.
+    pub fn unlisted(&self) -> u64
+        ensures { result ≡ unlisted_of self.now }
+    {
+        self.count.saturating_sub(listed_in(self.rows.as_slice()))
+    }
+}

@@ -1,0 +1,180 @@
+//! What was counted of a capture, as a table.
+ghost use Rattle.std.specs.Prelude.{◌≡◌, ◌++◌, IfOk, OnOk, flat_map};
+ghost use Rattle.line_discovery.specs.SurveyTexts.{high_of, low_of, other_key, session_name, table_of, table_rest, table_row, text_of_survey};
+
+use crate::counts::SurveyCounts;
+use crate::json::json_text;
+use crate::line_key::LineKey;
+use crate::line_row::LineRow;
+use crate::pieces::{CellStyle, put_cells, put_place};
+use crate::rest::{SurveyRest, rest_of};
+use crate::span::Span;
+use crate::table::packets_at;
+use run_settings::StatsFormat;
+use std::alloc::{AllocError, Global};
+
+/// The heads of the columns.
+const HEAD: &[u8] =
+    b"address and port         session          packets      messages         first          last         bytes         other           first time            last time\n";
+
+/// How counts are put.
+const COUNTS: CellStyle = CellStyle {
+    columns: 13,
+    nothing: "-",
+};
+
+/// How times are put.
+const TIMES: CellStyle = CellStyle {
+    columns: 20,
+    nothing: "-",
+};
+
+/// The lowest number of a span.
+pub(crate) fn low_of(span: Option<Span>) -> Option<u64>
+    ensures { result ≡ low_of span }
+{
+    match span {
+        Some(span) => Some(span.low),
+        None => None,
+    }
+}
+
+/// The highest number of a span.
+pub(crate) fn high_of(span: Option<Span>) -> Option<u64>
+    ensures { result ≡ high_of span }
+{
+    match span {
+        Some(span) => Some(span.high),
+        None => None,
+    }
+}
+
+/// The key of the other datagrams to the same address and port.
+pub(crate) fn other_key(key: &LineKey) -> LineKey
+    ensures { result ≡ other_key key.now }
+{
+    LineKey {
+        address: key.address,
+        port: key.port,
+        session: None,
+    }
+}
+
+/// The name of a session.
+pub(crate) fn session_name(session: &Option<[u8; 10]>) -> &[u8]
+    ensures { result.now ≡ session_name session.now }
+{
+    match session {
+        Some(name) => name,
+        None => &[],
+    }
+}
+
+/// Appends the row of a line.
+fn put_row(
+    alloc: Global,
+    text: &mut Vec<u8>,
+    others: &[LineRow],
+    row: &LineRow,
+) -> Result<(), AllocError>
+    ensures { OnOk result (text.new.items ≡ text.old.items ++ table_row others.now row.now) }
+{
+    let counts = [
+        (" ", Some(row.packets)),
+        (" ", Some(row.messages)),
+        (" ", low_of(row.numbers)),
+        (" ", high_of(row.numbers)),
+        (" ", Some(row.bytes)),
+        (" ", Some(packets_at(others, &other_key(&row.key)))),
+    ];
+    let times = [(" ", low_of(row.times)), (" ", high_of(row.times))];
+    put_place(alloc, text, 24, &row.key)?;
+    text.extend_from_slice(b" ")?;
+    text.extend_from_slice(session_name(&row.key.session))?;
+    put_cells(text, COUNTS, &counts)?;
+    put_cells(text, TIMES, &times)?;
+    text.extend_from_slice(b"\n")
+}
+
+/// Appends the rows of lines.
+fn put_rows(
+    alloc: Global,
+    text: &mut Vec<u8>,
+    others: &[LineRow],
+    rows: &[LineRow],
+) -> Result<(), AllocError>
+    ensures { OnOk result (text.new.items
+        ≡ text.old.items ++ flat_map (table_row others.now) rows.now) }
+{
+    for row in rows {
+        put_row(alloc, text, others, row)?;
+    }
+    Ok(())
+}
+
+/// Appends what is in no row.
+fn put_rest(text: &mut Vec<u8>, rest: &SurveyRest) -> Result<(), AllocError>
+    ensures { OnOk result (text.new.items ≡ text.old.items ++ table_rest rest.now) }
+{
+    let cells = [
+        ("\ndatagrams that are no packets      ", Some(rest.others)),
+        (
+            "\n  addresses and ports they went to ",
+            Some(rest.addresses),
+        ),
+        ("\nframes without a UDP datagram      ", Some(rest.blanks)),
+        ("\npackets past the first 4096 rows   ", Some(rest.unlisted)),
+        (
+            "\nothers past the first 4096 rows    ",
+            Some(rest.unlisted_others),
+        ),
+    ];
+    put_cells(text, COUNTS, &cells)?;
+    text.extend_from_slice(b"\n")
+}
+
+/// Appends the table.
+fn put_table(
+    alloc: Global,
+    text: &mut Vec<u8>,
+    others: &[LineRow],
+    rows: &[LineRow],
+    rest: &SurveyRest,
+) -> Result<(), AllocError>
+    ensures { OnOk result (text.new.items
+        ≡ text.old.items ++ table_of others.now rows.now rest.now) }
+{
+    text.extend_from_slice(HEAD)?;
+    put_rows(alloc, text, others, rows)?;
+    put_rest(text, rest)
+}
+
+/// Returns the table of what was counted.
+fn table_text(alloc: Global, counts: &SurveyCounts) -> Result<Vec<u8>, AllocError>
+    ensures { IfOk result (λ text. text.items ≡ text_of_survey StatsFormat.Table counts.now) }
+{
+    let mut text = Vec::new(alloc);
+    let rest = rest_of(counts);
+    put_table(
+        alloc,
+        &mut text,
+        counts.others.rows(),
+        counts.lines.rows(),
+        &rest,
+    )?;
+    Ok(text)
+}
+
+/// Returns what was counted as a text in the format. Fails where memory is refused.
+pub(crate) fn text_of(
+    alloc: Global,
+    counts: &SurveyCounts,
+    format: StatsFormat,
+) -> Result<Vec<u8>, AllocError>
+    ensures { IfOk result (λ text. text.items ≡ text_of_survey format counts.now) }
+{
+    match format {
+        StatsFormat::Table => table_text(alloc, counts),
+        StatsFormat::Json => json_text(alloc, counts),
+    }
+}
