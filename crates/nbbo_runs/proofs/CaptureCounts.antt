@@ -1,9 +1,29 @@
 -- What is said of counts.
-use Rattle.std.proofs.Common.{◌≡◌, ℕ, zero, suc, List, [], ◌∷◌, refl, arith}
-use Rattle.std.specs.Prelude.{codes, decimal}
+use Rattle.std.proofs.Common.{◌≡◌, ℕ, zero, suc, Bool, true, false, List, [], ◌∷◌, refl, sym, subst, ◌∙◌, arith}
+use Rattle.std.specs.Prelude.{◌==◌, codes, decimal, if◌then◌else◌}
+use Rattle.std.proofs.lemmas.Bool.{eq-eqb, ne_eqb}
 use Rattle.feed_text.specs.Devices.{Writing}
 use Rattle.feed_text.specs.StandardError.{SaysEach}
-use Rattle.nbbo_runs.specs.CaptureTexts.{count_texts, no_line_texts}
+use Rattle.line_captures.specs.declared.frame_counts.FrameCounts.{FrameCounts}
+use Rattle.line_captures.specs.Counts.{total_of}
+use Rattle.nbbo_runs.specs.CaptureTexts.{count_texts, datagrams_texts, frames_texts, no_line_texts}
+
+-- where all frames go to lines, and where not all do
+pub frames_none : {S : Type 0} (w : Writing S) (counts : FrameCounts) (all : ℕ) (s : S)
+    → all ≡ total_of counts → all ≡ counts.to_lines → SaysEach w (frames_texts counts) s s
+frames_none w counts all s total same =
+    let e : (total_of counts == counts.to_lines) ≡ true = eq-eqb _ _ (sym total ∙ same) in
+    subst (λ (b : Bool). SaysEach w (if b then [] else datagrams_texts (total_of counts) counts) s
+    s) (sym e) refl
+
+pub frames_some : {S : Type 0} (w : Writing S) (counts : FrameCounts) (all : ℕ) (s t : S)
+    → all ≡ total_of counts → (all ≡ counts.to_lines → ⊥)
+    → SaysEach w (datagrams_texts all counts) s t → SaysEach w (frames_texts counts) s t
+frames_some w counts all s t total some said =
+    let e : (total_of counts == counts.to_lines) ≡ false =
+    ne_eqb _ _ (λ same. some (total ∙ same)) in
+    subst (λ (b : Bool). SaysEach w (if b then [] else datagrams_texts (total_of counts) counts) s
+    t) (sym e) (subst (λ (n : ℕ). SaysEach w (datagrams_texts n counts) s t) total said)
 
 pub counts_some : {S : Type 0} (w : Writing S) (label : List ℕ) (count : ℕ) (s t : S)
     → (count ≡ 0 → ⊥) → SaysEach w (label ∷ decimal count ∷ codes "\n" ∷ []) s t

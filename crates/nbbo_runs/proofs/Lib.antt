@@ -4,3 +4,4 @@ pub mod NamedLines
 pub mod PrintedTexts
 pub mod SaidLacks
 pub mod StatsTexts
+pub mod Watching

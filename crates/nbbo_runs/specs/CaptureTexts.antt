@@ -1,10 +1,13 @@
 -- What is said of a packet capture on standard error.
-use Rattle.std.specs.Prelude.{ℕ, zero, suc, List, [], ◌∷◌, ◌++◌, codes, decimal, Result, Ok, Err}
+use Rattle.std.specs.Prelude.{ℕ, zero, suc, ◌==◌, List, [], ◌∷◌, ◌++◌, codes, decimal, Option, Some, None, Result, Ok, Err, if◌then◌else◌}
 use Rattle.packet_capture.specs.declared.fault.CaptureFault.{CaptureFault}
 use Rattle.packet_capture.specs.declared.fault.CaptureFault.TheVariants.{NotCapture, UnknownVersion, TooLong, BadByteOrder, BadBlockLength, LengthsDiffer, ShortBlock, UnknownInterface, FramePastBlock, OptionPastBlock, TooManyInterfaces}
 use Rattle.feed_text.specs.declared.replay_stop.ReplayStop.{ReplayStop}
 use Rattle.feed_text.specs.declared.replay_stop.ReplayStop.TheVariants.{Bad}
-use Rattle.line_captures.specs.declared.passed_over.PassedOver.{PassedOver}
+use Rattle.line_captures.specs.declared.drop_counts.DroppedFrames.{DroppedFrames}
+use Rattle.line_captures.specs.declared.frame_counts.FrameCounts.{FrameCounts}
+use Rattle.line_captures.specs.Counts.{total_of}
+use Rattle.line_captures.specs.DropCounts.{dropped_of}
 use Rattle.line_captures.specs.PacketFormats.{PacketState}
 use Rattle.nbbo_runs.specs.Ending.{stop_line_text}
 
@@ -13,21 +16,51 @@ abbrev pub count_texts : List ℕ → ℕ → List (List ℕ)
 count_texts label zero = []
 count_texts label (suc more) = label ∷ decimal (suc more) ∷ codes "\n" ∷ []
 
+-- how many frames there are, and how many of them carry whole datagrams
+abbrev pub datagrams_texts : ℕ → FrameCounts → List (List ℕ)
+datagrams_texts all counts =
+    count_texts (codes "nbbo: frames in all: ") all
+    ++ (count_texts (codes "nbbo: datagrams to lines: ") counts.to_lines
+    ++ count_texts (codes "nbbo: datagrams to other addresses passed over: ") counts.elsewhere)
+
+-- the same where not all go to lines
+abbrev pub frames_texts : FrameCounts → List (List ℕ)
+frames_texts counts =
+    if total_of counts == counts.to_lines then [] else datagrams_texts (total_of counts) counts
+
+-- those of other protocols
+abbrev pub protocols_texts : FrameCounts → List (List ℕ)
+protocols_texts counts =
+    count_texts (codes "nbbo: frames without IP passed over: ") counts.no_ip
+    ++ count_texts (codes "nbbo: IP packets without UDP passed over: ") counts.no_udp
+
 -- what a line may have lost
-abbrev pub lost_texts : PassedOver → List (List ℕ)
-lost_texts passed =
-    count_texts (codes "nbbo: fragments passed over: ") passed.fragments
-    ++ (count_texts (codes "nbbo: cut frames passed over: ") passed.cut
-    ++ count_texts (codes "nbbo: malformed packets passed over: ") passed.malformed)
+abbrev pub lost_texts : FrameCounts → List (List ℕ)
+lost_texts counts =
+    count_texts (codes "nbbo: fragments passed over: ") counts.fragments
+    ++ (count_texts (codes "nbbo: cut frames passed over: ") counts.cut
+    ++ count_texts (codes "nbbo: malformed packets passed over: ") counts.malformed)
 
 -- and what else is to be known of the frames
-abbrev pub other_texts : PassedOver → List (List ℕ)
-other_texts passed =
-    count_texts (codes "nbbo: frames that can't be read passed over: ") passed.not_read
-    ++ count_texts (codes "nbbo: frames out of time order: ") passed.disordered
+abbrev pub other_texts : FrameCounts → List (List ℕ)
+other_texts counts =
+    count_texts (codes "nbbo: frames that can't be read passed over: ") counts.not_read
+    ++ count_texts (codes "nbbo: frames out of time order: ") counts.disordered
 
-abbrev pub passed_texts : PassedOver → List (List ℕ)
-passed_texts passed = lost_texts passed ++ other_texts passed
+abbrev pub frame_texts : FrameCounts → List (List ℕ)
+frame_texts counts =
+    frames_texts counts
+    ++ (protocols_texts counts ++ (lost_texts counts ++ other_texts counts))
+
+-- how many frames were dropped before the capture, as it says itself
+abbrev pub dropped_texts : DroppedFrames → List (List ℕ)
+dropped_texts dropped =
+    count_texts (codes "nbbo: frames that the capture says were dropped before packets: ")
+    dropped.before_packets
+    ++ (count_texts (codes "nbbo: frames that the capture says its interfaces dropped: ")
+    dropped.by_interfaces
+    ++ count_texts (codes "nbbo: frames that the capture says its system dropped: ")
+    dropped.by_system)
 
 -- why the bytes are no packet capture, or none that is read: the number of the refusal, and what it
 -- means
@@ -63,9 +96,22 @@ capture_outcome_texts (Err (Bad fault)) position to_lines =
     bad_capture_texts fault position
 capture_outcome_texts (Err stop) position to_lines = stop_line_text stop ∷ []
 
+-- where a second capture seems to begin, if one does
+abbrev pub start_texts : Option ℕ → List (List ℕ)
+start_texts None = []
+start_texts (Some start) =
+    codes "nbbo: a second capture seems to begin at byte " ∷ decimal start ∷ codes "\n" ∷ []
+
+-- the same of a capture that wasn't read to its end
+abbrev pub second_texts : Result (Unit {0}) (ReplayStop CaptureFault) → Option ℕ → List (List ℕ)
+second_texts (Ok done) second_start = []
+second_texts (Err stop) second_start = start_texts second_start
+
 -- after a packet capture of which so much was read
 abbrev pub capture_texts : PacketState → Result (Unit {0}) (ReplayStop CaptureFault)
     → List (List ℕ)
 capture_texts read outcome =
-    passed_texts read.progress.passed
-    ++ capture_outcome_texts outcome read.progress.position read.progress.passed.to_lines
+    frame_texts read.progress.counts
+    ++ (dropped_texts (dropped_of read.progress.drops)
+    ++ (capture_outcome_texts outcome read.progress.position read.progress.counts.to_lines
+    ++ second_texts outcome read.progress.second_start))

@@ -18,15 +18,20 @@ is_packets start =
     || ((start == 2712847316)
     || ((start == 1295823521) || ((start == 2712812621) || (start == 168627466))))
 
--- one line, where the input is a packet capture or begins with the two bytes of gzip
+-- one line, where the input begins with the two bytes of gzip
+abbrev pub gzip_hint : ℕ → List ℕ
+gzip_hint start =
+    if start / 65536 == 8075
+    then codes "nbbo: the input is in gzip; to unpack it write 'zcat FILE | nbbo replay ..'\n"
+    else []
+
+-- one line, where the input is a packet capture, or that one
 abbrev pub format_hint : ℕ → List ℕ
 format_hint start =
     if is_packets start
     then codes
     "nbbo: the input is a packet capture (pcap or pcapng); --lines LIST says which of its datagrams to replay\n"
-    else (if start / 65536 == 8075
-    then codes "nbbo: the input is in gzip; to unpack it write 'zcat FILE | nbbo replay ..'\n"
-    else [])
+    else gzip_hint start
 
 -- one line, where the journal was full
 abbrev pub journal_hint : Bool → List ℕ

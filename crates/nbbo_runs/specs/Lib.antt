@@ -1,4 +1,5 @@
 pub mod CaptureTexts
+pub mod Discovery
 pub mod Ending
 pub mod Hints
 pub mod Lacks
@@ -6,3 +7,5 @@ pub mod Printing
 pub mod Runs
 pub mod Starts
 pub mod Streams
+pub mod Watches
+pub mod WatchLaws

@@ -1,5 +1,5 @@
 -- What is printed of a replay.
-use Rattle.std.specs.Prelude.{◌≡◌, ⊤, ℕ, ◌+◌, Bool, true, false, List, [], ◌++◌, IsOkAnd, OnOk, Result, Ok, Err}
+use Rattle.std.specs.Prelude.{◌≡◌, ⊤, ℕ, ◌+◌, Bool, List, [], ◌++◌, IsOkAnd, OnOk, Result, Ok, Err}
 use Rattle.std.specs.Result.{result_and}
 use Rattle.run_settings.specs.declared.formats.StatsFormat.{StatsFormat}
 use Rattle.feed_text.specs.declared.replay.ReplayConfig.{ReplayConfig}
@@ -14,7 +14,7 @@ use Rattle.feed_text.specs.ReplayStates.{SinkTaking}
 use Rattle.feed_text.specs.Replays.{text_told}
 use Rattle.feed_text.specs.SinkEvents.{TimedEvent}
 use Rattle.replay_reports.specs.rows.RowSinks.{text_of_rows}
-use Rattle.replay_reports.specs.Texts.{IsTextOfTimes, text_of_events}
+use Rattle.replay_reports.specs.Texts.{IsTextOfTimes}
 use Rattle.replay_run.specs.Printed.{facts_of_run}
 use Rattle.run_settings.specs.declared.run_output.RunOutput.{RunOutput}
 use Rattle.run_settings.specs.declared.run_output.RunOutput.TheVariants.{Lines, Bests, Stats}
@@ -78,12 +78,11 @@ abbrev pub IsTextOfSink : {K E : Type 0} (takes : K → List TimedEvent → K �
 IsTextOfSink {K} takes IsText made told text =
     IsOkAnd made (λ sink. (after : K) × takes sink told after × IsText after text)
 
--- The text of statistics: the counts, and where records have times, also how the packets ran in
--- time.
+-- The text of statistics: the counts, what lines lost, and where records have times, also how the
+-- packets ran in time.
 abbrev pub IsStatsText : ReplayConfig → StatsFormat → Bool → List TimedEvent → List ℕ → Type 0
-IsStatsText config format false told text = text ≡ text_of_events format (venues_in config) told
-IsStatsText config format true told text =
-    IsTextOfTimes format (venues_in config) config.window told text
+IsStatsText config format timed told text =
+    IsTextOfTimes format timed (venues_in config) config.window told text
 
 -- ---- by what is asked for
 

@@ -1,6 +1,6 @@
 -- A run of the program: from the words of the command line to what is read, what is written where,
 -- and the status, the last argument.
-use Rattle.std.specs.Prelude.{◌≡◌, ◌≢◌, ◌⊎◌, ℕ, ◌+◌, List, [], ◌∷◌, ◌++◌, length, Result}
+use Rattle.std.specs.Prelude.{◌≡◌, ◌≢◌, ◌⊎◌, ℕ, ◌+◌, Bool, true, false, List, [], ◌∷◌, ◌++◌, length, Result}
 use Rattle.clap.specs.Walk.{Text}
 use Rattle.packet_capture.specs.declared.fault.CaptureFault.{CaptureFault}
 use Rattle.feed_text.specs.declared.replay_stop.ReplayStop.{ReplayStop}
@@ -20,11 +20,14 @@ use Rattle.run_settings.specs.declared.run_input.RunInput.TheVariants.{Own, Pack
 use Rattle.run_settings.specs.declared.run_settings.RunSettings.{RunSettings}
 use Rattle.command_words.specs.declared.task.Task.TheVariants.{Listen}
 use Rattle.nbbo_runs.specs.CaptureTexts.{capture_texts}
+use Rattle.nbbo_runs.specs.Discovery.{Discovered}
 use Rattle.nbbo_runs.specs.Ending.{ending_status, own_end_texts, write_failed_text}
 use Rattle.nbbo_runs.specs.Hints.{hint_text}
 use Rattle.nbbo_runs.specs.Lacks.{tells_lacks, told_lacks}
 use Rattle.nbbo_runs.specs.Printing.{PrintsAsked}
 use Rattle.nbbo_runs.specs.Streams.{Devices, Streams}
+use Rattle.nbbo_runs.specs.Watches.{IsWatched, watched_texts, watching}
+use Rattle.nbbo_runs.specs.declared.watched_format.WatchedFormat.{WatchedFormat}
 use Rattle.nbbo_runs.specs.declared.program_run.Next.{Next}
 use Rattle.nbbo_runs.specs.declared.program_run.Next.TheVariants.{Ended, Listens}
 use Rattle.nbbo_runs.specs.declared.terminals.Terminals.{Terminals}
@@ -47,14 +50,34 @@ pub record RunsOver {R W E S F : Type 0} (devices : Devices R W E) (parsing : Pa
       before.errors after.errors
   pub ends : status ≡ ending_status outcome
 
+-- The same, where the datagrams are watched, and what is to be said of them comes after what venues
+-- lack.
+pub record RunsWatched {R W E S F : Type 0} (devices : Devices R W E) (parsing : Parsing S F)
+    (end_texts : S → Result (Unit {0}) (ReplayStop F) → List (List ℕ))
+    (settings : RunSettings) (terminals : Terminals) (start : S)
+    (before after : Streams R W E) (status : ℕ) : Type 0 where
+  pub watch : WatchedFormat S
+  pub is : IsWatched start settings.feed.sessions.items watch
+  pub runs : RunsOver devices (watching parsing) (watched_texts end_texts) settings terminals watch
+      before after status
+
+-- a run over a capture of the project's own format, whose datagrams are watched or not
+abbrev pub RunsOwn : {R W E : Type 0} (devices : Devices R W E) (settings : RunSettings)
+    (terminals : Terminals) (before after : Streams R W E) (status : ℕ) → Bool → Type 0
+RunsOwn devices settings terminals before after status false =
+    RunsOver devices own_parsing own_end_texts settings terminals
+    (length settings.feed.sessions.items) before after status
+RunsOwn devices settings terminals before after status true =
+    RunsWatched devices own_parsing own_end_texts settings terminals
+    (length settings.feed.sessions.items) before after status
+
 -- a run over a capture of the project's own format, or over a packet capture
 abbrev pub RunsBy : {R W E : Type 0} (devices : Devices R W E) (settings : RunSettings)
     (terminals : Terminals) (before after : Streams R W E) (status : ℕ) → RunInput → Type 0
 RunsBy devices settings terminals before after status Own =
-    RunsOver devices own_parsing own_end_texts settings terminals
-    (length settings.feed.sessions.items) before after status
+    RunsOwn devices settings terminals before after status (tells_lacks settings terminals)
 RunsBy devices settings terminals before after status (Packets lines) =
-    RunsOver devices packet_parsing capture_texts settings terminals
+    RunsWatched devices packet_parsing capture_texts settings terminals
     (new_packets (length settings.feed.sessions.items) lines.items) before after status
 
 -- The words ask for a run, and it was made.
@@ -133,6 +156,7 @@ abbrev pub Leads : {R W E : Type 0} (devices : Devices R W E) (words : List Text
 Leads devices words terminals before after (Ended status) =
     Ran devices words terminals before after status
     ⊎ Converted devices words terminals before after status
+    ⊎ Discovered devices words terminals before after status
     ⊎ Refused devices words before after status
 Leads devices words terminals before after (Listens settings) =
     LeavesToListen words settings before after

@@ -1,11 +1,11 @@
 //! What is said of a packet capture on standard error.
 ghost use Rattle.std.specs.Prelude.{◌≡◌, ◌∷◌, [], codes, decimal};
 ghost use Rattle.feed_text.specs.StandardError.{SaysEach};
-ghost use Rattle.nbbo_runs.specs.CaptureTexts.{bad_capture_texts, capture_fault_text, capture_outcome_texts, count_texts, lost_texts, no_line_texts, other_texts, passed_texts};
+ghost use Rattle.nbbo_runs.specs.CaptureTexts.{bad_capture_texts, capture_fault_text, capture_outcome_texts, count_texts, datagrams_texts, dropped_texts, frame_texts, frames_texts, lost_texts, no_line_texts, other_texts, protocols_texts, second_texts, start_texts};
 
 use crate::ending::stop_line;
 use feed_text::{ReplayStop, TextOut, write_number, write_stderr};
-use line_captures::PassedOver;
+use line_captures::{DroppedFrames, FrameCounts};
 use packet_capture::CaptureFault;
 
 /// Writes a line with a number.
@@ -29,44 +29,111 @@ fn write_count<E: TextOut>(label: &str, count: u64, errors: &mut E)
     write_counted(label, count, errors);
 }
 
-/// Writes what a line may have lost.
-fn write_lost<E: TextOut>(passed: &PassedOver, errors: &mut E)
+/// Writes how many frames there are where not all go to lines.
+fn write_frames<E: TextOut>(counts: &FrameCounts, errors: &mut E)
     ensures { SaysEach (record { adds = E.adds; failures = E.failures })
-        (lost_texts passed.now) errors.old errors.new }
+        (frames_texts counts.now) errors.old errors.new }
 {
-    write_count("nbbo: fragments passed over: ", passed.fragments, errors);
-    write_count("nbbo: cut frames passed over: ", passed.cut, errors);
+    let all = counts.total();
+    if all == counts.to_lines {
+        return;
+    }
+    write_datagrams(all, counts, errors);
+}
+
+/// Writes how many frames there are, and how many of them carry whole datagrams.
+fn write_datagrams<E: TextOut>(all: u64, counts: &FrameCounts, errors: &mut E)
+    ensures { SaysEach (record { adds = E.adds; failures = E.failures })
+        (datagrams_texts all counts.now) errors.old errors.new }
+{
+    write_count("nbbo: frames in all: ", all, errors);
+    write_count("nbbo: datagrams to lines: ", counts.to_lines, errors);
+    write_count(
+        "nbbo: datagrams to other addresses passed over: ",
+        counts.elsewhere,
+        errors,
+    );
+}
+
+/// Writes how many frames carry another protocol.
+fn write_protocols<E: TextOut>(counts: &FrameCounts, errors: &mut E)
+    ensures { SaysEach (record { adds = E.adds; failures = E.failures })
+        (protocols_texts counts.now) errors.old errors.new }
+{
+    write_count(
+        "nbbo: frames without IP passed over: ",
+        counts.no_ip,
+        errors,
+    );
+    write_count(
+        "nbbo: IP packets without UDP passed over: ",
+        counts.no_udp,
+        errors,
+    );
+}
+
+/// Writes what a line may have lost.
+fn write_lost<E: TextOut>(counts: &FrameCounts, errors: &mut E)
+    ensures { SaysEach (record { adds = E.adds; failures = E.failures })
+        (lost_texts counts.now) errors.old errors.new }
+{
+    write_count("nbbo: fragments passed over: ", counts.fragments, errors);
+    write_count("nbbo: cut frames passed over: ", counts.cut, errors);
     write_count(
         "nbbo: malformed packets passed over: ",
-        passed.malformed,
+        counts.malformed,
         errors,
     );
 }
 
 /// Writes what else is to be known of the frames.
-fn write_other<E: TextOut>(passed: &PassedOver, errors: &mut E)
+fn write_other<E: TextOut>(counts: &FrameCounts, errors: &mut E)
     ensures { SaysEach (record { adds = E.adds; failures = E.failures })
-        (other_texts passed.now) errors.old errors.new }
+        (other_texts counts.now) errors.old errors.new }
 {
     write_count(
         "nbbo: frames that can't be read passed over: ",
-        passed.not_read,
+        counts.not_read,
         errors,
     );
     write_count(
         "nbbo: frames out of time order: ",
-        passed.disordered,
+        counts.disordered,
         errors,
     );
 }
 
-/// Writes what was passed over.
-pub fn write_passed<E: TextOut>(passed: &PassedOver, errors: &mut E)
+/// Writes the counts of the frames.
+pub fn write_counts<E: TextOut>(counts: &FrameCounts, errors: &mut E)
     ensures { SaysEach (record { adds = E.adds; failures = E.failures })
-        (passed_texts passed.now) errors.old errors.new }
+        (frame_texts counts.now) errors.old errors.new }
 {
-    write_lost(passed, errors);
-    write_other(passed, errors);
+    write_frames(counts, errors);
+    write_protocols(counts, errors);
+    write_lost(counts, errors);
+    write_other(counts, errors);
+}
+
+/// Writes how many frames were dropped before the capture, as it says itself.
+pub fn write_dropped<E: TextOut>(dropped: &DroppedFrames, errors: &mut E)
+    ensures { SaysEach (record { adds = E.adds; failures = E.failures })
+        (dropped_texts dropped.now) errors.old errors.new }
+{
+    write_count(
+        "nbbo: frames that the capture says were dropped before packets: ",
+        dropped.before_packets,
+        errors,
+    );
+    write_count(
+        "nbbo: frames that the capture says its interfaces dropped: ",
+        dropped.by_interfaces,
+        errors,
+    );
+    write_count(
+        "nbbo: frames that the capture says its system dropped: ",
+        dropped.by_system,
+        errors,
+    );
 }
 
 /// The end of the line about a capture that is bad.
@@ -126,5 +193,35 @@ pub fn write_outcome<E: TextOut>(
         Ok(()) => write_no_line(to_lines, errors),
         Err(ReplayStop::Bad(fault)) => write_bad_capture(*fault, position, errors),
         Err(stop) => write_stderr(stop_line(stop), errors),
+    }
+}
+
+/// Writes where a second capture seems to begin, if one does.
+fn write_start<E: TextOut>(second_start: Option<u64>, errors: &mut E)
+    ensures { SaysEach (record { adds = E.adds; failures = E.failures })
+        (start_texts second_start) errors.old errors.new }
+{
+    match second_start {
+        None => {}
+        Some(start) => write_counted(
+            "nbbo: a second capture seems to begin at byte ",
+            start,
+            errors,
+        ),
+    }
+}
+
+/// Writes where a second capture seems to begin, of a capture that wasn't read to its end.
+pub fn write_second<E: TextOut>(
+    outcome: &Result<(), ReplayStop<CaptureFault>>,
+    second_start: Option<u64>,
+    errors: &mut E,
+)
+    ensures { SaysEach (record { adds = E.adds; failures = E.failures })
+        (second_texts outcome.now second_start) errors.old errors.new }
+{
+    match outcome {
+        Ok(()) => {}
+        Err(_) => write_start(second_start, errors),
     }
 }

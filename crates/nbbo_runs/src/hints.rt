@@ -1,6 +1,6 @@
 //! Hints for who is at a terminal: what was probably meant where something else was given.
 ghost use Rattle.std.specs.Prelude.{◌≡◌};
-ghost use Rattle.nbbo_runs.specs.Hints.{format_hint, hint_text, is_packets, journal_hint};
+ghost use Rattle.nbbo_runs.specs.Hints.{format_hint, gzip_hint, hint_text, is_packets, journal_hint};
 
 use feed_text::{TextOut, write_stderr};
 use std::fs::{self, File, Files};
@@ -44,16 +44,38 @@ fn is_packets(start: u32) -> bool
 
 /// The line for an input that is no capture of this project's own, by the number of its first four
 /// bytes; empty where it may be one.
-pub fn format_hint(start: u32) -> &'static str
+fn format_hint(start: u32) -> &'static str
     ensures { result.now ≡ format_hint start }
 {
     if is_packets(start) {
         "nbbo: the input is a packet capture (pcap or pcapng); --lines LIST says which of its datagrams to replay\n"
-    } else if start / 65_536 == GZIP {
+    } else {
+        gzip_hint(start)
+    }
+}
+
+/// The line for an input in gzip, by the number of its first four bytes; empty for another one.
+fn gzip_hint(start: u32) -> &'static str
+    ensures { result.now ≡ gzip_hint start }
+{
+    if start / 65_536 == GZIP {
         "nbbo: the input is in gzip; to unpack it write 'zcat FILE | nbbo replay ..'\n"
     } else {
         ""
     }
+}
+
+/// The line for the input of a run that these words asked for, by the number of its first four
+/// bytes, where standard error is a terminal, or not; empty where the input may be what they ask
+/// for. A script is told of gzip alone, and only where it asks for more than `nbbo replay` itself.
+pub fn input_format_hint(words: &[String], start: u32, at_terminal: bool) -> &'static str {
+    if at_terminal && !asks_for_packets(words) {
+        return format_hint(start);
+    }
+    if at_terminal || asks_for_more(words) {
+        return gzip_hint(start);
+    }
+    ""
 }
 
 /// The line for a run whose journal was full; empty for another one.
@@ -67,11 +89,23 @@ pub fn journal_hint(is_full: bool) -> &'static str
     }
 }
 
-/// Whether the words ask to read a packet capture.
-pub fn asks_for_packets(words: &[String]) -> bool {
+/// Whether the words ask for more than a replay of the project's own format as text.
+fn asks_for_more(words: &[String]) -> bool {
     words.iter().any(|word| {
         let word = word.as_str();
-        word == "convert" || word == "--lines" || word.starts_with("--lines=")
+        word == "stats"
+            || word == "--best-only"
+            || word == "--join"
+            || word == "--skip-gaps"
+            || word.starts_with("--format")
+    }) || asks_for_packets(words)
+}
+
+/// Whether the words ask to read a packet capture.
+fn asks_for_packets(words: &[String]) -> bool {
+    words.iter().any(|word| {
+        let word = word.as_str();
+        word == "convert" || word == "lines" || word == "--lines" || word.starts_with("--lines=")
     })
 }
 

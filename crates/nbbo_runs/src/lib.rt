@@ -2,7 +2,8 @@
 //!
 //! Contract: of any words, [`run`] says what is read, what is written where, and the status, or
 //! that the words ask to listen (`specs/Runs.antt`). A run is one over any format of captures, and
-//! prints lines, rows of best lines or statistics (`specs/Printing.antt`); at its end standard
+//! prints lines, rows of best lines or statistics (`specs/Printing.antt`), or lists the lines of a
+//! packet capture (`specs/Discovery.antt`); at its end standard
 //! error says what venues lack (`specs/Lacks.antt`), and what is to be said of the capture and of
 //! the outcome (`specs/CaptureTexts.antt`, `specs/Ending.antt`).
 //!
@@ -15,6 +16,7 @@
 
 mod capture_report;
 mod config;
+mod discovery;
 mod ending;
 mod hints;
 mod kept_start;
@@ -25,8 +27,10 @@ mod program_run;
 mod runs;
 mod terminals;
 mod told_format;
+mod venue_watch;
+mod watched_format;
 
-pub use hints::{asks_for_packets, format_hint, hint_at_file, journal_hint};
+pub use hints::{hint_at_file, input_format_hint, journal_hint};
 pub use kept_start::KeptStart;
 pub use noted_errors::NotedErrors;
 pub use program_run::{Next, ProgramRun, refuse, run};

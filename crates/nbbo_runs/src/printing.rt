@@ -14,7 +14,7 @@ use feed_text::{
     CaptureIn, Lack, LineBuffer, RecordFormat, ReplayStop, Replayed, TextOut, TextPage, TextSink,
     write_all,
 };
-use replay_reports::{BestRows, RowStyle, Stats, StatsSink, TimedStats};
+use replay_reports::{BestRows, RowStyle, StatsSink, TimedStats};
 use replay_run::replay;
 use run_settings::{RunOutput, RunSettings, StatsFormat};
 use std::alloc::{AllocError, Global};
@@ -113,7 +113,7 @@ fn print_rows<R: CaptureIn, F: RecordFormat, W: TextOut>(
 }
 
 /// Writes a text, if it was made.
-fn write_text<W: TextOut, F>(
+pub fn write_text<W: TextOut, F>(
     made: Result<Vec<u8>, AllocError>,
     output: &mut W,
 ) -> Result<(), ReplayStop<F>>
@@ -202,13 +202,9 @@ pub fn print<R: CaptureIn, F: RecordFormat, W: TextOut>(
             };
             print_rows(alloc, &config, style, format, input, output, lacks)
         }
-        RunOutput::Stats(form) if timed => {
-            let made = TimedStats::new(alloc, config.sessions.len(), config.window as usize);
-            let stats = Statistics { made, form };
-            print_stats(alloc, &config, stats, format, input, output, lacks)
-        }
         RunOutput::Stats(form) => {
-            let made = Stats::new(alloc, config.sessions.len());
+            let venues = config.sessions.len();
+            let made = TimedStats::new(alloc, venues, config.window as usize, timed);
             let stats = Statistics { made, form };
             print_stats(alloc, &config, stats, format, input, output, lacks)
         }

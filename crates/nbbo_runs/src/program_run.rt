@@ -2,6 +2,7 @@
 ghost use Rattle.std.specs.Prelude.{◌≡◌, map, string_bytes};
 ghost use Rattle.nbbo_runs.specs.Runs.{Leads, TellsRefusal};
 
+use crate::discovery::run_discovery;
 use crate::ending::WRITE_FAILED;
 use crate::runs::{run_conversion, run_settings};
 use crate::terminals::Terminals;
@@ -64,9 +65,10 @@ fn ended<R, W>(status: u8, input: R, output: W) -> ProgramRun<R, W>
 /// Does what the words ask for, of which the first is the program's name, except listening, which
 /// takes sockets and threads: then the settings for it are returned.
 ///
-/// The input is read only for a replay, a conversion or statistics. The lines of a replay, the rows
-/// of its best lines, its statistics, or the converted capture are all that is written on the
-/// output. Before a terminal is read, standard error says so.
+/// The input is read only for a replay, a conversion, statistics or the lines of a capture. The
+/// lines of a replay, the rows of its best lines, its statistics, the converted capture, or the
+/// lines of a capture are all that is written on the output. Before a terminal is read, standard
+/// error says so.
 pub fn run<R: CaptureIn + Drop, W: TextOut, E: TextOut>(
     alloc: Global,
     words: &[String],
@@ -101,6 +103,10 @@ pub fn run<R: CaptureIn + Drop, W: TextOut, E: TextOut>(
         Ok(Task::Convert(lines)) => {
             let lines = lines.as_slice();
             let status = run_conversion(alloc, lines, terminals, &mut input, &mut output, errors);
+            ended(status, input, output)
+        }
+        Ok(Task::Discover(format)) => {
+            let status = run_discovery(alloc, format, terminals, &mut input, &mut output, errors);
             ended(status, input, output)
         }
         Ok(Task::Listen(settings)) => ProgramRun {

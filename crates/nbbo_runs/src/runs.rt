@@ -10,6 +10,7 @@ use crate::lacks::{tell_lacks, tells_lacks};
 use crate::printing::print;
 use crate::terminals::Terminals;
 use crate::told_format::ToldFormat;
+use crate::watched_format::WatchedFormat;
 use feed_text::{CaptureIn, OwnFormat, TextOut, write_stderr};
 use line_captures::{PacketFormat, convert};
 use run_settings::{CapturedLine, RunInput, RunSettings};
@@ -82,13 +83,19 @@ pub fn run_settings<R: CaptureIn, W: TextOut, E: TextOut>(
         result.0 settings.now.input }
 {
     let venues = settings.feed.sessions.len();
+    let sessions = settings.feed.sessions.as_slice();
     match &settings.input {
         RunInput::Own => {
             let format = OwnFormat::new(venues);
+            if !tells_lacks(settings, terminals) {
+                return run_over(alloc, settings, terminals, format, input, output, errors);
+            }
+            let format = WatchedFormat::new(format, sessions);
             run_over(alloc, settings, terminals, format, input, output, errors)
         }
         RunInput::Packets(lines) => {
             let format = PacketFormat::new(lines.as_slice(), venues);
+            let format = WatchedFormat::new(format, sessions);
             run_over(alloc, settings, terminals, format, input, output, errors)
         }
     }

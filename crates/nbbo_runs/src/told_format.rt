@@ -5,7 +5,7 @@ ghost use Rattle.feed_text.specs.StandardError.{SaysEach};
 ghost use Rattle.nbbo_runs.specs.CaptureTexts.{capture_texts};
 ghost use Rattle.nbbo_runs.specs.Ending.{own_end_texts};
 
-use crate::capture_report::{write_outcome, write_passed};
+use crate::capture_report::{write_counts, write_dropped, write_outcome, write_second};
 use crate::ending::stop_line;
 use feed_text::{OwnFormat, RecordFormat, ReplayStop, TextOut, write_stderr};
 use line_captures::PacketFormat;
@@ -37,8 +37,11 @@ impl ToldFormat for PacketFormat<'_> {
     ghost end_texts = { capture_texts };
 
     fn tell_end<E: TextOut>(&self, outcome: &Result<(), ReplayStop<CaptureFault>>, errors: &mut E) {
-        let passed = self.passed_over();
-        write_passed(&passed, errors);
-        write_outcome(outcome, self.position(), passed.to_lines, errors);
+        let frames = self.counts();
+        let lost = self.dropped();
+        write_counts(&frames, errors);
+        write_dropped(&lost, errors);
+        write_outcome(outcome, self.position(), frames.to_lines, errors);
+        write_second(outcome, self.second_start(), errors);
     }
 }

@@ -6,16 +6,13 @@ use Rattle.nbbo_runs.proofs.capture_report.write_lost.Goals as goal
 
 pub returns : goal.returns
 returns g c =
-    let w : Writing g.row.E.Denot = record {
-      adds = g.E.TextOut.adds;
-      failures =
-          g.E.TextOut.failures;
-    } in
-    let passed = c.args.passed.now in
-    let cut = count_texts (codes "nbbo: cut frames passed over: ") passed.cut in
-    let malformed = count_texts (codes "nbbo: malformed packets passed over: ") passed.malformed in
-    says_each w (count_texts (codes "nbbo: fragments passed over: ") passed.fragments) (cut
-    ++ malformed)
-    c.args.errors.now c.write_count.new.errors c.write_count-3.new.errors c.write_count.ensures
-    (says_each w cut malformed c.write_count.new.errors c.write_count-2.new.errors
+    let w : Writing g.row.E.Denot =
+    record { adds = g.E.TextOut.adds; failures = g.E.TextOut.failures } in
+    let counts = c.args.counts.now in
+    let second = count_texts (codes "nbbo: cut frames passed over: ") counts.cut in
+    let third = count_texts (codes "nbbo: malformed packets passed over: ") counts.malformed in
+    says_each w (count_texts (codes "nbbo: fragments passed over: ") counts.fragments)
+    (second ++ third) c.args.errors.now c.write_count.new.errors c.write_count-3.new.errors
+    c.write_count.ensures
+    (says_each w second third c.write_count.new.errors c.write_count-2.new.errors
     c.write_count-3.new.errors c.write_count-2.ensures c.write_count-3.ensures)

@@ -6,13 +6,11 @@ use Rattle.nbbo_runs.proofs.capture_report.write_other.Goals as goal
 
 pub returns : goal.returns
 returns g c =
-    let w : Writing g.row.E.Denot = record {
-      adds = g.E.TextOut.adds;
-      failures =
-          g.E.TextOut.failures;
-    } in
-    let passed = c.args.passed.now in
+    let w : Writing g.row.E.Denot =
+    record { adds = g.E.TextOut.adds; failures = g.E.TextOut.failures } in
+    let counts = c.args.counts.now in
     says_each w (count_texts (codes "nbbo: frames that can't be read passed over: ")
-    passed.not_read) (count_texts (codes "nbbo: frames out of time order: ") passed.disordered)
-    c.args.errors.now c.write_count.new.errors c.write_count-2.new.errors c.write_count.ensures
+    counts.not_read)
+    (count_texts (codes "nbbo: frames out of time order: ") counts.disordered) c.args.errors.now
+    c.write_count.new.errors c.write_count-2.new.errors c.write_count.ensures
     c.write_count-2.ensures

@@ -1,4 +1,4 @@
-use Rattle.std.proofs.Common.{◌<◌, true, arith}
+use Rattle.std.proofs.Common.{◌<◌, arith}
 use Rattle.feed_text.specs.Devices.{Reading, Writing}
 use Rattle.feed_text.specs.EventReplays.{venues_in}
 use Rattle.feed_text.specs.Formats.{Parsing}
@@ -27,6 +27,7 @@ returns-in-Stats g c =
     } in
     let config = c.config_of-config.result in
     let form = c.in-Stats.form in
+    let timed = c.is_packet_input-timed.result in
     let made = c.new-made.result in
     let some : 0 < config.window =
     (let least = c.args.settings.now.feed.some_window in
@@ -35,12 +36,12 @@ returns-in-Stats g c =
     record {
       config = config;
       is = c.config_of-config.ensures;
-      prints = rw (← c.is_packet_input-timed.ensures, c.if-timed.true, c.in-Stats.is)
+      prints = rw (← c.is_packet_input-timed.ensures, c.in-Stats.is)
           (figures_as reading writing parsing config
           (IsTextOfSink TakesTimed (λ after text. IsTimedText form after text) made)
-          (IsStatsText config form true) _ _ _ _ _ _ _
-          (λ told text is. times_of_sink form (venues_in config) config.window made told text some
-          c.new-made.ensures.count c.new-made.ensures.timed is)
+          (IsStatsText config form timed) _ _ _ _ _ _ _
+          (λ told text is. times_of_sink form timed (venues_in config) config.window made told text
+          some c.new-made.ensures.count c.new-made.ensures.has_times c.new-made.ensures.timed is)
           c.print_stats.ensures.prints);
       lacks = c.print_stats.ensures.lacks;
     }

@@ -1,0 +1,22 @@
+use Rattle.std.proofs.Common.{◌++◌, codes}
+use Rattle.feed_text.specs.Devices.{Writing}
+use Rattle.nbbo_runs.specs.CaptureTexts.{count_texts}
+use Rattle.feed_text.specs.laws.SaidTexts.{says_each}
+use Rattle.nbbo_runs.proofs.capture_report.write_dropped.Goals as goal
+
+pub returns : goal.returns
+returns g c =
+    let w : Writing g.row.E.Denot =
+    record { adds = g.E.TextOut.adds; failures = g.E.TextOut.failures } in
+    let counts = c.args.dropped.now in
+    let second = count_texts
+    (codes "nbbo: frames that the capture says its interfaces dropped: ") counts.by_interfaces in
+    let third = count_texts
+    (codes "nbbo: frames that the capture says its system dropped: ") counts.by_system in
+    says_each w (count_texts
+    (codes "nbbo: frames that the capture says were dropped before packets: ")
+    counts.before_packets)
+    (second ++ third) c.args.errors.now c.write_count.new.errors c.write_count-3.new.errors
+    c.write_count.ensures
+    (says_each w second third c.write_count.new.errors c.write_count-2.new.errors
+    c.write_count-3.new.errors c.write_count-2.ensures c.write_count-3.ensures)

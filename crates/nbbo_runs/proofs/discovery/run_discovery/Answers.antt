@@ -1,0 +1,71 @@
+use Rattle.std.proofs.Common.{◌≡◌, List, ℕ, Err, length, refl, subst}
+use Rattle.feed_text.specs.declared.replay_stop.ReplayStop.TheVariants.{NoMemory}
+use Rattle.feed_text.specs.Devices.{Reading, Writing}
+use Rattle.feed_text.specs.StandardError.{Says, SaysEach}
+use Rattle.line_discovery.specs.declared.survey.LineSurvey.{LineSurvey}
+use Rattle.line_discovery.specs.Surveys.{new_survey}
+use Rattle.line_discovery.specs.Tables.{up_to_most}
+use Rattle.nbbo_runs.specs.CaptureTexts.{capture_outcome_texts}
+use Rattle.nbbo_runs.specs.Discovery.{Discovers}
+use Rattle.nbbo_runs.proofs.discovery.run_discovery.Goals as goal
+
+pub returns-in_default : goal.returns-in_default
+returns-in_default g c =
+    let telling : Writing g.row.E.Denot =
+    record { adds = g.E.TextOut.adds; failures = g.E.TextOut.failures } in
+    record {
+      finish = new_survey;
+      outcome = Err NoMemory;
+      discovers = record {
+        read = Err NoMemory;
+        mid = c.args.output.now;
+        reads = (refl, refl, refl);
+        printed = Err NoMemory;
+        prints = refl;
+        ends = refl;
+      };
+      says = (
+        c.write_stderr.new.errors,
+        subst (λ (text : List ℕ). Says telling text c.args.errors.now c.write_stderr.new.errors)
+            c.input_hint.ensures c.write_stderr.ensures,
+        c.write_outcome.ensures,
+      );
+      ends = c.status_of.ensures;
+    }
+
+pub returns : goal.returns
+returns g c =
+    let reading : Reading g.row.R.Denot = record {
+      gives = g.R.CaptureIn.gives;
+      ends = g.R.CaptureIn.ends;
+      failures = g.R.CaptureIn.failures;
+      fails = g.R.CaptureIn.fails;
+    } in
+    let writing : Writing g.row.W.Denot =
+    record { adds = g.W.TextOut.adds; failures = g.W.TextOut.failures } in
+    let telling : Writing g.row.E.Denot =
+    record { adds = g.E.TextOut.adds; failures = g.E.TextOut.failures } in
+    let finish = c.discover-outcome.new.survey in
+    let outcome = c.discover-outcome.result in
+    let hinted = c.write_stderr.new.errors in
+    let told = c.write_outcome-2.new.errors in
+    let lines = up_to_most (length finish.counts.lines) in
+    record {
+      finish = finish;
+      outcome = outcome;
+      discovers = subst (λ (s : LineSurvey). Discovers reading writing c.args.format
+          c.args.input.now c.discover-outcome.new.input s finish c.args.output.now
+          c.discover-outcome.new.output outcome)
+          c.in-Ok.ensures c.discover-outcome.ensures;
+      says = (
+        hinted,
+        subst (λ (text : List ℕ). Says telling text c.args.errors.now hinted)
+            c.input_hint.ensures c.write_stderr.ensures,
+        subst (λ (n : ℕ). SaysEach telling (capture_outcome_texts outcome n lines) hinted told)
+            c.position.ensures
+            (subst (λ (n : ℕ). SaysEach telling
+            (capture_outcome_texts outcome c.position.result n) hinted told)
+            c.packets.ensures c.write_outcome-2.ensures),
+      );
+      ends = c.status_of-2.ensures;
+    }

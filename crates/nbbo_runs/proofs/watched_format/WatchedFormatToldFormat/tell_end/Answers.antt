@@ -1,0 +1,14 @@
+use Rattle.feed_text.specs.Devices.{Writing}
+use Rattle.feed_text.specs.laws.SaidTexts.{says_each}
+use Rattle.nbbo_runs.specs.Watches.{watch_texts}
+use Rattle.nbbo_runs.proofs.watched_format.WatchedFormatToldFormat.tell_end.Goals as goal
+
+pub returns : goal.returns
+returns g c =
+    let w : Writing g.row.E.Denot =
+    record { adds = g.E.TextOut.adds; failures = g.E.TextOut.failures } in
+    let s = c.args.self.now in
+    let outcome = c.args.outcome.now in
+    says_each w (watch_texts outcome s.sessions.now s.venues)
+    (g.F.ToldFormat.end_texts s.format outcome) c.args.errors.now c.write_watch.new.errors
+    c.tell_end.new.errors c.write_watch.ensures c.tell_end.ensures

@@ -1,0 +1,73 @@
+//! Runs that list the lines of a packet capture.
+ghost use Rattle.nbbo_runs.specs.Discovery.{Discovers, RunsDiscovery};
+
+use crate::capture_report::write_outcome;
+use crate::config::MAX_TURNS;
+use crate::ending::status_of;
+use crate::hints::input_hint;
+use crate::printing::write_text;
+use crate::terminals::Terminals;
+use feed_text::{CaptureIn, ReplayStop, TextOut, write_stderr};
+use line_captures::convert;
+use line_discovery::LineSurvey;
+use packet_capture::CaptureFault;
+use run_settings::StatsFormat;
+use std::alloc::Global;
+
+/// The outcome of a run.
+type Outcome = Result<(), ReplayStop<CaptureFault>>;
+
+/// Reads the packet capture that the input is, and prints its lines, also up to a fault. A survey
+/// has no records: to convert it is to read it, and writes nothing.
+fn discover<R: CaptureIn, W: TextOut>(
+    alloc: Global,
+    format: StatsFormat,
+    survey: &mut LineSurvey,
+    input: &mut R,
+    output: &mut W,
+) -> Outcome
+    ensures { Discovers
+        (record { gives = R.gives; ends = R.ends; failures = R.failures; fails = R.fails })
+        (record { adds = W.adds; failures = W.failures })
+        format input.old input.new survey.old survey.new output.old output.new result }
+{
+    let read = convert(alloc, MAX_TURNS, survey, input, output);
+    let printed = write_text(survey.text(alloc, format), output);
+    printed.and(read)
+}
+
+/// Lists the lines of the packet capture that the input is, on the output. Returns the status of
+/// the program.
+pub fn run_discovery<R: CaptureIn, W: TextOut, E: TextOut>(
+    alloc: Global,
+    format: StatsFormat,
+    terminals: Terminals,
+    input: &mut R,
+    output: &mut W,
+    errors: &mut E,
+) -> u8
+    ensures { RunsDiscovery
+        (record {
+          reading = record {
+            gives = R.gives;
+            ends = R.ends;
+            failures = R.failures;
+            fails = R.fails;
+          };
+          writing = record { adds = W.adds; failures = W.failures };
+          telling = record { adds = E.adds; failures = E.failures };
+        })
+        format terminals
+        (record { input = input.old; output = output.old; errors = errors.old })
+        (record { input = input.new; output = output.new; errors = errors.new }) result }
+{
+    write_stderr(input_hint(terminals.input), errors);
+    let Ok(mut survey) = LineSurvey::new(alloc) else {
+        let outcome: Outcome = Err(ReplayStop::NoMemory);
+        write_outcome(&outcome, 0, 0, errors);
+        return status_of(&outcome);
+    };
+    let outcome = discover(alloc, format, &mut survey, input, output);
+    write_outcome(&outcome, survey.position(), survey.packets(), errors);
+    status_of(&outcome)
+}
