@@ -8,6 +8,8 @@
 //! `nbbo stats --sessions LIST [--lines LIST] [--window N] [--join] [--skip-gaps] [--format FORMAT]
 //! [SYMBOL]...` replays a capture and prints the statistics of its events (`replay_reports`).
 //!
+//! `nbbo lines [--format FORMAT]` lists the lines that a packet capture has (`line_discovery`).
+//!
 //! At the end of a replay standard error says what venues lack (`nbbo_runs`).
 //!
 //! `nbbo listen --sessions LIST --lines LIST [--request ADDR] [--join] [--skip-after MS] [--window
@@ -30,8 +32,8 @@ ghost use Rattle.command_words.specs.declared.refusal.Refusal.TheVariants.{NoMem
 use command_words::Refusal;
 use feed_text::{CaptureIn, Count, StreamIn, StreamOut, TextOut, write_stderr};
 use nbbo_runs::{
-    KeptStart, Next, NotedErrors, Terminals, asks_for_packets, format_hint, hint_at_file,
-    journal_hint, refuse, run,
+    KeptStart, Next, NotedErrors, Terminals, hint_at_file, input_format_hint, journal_hint, refuse,
+    run,
 };
 use run_settings::ListenSettings;
 use std::alloc::{AllocError, Global};
@@ -43,7 +45,10 @@ use std::sync::Wait;
 use std::sync::ledger::{Blank, Ledger};
 use std::thread::Threads;
 use std::{env, io};
-use udp_listening::{NO_MEMORY, bind_sockets, enlarge, listen_with, listening_line};
+use udp_listening::{
+    NO_MEMORY, bind_sockets, enlarge, has_further_options, listen_with, listening_line,
+    write_bind_fault,
+};
 
 /// The words of the command line, the program's name first.
 fn words_of(rt: &HostRuntime) -> io::Result<Vec<String>> {
@@ -135,11 +140,12 @@ fn run_words<R: CaptureIn + Drop, W: TextOut, E: TextOut>(
         output,
         errors,
     );
-    if terminals.errors
-        && matches!(ran.next, Next::Ended(_))
-        && !asks_for_packets(words.as_slice())
-    {
-        write_stderr(format_hint(ran.input.start()), errors);
+    if matches!(ran.next, Next::Ended(_)) {
+        let start = ran.input.start();
+        write_stderr(
+            input_format_hint(words.as_slice(), start, terminals.errors),
+            errors,
+        );
     }
     (ran.next, ran.output)
 }
@@ -175,8 +181,9 @@ where
 {
     let sockets = match bind_sockets(rt, rt.alloc(), settings.lines.as_slice()) {
         Ok(sockets) => sockets,
-        Err(text) => {
-            write_stderr(text, &mut errors);
+        Err(fault) => {
+            let is_named = rt.stderr().is_terminal() || has_further_options(settings);
+            write_bind_fault(rt.alloc(), fault, is_named, &mut errors);
             return (1, errors);
         }
     };

@@ -13,8 +13,8 @@ use Rattle.live_feed.specs.declared.subscriber.logged.PollFault.{PollFault}
 use Rattle.live_feed.specs.declared.subscriber.logged.PollFault.TheVariants.{NoMemory, LogFull}
 use Rattle.live_feed.specs.subscriber.Logs.{SubscriberLogState, Polls, logged}
 use Rattle.udp_listening.specs.Listening.{HasPrinted, HasFollowed, log_lines}
-use Rattle.udp_listening.specs.declared.desk.Following.{Following}
-use Rattle.udp_listening.specs.declared.desk.Following.TheVariants.{On, Off, Failed}
+use Rattle.udp_listening.specs.declared.console.LiveOutput.{LiveOutput}
+use Rattle.udp_listening.specs.declared.console.LiveOutput.TheVariants.{On, Off, Failed}
 
 abbrev pub logged_line : Logged → List ℕ
 logged_line logged = best_line logged.notice
@@ -128,7 +128,7 @@ all_forgotten writing first mid now old new count before counted is after =
 
 -- what is shown of a log is so of one that has grown
 pub followed_longer : {W : Type 0} (writing : Writing W) (first : W) (log longer : List Logged)
-    (following : Following)
+    (following : LiveOutput)
     (printed : ℕ) (now : W) → IsPrefix log longer
     → HasFollowed writing first log following printed now
     → HasFollowed writing first longer following printed now
@@ -141,15 +141,15 @@ followed_longer writing first log longer Failed printed now grown h =
 
 -- where lines are printed as they come
 pub printed_where_on : {W : Type 0} (writing : Writing W) (first : W) (log : List Logged)
-    (following : Following)
+    (following : LiveOutput)
     (printed : ℕ) (now : W) → following ≡ On → HasFollowed writing first log following printed now
     → HasPrinted writing first log printed now
 printed_where_on writing first log following printed now on h =
-    subst (λ (f : Following). HasFollowed writing first log f printed now) on h
+    subst (λ (f : LiveOutput). HasFollowed writing first log f printed now) on h
 
 -- and so it is where nothing more is forgotten
 pub polled_longer : {W : Type 0} (writing : Writing W) (first : W) (log longer : SubscriberLogState)
-    (following : Following) (now : W) → IsPrefix log.lines longer.lines
+    (following : LiveOutput) (now : W) → IsPrefix log.lines longer.lines
     → longer.forgotten ≡ log.forgotten
     → HasFollowed writing first log.lines following log.forgotten now
     → HasFollowed writing first longer.lines following longer.forgotten now

@@ -1,6 +1,7 @@
-pub mod Crossing
+pub mod Counts
 pub mod Ends
 pub mod Following
+pub mod Monitored
 pub mod RunTelling
 pub mod Seeing
 pub mod Telling

@@ -1,19 +1,19 @@
 -- What is said of gaps that were given up, and of a run, one thing after the other.
-use Rattle.std.proofs.Common.{List, [], ◌∷◌, ◌++◌, ◌≡◌, ◌∙◌, ◌<◌, ◌+◌, ℕ, zero, suc, Contains, All, ap, drop, flat_map, length, map, refl, sym, subst, take, arith}
+use Rattle.std.proofs.Common.{List, [], ◌∷◌, ◌++◌, ◌≡◌, ◌∙◌, ◌<◌, ◌+◌, ℕ, zero, suc, Contains, All, ap, flat_map, length, map, refl, sym, subst, arith}
 use Rattle.std.specs.Prelude.{Bool, true, false, if◌then◌else◌}
 use Rattle.std.specs.List.{range_with_len}
-use Rattle.std.proofs.lemmas.List.{get_or-map, length-map, map-append, take-append-drop}
-use Rattle.std.proofs.lemmas.List.Elements.{All-append, Contains-append_left}
-use Rattle.feed_types.specs.declared.line.LineId.{LineId}
+use Rattle.std.proofs.lemmas.List.{get_or-map, length-map, map-append}
+use Rattle.std.proofs.lemmas.List.Elements.{All-append}
 use Rattle.feed_text.specs.Devices.{Writing}
 use Rattle.feed_text.specs.StandardError.{SaysEach}
 use Rattle.udp_listening.specs.Gaps.{SaysGivenUp, TellsIfDone, given_up_texts}
-use Rattle.udp_listening.specs.News.{SaysNews, SaysTotals}
+use Rattle.udp_listening.specs.News.{SaysNews}
 use Rattle.udp_listening.specs.RunLines.{WatchedRun, watched_venue}
-use Rattle.udp_listening.specs.RunNews.{IsNewsOf, RunNews, SaysOfRun, SaysRunNews, of_gap, of_line, run_news_texts}
+use Rattle.udp_listening.specs.RunNews.{IsNewsOf, RunNews, SaysCounts, SaysOfRun, SaysRunNews, SaysTable, of_counts, of_gap, of_line, run_news_texts}
 use Rattle.udp_listening.specs.declared.gap_news.GapNews.{GapNews}
 use Rattle.udp_listening.specs.declared.gap_watch.GapWatch.{GapWatch}
-use Rattle.udp_listening.proofs.Telling.{at_one, each_of_more, each_of_one, more_totals, no_totals, within_one}
+use Rattle.udp_listening.proofs.Counts.{no_counts}
+use Rattle.udp_listening.proofs.Telling.{at_one, each_of_more, each_of_one, no_totals, within_one}
 
 -- ---- gaps that were given up
 
@@ -112,47 +112,40 @@ run_news_of_gaps w run s t a = record {
       a.says;
 }
 
--- nothing was said of a run
-pub nothing_of_run : {E : Type 0} (w : Writing E) (run : WatchedRun) (s : E) → SaysOfRun w run s s
-nothing_of_run w run s =
-    record { mid = s; news = no_run_news w run s; totals = no_totals w run.lines s }
+-- ---- counts
 
--- news, and then the same and totals
-pub more_of_run : {E : Type 0} (w : Writing E) (run : WatchedRun) (s t u : E)
-    → SaysRunNews w run s t → SaysOfRun w run t u → SaysOfRun w run s u
-more_of_run w run s t u a b = record {
-  mid = b.mid;
-  news = more_run_news w run s t b.mid a b.news;
-  totals = b.totals;
+each_itself : (texts : List (List ℕ)) → flat_map (λ text. text ∷ []) texts ≡ texts
+each_itself [] = refl
+each_itself (text ∷ texts) = ap (λ more. text ∷ more) (each_itself texts)
+
+-- counts are news of a run whose counts are written
+pub run_news_of_counts : {E : Type 0} (w : Writing E) (run : WatchedRun) (s t : E)
+    → run.counted ≡ true → SaysCounts w s t → SaysRunNews w run s t
+run_news_of_counts w run s t counted a = record {
+  news = map of_counts a.texts;
+  named = all_made (λ n. IsNewsOf run n) of_counts a.texts (λ k d inside. counted);
+  says =
+      subst (λ texts. SaysEach w texts s t)
+      (sym (texts_of_made run_news_texts of_counts a.texts ∙ each_itself a.texts)) a.says;
 }
 
--- what is news of a run of the first lines is news of one of all
-news_of_all : (count : ℕ) (lines : List (ℕ × LineId)) (venues : List ℕ) (news : RunNews)
-    → IsNewsOf (record { lines = take count lines; venues = venues }) news
-    → IsNewsOf (record { lines = lines; venues = venues }) news
-news_of_all count lines venues (of_line news) named =
-    subst (λ all. Contains all (news.venue, news.line)) (take-append-drop count lines)
-    (Contains-append_left (take count lines) (drop count lines) _ named)
-news_of_all count lines venues (of_gap news) named = named
+-- ---- all of a run
 
--- what is said of a run of the first lines is said of one of all
-pub said_of_first : {E : Type 0} (w : Writing E) (count : ℕ) (lines : List (ℕ × LineId))
-    (venues : List ℕ) (s t : E)
-    → SaysOfRun w (record { lines = take count lines; venues = venues }) s t
-    → SaysOfRun w (record { lines = lines; venues = venues }) s t
-said_of_first w count lines venues s t said =
-    let first = take count lines in
-    let rest = drop count lines in record {
-      mid = said.mid;
-      news = record {
-        news = said.news.news;
-        named = λ k d inside. news_of_all count lines venues _ (said.news.named k d inside);
-        says = said.news.says;
-      };
-      totals =
-          subst (λ all. SaysTotals w all said.mid t) (take-append-drop count lines)
-          (more_totals w first rest said.mid t t said.totals (no_totals w rest t));
-    }
+no_table : {E : Type 0} (w : Writing E) (counted : Bool) (s : E) → SaysTable w counted s s
+no_table w true s = no_counts w s
+no_table w false s = refl
+
+-- nothing was said of a run
+pub nothing_of_run : {E : Type 0} (w : Writing E) (run : WatchedRun) (s : E) → SaysOfRun w run s s
+nothing_of_run w run s = record {
+  last = s;
+  news = no_run_news w run s;
+  ended = record {
+    mid = s;
+    totals = no_totals w run.lines s;
+    table = no_table w run.counted s;
+  };
+}
 
 -- ---- the venues that are watched, by their numbers
 

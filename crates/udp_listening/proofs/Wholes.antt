@@ -11,10 +11,10 @@ use Rattle.live_feed.specs.venue.Seats.{SeatState}
 use Rattle.live_feed.specs.settle.Settlements.{IsSettlement, SettlementState, ShowsSubscriber, SubscriberEndState}
 use Rattle.live_feed.specs.subscriber.Logs.{SubscriberLogState}
 use Rattle.udp_listening.specs.Listening.{HasFollowed, HasListened, HasPrinted, ListensToEnd, PrintsAll, PrintsEnd, PrintsFailedReport, PrintsReport, PrintsRest, PrintsWhole, end_lines, first_count, first_lines, log_lines, settled_forgotten, settled_log, subscriber_lines, summary_text}
-use Rattle.udp_listening.specs.declared.desk.Following.{Following}
-use Rattle.udp_listening.specs.declared.desk.Following.TheVariants.{On, Off, Failed}
+use Rattle.udp_listening.specs.declared.console.LiveOutput.{LiveOutput}
+use Rattle.udp_listening.specs.declared.console.LiveOutput.TheVariants.{On, Off, Failed}
 use Rattle.udp_listening.specs.declared.listening.ListenFault.{ListenFault}
-use Rattle.udp_listening.specs.declared.listening.ListenReport.{ListenReport}
+use Rattle.udp_listening.specs.declared.listen_report.ListenReport.{ListenReport}
 use Rattle.udp_listening.proofs.Following.{grow_part, lines_split, part_after}
 
 -- the front of a text was written, so a part of it was
@@ -157,7 +157,7 @@ of_failed writing telling report first mid after silent told status part failed 
 
 -- what was printed while a run went on, then its end
 pub listened : {W E : Type 0} (writing : Writing W) (telling : Writing E) → More writing
-    → (outcome : Result ListenReport ListenFault) (following : Following)
+    → (outcome : Result ListenReport ListenFault) (following : LiveOutput)
     → (first mid after : W) (silent told : E) (status : ℕ)
     → HasListened writing first outcome following mid
     → PrintsEnd writing telling outcome following mid after silent told status
@@ -181,7 +181,7 @@ listened writing telling more (Err fault) following first mid after silent told 
 
 -- before anything was printed
 pub nothing_printed : {W : Type 0} (writing : Writing W) → ((s : W) → writing.adds s [] s)
-    → (log : List Logged) (following : Following) (now : W)
+    → (log : List Logged) (following : LiveOutput) (now : W)
     → (following ≡ Failed → ⊥) → HasFollowed writing now log following 0 now
 nothing_printed writing none log On now working =
     record { few = omega arith; lines = none now; sound = refl }

@@ -1,10 +1,7 @@
--- `nbbo listen`: its settings, what it prints of what came, and how it ends. The texts are this
--- project's own.
-use Rattle.std.specs.Prelude.{◌≡◌, ◌⊎◌, ℕ, ◌+◌, ◌≤◌, Bool, false, List, [], ◌∷◌, ◌++◌, length, drop, flat_map, slice_get, take, Option, Some, None, Result, Ok, Err, if◌then◌else◌, codes, decimal}
-use Rattle.feed_types.specs.declared.config.FeedConfig.{FeedConfig}
+-- `nbbo listen`: what it prints of what came, and how it ends. The texts are this project's own.
+use Rattle.std.specs.Prelude.{◌≡◌, ◌⊎◌, ℕ, ◌+◌, ◌≤◌, List, [], ◌∷◌, ◌++◌, length, drop, flat_map, take, IfOk, Option, Some, None, Result, Ok, Err, codes}
 use Rattle.feed_types.specs.declared.journal.Entry.{Entry}
 use Rattle.feed_types.specs.declared.line.LineId.{LineId}
-use Rattle.feed_types.specs.declared.line.LineId.TheVariants.{A, B, Recovery}
 use Rattle.feed_types.specs.PerLines.{on_line}
 use Rattle.feed_text.specs.Devices.{Writing, Wrote}
 use Rattle.feed_text.specs.LackTexts.{lack_texts}
@@ -13,69 +10,21 @@ use Rattle.live_feed.specs.declared.run.report.Stop.{Stop}
 use Rattle.live_feed.specs.declared.run.report.Stop.TheVariants as stops
 use Rattle.live_feed.specs.declared.subscriber.logged.Logged.{Logged}
 use Rattle.journal_book.specs.ItemsIn.{items_in}
-use Rattle.live_feed.specs.Lanes.{FeedSetting}
 use Rattle.live_feed.specs.subscriber.Logs.{SubscriberLogState}
-use Rattle.live_feed.specs.venue.Seats.{SeatState}
 use Rattle.live_feed.specs.settle.Settlements.{SettlementState, VenueEndState, SubscriberEndState}
 use Rattle.feed_text.specs.StandardError.{Says, SaysEach}
+use Rattle.udp_listening.specs.News.{line_end_texts}
 use Rattle.udp_listening.specs.RunLines.{listened_run}
 use Rattle.udp_listening.specs.RunNews.{SaysOfRun}
-use Rattle.udp_listening.specs.UdpLines.{UdpLineState}
-use Rattle.udp_listening.specs.declared.desk.Desk.{Desk}
-use Rattle.udp_listening.specs.declared.desk.Following.{Following}
-use Rattle.udp_listening.specs.declared.desk.Following.TheVariants.{On, Off, Failed}
+use Rattle.udp_listening.specs.Reports.{IsListened}
+use Rattle.udp_listening.specs.declared.console.Console.{Console}
+use Rattle.udp_listening.specs.declared.console.LiveOutput.{LiveOutput}
+use Rattle.udp_listening.specs.declared.console.LiveOutput.TheVariants.{On, Off, Failed}
 use Rattle.run_settings.specs.declared.listen_settings.ListenSettings.{ListenSettings}
+use Rattle.udp_listening.specs.declared.line_news.LineChange.TheVariants as changes
 use Rattle.udp_listening.specs.declared.listening.ListenFault.{ListenFault}
 use Rattle.udp_listening.specs.declared.listening.ListenFault.TheVariants.{NoMemory, Unsettled}
-use Rattle.udp_listening.specs.declared.listening.ListenReport.{ListenReport}
-
--- ---- the setting of a feed
-
--- the most notices of a log: as many as the journal's entries, unless they are printed as they come
--- and forgotten
-abbrev pub most_logged : ListenSettings → ℕ
-most_logged settings = if settings.follow then 4294967295 else settings.feed.journal
-
--- the settings as a feed takes them: a lane holds 1,024 items
-pub record IsFeedOf (settings : ListenSettings) (config : FeedConfig) : Type 0 where
-  pub sessions : config.sessions.now ≡ settings.feed.sessions.items
-  pub symbols : config.symbols.now ≡ settings.feed.symbols.items
-  pub window : config.window ≡ settings.feed.window
-  pub lane : config.lane ≡ 1024
-  pub journal : config.journal ≡ settings.feed.journal
-  pub log : config.log ≡ most_logged settings
-
--- the setting of the feed, which keeps all changes, or as many as its subscriber may be behind
-abbrev pub feed_setting : ListenSettings → FeedSetting
-feed_setting settings = record {
-  symbols = settings.feed.symbols.items;
-  window = settings.feed.window;
-  lane = 1024;
-  journal = settings.feed.journal;
-  log = most_logged settings;
-  kept = settings.kept;
-}
-
--- the line reads datagrams for the venue, as many as the settings say, and ends with an end of
--- session
--- as they say
-pub record IsSourceOf (settings : ListenSettings) (venue : ℕ) (line : UdpLineState) : Type 0 where
-  pub venue_is : line.venue ≡ venue
-  pub session : slice_get settings.feed.sessions.items venue ≡ Some line.session
-  pub rule : line.rule ≡ settings.end
-  pub left : line.left ≡ settings.datagrams
-  pub whole : line.failed ≡ false
-  pub unended : line.ended ≡ false
-
--- ---- the lines at the end
-
--- the line of a seat, by its venue
-abbrev pub seat_line : SeatState → ℕ × LineId
-seat_line seat = (seat.venue, seat.line)
-
--- the line, where it is one of these
-abbrev pub line_if : Bool → ℕ × LineId → List (ℕ × LineId)
-line_if is_one line = if is_one then line ∷ [] else []
+use Rattle.udp_listening.specs.declared.listen_report.ListenReport.{ListenReport}
 
 -- ---- what is printed on the output
 
@@ -133,23 +82,23 @@ pub record HasPrinted {W : Type 0} (writing : Writing W) (first : W) (log : List
 -- The same, or where the output has failed a part of the log's best lines, by calls of which the
 -- last
 -- one failed.
-abbrev pub HasFollowed : {W : Type 0} → Writing W → W → List Logged → Following → ℕ → W → Type 0
+abbrev pub HasFollowed : {W : Type 0} → Writing W → W → List Logged → LiveOutput → ℕ → W → Type 0
 HasFollowed writing first log On printed now = HasPrinted writing first log printed now
 HasFollowed writing first log Off printed now = HasPrinted writing first log printed now
 HasFollowed writing first log Failed printed now =
     Wrote writing.adds first (log_lines log) now
     × (writing.failures now ≡ writing.failures first + 1)
 
--- The log has grown, and the desk has gone on: from whichever output on the desk had printed what
--- the log has forgotten before, it has printed what the longer log has forgotten now.
-abbrev pub KeepsFollowing : {W E : Type 0} → Writing W → SubscriberLogState → Desk W E
-    → SubscriberLogState → Desk W E → Type 0
+-- The log has grown, and the console has gone on: from whichever output on the console had printed
+-- what the log has forgotten before, it has printed what the longer log has forgotten now.
+abbrev pub KeepsFollowing : {W E : Type 0} → Writing W → SubscriberLogState → Console W E
+    → SubscriberLogState → Console W E → Type 0
 KeepsFollowing {W} writing log before longer after =
-    (first : W) → HasFollowed writing first log.lines before.following log.forgotten before.output
-    → HasFollowed writing first longer.lines after.following longer.forgotten after.output
+    (first : W) → HasFollowed writing first log.lines before.live_output log.forgotten before.output
+    → HasFollowed writing first longer.lines after.live_output longer.forgotten after.output
 
 -- nothing is printed yet, of whatever log, and the output hasn't failed
-abbrev pub IsUnprinted : {W : Type 0} → Writing W → Following → W → Type 0
+abbrev pub IsUnprinted : {W : Type 0} → Writing W → LiveOutput → W → Type 0
 IsUnprinted writing following now =
     (log : List Logged) → HasFollowed writing now log following 0 now
 
@@ -165,7 +114,7 @@ settled_forgotten s = first_count (λ x. x.forgotten) s.subscribers
 -- were
 -- written; or where there is no report, those of some log's first notices.
 abbrev pub HasListened : {W : Type 0} → Writing W → W → Result ListenReport ListenFault
-    → Following → W → Type 0
+    → LiveOutput → W → Type 0
 HasListened writing first (Ok report) following now =
     HasFollowed writing first (settled_log report.settlement) following
     (settled_forgotten report.settlement) now
@@ -174,27 +123,13 @@ HasListened writing first (Err fault) following now =
 
 -- ---- texts on standard error
 
-abbrev pub failed_tail : LineId → List ℕ
-failed_tail A = codes " A failed\n"
-failed_tail B = codes " B failed\n"
-failed_tail Recovery = codes " R failed\n"
-
--- what became of a line: the venue's number, and a text with the line's letter
-abbrev pub line_texts : ℕ → List ℕ → List (List ℕ)
-line_texts venue tail = codes "nbbo: line " ∷ decimal venue ∷ tail ∷ []
-
 -- a line failed
 abbrev pub failed_texts : ℕ × LineId → List (List ℕ)
-failed_texts line = line_texts line.0 (failed_tail line.1)
-
-abbrev pub read_out_tail : LineId → List ℕ
-read_out_tail A = codes " A ended by --datagrams\n"
-read_out_tail B = codes " B ended by --datagrams\n"
-read_out_tail Recovery = codes " R ended by --datagrams\n"
+failed_texts line = line_end_texts line changes.Failed
 
 -- a line has read as many datagrams as it may
 abbrev pub read_out_texts : ℕ × LineId → List (List ℕ)
-read_out_texts line = line_texts line.0 (read_out_tail line.1)
+read_out_texts line = line_end_texts line changes.ReadOut
 
 abbrev pub stop_text : Stop → List ℕ
 stop_text stops.JournalFull = codes "nbbo: journal full\n"
@@ -257,7 +192,7 @@ pub record PrintsFailedReport {E : Type 0} (telling : Writing E) (report : Liste
 -- The end is printed: a report, after the best lines that were printed before, if the output hasn't
 -- failed at these; or with none, which standard error says.
 abbrev pub PrintsEnd : {W E : Type 0} (writing : Writing W) (telling : Writing E)
-    (outcome : Result ListenReport ListenFault) (following : Following)
+    (outcome : Result ListenReport ListenFault) (following : LiveOutput)
     (before after : W) (silent told : E) → ℕ → Type 0
 PrintsEnd writing telling (Ok report) Failed before after silent told status =
     (after ≡ before) × PrintsFailedReport telling report silent told status
@@ -295,7 +230,7 @@ pub record PrintsAll {W E : Type 0} (writing : Writing W) (telling : Writing E)
 -- failed; or a part of a log's best lines, by calls of which the last one failed.
 abbrev pub PrintsSome : {W : Type 0} → Writing W → (first now : W) → Type 0
 PrintsSome writing first now =
-    (log : List Logged) × (following : Following) × (printed : ℕ)
+    (log : List Logged) × (following : LiveOutput) × (printed : ℕ)
     × HasFollowed writing first log following printed now
 
 -- Listening ends with a report, of which all is printed; or with none, which standard error says,
@@ -308,12 +243,14 @@ ListensToEnd writing telling (Err fault) before after silent told status =
     PrintsSome writing before after
     × Says telling (listen_fault_text fault) silent told × (status ≡ 1)
 
--- However it is asked to end and to print, listening ends in one of these ways. Before, standard
--- error has whatever counts the settings ask for, and where they ask for none what is said of the
--- run.
+-- However it is asked to end and to print, listening over so many sockets ends in one of these
+-- ways. A report is that of the settings' feed. Before the end standard error has what is said of
+-- the run: news of its lines, gaps and, where the settings ask for them, counts, and then totals.
 pub record Listens {W E : Type 0} (writing : Writing W) (telling : Writing E)
-    (settings : ListenSettings) (before after : W) (silent told : E) (status : ℕ) : Type 0 where
+    (settings : ListenSettings) (sockets : ℕ) (before after : W) (silent told : E) (status : ℕ)
+    : Type 0 where
   pub outcome : Result ListenReport ListenFault
-  pub counted : E
-  pub quiet : settings.stats ≡ None → SaysOfRun telling (listened_run settings) silent counted
-  pub ends : ListensToEnd writing telling outcome before after counted told status
+  pub listened : IfOk outcome (IsListened settings sockets)
+  pub said : E
+  pub says : SaysOfRun telling (listened_run settings sockets) silent said
+  pub ends : ListensToEnd writing telling outcome before after said told status

@@ -40,6 +40,11 @@ news_texts news =
     time_texts news.second
     ++ (line_name_texts news.venue news.line ++ change_text news.change ∷ [])
 
+-- how a line has ended, without a time
+abbrev pub line_end_texts : ℕ × LineId → LineChange → List (List ℕ)
+line_end_texts line change =
+    codes "nbbo: line " ∷ (line_name_texts line.0 line.1 ++ change_text change ∷ [])
+
 -- ---- what was counted of a line
 
 abbrev pub verb_text : LineCounted → List ℕ

@@ -1,7 +1,6 @@
--- What is watched of a run: its lines, each by its venue's number, and the venues whose gaps may be
--- given
--- up.
-use Rattle.std.specs.Prelude.{ℕ, ◌/◌, ◌%◌, ◌==◌, List, [], map, vec_len, if◌then◌else◌}
+-- What is watched of a run: its lines, each by its venue's number, the venues whose gaps may be
+-- given up, and whether its counts are written.
+use Rattle.std.specs.Prelude.{ℕ, ◌/◌, ◌%◌, ◌==◌, Bool, List, [], is_some, map, take, vec_len, if◌then◌else◌}
 use Rattle.std.specs.List.{range_with_len}
 use Rattle.feed_types.specs.declared.line.LineId.{LineId}
 use Rattle.feed_types.specs.declared.line.LineId.TheVariants.{A, B}
@@ -13,10 +12,11 @@ use Rattle.udp_listening.specs.declared.line_watch.LineWatch.{LineWatch}
 use Rattle.udp_listening.specs.declared.line_watch.LineWatches.{LineWatches}
 use Rattle.udp_listening.specs.declared.run_watches.RunWatches.{RunWatches}
 
--- the lines, and the venues whose gaps may be given up
+-- the lines, the venues whose gaps may be given up, and whether counts are written
 pub record WatchedRun : Type 0 where
   pub lines : List (ℕ × LineId)
   pub venues : List ℕ
+  pub counted : Bool
 
 -- the line of an address: line A's and then line B's, those of venue 0 first
 abbrev pub line_at : ℕ → LineId
@@ -44,10 +44,13 @@ abbrev pub skipping_venues : ListenSettings → List ℕ
 skipping_venues settings =
     if gives_up (rule_of settings) then range_with_len 0 (vec_len settings.feed.sessions) else []
 
--- the run of the settings
-abbrev pub listened_run : ListenSettings → WatchedRun
-listened_run settings =
-    record { lines = listened_lines settings; venues = skipping_venues settings }
+-- the run of the settings over so many sockets, which receive the first lines
+abbrev pub listened_run : ListenSettings → ℕ → WatchedRun
+listened_run settings sockets = record {
+  lines = take sockets (listened_lines settings);
+  venues = skipping_venues settings;
+  counted = is_some settings.stats;
+}
 
 -- the venue that is watched
 abbrev pub watched_venue : GapWatch → ℕ
@@ -59,5 +62,8 @@ watched_venues watches = map watched_venue watches.gaps.items
 
 -- the run that is watched
 abbrev pub watched_run : RunWatches → WatchedRun
-watched_run watches =
-    record { lines = watched_lines watches.lines; venues = watched_venues watches.gaps }
+watched_run watches = record {
+  lines = watched_lines watches.lines;
+  venues = watched_venues watches.gaps;
+  counted = is_some watches.counts;
+}

@@ -6,9 +6,8 @@ use Rattle.run_settings.specs.declared.end_rule.EndRule.{EndRule}
 use Rattle.run_settings.specs.declared.end_rule.EndRule.TheVariants.{AnySession, OwnSession, NoSession}
 
 -- the venue, its session, which ends of session end the line, how many datagrams it may still read,
--- if there is any limit, whether its socket has failed, and whether its last datagram was an end
--- that
--- ended it
+-- if there is any limit, whether its socket has failed, and whether an end that was its last
+-- datagram has ended it, or its time
 pub record UdpLineState : Type 0 where
   pub venue : ℕ
   pub session : List ℕ

@@ -1,7 +1,9 @@
 //! The counts of venues and lines as text: a line for each venue and period, and a table at the
 //! end.
 
-use crate::live_counts::{LineCounts, REFUSALS, VenueCounts};
+use crate::line_figures::{REFUSALS, datagram_count, lacking, lag, message_count, refused_count};
+use crate::venue_statuses::VenueStatuses;
+use live_feed::{LineCounts, VenueStatus};
 use std::alloc::{AllocError, Global};
 
 /// The heads of the table's columns, of lines and of venues.
@@ -26,12 +28,12 @@ fn line_text(alloc: Global, counts: &LineCounts) -> Result<String, AllocError> {
     let numbers = refusals_text(alloc, &counts.refused)?;
     format!(in alloc;
         "packets {} messages {} new {} repeated {} ahead {} refused {}{}",
-        counts.datagrams(),
-        counts.messages(),
-        counts.new,
+        datagram_count(counts),
+        message_count(counts),
+        counts.wins,
         counts.repeated,
         counts.ahead,
-        counts.refusals(),
+        refused_count(counts),
         numbers.as_str()
     )
 }
@@ -41,17 +43,17 @@ pub fn period_text(
     alloc: Global,
     seconds: u64,
     place: usize,
-    counts: &VenueCounts,
+    venue: &VenueStatus,
 ) -> Result<String, AllocError> {
-    let a = line_text(alloc, &counts.a)?;
-    let b = line_text(alloc, &counts.b)?;
+    let a = line_text(alloc, &venue.a)?;
+    let b = line_text(alloc, &venue.b)?;
     format!(in alloc;
         "nbbo: second {seconds} venue {place} sent {} known {} lag {} lacks {} requests {} A {} B {}\n",
-        counts.sent,
-        counts.known,
-        counts.lag(),
-        counts.lacking,
-        counts.requests,
+        venue.cursors.sent,
+        venue.cursors.known,
+        lag(venue),
+        lacking(venue),
+        venue.requests,
         a.as_str(),
         b.as_str()
     )
@@ -67,40 +69,44 @@ fn line_row(
     let numbers = refusals_text(alloc, &counts.refused)?;
     format!(in alloc;
         "nbbo: {place:>5} {line:>4} {:>10} {:>10} {:>10} {:>10} {:>10} {:>10} {:>10}{}\n",
-        counts.datagrams(),
-        counts.messages(),
-        counts.new,
+        datagram_count(counts),
+        message_count(counts),
+        counts.wins,
         counts.repeated,
         counts.heartbeats,
         counts.ahead,
-        counts.refusals(),
+        refused_count(counts),
         numbers.as_str()
     )
 }
 
 /// The table's row of a venue.
-fn venue_row(alloc: Global, place: usize, counts: &VenueCounts) -> Result<String, AllocError> {
+fn venue_row(alloc: Global, place: usize, venue: &VenueStatus) -> Result<String, AllocError> {
     format!(in alloc;
         "nbbo: {place:>5}   {:>10} {:>10} {:>10} {:>10} {:>10}\n",
-        counts.sent,
-        counts.known,
-        counts.lag(),
-        counts.lacking,
-        counts.requests
+        venue.cursors.sent,
+        venue.cursors.known,
+        lag(venue),
+        lacking(venue),
+        venue.requests
     )
 }
 
 /// Returns the table of all venues' counts: a row for each line, and then one for each venue.
-pub fn table_text(alloc: Global, venues: &[VenueCounts]) -> Result<String, AllocError> {
+pub fn table_text(alloc: Global, venues: &VenueStatuses) -> Result<String, AllocError> {
     let mut text = String::new(alloc);
     text.push_str(LINE_HEADS)?;
-    for (place, counts) in venues.iter().enumerate() {
-        text.push_str(line_row(alloc, place, "A", &counts.a)?.as_str())?;
-        text.push_str(line_row(alloc, place, "B", &counts.b)?.as_str())?;
+    for (place, venue) in venues.iter().enumerate() {
+        if let Some(venue) = venue {
+            text.push_str(line_row(alloc, place, "A", &venue.a)?.as_str())?;
+            text.push_str(line_row(alloc, place, "B", &venue.b)?.as_str())?;
+        }
     }
     text.push_str(VENUE_HEADS)?;
-    for (place, counts) in venues.iter().enumerate() {
-        text.push_str(venue_row(alloc, place, counts)?.as_str())?;
+    for (place, venue) in venues.iter().enumerate() {
+        if let Some(venue) = venue {
+            text.push_str(venue_row(alloc, place, venue)?.as_str())?;
+        }
     }
     Ok(text)
 }

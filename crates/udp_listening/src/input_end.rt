@@ -4,11 +4,25 @@ use libc::net::{POLLIN, poll};
 use libc::types::pollfd;
 use std::io::{ErrorKind, Read, Stdin};
 
-/// The number of bytes that one look passes over at most.
+/// The number of bytes that one read passes over at most.
 const PIECE: usize = 4_096;
+
+/// The most reads of one look, which pass over 1 MiB: an input that always has more is left alone
+/// until the next look.
+const MOST_READS: u32 = 256;
 
 /// The descriptor of standard input.
 const STDIN: i32 = 0;
+
+/// Whether a read of standard input wouldn't wait.
+fn is_ready() -> bool {
+    let mut asked = [pollfd {
+        fd: STDIN,
+        events: POLLIN,
+        revents: 0,
+    }];
+    poll(&mut asked, 0) > 0
+}
 
 /// Standard input, of which the end alone counts.
 #[derive(Drop)]
@@ -18,7 +32,7 @@ pub struct InputEnd {
 }
 
 impl InputEnd {
-    /// Passes over what the input has from here on.
+    /// Standard input, from where it is.
     pub fn new(input: Stdin) -> InputEnd {
         InputEnd {
             input,
@@ -31,23 +45,18 @@ impl InputEnd {
         self.ended
     }
 
-    /// Waits at most `ms` milliseconds for the input, and looks at what has come, if anything.
-    /// Returns whether it could wait.
-    pub fn wait(&mut self, ms: u16) -> bool {
-        let mut asked = [pollfd {
-            fd: STDIN,
-            events: POLLIN,
-            revents: 0,
-        }];
-        let ready = poll(&mut asked, i32::from(ms));
-        if ready > 0 {
-            self.pass_over();
+    /// Passes over what has come, 1 MiB at most, and waits for nothing.
+    pub fn pass_over(&mut self) {
+        for _ in 0..MOST_READS {
+            if self.ended || !is_ready() {
+                return;
+            }
+            self.read();
         }
-        ready >= 0
     }
 
-    /// Reads what has come.
-    fn pass_over(&mut self) {
+    /// Reads a piece of what has come.
+    fn read(&mut self) {
         let mut piece = [0; PIECE];
         self.ended = match self.input.read(&mut piece) {
             Ok(count) => count == 0,

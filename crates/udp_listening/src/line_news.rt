@@ -2,7 +2,7 @@
 ghost use Rattle.std.specs.Prelude.{◌≡◌, decimal};
 ghost use Rattle.feed_text.specs.Devices.{Writing};
 ghost use Rattle.feed_text.specs.StandardError.{Says, SaysEach};
-ghost use Rattle.udp_listening.specs.News.{change_text, counted_text, counted_texts, letter_text, line_name_texts, news_texts, time_texts, total_texts, verb_text};
+ghost use Rattle.udp_listening.specs.News.{change_text, counted_text, counted_texts, letter_text, line_end_texts, line_name_texts, news_texts, time_texts, total_texts, verb_text};
 
 use feed_text::{TextOut, write_number, write_stderr};
 use feed_types::{LineId, VenueId};
@@ -130,6 +130,16 @@ pub fn write_news<E: TextOut>(news: &LineNews, errors: &mut E)
     write_time(news.second, errors);
     write_line_name(news.venue, news.line, errors);
     write_stderr(change_end(news.change), errors);
+}
+
+/// Writes how a line has ended.
+pub fn write_line_end<E: TextOut>(venue: VenueId, line: LineId, change: LineChange, errors: &mut E)
+    ensures { SaysEach (record { adds = E.adds; failures = E.failures })
+        (line_end_texts (venue, line) change) errors.old errors.new }
+{
+    write_stderr("nbbo: line ", errors);
+    write_line_name(venue, line, errors);
+    write_stderr(change_end(change), errors);
 }
 
 /// Writes how many there were.

@@ -13,6 +13,8 @@ struct LineMarks {
     read_out: AtomicBool,
     /// It has failed.
     failed: AtomicBool,
+    /// How many requests were sent.
+    sent: AtomicU64,
     /// How many requests couldn't be sent.
     unsent: AtomicU64,
     /// After how many ends of session it went on.
@@ -32,6 +34,7 @@ impl LineProgress {
             ended: AtomicBool::new(false),
             read_out: AtomicBool::new(false),
             failed: AtomicBool::new(false),
+            sent: AtomicU64::new(0),
             unsent: AtomicU64::new(0),
             passed: AtomicU64::new(0),
         };
@@ -62,6 +65,11 @@ impl LineProgress {
         self.marks.failed.store(true, Ordering::SeqCst);
     }
 
+    /// Counts a request that was sent.
+    pub fn count_sent(&self) {
+        self.marks.sent.fetch_add(1, Ordering::SeqCst);
+    }
+
     /// Counts a request that couldn't be sent.
     pub fn count_unsent(&self) {
         self.marks.unsent.fetch_add(1, Ordering::SeqCst);
@@ -85,6 +93,11 @@ impl LineProgress {
     /// Whether the line has failed.
     pub fn has_failed(&self) -> bool {
         self.marks.failed.load(Ordering::SeqCst)
+    }
+
+    /// How many requests were sent.
+    pub fn sent(&self) -> u64 {
+        self.marks.sent.load(Ordering::SeqCst)
     }
 
     /// How many requests couldn't be sent.

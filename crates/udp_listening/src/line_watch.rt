@@ -10,6 +10,7 @@ use crate::line_news::{LineChange, LineCounted, LineNews, LineTotal, write_news,
 use crate::line_progress::LineProgress;
 use feed_text::TextOut;
 use feed_types::{LineId, VenueId};
+use live_feed::VenueStatus;
 
 /// A line, and what was said of it.
 #[derive(Drop)]
@@ -157,6 +158,24 @@ impl LineWatches {
         ensures { result ≡ record { lines = lines } }
     {
         LineWatches { lines }
+    }
+
+    /// How many requests the venue's lines have sent.
+    fn sent(&self, venue: VenueId) -> u64 {
+        let mut sent: u64 = 0;
+        for line in self.lines.as_slice() {
+            if line.venue == venue {
+                sent = sent.saturating_add(line.progress.sent());
+            }
+        }
+        sent
+    }
+
+    /// What a venue has come to, with those requests alone that its lines have sent.
+    pub fn with_sent(&self, venue: VenueId, status: Option<VenueStatus>) -> Option<VenueStatus> {
+        let mut status = status?;
+        status.requests = self.sent(venue);
+        Some(status)
     }
 
     /// Writes what is new of the line at a place, if there is one.

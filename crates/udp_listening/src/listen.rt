@@ -1,23 +1,25 @@
 //! `nbbo listen`.
-ghost use Rattle.std.specs.Prelude.{◌≡◌, ◌≢◌};
+ghost use Rattle.std.specs.Prelude.{◌≡◌, ◌≢◌, length};
 ghost use Rattle.feed_text.specs.Devices.{Writing};
 ghost use Rattle.feed_text.specs.StandardError.{Says};
 ghost use Rattle.udp_listening.specs.Listening.{Listens, PrintsEnd, PrintsFailedReport, PrintsReport, listen_fault_text, report_status};
 
-use crate::attendant::Attendant;
-use crate::desk::{Desk, Following};
+use crate::console::{Console, LiveOutput};
 use crate::gap_watches::GapWatches;
+use crate::listen_counts::ListenCounts;
 use crate::listen_lines::write_report_lines;
-use crate::listening::{ListenFault, ListenReport, ListenTask, Listened, feed_of, run_feed};
+use crate::listen_report::ListenReport;
+use crate::listening::{ListenFault, Listened, feed_of, run_feed};
+use crate::run_monitor::RunMonitor;
+use crate::run_time::RunTime;
 use crate::run_watches::RunWatches;
 use crate::sources::lines_over;
 use crate::summary::summary_of;
 use feed_text::{TextOut, write_all, write_stderr};
 use feed_types::{LineId, VenueId};
-use filter_terms::Terms;
 use live_feed::Stop;
 use run_settings::ListenSettings;
-use std::alloc::Global;
+use std::alloc::{AllocError, Global};
 use std::io::Stdin;
 use std::marker::Brand;
 use std::net::UdpSocket;
@@ -97,34 +99,34 @@ fn fault_line(fault: ListenFault) -> &'static str
 fn print_end<W: TextOut, E: TextOut>(
     alloc: Global,
     outcome: &Result<ListenReport, ListenFault>,
-    desk: &mut Desk<W, E>,
+    console: &mut Console<W, E>,
 ) -> u8
     ensures { PrintsEnd
         (record { adds = W.adds; failures = W.failures })
         (record { adds = E.adds; failures = E.failures })
-        outcome.now desk.old.following desk.old.output desk.new.output
-        desk.old.errors desk.new.errors result }
+        outcome.now console.old.live_output console.old.output console.new.output
+        console.old.errors console.new.errors result }
 {
     match outcome {
         Ok(report) => {
-            if desk.following == Following::Failed {
-                print_failed_report(report, &mut desk.errors)
+            if console.live_output == LiveOutput::Failed {
+                print_failed_report(report, &mut console.errors)
             } else {
-                print_report(alloc, report, &mut desk.output, &mut desk.errors)
+                print_report(alloc, report, &mut console.output, &mut console.errors)
             }
         }
-        Err(fault) => fail(fault_line(*fault), &mut desk.errors),
+        Err(fault) => fail(fault_line(*fault), &mut console.errors),
     }
 }
 
 /// Whether lines are printed while a run of these settings goes on.
-fn following_of(settings: &ListenSettings) -> Following
-    ensures { result ≢ Following.Failed }
+fn live_output_of(settings: &ListenSettings) -> LiveOutput
+    ensures { result ≢ LiveOutput.Failed }
 {
     if settings.follow {
-        Following::On
+        LiveOutput::On
     } else {
-        Following::Off
+        LiveOutput::Off
     }
 }
 
@@ -154,26 +156,26 @@ where
     ensures { Listens
         (record { adds = W.adds; failures = W.failures })
         (record { adds = E.adds; failures = E.failures })
-        settings.now output result.1 errors result.2 result.0 }
+        settings.now (length sockets.items) output result.1 errors result.2 result.0 }
 {
-    let mut desk = Desk::new(output, errors, following_of(settings));
-    let (Ok(feed), Ok(lines), Ok(gaps), Ok(attendant)) = (
+    let mut console = Console::new(output, errors, live_output_of(settings));
+    let clock_copy: Result<C, AllocError> = clock.clone();
+    let (Ok(feed), Ok(lines), Ok(gaps), Ok(clock)) = (
         feed_of(alloc, settings),
         lines_over(alloc, settings, sockets, clock),
         GapWatches::of(alloc, settings),
-        Attendant::of(alloc, settings, input, clock),
+        clock_copy,
     ) else {
-        let status = print_end(alloc, &Err(ListenFault::NoMemory), &mut desk);
-        return (status, desk.output, desk.errors);
+        let status = print_end(alloc, &Err(ListenFault::NoMemory), &mut console);
+        return (status, console.output, console.errors);
     };
-    let task = ListenTask {
-        sources: lines.sources,
-        watches: RunWatches::new(lines.watches, gaps),
-        terms: Terms::All,
-        attendant,
-        desk,
-    };
-    let Listened { outcome, mut desk } = run_feed::<Brand, R, C, W, E>(rt, alloc, feed, task);
-    let status = print_end(alloc, &outcome, &mut desk);
-    (status, desk.output, desk.errors)
+    let watches = RunWatches::new(lines.watches, gaps, ListenCounts::of(alloc, settings));
+    let time = RunTime::new(settings, input, clock);
+    let monitor = RunMonitor::new(alloc, time, console, watches);
+    let Listened {
+        outcome,
+        mut console,
+    } = run_feed::<Brand, R, C, W, E>(rt, alloc, feed, lines.tasks, monitor);
+    let status = print_end(alloc, &outcome, &mut console);
+    (status, console.output, console.errors)
 }

@@ -3,44 +3,13 @@ ghost use Rattle.std.specs.Prelude.{◌≡◌, ◌++◌, flat_map};
 ghost use Rattle.feed_text.specs.Devices.{Writing};
 ghost use Rattle.feed_text.specs.LackTexts.{lack_texts};
 ghost use Rattle.feed_text.specs.StandardError.{SaysEach};
-ghost use Rattle.udp_listening.specs.Listening.{failed_tail, failed_texts, line_texts, read_out_tail, read_out_texts, report_texts, stop_text, stop_texts};
+ghost use Rattle.udp_listening.specs.Listening.{failed_texts, read_out_texts, report_texts, stop_text, stop_texts};
 
-use crate::listening::ListenReport;
+use crate::line_news::{LineChange, write_line_end};
+use crate::listen_report::ListenReport;
 use feed_text::{TextOut, write_lacks, write_number, write_stderr};
 use feed_types::{LineId, VenueId};
 use live_feed::Stop;
-
-/// The end of the line about a line that failed.
-fn failed_end(line: LineId) -> &'static str
-    ensures { result.now ≡ failed_tail line }
-{
-    match line {
-        LineId::A => " A failed\n",
-        LineId::B => " B failed\n",
-        LineId::Recovery => " R failed\n",
-    }
-}
-
-/// The end of the line of a line that has read as many datagrams as it may.
-fn read_out_end(line: LineId) -> &'static str
-    ensures { result.now ≡ read_out_tail line }
-{
-    match line {
-        LineId::A => " A ended by --datagrams\n",
-        LineId::B => " B ended by --datagrams\n",
-        LineId::Recovery => " R ended by --datagrams\n",
-    }
-}
-
-/// Writes what became of a venue's line, by the end of that text.
-fn write_line<E: TextOut>(venue: VenueId, end: &str, errors: &mut E)
-    ensures { SaysEach (record { adds = E.adds; failures = E.failures })
-        (line_texts venue end.now) errors.old errors.new }
-{
-    write_stderr("nbbo: line ", errors);
-    write_number(venue.index() as u64, errors);
-    write_stderr(end, errors);
-}
 
 /// Writes which lines failed.
 fn write_each_failed<E: TextOut>(failed: &[(VenueId, LineId)], errors: &mut E)
@@ -48,7 +17,7 @@ fn write_each_failed<E: TextOut>(failed: &[(VenueId, LineId)], errors: &mut E)
         (flat_map failed_texts failed.now) errors.old errors.new }
 {
     for line in failed {
-        write_line(line.0, failed_end(line.1), errors);
+        write_line_end(line.0, line.1, LineChange::Failed, errors);
     }
 }
 
@@ -58,7 +27,7 @@ fn write_each_read_out<E: TextOut>(read_out: &[(VenueId, LineId)], errors: &mut 
         (flat_map read_out_texts read_out.now) errors.old errors.new }
 {
     for line in read_out {
-        write_line(line.0, read_out_end(line.1), errors);
+        write_line_end(line.0, line.1, LineChange::ReadOut, errors);
     }
 }
 

@@ -1,29 +1,47 @@
 //! What the thread beside a run watches of it.
-ghost use Rattle.std.specs.Prelude.{◌≡◌};
+ghost use Rattle.std.specs.Prelude.{◌≡◌, is_some};
 ghost use Rattle.feed_text.specs.Devices.{Writing};
-ghost use Rattle.udp_listening.specs.News.{SaysTotals};
-ghost use Rattle.udp_listening.specs.RunLines.{watched_lines, watched_run};
-ghost use Rattle.udp_listening.specs.RunNews.{SaysRunNews};
+ghost use Rattle.udp_listening.specs.RunLines.{watched_lines, watched_run, watched_venues};
+ghost use Rattle.udp_listening.specs.RunNews.{SaysRunEnd, SaysRunNews};
 
 use crate::gap_watches::GapWatches;
 use crate::line_watch::LineWatches;
+use crate::listen_counts::ListenCounts;
+use crate::venue_statuses::{VenueStatuses, statuses_by};
 use feed_text::TextOut;
 use feed_types::VenueId;
 use live_feed::VenueStatus;
 
-/// The lines of a run, and the gaps of its venues.
+/// The lines of a run, the gaps of its venues, and what is counted, if anything is.
 #[derive(Drop)]
 pub struct RunWatches {
     lines: LineWatches,
     gaps: GapWatches,
+    counts: Option<ListenCounts>,
 }
 
 impl RunWatches {
-    /// These lines, and these gaps.
-    pub fn new(lines: LineWatches, gaps: GapWatches) -> RunWatches
-        ensures { result ≡ record { lines = lines; gaps = gaps } }
+    /// These lines, gaps and counts.
+    pub fn new(lines: LineWatches, gaps: GapWatches, counts: Option<ListenCounts>) -> RunWatches
+        ensures { watched_run result ≡ record {
+          lines = watched_lines lines;
+          venues = watched_venues gaps;
+          counted = is_some counts;
+        } }
     {
-        RunWatches { lines, gaps }
+        RunWatches {
+            lines,
+            gaps,
+            counts,
+        }
+    }
+
+    /// How many milliseconds after the beginning the next counts are due, if they ever are.
+    pub fn counts_due_ms(&self) -> Option<u64> {
+        match &self.counts {
+            Some(counts) => Some(counts.due_ms()),
+            None => None,
+        }
     }
 
     /// Writes what is new of the lines, `second` seconds after the beginning.
@@ -33,6 +51,26 @@ impl RunWatches {
             (watched_run self.old) errors.old errors.new }
     {
         self.lines.write_news(second, errors);
+    }
+
+    /// Writes the counts of each venue, where they are due. `status` returns what a venue has come
+    /// to, or None where there is none.
+    pub fn write_counts<S, E>(&mut self, elapsed_ms: u64, status: S, errors: &mut E)
+    where
+        S: Fn(VenueId) -> Option<VenueStatus>,
+        E: TextOut,
+        requires { S.IsAlwaysCallable status }
+        ensures run { watched_run self.new ≡ watched_run self.old }
+        ensures news { SaysRunNews (record { adds = E.adds; failures = E.failures })
+            (watched_run self.old) errors.old errors.new }
+    {
+        let lines = &self.lines;
+        if let Some(counts) = &mut self.counts {
+            if counts.due_ms() <= elapsed_ms {
+                let sent = |venue| lines.with_sent(venue, status(venue));
+                counts.write_period(elapsed_ms, sent, errors);
+            }
+        }
     }
 
     /// Gives up the gaps that are due, and says so, as [`GapWatches::give_up`] does.
@@ -50,11 +88,23 @@ impl RunWatches {
         self.gaps.give_up(elapsed_ms, status, skip, errors);
     }
 
-    /// Writes what was counted of the lines.
-    pub fn write_totals<E: TextOut>(&self, errors: &mut E)
-        ensures { SaysTotals (record { adds = E.adds; failures = E.failures })
-            (watched_lines self.now.lines) errors.old errors.new }
+    /// Returns what each venue has come to, with those requests alone that its lines have sent.
+    /// `status` returns one's, or None where there is none.
+    pub fn statuses<S: Fn(VenueId) -> Option<VenueStatus>>(&self, status: S) -> VenueStatuses
+        requires { S.IsAlwaysCallable status }
+    {
+        statuses_by(|venue| self.lines.with_sent(venue, status(venue)))
+    }
+
+    /// Writes what was counted of the lines, and then the table of all counts, where counts are
+    /// asked for. The venues have these statuses.
+    pub fn write_end<E: TextOut>(&self, statuses: &VenueStatuses, errors: &mut E)
+        ensures { SaysRunEnd (record { adds = E.adds; failures = E.failures })
+            (watched_run self.now) errors.old errors.new }
     {
         self.lines.write_totals(errors);
+        if let Some(counts) = &self.counts {
+            counts.write_table(statuses, errors);
+        }
     }
 }

@@ -1,11 +1,11 @@
 //! A line that is received by UDP.
-ghost use Rattle.std.specs.Prelude.{◌≡◌, ◌≢◌, ◌+◌, ◌*◌, ◌/◌, ◌-◌, ◌^◌, ◌≤◌, ◌⊎◌, ◌↔◌, ℕ, List, Bool, min, IfOk, IfErr, IfSome, IsTrue, OnErr, Ok, Some, None, true, false, length, option_map};
+ghost use Rattle.std.specs.Prelude.{◌≡◌, ◌+◌, ◌*◌, ◌/◌, ◌-◌, ◌^◌, ◌↔◌, ℕ, List, Bool, min, IfOk, IfErr, IfSome, IsTrue, OnErr, Ok, Some, None, true, false, option_map};
 ghost use Rattle.std.specs.Duration.{as_nanos};
 ghost use Rattle.live_feed.specs.venue.Datagrams.{bytes_of};
 ghost use Rattle.live_feed.specs.run.Runs.{failures_after};
 ghost use Rattle.udp_listening.specs.UdpLines.{EndsLine, IsLast, IsOver, SpellsEndOf, failures_of, is_none_left, is_read_out};
-ghost use Rattle.live_feed.specs.declared.run.source.SourceFault.TheVariants.{NoMemory};
 
+use crate::datagram_in::try_receive;
 use crate::line_progress::LineProgress;
 use feed_types::{Anything, VenueId};
 use live_feed::{Datagram, LineSource, SourceFault};
@@ -41,12 +41,14 @@ pub struct UdpLineSettings {
     pub end: EndRule,
     /// The most datagrams that it reads, if there is any limit.
     pub datagrams: Option<u32>,
+    /// After how many seconds it reads none any more, if after any number.
+    pub seconds: Option<u32>,
     /// Where its requests go. Where there is no such address they are dropped.
     pub requests_to: Option<SocketAddr>,
 }
 
-/// A line of a venue that is received by UDP. It ends after as many datagrams as it was made for,
-/// if there is such a limit, and after an end of session that ends it.
+/// A line of a venue that is received by UDP. It ends after as many datagrams or seconds as it was
+/// made for, if there is such a limit, and after an end of session that ends it.
 ///
 /// Once its socket has failed the line has ended: it asks the socket for nothing more. A request
 /// that can't be sent ends nothing. What has become of the line is marked in its progress.
@@ -60,11 +62,13 @@ pub struct UdpLine<C> {
     progress: LineProgress,
     clock: C,
     moment_ms: u64,
+    /// The moment of the clock after which it reads no datagram, if there is any.
+    deadline_ms: Option<u64>,
     to_read: Option<u32>,
     broken: bool,
     at_end: bool,
     /// What the socket has brought for the next call: a datagram, or why there is none.
-    heard: Option<Result<Datagram, SourceFault>>,
+    received: Option<Result<Datagram, SourceFault>>,
     alloc: Global,
     buffer: Vec<u8>,
 }
@@ -84,25 +88,6 @@ impl<C> Model for UdpLine<C> {
     } };
 }
 
-/// Waits a while for a datagram, puts it at the front of the buffer, and returns how many bytes it
-/// has; None where none has come. A call that was interrupted is made again.
-fn receive(socket: &UdpSocket, buffer: &mut [u8]) -> Result<Option<usize>, SourceFault>
-    ensures count { IfOk result (λ came. IfSome came (λ count. count ≤ length buffer.new)) }
-    ensures fault { IfErr result (λ fault. fault ≢ NoMemory) }
-{
-    for _ in 0..MAX_TURNS {
-        match socket.recv(buffer) {
-            Ok(count) => return Ok(Some(count)),
-            Err(error) => match error.kind() {
-                ErrorKind::Interrupted => {}
-                ErrorKind::WouldBlock => return Ok(None),
-                _ => return Err(SourceFault::Device),
-            },
-        }
-    }
-    Err(SourceFault::TooManyTurns)
-}
-
 /// Sends the bytes as one datagram, and returns whether that could be done. A call that was
 /// interrupted is made again, a million times at most.
 fn has_sent(socket: &UdpSocket, bytes: &[u8], to: SocketAddr) -> bool {
@@ -114,32 +99,6 @@ fn has_sent(socket: &UdpSocket, bytes: &[u8], to: SocketAddr) -> bool {
         }
     }
     false
-}
-
-/// A datagram of these bytes.
-fn datagram_of(alloc: Global, bytes: &[u8]) -> Result<Datagram, AllocError>
-    ensures { IfOk result (λ datagram. bytes_of datagram ≡ bytes.now) }
-{
-    let mut held = Vec::with_capacity(alloc, bytes.len())?;
-    held.extend_from_slice(bytes)?;
-    Ok(Datagram::new(held))
-}
-
-/// Waits a while for a datagram, and returns it, or why there is none; None where none has come.
-/// NoMemory where memory for it was refused: it is lost then.
-fn hear(
-    alloc: Global,
-    socket: &UdpSocket,
-    buffer: &mut [u8],
-) -> Option<Result<Datagram, SourceFault>> {
-    match receive(socket, buffer) {
-        Ok(None) => None,
-        Ok(Some(count)) => match datagram_of(alloc, &buffer[..count]) {
-            Ok(datagram) => Some(Ok(datagram)),
-            Err(_) => Some(Err(SourceFault::NoMemory)),
-        },
-        Err(fault) => Some(Err(fault)),
-    }
 }
 
 /// The session that the bytes are an end of; None where they are no end of session.
@@ -172,6 +131,15 @@ fn is_last(rule: EndRule, session: [u8; 10], ended: Option<[u8; 10]>) -> bool
     }
 }
 
+/// The moment of the clock so many seconds from now; None where there is no such number, or where
+/// the clock can't be read.
+fn deadline_of<C: Clock>(clock: &C, seconds: Option<u32>) -> Option<u64> {
+    match (seconds, clock.monotonic()) {
+        (Some(seconds), Ok(now)) => Some(millis(now).saturating_add(u64::from(seconds) * 1_000)),
+        _ => None,
+    }
+}
+
 /// The whole milliseconds of a time, 2^64 - 1 at most.
 pub fn millis(time: Duration) -> u64
     ensures { result ≡ min (as_nanos time / 1_000_000) (2 ^ 64 - 1) }
@@ -201,7 +169,7 @@ fn one_fewer(left: Option<u32>) -> Option<u32>
     }
 }
 
-impl<C: Drop> UdpLine<C> {
+impl<C: Clock + Drop> UdpLine<C> {
     /// The line of these settings that this socket receives, and from which its requests go.
     ///
     /// The socket waits 100 ms for a datagram from now on. Where the system refuses that, it waits
@@ -220,6 +188,7 @@ impl<C: Drop> UdpLine<C> {
         ensures unended { IfOk result (λ line. line.ended ≡ false) }
     {
         let _ = socket.set_read_timeout(Some(Duration::from_millis(WAIT_MS)));
+        let deadline_ms = deadline_of(&clock, settings.seconds);
         Ok(UdpLine {
             line_venue: settings.venue,
             own_session: settings.session,
@@ -229,25 +198,56 @@ impl<C: Drop> UdpLine<C> {
             progress: LineProgress::new(alloc)?,
             clock,
             moment_ms: 0,
+            deadline_ms,
             to_read: settings.datagrams,
             broken: false,
             at_end: false,
-            heard: None,
+            received: None,
             alloc,
             buffer: vec![in alloc; 0; MAX_DATAGRAM]?,
         })
     }
 
+    /// Whether the time is over in which the line reads datagrams.
+    fn is_late(&self) -> bool {
+        let Some(deadline_ms) = self.deadline_ms else {
+            return false;
+        };
+        match self.clock.monotonic() {
+            Ok(now) => millis(now) >= deadline_ms,
+            Err(_) => false,
+        }
+    }
+
+    /// Ends the line where its time is over, unless it has ended before, or a datagram waits that
+    /// was received before.
+    fn end_in_time(&mut self)
+        ensures rest { self.new
+            ≡ record (self.old) { left = self.new.left; ended = self.new.ended } }
+        ensures other { self.new.ended ≡ false → self.new ≡ self.old }
+    {
+        if self.broken || is_none_left(self.to_read) || self.received.is_some() {
+            return;
+        }
+        if self.is_late() {
+            self.to_read = Some(0);
+            self.at_end = true;
+        }
+    }
+}
+
+impl<C: Drop> UdpLine<C> {
     /// Waits a while for a datagram, and returns whether the next one needn't be waited for: it is
     /// there, or the socket has failed, or the line has ended.
-    fn listen(&mut self) -> bool
+    fn poll(&mut self) -> bool
         ensures { self.new ≡ self.old }
     {
-        if self.broken || is_none_left(self.to_read) || self.heard.is_some() {
+        if self.broken || is_none_left(self.to_read) || self.received.is_some() {
             return true;
         }
-        self.heard = hear(self.alloc, &self.socket, self.buffer.as_mut_slice());
-        self.heard.is_some()
+        let buffer = self.buffer.as_mut_slice();
+        self.received = try_receive(self.alloc, &mut self.socket, buffer);
+        self.received.is_some()
     }
 
     /// The progress of the line, for another thread. AllocError where it can't be shared any
@@ -256,7 +256,7 @@ impl<C: Drop> UdpLine<C> {
         self.progress.share()
     }
 
-    /// Marks how the line has ended, if it has, and its socket hasn't failed.
+    /// Marks how the line has ended, if it has by a datagram.
     fn mark_end(&self) {
         if self.at_end {
             self.progress.end();
@@ -325,20 +325,23 @@ impl<C: Drop> UdpLine<C> {
         ensures session { self.new.session ≡ self.old.session }
         ensures rule { self.new.rule ≡ self.old.rule }
         ensures ended_by { OnErr result (self.new.ended ≡ self.old.ended) }
-        ensures sound { IfOk result (λ _. failures_of self.new.failed ≡ failures_of self.old.failed) }
+        ensures sound { IfOk result
+            (λ _. failures_of self.new.failed ≡ failures_of self.old.failed) }
         ensures failed { IfErr result (λ fault. failures_of self.new.failed
             ≡ failures_after (failures_of self.old.failed) fault) }
     {
         if self.broken || is_none_left(self.to_read) {
-            self.mark_end();
+            if self.is_read_out() {
+                self.progress.read_out();
+            }
             return Ok(None);
         }
         for _ in 0..u64::MAX {
-            if self.listen() {
+            if self.poll() {
                 break;
             }
         }
-        match self.heard.take() {
+        match self.received.take() {
             Some(Ok(datagram)) => {
                 self.count_read(datagram.bytes());
                 Ok(Some(datagram))
@@ -376,7 +379,8 @@ impl<C: Clock + Drop> LineSource<Anything> for UdpLine<C> {
     }
 
     fn await_next(&mut self) -> bool {
-        self.listen()
+        self.end_in_time();
+        self.poll()
     }
 
     fn next(&mut self) -> Result<Option<Datagram>, SourceFault> {
@@ -390,7 +394,7 @@ impl<C: Clock + Drop> LineSource<Anything> for UdpLine<C> {
         self.moment_ms
     }
 
-    /// Sends a request, and counts it where it can't be sent, which is no fault of the line.
+    /// Sends a request, and counts it. That it can't be sent is no fault of the line.
     fn request(&mut self, request: &Request) -> Result<(), SourceFault>
         ensures taken { result ≡ Ok tt }
         ensures same { self.new ≡ self.old }
@@ -402,7 +406,9 @@ impl<C: Clock + Drop> LineSource<Anything> for UdpLine<C> {
         if self.broken || write_request(request, &mut bytes).is_err() {
             return Ok(());
         }
-        if !has_sent(&self.socket, &bytes, to) {
+        if has_sent(&self.socket, &bytes, to) {
+            self.progress.count_sent();
+        } else {
             self.progress.count_unsent();
         }
         Ok(())

@@ -1,93 +1,108 @@
-use Rattle.std.proofs.Common.{[], ◌≡◌, ◌∙◌, Err, ap, length, subst, sym, take}
+use Rattle.std.proofs.Common.{[], ◌≡◌, ◌∙◌, Err, ap, length, map, subst, sym, take}
+use Rattle.std.specs.Prelude.{is_some}
 use Rattle.feed_text.specs.Devices.{Writing}
-use Rattle.udp_listening.specs.Listening.{ListensToEnd}
+use Rattle.udp_listening.specs.Listening.{IsUnprinted, ListensToEnd}
+use Rattle.udp_listening.specs.Reports.{task_line}
 use Rattle.udp_listening.specs.RunLines.{listened_lines, listened_run, skipping_venues, watched_run, watched_venues}
 use Rattle.udp_listening.specs.RunNews.{SaysOfRun}
+use Rattle.udp_listening.specs.declared.console.Console.{Console}
 use Rattle.udp_listening.specs.declared.listening.ListenFault.TheVariants.{NoMemory}
-use Rattle.udp_listening.proofs.RunTelling.{nothing_of_run, said_of_first}
+use Rattle.udp_listening.proofs.Monitored.{listened_if_run}
+use Rattle.udp_listening.proofs.RunTelling.{nothing_of_run}
 use Rattle.udp_listening.proofs.Wholes.{listened}
 use Rattle.udp_listening.proofs.listen.listen_with.Goals as goal
+
+pub run_feed-outcome-requires-clause-unprinted : goal.run_feed-outcome-requires-clause-unprinted
+run_feed-outcome-requires-clause-unprinted g c κs within =
+    let writing : Writing g.row.W.Denot = record {
+      adds = g.W.TextOut.adds;
+      failures = g.W.TextOut.failures;
+    } in
+    subst (λ (k : Console g.row.W.Denot g.row.E.Denot). IsUnprinted writing k.live_output k.output)
+    (sym c.new-monitor.ensures.console) c.new-console.ensures.unprinted
 
 pub returns-in_default : goal.returns-in_default
 returns-in_default g c =
     let writing : Writing g.row.W.Denot = record {
       adds = g.W.TextOut.adds;
-      failures =
-          g.W.TextOut.failures;
+      failures = g.W.TextOut.failures;
     } in
     let telling : Writing g.row.E.Denot = record {
       adds = g.E.TextOut.adds;
-      failures =
-          g.E.TextOut.failures;
+      failures = g.E.TextOut.failures;
     } in
-    let desk = c.new-desk.result in
+    let console = c.new-console.result in
     let ended = c.print_end-status in
-    let output : desk.output ≡ c.args.output = ap (λ d. d.output) c.new-desk.ensures.desk in
+    let output : console.output ≡ c.args.output = ap (λ d. d.output) c.new-console.ensures.console
+    in
+    let run = listened_run c.args.settings.now (length c.args.sockets.items) in
     record {
       outcome = Err NoMemory;
-      counted = desk.errors;
-      quiet = λ none.
-          subst (λ (told : g.row.E.Denot). SaysOfRun telling (listened_run c.args.settings.now)
-          c.args.errors told)
-          (sym (ap (λ d. d.errors) c.new-desk.ensures.desk))
-          (nothing_of_run telling (listened_run c.args.settings.now) c.args.errors);
+      listened = tt;
+      said = console.errors;
+      says =
+          subst (λ (said : g.row.E.Denot). SaysOfRun telling run c.args.errors said)
+          (sym (ap (λ d. d.errors) c.new-console.ensures.console))
+          (nothing_of_run telling run c.args.errors);
       ends =
           subst (λ (first : g.row.W.Denot). ListensToEnd writing telling (Err NoMemory) first
-          ended.new.desk.output desk.errors ended.new.desk.errors ended.result) output
-          (listened writing telling g.met.W.TextOut.adds_more (Err NoMemory) desk.following
-          desk.output desk.output ended.new.desk.output desk.errors
-          ended.new.desk.errors ended.result
-          ([], 0, c.new-desk.ensures.unprinted []) ended.ensures);
+          ended.new.console.output console.errors ended.new.console.errors ended.result) output
+          (listened writing telling g.met.W.TextOut.adds_more (Err NoMemory) console.live_output
+          console.output console.output ended.new.console.output console.errors
+          ended.new.console.errors ended.result
+          ([], 0, c.new-console.ensures.unprinted []) ended.ensures);
     }
 
 pub returns : goal.returns
 returns g c =
     let writing : Writing g.row.W.Denot = record {
       adds = g.W.TextOut.adds;
-      failures =
-          g.W.TextOut.failures;
+      failures = g.W.TextOut.failures;
     } in
     let telling : Writing g.row.E.Denot = record {
       adds = g.E.TextOut.adds;
-      failures =
-          g.E.TextOut.failures;
+      failures = g.E.TextOut.failures;
     } in
-    let before = c.new-desk.result in
-    let outcome = c.run_feed-outcome.result.outcome in
-    let desk = c.run_feed-outcome.result.desk in
+    let settings = c.args.settings.now in
+    let sockets = length c.args.sockets.items in
+    let made = c.in-Ok-Ok-Ok-Ok in
+    let monitor = c.new-monitor.result in
+    let ran = c.run_feed-outcome in
+    let outcome = ran.result.outcome in
+    let console = ran.result.console in
     let ended = c.print_end-status-2 in
-    let output : before.output ≡ c.args.output = ap (λ d. d.output) c.new-desk.ensures.desk in
+    let new = c.new-monitor.ensures.console ∙ c.new-console.ensures.console in
+    let lines = take sockets (listened_lines settings) in
+    let run : watched_run monitor.watches ≡ listened_run settings sockets =
+    ap (λ w. watched_run w) c.new-monitor.ensures.watches ∙ c.new-watches.ensures
+    ∙ ap (λ first. record {
+      lines = first;
+      venues = watched_venues made.gaps;
+      counted = is_some c.of-2.result;
+    }) made.ensures'.watches
+    ∙ ap (λ venues. record { lines = lines; venues = venues; counted = is_some c.of-2.result })
+    made.ensures''
+    ∙ ap (λ counted. record {
+      lines = lines;
+      venues = skipping_venues settings;
+      counted = counted;
+    }) c.of-2.ensures in
     record {
       outcome = outcome;
-      counted = desk.errors;
-      quiet = λ none.
-          let settings = c.args.settings.now in
-          let same : watched_run c.new.result ≡ record {
-            lines = take (length c.args.sockets.items)
-                (listened_lines settings);
-            venues = skipping_venues settings;
-          } =
-          ap (λ w. watched_run w) c.new.ensures
-          ∙ ap (λ first. record { lines = first; venues = watched_venues c.in-Ok-Ok-Ok-Ok.gaps })
-          c.in-Ok-Ok-Ok-Ok.ensures'
-          ∙ ap (λ venues. record {
-            lines = take (length c.args.sockets.items)
-                (listened_lines settings);
-            venues = venues;
-          }) c.in-Ok-Ok-Ok-Ok.ensures'' in
-          subst (λ (silent : g.row.E.Denot). SaysOfRun telling (listened_run settings) silent
-          desk.errors)
-          (ap (λ d. d.errors) c.new-desk.ensures.desk)
-          (said_of_first telling (length c.args.sockets.items) (listened_lines settings)
-          (skipping_venues settings)
-          before.errors desk.errors
-          (subst (λ first. SaysOfRun telling first before.errors desk.errors) same
-          (c.run_feed-outcome.ensures.quiet (c.in-Ok-Ok-Ok-Ok.ensures''' none))));
+      listened =
+          listened_if_run settings sockets made.feed (map task_line made.lines.tasks.items) outcome
+          made.ensures.setting made.ensures.venues made.ensures'.tasks ran.ensures.run;
+      said = console.errors;
+      says =
+          subst (λ (first : g.row.E.Denot). SaysOfRun telling (listened_run settings sockets) first
+          console.errors) (ap (λ k. k.errors) new)
+          (subst (λ watched. SaysOfRun telling watched monitor.console.errors console.errors) run
+          ran.ensures.says);
       ends =
           subst (λ (first : g.row.W.Denot). ListensToEnd writing telling outcome first
-          ended.new.desk.output desk.errors ended.new.desk.errors ended.result) output
-          (listened writing telling g.met.W.TextOut.adds_more outcome desk.following
-          before.output desk.output ended.new.desk.output desk.errors
-          ended.new.desk.errors ended.result
-          c.run_feed-outcome.ensures.listened ended.ensures);
+          ended.new.console.output console.errors ended.new.console.errors ended.result)
+          (ap (λ k. k.output) new)
+          (listened writing telling g.met.W.TextOut.adds_more outcome console.live_output
+          monitor.console.output console.output ended.new.console.output console.errors
+          ended.new.console.errors ended.result ran.ensures.listened ended.ensures);
     }

@@ -5,8 +5,9 @@ use Rattle.std.proofs.lemmas.Iterator.Consumers.{YieldsList-at, YieldsList-end, 
 use Rattle.std.proofs.lemmas.List.{length-take, length_push}
 use Rattle.std.proofs.lemmas.List.FromFn.{length-enumerate_from}
 use Rattle.std.specs.Prelude.{take}
-use Rattle.udp_listening.specs.RunLines.{listened_line, watched_lines}
-use Rattle.udp_listening.proofs.Watching.{first_lines, more_watched, place_of}
+use Rattle.udp_listening.specs.Reports.{task_line}
+use Rattle.udp_listening.specs.RunLines.{listened_line, watched, watched_lines}
+use Rattle.udp_listening.proofs.Watching.{first_lines, more_listened, place_of}
 use Rattle.udp_listening.proofs.sources.lines_over.Goals as goal
 
 pub loop-place-preserved : goal.loop-place-preserved
@@ -29,17 +30,25 @@ loop-place-preserved g c =
     let n = length c.loop-place.yielded in
     let at = place_of (take c.take.result.n c.args.sockets.items) n (place, c.in-Some.socket) turn
     in
-    let one =
-    c.new.ensures ∙ ap (λ (venue : ℕ). (venue, c.line_at.result)) (c.venue.ensures
-    ∙ c.in_ok-source.ensures.venue_is)
-    ∙ ap (λ line. ((listened_line place).0, line)) c.line_at.ensures in (
+    let more = length_push c.loop-place.yielded (place, c.in-Some.socket) in
+    let venue = c.in_ok-source.ensures.venue_is in
+    let line = c.line_at-line.ensures in
+    let watched_one =
+    c.new.ensures ∙ ap (λ (venue : ℕ). (venue, c.line_at-line.result)) (c.venue.ensures ∙ venue)
+    ∙ ap (λ line. ((listened_line place).0, line)) line in
+    let task_one =
+    ap (λ (venue : ℕ). (venue, c.line_at-line.result)) venue
+    ∙ ap (λ line. ((listened_line place).0, line)) line in (
       search rules,
       tt,
-      more_watched c.loop-place.watches.items c.push.new.self.items c.new.result n _ place
-          c.in_ok-push.ensures.items c.loop-place.invariant.2 one at
-          (length_push c.loop-place.yielded (place, c.in-Some.socket)),
+      more_listened task_line c.loop-place.tasks.items c.push-in-loop-place.new.self.items _ n _
+          place
+          c.in_ok-push-2.ensures.items c.loop-place.invariant.2 task_one at more,
+      more_listened watched c.loop-place.watches.items c.push.new.self.items c.new.result n _ place
+          c.in_ok-push.ensures.items c.loop-place.invariant.3 watched_one at more,
     )
 
+-- as many as there are sockets and lines
 pub returns : goal.returns
 returns g c =
     let sockets = YieldsList-from_vec {s = c.into_iter.result} c.args.sockets.items
@@ -60,7 +69,11 @@ returns g c =
     let items = c.args.sockets.items in
     let n = c.take.ensures.count ∙ ap (λ (k : ℕ). 2 * k) c.len-most.ensures
     ∙ sym c.args.settings.now.two_lines_each in
-    ap (λ w. watched_lines w) c.new-2.ensures ∙ c.loop-place.invariant.2
-    ∙ first_lines _ (length items) (length c.loop-place.yielded)
-    (seen.1 ∙ length-enumerate_from 0 (take most items) ∙ length-take most items
-    ∙ ap (λ (k : ℕ). min k (length items)) n)
+    let count =
+    seen.1 ∙ length-enumerate_from 0 (take most items) ∙ length-take most items
+    ∙ ap (λ (k : ℕ). min k (length items)) n in
+    let all = first_lines _ (length items) (length c.loop-place.yielded) count in
+    record {
+      tasks = c.loop-place.invariant.2 ∙ all;
+      watches = ap (λ w. watched_lines w) c.new-2.ensures ∙ c.loop-place.invariant.3 ∙ all;
+    }

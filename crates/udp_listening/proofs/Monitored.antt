@@ -1,0 +1,205 @@
+-- What a run that was monitored came to.
+use Rattle.std.proofs.Common.{◌≡◌, inl, inr, ◌∙◌, ℕ, List, [], ◌∷◌, Option, Some, None, ap, length, map, refl, subst, sym, arith}
+use Rattle.std.specs.Prelude.{true, IfOk, Result, Ok, Err, take, vec_len}
+use Rattle.feed_types.specs.declared.line.LineId.{LineId}
+use Rattle.feed_text.specs.Devices.{Writing}
+use Rattle.live_feed.specs.Lanes.{FeedLanes}
+use Rattle.live_feed.specs.declared.run.line.LineEnd.{LineEnd}
+use Rattle.live_feed.specs.declared.run.whole.FeedReport.{FeedReport}
+use Rattle.live_feed.specs.declared.run.whole.LineTask.{LineTask}
+use Rattle.live_feed.specs.declared.subscriber.logged.Logged.{Logged}
+use Rattle.live_feed.specs.run.Runs.{HasTaken, LineHasEnded, Pairwise}
+use Rattle.live_feed.specs.run.Wholes.{HasAttended, IsBegun, IsWholeRun, line_report, logs_with}
+use Rattle.live_feed.specs.settle.Settlements.{IsSettlement, SettlementState}
+use Rattle.live_feed.specs.subscriber.Logs.{SubscriberLogState}
+use Rattle.live_feed.specs.venue.Seats.{SeatState, new_seat}
+use Rattle.udp_listening.specs.Listening.{HasFollowed, HasListened, IsUnprinted, settled_forgotten, settled_log}
+use Rattle.udp_listening.specs.Monitors.{HasMonitored}
+use Rattle.run_settings.specs.declared.listen_settings.ListenSettings.{ListenSettings}
+use Rattle.udp_listening.specs.Reports.{IsListened, IsReportOfFeed, IsReportOfRun, any_lines, reported_line, seat_line, task_line}
+use Rattle.udp_listening.specs.RunLines.{listened_lines, watched_run}
+use Rattle.udp_listening.specs.RunNews.{SaysOfRun}
+use Rattle.udp_listening.specs.Settings.{feed_setting}
+use Rattle.udp_listening.specs.UdpLines.{UdpLineState}
+use Rattle.udp_listening.specs.declared.console.LiveOutput.{LiveOutput}
+use Rattle.udp_listening.specs.declared.listen_report.ListenReport.{ListenReport}
+use Rattle.udp_listening.specs.declared.listening.ListenFault.{ListenFault}
+use Rattle.udp_listening.specs.declared.run_monitor.RunMonitor.{RunMonitor}
+use Rattle.udp_listening.proofs.RunTelling.{nothing_of_run}
+use Rattle.udp_listening.proofs.Wholes.{settled_forgotten_of, settled_log_of}
+
+-- what the program has printed of a log
+abbrev pub Shows : {C W E : Type 0} → Writing W → RunMonitor C W E → RunMonitor C W E
+    → SubscriberLogState → Type 0
+Shows writing before after log =
+    HasFollowed writing before.console.output log.lines after.console.live_output log.forgotten
+    after.console.output
+
+-- of a log that has forgotten nothing nothing was printed
+fresh : {C W E : Type 0} (writing : Writing W) (before : RunMonitor C W E)
+    (log : SubscriberLogState) → log.forgotten ≡ 0
+    → IsUnprinted writing before.console.live_output before.console.output
+    → Shows writing before before log
+fresh writing before log none unprinted =
+    subst (λ n. HasFollowed writing before.console.output log.lines before.console.live_output n
+    before.console.output) (sym none) (unprinted log.lines)
+
+-- the one log of a run that was monitored, and what was printed of it
+pub record Monitored {C W E : Type 0} (writing : Writing W) (telling : Writing E)
+    (before after : RunMonitor C W E) (logs : List SubscriberLogState) : Type 0 where
+  pub log : SubscriberLogState
+  pub one : logs ≡ log ∷ []
+  pub shows : Shows writing before after log
+  pub says : SaysOfRun telling (watched_run before.watches) before.console.errors
+      after.console.errors
+
+-- there are no other logs
+alone : (log : SubscriberLogState) (others : List SubscriberLogState) → length others ≡ 0
+    → logs_with (Some log) others ≡ log ∷ []
+alone log [] none = refl
+alone log (other ∷ others) none = absurd (omega (arith, none))
+
+pub monitored : {C W E : Type 0} (writing : Writing W) (telling : Writing E)
+    (before after : RunMonitor C W E) (log later : Option SubscriberLogState)
+    (others : List SubscriberLogState)
+    → IsUnprinted writing before.console.live_output before.console.output
+    → IsBegun true log → HasMonitored writing telling before log after later → length others ≡ 0
+    → Monitored writing telling before after (logs_with later others)
+monitored writing telling before after None later others unprinted begun attended none =
+    absurd cc
+monitored writing telling before after (Some log) None others unprinted begun attended none =
+    absurd attended
+monitored writing telling before after (Some log) (Some later) others unprinted begun attended
+    none = record {
+      log = later;
+      one = alone later others none;
+      shows =
+          attended.0 before.console.output (fresh writing before log begun.2 unprinted);
+      says = attended.1;
+    }
+
+-- What a monitor has printed and said that attended a run, or none.
+pub record MonitoredIfRun {C W E : Type 0} (writing : Writing W) (telling : Writing E)
+    (before after : RunMonitor C W E) : Type 0 where
+  pub lines : List Logged
+  pub printed : ℕ
+  pub shows : HasFollowed writing before.console.output lines after.console.live_output printed
+      after.console.output
+  pub says : SaysOfRun telling (watched_run before.watches) before.console.errors
+      after.console.errors
+
+pub monitored_if_run : {C W E : Type 0} (writing : Writing W) (telling : Writing E)
+    (before after : RunMonitor C W E)
+    → IsUnprinted writing before.console.live_output before.console.output
+    → HasAttended (HasMonitored writing telling) true before after
+    → MonitoredIfRun writing telling before after
+monitored_if_run writing telling before after unprinted (inl same) =
+    subst (λ m. MonitoredIfRun writing telling before m) (sym same) (record {
+      lines = [];
+      printed = 0;
+      shows = unprinted [];
+      says = nothing_of_run telling (watched_run before.watches) before.console.errors;
+    })
+monitored_if_run writing telling before after unprinted (inr ran) =
+    let m = monitored writing telling before after ran.0 ran.1 [] unprinted ran.2 ran.3 refl
+    in record {
+      lines = m.log.lines;
+      printed = m.log.forgotten;
+      shows = m.shows;
+      says = m.says;
+    }
+
+-- the lines that have ended are those that were run
+pub lines_of : {G N : Type 0} (takes : SeatState → List (List ℕ) → SeatState → Type 0)
+    (brings : UdpLineState → List (List ℕ) → UdpLineState → Type 0) (failures : UdpLineState → ℕ)
+    (tasks : List (LineTask UdpLineState)) (ends : List (LineEnd G N UdpLineState))
+    → Pairwise (λ task. LineHasEnded takes brings failures
+    (new_seat task.source.venue task.line) task.source) tasks ends
+    → map seat_line (map (λ e. e.seat) ends) ≡ map task_line tasks
+lines_of takes brings failures [] [] each = refl
+lines_of takes brings failures [] (e ∷ ends) each = absurd each
+lines_of takes brings failures (task ∷ tasks) [] each = absurd each
+lines_of takes brings failures (task ∷ tasks) (e ∷ ends) each =
+    let rest : List (ℕ × LineId) = map seat_line (map (λ e. e.seat) ends) in
+    ap (λ (venue : ℕ). (venue, e.seat.line) ∷ rest) each.0.venue
+    ∙ ap (λ (line : LineId). (task.source.venue, line) ∷ rest) each.0.line
+    ∙ ap (λ lines. task_line task ∷ lines) (lines_of takes brings failures tasks ends each.1)
+
+-- and what is reported of each is of its seat
+pub reported_of : {G N : Type 0} (ends : List (LineEnd G N UdpLineState))
+    → map reported_line (map line_report ends) ≡ map seat_line (map (λ e. e.seat) ends)
+reported_of [] = refl
+reported_of (e ∷ ends) = ap (λ lines. seat_line e.seat ∷ lines) (reported_of ends)
+
+module _ {G N C W E : Type 0} (writing : Writing W) (telling : Writing E) (lanes : FeedLanes)
+    (brings : UdpLineState → List (List ℕ) → UdpLineState → Type 0) (failures : UdpLineState → ℕ)
+    (tasks : List (LineTask UdpLineState)) (count : ℕ) (none : count ≡ 0)
+    (before after : RunMonitor C W E) (whole : FeedReport UdpLineState) (report : ListenReport)
+    (unprinted : IsUnprinted writing before.console.live_output before.console.output)
+    (w : IsWholeRun G N any_lines lanes (λ l. l.venue) brings failures
+    (HasMonitored writing telling) tasks true count before after whole)
+    (tells : IsReportOfFeed whole report) where
+  ended : Monitored writing telling before after (logs_with w.later w.others)
+  ended = monitored writing telling before after w.log w.later w.others unprinted w.begun w.attended
+      (w.all ∙ none)
+
+  seated : map seat_line (map (λ e. e.seat) w.ends) ≡ map task_line tasks
+  seated = lines_of (HasTaken any_lines lanes) brings failures tasks w.ends w.lines
+
+  -- the report is that of the run
+  pub run_of : IsReportOfRun lanes (map task_line tasks) report
+  run_of = record {
+    seats = map (λ e. e.seat) w.ends;
+    seated = seated;
+    log = ended.log;
+    whole = whole;
+    reported = ap (λ l. map reported_line l) w.reported ∙ reported_of w.ends ∙ seated;
+    settled =
+        subst (λ logs. IsSettlement any_lines lanes (map (λ e. e.seat) w.ends) logs
+        whole.settlement) ended.one w.settled;
+    tells = tells;
+  }
+
+  -- and of its settled log the forgotten lines were printed
+  pub printed_of : HasListened writing before.console.output (Ok report) after.console.live_output
+      after.console.output
+  printed_of =
+      let first = before.console.output in
+      let live = after.console.live_output in
+      let now = after.console.output in
+      let log = settled_log_of ended.log ended.one w.settled in
+      let forgotten = settled_forgotten_of ended.log ended.one w.settled in
+      subst (λ (s : SettlementState). HasFollowed writing first (settled_log s) live
+      (settled_forgotten s) now) (sym tells.settlement)
+      (subst (λ (x : List Logged × ℕ). HasFollowed writing first x.0 live x.1 now)
+      (λ i. (sym log i, sym forgotten i)) ended.shows)
+
+-- a report of a run is one of the settings' feed, where the run's lanes and lines are theirs
+pub listened_if_run : (settings : ListenSettings) (sockets : ℕ) (lanes : FeedLanes)
+    (lines : List (ℕ × LineId)) (outcome : Result ListenReport ListenFault)
+    → lanes.setting ≡ feed_setting settings
+    → length lanes.venues ≡ vec_len settings.feed.sessions
+    → lines ≡ take sockets (listened_lines settings)
+    → IfOk outcome (IsReportOfRun lanes lines) → IfOk outcome (IsListened settings sockets)
+listened_if_run settings sockets lanes lines (Ok report) setting venues same run = record {
+  lanes = lanes;
+  setting = setting;
+  venues = venues;
+  run = subst (λ (l : List (ℕ × LineId)). IsReportOfRun lanes l report) same run;
+}
+listened_if_run settings sockets lanes lines (Err fault) setting venues same run = tt
+
+-- what was printed, by cases on whether there is a report
+pub listened_by : {W : Type 0} (writing : Writing W) (first : W) (live : LiveOutput) (now : W)
+    (P : ListenReport → Type 0) (outcome : Result ListenReport ListenFault)
+    → ((report : ListenReport) → P report → HasListened writing first (Ok report) live now)
+    → ((fault : ListenFault) → HasListened writing first (Err fault) live now)
+    → IfOk outcome P → HasListened writing first outcome live now
+listened_by writing first live now P (Ok report) told failed is = told report is
+listened_by writing first live now P (Err fault) told failed is = failed fault
+
+-- what is so of each report that this is so of
+pub told_by : {P Q : ListenReport → Type 0} (outcome : Result ListenReport ListenFault)
+    → ((report : ListenReport) → P report → Q report) → IfOk outcome P → IfOk outcome Q
+told_by (Ok report) so is = so report is
+told_by (Err fault) so is = tt

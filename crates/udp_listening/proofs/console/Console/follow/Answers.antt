@@ -1,0 +1,32 @@
+use Rattle.feed_text.specs.Devices.{Writing}
+use Rattle.udp_listening.proofs.Following.{polled_longer}
+use Rattle.udp_listening.proofs.console.Console.follow.Goals as goal
+
+pub returns-then-eq-clause-shows : goal.returns-then-eq-clause-shows
+returns-then-eq-clause-shows g c =
+    let w : Writing g.row.W.Denot = record {
+      adds = g.W.TextOut.adds;
+      failures =
+          g.W.TextOut.failures;
+    } in
+    let console = c.args.self.now in
+    let polled = c.poll_some-has_taken in
+    λ first h.
+    c.print_rest.ensures.shows first
+    (polled_longer w first c.args.log.now polled.new.log console.live_output
+    console.output polled.ensures.lines
+    polled.ensures.forgotten h)
+
+pub returns-else-eq-clause-shows : goal.returns-else-eq-clause-shows
+returns-else-eq-clause-shows g c =
+    let w : Writing g.row.W.Denot = record {
+      adds = g.W.TextOut.adds;
+      failures =
+          g.W.TextOut.failures;
+    } in
+    let console = c.args.self.now in
+    let polled = c.poll_some-has_taken in
+    λ first h.
+    polled_longer w first c.args.log.now polled.new.log console.live_output
+    console.output polled.ensures.lines
+    polled.ensures.forgotten h

@@ -1,0 +1,24 @@
+use Rattle.std.proofs.Common.{◌∙◌, ap, subst}
+use Rattle.feed_text.specs.Devices.{Writing}
+use Rattle.udp_listening.specs.RunLines.{watched_run}
+use Rattle.udp_listening.specs.RunNews.{SaysRunNews}
+use Rattle.udp_listening.proofs.RunTelling.{more_run_news}
+use Rattle.udp_listening.proofs.run_monitor.RunMonitor.turn.Goals as goal
+
+pub returns-clause-news : goal.returns-clause-news
+returns-clause-news g c =
+    let w : Writing g.row.E.Denot = record {
+      adds = g.E.TextOut.adds;
+      failures = g.E.TextOut.failures;
+    } in
+    let taken = c.take-has_taken.new.self in
+    let stopped = c.stop.new.self in
+    let last = c.watch.new.self.console.errors in
+    let run = watched_run c.args.self.now.watches in
+    let same = ap (λ watches. watched_run watches) c.stop.ensures.watches
+    ∙ c.take-has_taken.ensures.run in
+    more_run_news w run c.args.self.now.console.errors taken.console.errors last
+    c.take-has_taken.ensures.news
+    (subst (λ r. SaysRunNews w r taken.console.errors last) same
+    (subst (λ e. SaysRunNews w (watched_run stopped.watches) e last)
+    (ap (λ k. k.errors) c.stop.ensures.console) c.watch.ensures.news))

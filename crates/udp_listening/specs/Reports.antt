@@ -1,0 +1,82 @@
+-- What is reported of a feed that was listened to.
+use Rattle.std.specs.Prelude.{◌≡◌, ℕ, Bool, List, [], ◌∷◌, flat_map, is_some, length, map, take, vec_len, if◌then◌else◌}
+use Rattle.feed_types.specs.declared.genuine.Anything.{Anything}
+use Rattle.feed_types.specs.declared.genuine.Genuine.{Ghosts as Genuine}
+use Rattle.feed_types.specs.declared.line.LineId.{LineId}
+use Rattle.live_feed.specs.Lanes.{FeedLanes}
+use Rattle.live_feed.specs.declared.run.whole.FeedReport.{FeedReport}
+use Rattle.live_feed.specs.declared.run.whole.LineReport.{LineReport}
+use Rattle.live_feed.specs.declared.run.whole.LineTask.{LineTask}
+use Rattle.live_feed.specs.settle.Settlements.{IsSettlement}
+use Rattle.live_feed.specs.subscriber.Logs.{SubscriberLogState}
+use Rattle.live_feed.specs.venue.Seats.{SeatState}
+use Rattle.run_settings.specs.declared.listen_settings.ListenSettings.{ListenSettings}
+use Rattle.udp_listening.specs.RunLines.{listened_lines}
+use Rattle.udp_listening.specs.Settings.{feed_setting}
+use Rattle.udp_listening.specs.UdpLines.{UdpLineState, is_read_out}
+use Rattle.udp_listening.specs.declared.listen_report.ListenReport.{ListenReport}
+
+-- lines that may carry anything
+abbrev pub any_lines : Genuine Anything
+any_lines = record {
+  sessions = λ _ _ _. Unit {0};
+  carries = λ _ _ _ _. Unit {0};
+  ends = λ _ _ _. Unit {0};
+}
+
+-- ---- lines, each by its venue's number
+
+-- the line of a seat
+abbrev pub seat_line : SeatState → ℕ × LineId
+seat_line seat = (seat.venue, seat.line)
+
+-- the line that is to be run
+abbrev pub task_line : LineTask UdpLineState → ℕ × LineId
+task_line task = (task.source.venue, task.line)
+
+-- the line of which this is reported
+abbrev pub reported_line : LineReport UdpLineState → ℕ × LineId
+reported_line report = (report.venue, report.line)
+
+-- the line, where it is one of these
+abbrev pub line_if : Bool → ℕ × LineId → List (ℕ × LineId)
+line_if is_one line = if is_one then line ∷ [] else []
+
+-- the lines that ended with a fault
+abbrev pub failed_lines : List (LineReport UdpLineState) → List (ℕ × LineId)
+failed_lines lines = flat_map (λ r. line_if (is_some r.fault) (reported_line r)) lines
+
+-- the lines that have read as many datagrams as they may
+abbrev pub read_out_lines : List (LineReport UdpLineState) → List (ℕ × LineId)
+read_out_lines lines = flat_map (λ r. line_if (is_read_out r.source) (reported_line r)) lines
+
+-- ---- reports
+
+-- This is told of a feed's whole life: which of its lines failed and which have read out, why it
+-- stopped early, and what was settled.
+pub record IsReportOfFeed (whole : FeedReport UdpLineState) (told : ListenReport) : Type 0 where
+  pub failed : told.failed.items ≡ failed_lines whole.lines.items
+  pub stopped : told.stopped ≡ whole.stopped
+  pub read_out : told.read_out.items ≡ read_out_lines whole.lines.items
+  pub settlement : told.settlement ≡ whole.settlement
+
+-- A feed with these lanes was run over these lines, and settled: the settlement is that of the
+-- lines' seats and of one subscriber's log, and the report is that of its whole life.
+pub record IsReportOfRun (lanes : FeedLanes) (lines : List (ℕ × LineId)) (report : ListenReport)
+    : Type 0 where
+  pub seats : List SeatState
+  pub seated : map seat_line seats ≡ lines
+  pub log : SubscriberLogState
+  pub whole : FeedReport UdpLineState
+  pub reported : map reported_line whole.lines.items ≡ lines
+  pub settled : IsSettlement any_lines lanes seats (log ∷ []) whole.settlement
+  pub tells : IsReportOfFeed whole report
+
+-- The feed of the settings, with a venue for each of their sessions, was run over so many of their
+-- lines, and settled, and the report is that of its whole life.
+pub record IsListened (settings : ListenSettings) (sockets : ℕ) (report : ListenReport)
+    : Type 0 where
+  pub lanes : FeedLanes
+  pub setting : lanes.setting ≡ feed_setting settings
+  pub venues : length lanes.venues ≡ vec_len settings.feed.sessions
+  pub run : IsReportOfRun lanes (take sockets (listened_lines settings)) report

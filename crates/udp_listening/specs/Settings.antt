@@ -1,0 +1,42 @@
+-- The settings of `nbbo listen`, as a feed and its lines take them.
+use Rattle.std.specs.Prelude.{◌≡◌, ℕ, false, Some, slice_get, if◌then◌else◌}
+use Rattle.feed_types.specs.declared.config.FeedConfig.{FeedConfig}
+use Rattle.live_feed.specs.Lanes.{FeedSetting}
+use Rattle.run_settings.specs.declared.listen_settings.ListenSettings.{ListenSettings}
+use Rattle.udp_listening.specs.UdpLines.{UdpLineState}
+
+-- the most notices of a log: as many as the journal's entries, unless they are printed as they come
+-- and forgotten
+abbrev pub most_logged : ListenSettings → ℕ
+most_logged settings = if settings.follow then 4294967295 else settings.feed.journal
+
+-- the settings as a feed takes them: a lane holds 1,024 items
+pub record IsFeedOf (settings : ListenSettings) (config : FeedConfig) : Type 0 where
+  pub sessions : config.sessions.now ≡ settings.feed.sessions.items
+  pub symbols : config.symbols.now ≡ settings.feed.symbols.items
+  pub window : config.window ≡ settings.feed.window
+  pub lane : config.lane ≡ 1024
+  pub journal : config.journal ≡ settings.feed.journal
+  pub log : config.log ≡ most_logged settings
+
+-- the setting of the feed, which keeps all changes, or as many as its subscriber may be behind
+abbrev pub feed_setting : ListenSettings → FeedSetting
+feed_setting settings = record {
+  symbols = settings.feed.symbols.items;
+  window = settings.feed.window;
+  lane = 1024;
+  journal = settings.feed.journal;
+  log = most_logged settings;
+  kept = settings.kept;
+}
+
+-- the line reads datagrams for the venue, as many as the settings say, and ends with an end of
+-- session
+-- as they say
+pub record IsSourceOf (settings : ListenSettings) (venue : ℕ) (line : UdpLineState) : Type 0 where
+  pub venue_is : line.venue ≡ venue
+  pub session : slice_get settings.feed.sessions.items venue ≡ Some line.session
+  pub rule : line.rule ≡ settings.end
+  pub left : line.left ≡ settings.datagrams
+  pub whole : line.failed ≡ false
+  pub unended : line.ended ≡ false

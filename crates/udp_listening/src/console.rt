@@ -1,0 +1,147 @@
+//! Where the program prints while a run goes on.
+ghost use Rattle.std.specs.Prelude.{◌≡◌, ◌≢◌, drop};
+ghost use Rattle.feed_types.specs.Prefix.{IsPrefix};
+ghost use Rattle.udp_listening.specs.Listening.{IsUnprinted, KeepsFollowing, log_lines};
+
+use crate::summary::put_log;
+use feed_text::{LineBuffer, TextOut, write_all};
+use live_feed::{FeedName, SubscriberLog};
+use std::sync::Wait;
+
+/// The most notices that are taken before their lines are written.
+const MOST: usize = 1_024;
+
+/// Whether lines are printed while a run goes on.
+#[derive(Clone, Copy, Debug, PartialEq, Eq)]
+pub enum LiveOutput {
+    /// They are printed as they come.
+    On,
+    /// They are printed at the end, since that was asked for, or since memory for a line was
+    /// refused.
+    Off,
+    /// The output failed, and nothing more is printed on it.
+    Failed,
+}
+
+/// Standard output and standard error, and whether lines are printed while the run goes on. What
+/// was printed of a log it has forgotten.
+#[derive(Drop)]
+pub struct Console<W, E> {
+    pub output: W,
+    pub errors: E,
+    pub live_output: LiveOutput,
+}
+
+/// Polls once, and returns whether a notice was taken. Where that is refused, a run isn't to wait
+/// for the subscriber until its lane was found empty again.
+fn has_polled<N: FeedName, R: Wait>(rt: &R, log: &mut SubscriberLog<N>) -> bool
+    ensures lines { IsPrefix log.old.lines log.new.lines }
+    ensures forgotten { log.new.forgotten ≡ log.old.forgotten }
+{
+    match log.poll_holding(rt) {
+        Ok(Some(_)) => true,
+        Ok(None) => {
+            log.begin_polls();
+            false
+        }
+        Err(_) => {
+            log.end_polls();
+            false
+        }
+    }
+}
+
+/// Takes the notices that the log's subscriber is offered, 1,024 at most, and returns whether there
+/// were any.
+fn poll_some<N: FeedName, R: Wait>(rt: &R, log: &mut SubscriberLog<N>) -> bool
+    ensures lines { IsPrefix log.old.lines log.new.lines }
+    ensures forgotten { log.new.forgotten ≡ log.old.forgotten }
+{
+    let mut has_taken = false;
+    for _ in 0..MOST {
+        if !has_polled(rt, log) {
+            break;
+        }
+        has_taken = true;
+    }
+    has_taken
+}
+
+impl<W: TextOut, E> Console<W, E> {
+    /// Where nothing was printed yet, and the output hasn't failed.
+    pub fn new(output: W, errors: E, live_output: LiveOutput) -> Console<W, E>
+        requires { live_output ≢ LiveOutput.Failed }
+        ensures console { result ≡ record {
+          output = output;
+          errors = errors;
+          live_output = live_output;
+        } }
+        ensures unprinted { IsUnprinted (record { adds = W.adds; failures = W.failures })
+            result.live_output result.output }
+    {
+        Console {
+            output,
+            errors,
+            live_output,
+        }
+    }
+
+    /// Takes what the log's subscriber is offered, 1,024 notices at most, and where lines are
+    /// printed as they come prints those of the log that aren't printed yet, and has the log forget
+    /// them. Returns whether it took anything.
+    ///
+    /// Where memory for the lines is refused they are printed at the end, with all that follow.
+    pub fn follow<N: FeedName, R: Wait>(
+        &mut self,
+        rt: &R,
+        text: &mut LineBuffer,
+        log: &mut SubscriberLog<N>,
+    ) -> bool
+        ensures log { IsPrefix log.old.lines log.new.lines }
+        ensures shows { KeepsFollowing (record { adds = W.adds; failures = W.failures })
+            log.old self.old log.new self.new }
+        ensures errors { self.new.errors ≡ self.old.errors }
+    {
+        let has_taken = poll_some(rt, log);
+        if self.live_output == LiveOutput::On {
+            self.print_rest(text, log);
+        }
+        has_taken
+    }
+
+    /// Prints the best lines of the log that aren't printed yet, and has the log forget them.
+    fn print_rest<N: FeedName>(&mut self, text: &mut LineBuffer, log: &mut SubscriberLog<N>)
+        requires { self.old.live_output ≡ LiveOutput.On }
+        ensures log { log.new.lines ≡ log.old.lines }
+        ensures shows { KeepsFollowing (record { adds = W.adds; failures = W.failures })
+            log.old self.old log.new self.new }
+        ensures errors { self.new.errors ≡ self.old.errors }
+    {
+        if log.log().is_empty() {
+            return;
+        }
+        text.clear();
+        if put_log(text, log.log()).is_err() {
+            self.live_output = LiveOutput::Off;
+            return;
+        }
+        self.write_rest(text.as_slice(), log);
+    }
+
+    /// Writes the text of the log's best lines that aren't printed yet, and has the log forget
+    /// them.
+    fn write_rest<N: FeedName>(&mut self, text: &[u8], log: &mut SubscriberLog<N>)
+        requires on { self.old.live_output ≡ LiveOutput.On }
+        requires text { text.now ≡ log_lines (drop log.old.forgotten log.old.lines) }
+        ensures log { log.new.lines ≡ log.old.lines }
+        ensures shows { KeepsFollowing (record { adds = W.adds; failures = W.failures })
+            log.old self.old log.new self.new }
+        ensures errors { self.new.errors ≡ self.old.errors }
+    {
+        let count = log.log().len();
+        match write_all(text, &mut self.output) {
+            Ok(()) => log.forget(count),
+            Err(_) => self.live_output = LiveOutput::Failed,
+        }
+    }
+}
