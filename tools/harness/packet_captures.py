@@ -113,11 +113,14 @@ def interface_block(
     return block(order, 1, struct.pack(order + 'HHI', link, 0, snap) + options)
 
 
-def packet_block(order: str, ticks: int, frame: Frame, interface: int = 0, obsolete: bool = False) -> bytes:
+def packet_block(
+    order: str, ticks: int, frame: Frame, interface: int = 0, obsolete: bool = False, options: bytes = b'',
+) -> bytes:
     """The block of a frame that came at this tick of an interface; an obsolete one says that 3 were dropped."""
     where = struct.pack(order + 'HH', interface, 3) if obsolete else struct.pack(order + 'I', interface)
     head = struct.pack(order + 'IIII', *divmod(ticks, 1 << 32), len(frame.held), frame.wire())
-    return block(order, 2 if obsolete else 6, where + head + frame.held)
+    held = frame.held + bytes(-len(frame.held) % 4)
+    return block(order, 2 if obsolete else 6, where + head + held + options)
 
 
 def simple_block(order: str, frame: Frame) -> bytes:

@@ -33,9 +33,9 @@ def copy_crate(crate: str, crates: Path) -> None:
 def built(source: Path, uses: str, words: Sequence[str] = (), place: Callable[[Path], None] | None = None) -> Path:
     """Proves and builds the program that a file NAME.program holds, and returns where it lies.
 
-    `uses` names the libraries that it uses, and `words` are some with which it has next to nothing to do, since `rt ci`
-    runs it once. `place` writes into the program's crate what the prover needs beside the source. `rt ci` finds again
-    what it has proved of the crates below.
+    `uses` names the libraries that it uses, and `words` are some with which it has next to nothing to do, since `rt run`
+    runs it once. `place` writes into the program's crate what the prover needs beside the source. `rt ci` won't do: it
+    refuses a program with a function that is handed stored closures (`hides`), as the benchmarks' are.
     """
     name, workspace = source.stem, folder_of(source.stem)
     crate = workspace / 'crates' / name
@@ -51,12 +51,11 @@ def built(source: Path, uses: str, words: Sequence[str] = (), place: Callable[[P
     lines = [*(crate_lines()[it] for it in below), f'{name}: {uses}', '']
     (workspace / 'crates.txt').write_text('\n'.join(lines))
     shutil.copy(source, crate / 'src' / 'main.rt')
-    (crate / 'args').write_text(''.join(f'{word}\n' for word in words))
     if place is not None:
         place(crate)
-    # Its status says nothing, since it compares what the program prints with a text that isn't there.
     how = {'stdin': subprocess.DEVNULL, 'stdout': subprocess.PIPE, 'stderr': subprocess.STDOUT}
-    said = subprocess.run(['rt', 'ci'], cwd=workspace, check=False, text=True, **how).stdout
-    if not re.search(rf'^rt: {name} (proved$|is kept)', said, re.M) or not program.exists():
+    command = ['rt', 'run', '--', *words]
+    said = subprocess.run(command, cwd=crate, check=False, text=True, **how).stdout
+    if not re.search(r'^logic=proved ', said, re.M) or not program.exists():
         sys.exit(f'{said}\n{name} could not be built')
     return program
