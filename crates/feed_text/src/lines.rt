@@ -205,9 +205,8 @@ fn place_item_head(room: &mut [u8], at: usize, venue: VenueId) -> usize
     place(room, at, [b' '])
 }
 
-/// Appends the line of an item that was ready. A call of its own: inlined, it would make a call of
-/// what takes an item into the sink, which costs more.
-#[inline(never)]
+/// Appends the line of an item that was ready.
+#[inline(always)]
 pub(crate) fn put_item(text: &mut LineBuffer, venue: VenueId, item: &Numbered)
     requires { 64 ≤ text.old.room }
     ensures { Puts text.old (item_line venue item.now) text.new }

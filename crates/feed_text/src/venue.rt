@@ -295,7 +295,6 @@ impl VenueReplay {
     }
 
     /// Takes a datagram of a line, and publishes its outcome and each item that is ready then.
-    #[inline(always)]
     fn take_datagram<K: EventSink>(
         &mut self,
         venue: VenueId,
