@@ -98,19 +98,21 @@ impl<G: Genuine> Arbiter<G> {
         Ok(Outcome::Taken { new, repeated })
     }
 
-    /// Takes a packet of messages, of which the last isn't sent, unless the end comes before it.
+    /// Takes a packet of messages, unless the end comes before the last of them.
     #[inline(always)]
     fn take_messages(&mut self, line: LineId, packet: &Packet<'_>) -> Result<Outcome, LineFault>
-        requires kind { packet.now.kind ≡ Kind.Messages }
-        requires unsent { IsBefore self.old.end (last_number packet.now)
-            → self.old.sent < last_number packet.now }
+        requires { packet.now.kind ≡ Kind.Messages }
         ensures { MessagesStep line self.old self.new packet.now result }
     {
         let last = packet.last_number();
         if is_past(self.end_number, last) {
             return Err(LineFault::PastEnd);
         }
-        if last.saturating_sub(self.held.base()) > u64::from(self.held.width()) {
+        let sent = self.held.base();
+        if last <= sent {
+            return Ok(self.repeat_of(packet));
+        }
+        if last - sent > u64::from(self.held.width()) {
             self.known_to = raised(self.known_to, self.end_number, last);
             return Ok(Outcome::Ahead);
         }
@@ -162,11 +164,15 @@ impl<G: Genuine> Arbiter<G> {
             && !is_past(self.end_number, packet.last_number())
     }
 
-    /// Takes a packet that isn't one of messages that were all sent.
+    /// Takes any packet, and returns its outcome.
     #[inline(always)]
-    fn take_unsent(&mut self, line: LineId, packet: &Packet<'_>) -> Result<Outcome, LineFault>
-        requires { IsSent self.old packet.now → ⊥ }
+    pub(crate) fn take_any(
+        &mut self,
+        line: LineId,
+        packet: &Packet<'_>,
+    ) -> Result<Outcome, LineFault>
         ensures step { PacketStep line self.old self.new packet.now result }
+        ensures content { IsContent packet.now }
         ensures sound { IsSound self.new }
     {
         let number = packet.number();
@@ -181,24 +187,5 @@ impl<G: Genuine> Arbiter<G> {
         // For the prover alone: what an arbiter keeps.
         let _held = &self.held;
         answer
-    }
-
-    #[inline(always)]
-    pub(crate) fn take_any(
-        &mut self,
-        line: LineId,
-        packet: &Packet<'_>,
-    ) -> Result<Outcome, LineFault>
-        ensures step { PacketStep line self.old self.new packet.now result }
-        ensures content { IsContent packet.now }
-        ensures sound { IsSound self.new }
-    {
-        // For the prover alone: the ranges of the packet, and what an arbiter keeps.
-        let _number = packet.number();
-        let _held = &self.held;
-        if self.is_sent(packet) {
-            return Ok(self.repeat_of(packet));
-        }
-        self.take_unsent(line, packet)
     }
 }
