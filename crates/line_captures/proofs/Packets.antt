@@ -22,7 +22,7 @@ use Rattle.line_captures.specs.FullCounts.{count_after}
 use Rattle.run_settings.specs.Lists.{AreOfVenues}
 use Rattle.line_captures.specs.Records.{AreOfFrame, IsOfLine}
 use Rattle.line_captures.specs.PacketFormats.{PacketState, AreTimed, ReadsPackets, IsStepOf, IsStopStep, wants_packets, is_bad_packets}
-use Rattle.line_captures.proofs.Fronts.{piece_len, few_unread}
+use Rattle.packet_capture.specs.laws.Fronts.{piece_len, few_unread}
 
 -- ---- a record
 

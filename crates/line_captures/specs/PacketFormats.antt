@@ -7,10 +7,15 @@ use Rattle.packet_capture.specs.declared.stop.Stop.TheVariants as stops
 use Rattle.packet_capture.specs.Captures.{Context, PieceContent, IsCapture, ArePieces, StopsReading, frames_in, frames_of, new_context}
 use Rattle.packet_capture.specs.Frames.{FrameContent}
 use Rattle.feed_text.specs.Capture.{CaptureRecord, record_of}
+use Rattle.feed_text.specs.declared.capture.Record.{Record}
+use Rattle.feed_text.specs.declared.capture.Record.TheVariants.{Datagram}
 use Rattle.feed_text.specs.declared.record_format.Step.{Step}
 use Rattle.feed_text.specs.declared.record_format.Step.TheVariants.{Came, Passed, Wants, Bad}
 use Rattle.feed_text.specs.Formats.{TimedRecord, Parsing, timed_record}
 use Rattle.run_settings.specs.declared.captured_line.CapturedLine.{CapturedLine}
+use Rattle.line_captures.specs.declared.piece_step.LineDatagram.{LineDatagram}
+use Rattle.line_captures.specs.declared.piece_step.PieceStep.{PieceStep}
+use Rattle.line_captures.specs.declared.piece_step.PieceStep.TheVariants as steps
 use Rattle.line_captures.specs.declared.progress.Progress.{Progress}
 use Rattle.line_captures.specs.Counts.{CountsPieces, new_progress}
 use Rattle.line_captures.specs.Records.{AreOfFrame}
@@ -85,6 +90,26 @@ pub record IsCaptureOf (lines : List CapturedLine) (bytes : List ℕ) (records :
   pub are : AreTimed lines frames records
 
 -- ---- one step. Only private clauses cite this part.
+
+-- the state with these parts
+abbrev pub packet_state : ℕ → List CapturedLine → Context → Progress → PacketState
+packet_state venues lines context progress = record {
+  lines = lines;
+  venues = venues;
+  context = context;
+  progress = progress;
+}
+
+-- the record of a datagram that came on a line
+abbrev pub record_on_line : LineDatagram → Record
+record_on_line d = Datagram d.venue d.line d.bytes
+
+-- a step as a replay takes it
+abbrev pub step_from : PieceStep → Step CaptureFault
+step_from (steps.Came len venue line bytes time) = Came (Datagram venue line bytes) time len
+step_from (steps.Passed len) = Passed len
+step_from steps.Wants = Wants
+step_from (steps.Bad fault) = Bad fault
 
 -- the step of a piece
 abbrev pub IsStepOf : List CapturedLine → PieceContent → Step CaptureFault → Type 0

@@ -15,7 +15,17 @@ fn is_zeros(address: &Address) -> bool
     }
 }
 
+/// Whether two addresses of IPv6 are the same. One is passed by value, so that a datagram's address
+/// needn't lie in memory.
+#[inline(never)]
+fn is_same_ipv6(one: &[u8; 16], other: [u8; 16]) -> bool
+    ensures { IsTrue result ↔ (one.now ≡ other) }
+{
+    *one == other
+}
+
 /// Whether two addresses are the same. Those of IPv4 are compared as numbers, which takes one step.
+#[inline(always)]
 fn are_same_address(one: &Address, other: &Address) -> bool
     ensures { IsTrue result ↔ (one.now ≡ other.now) }
 {
@@ -23,7 +33,8 @@ fn are_same_address(one: &Address, other: &Address) -> bool
         (Address::V4([a, b, c, d]), Address::V4([e, f, g, h])) => {
             u32::from_be_bytes([*a, *b, *c, *d]) == u32::from_be_bytes([*e, *f, *g, *h])
         }
-        _ => one == other,
+        (Address::V6(one), Address::V6(other)) => is_same_ipv6(one, *other),
+        _ => false,
     }
 }
 

@@ -22,6 +22,7 @@ mod drop_counts;
 mod frame_counts;
 mod laws;
 mod packet_format;
+mod piece_step;
 mod progress;
 
 pub use conversion::convert;

@@ -1,23 +1,26 @@
 //! Packet captures, of which the datagrams to some lines are records.
-ghost use Rattle.std.specs.Prelude.{◌≡◌, ℕ, [], ◌∷◌, IfNone, IfSome};
+ghost use Rattle.std.specs.Prelude.{◌≡◌, ◌<◌, ℕ, [], ◌∷◌, IfNone, IfSome, length};
 ghost use Rattle.packet_capture.specs.Captures.{piece_of};
-ghost use Rattle.packet_capture.specs.Frames.{frame_of};
+ghost use Rattle.packet_capture.specs.Datagrams.{CarriesDatagram, datagram_content};
+ghost use Rattle.packet_capture.specs.Frames.{FrameContent, frame_of};
 ghost use Rattle.feed_text.specs.Capture.{record_of};
-ghost use Rattle.feed_text.specs.Formats.{CameOf};
+ghost use Rattle.feed_text.specs.Formats.{CameOf, StepsTo};
 ghost use Rattle.line_captures.specs.Counts.{CountsFrame, CountsPieces};
 ghost use Rattle.line_captures.specs.DropCounts.{dropped_of};
 ghost use Rattle.run_settings.specs.Lists.{AreOfVenues};
 ghost use Rattle.line_captures.specs.Records.{AreOfFrame, IsOfLine};
-ghost use Rattle.line_captures.specs.PacketFormats.{IsStepOf, IsStopStep, ReadsPackets, new_packets, wants_packets, is_bad_packets, is_whole_packets};
+ghost use Rattle.line_captures.specs.PacketFormats.{IsStepOf, IsStopStep, ReadsPackets, new_packets, packet_state, record_on_line, step_from, wants_packets, is_bad_packets, is_whole_packets};
 ghost use Rattle.line_captures.specs.PacketFormatLaws.{packets_none, packets_more, packets_longer, packets_venues};
 
 use crate::captured_line::line_to;
 use crate::drop_counts::DroppedFrames;
 use crate::frame_counts::FrameCounts;
+use crate::piece_step::{LineDatagram, PieceStep};
 use crate::progress::Progress;
-use feed_text::{Record, RecordFormat, Step};
+use feed_text::{RecordFormat, Step};
 use packet_capture::{
-    CaptureFault, CaptureReader, Frame, Piece, Stop, read_as_bytes_come, read_datagram,
+    CaptureFault, CaptureReader, Datagram, Frame, Piece, Stop, read_as_bytes_come, read_datagram,
+    read_plain_datagram,
 };
 use run_settings::CapturedLine;
 use std::marker::Model;
@@ -93,35 +96,58 @@ impl<'a> PacketFormat<'a> {
     }
 }
 
-/// Returns the record of the datagram that a frame carries to a line, if it carries one, and counts
-/// the frame.
+/// Returns a datagram as one of the line that it goes to, if it goes to one, and counts its frame.
 #[inline(always)]
-fn record_in<'b>(
+fn line_datagram<'b>(
+    lines: &[CapturedLine],
+    datagram: Datagram<'b>,
+    counts: &mut FrameCounts,
+) -> Option<LineDatagram<'b>>
+    requires { length datagram.bytes.now < 65536 }
+    ensures some { (frame : FrameContent)
+        → CarriesDatagram frame.link frame.bytes (datagram_content datagram.entry)
+        → IfSome result (λ d. AreOfFrame lines.now frame (record_of (record_on_line d) ∷ [])) }
+    ensures of_line { IfSome result (λ d. IsOfLine lines.now (record_of (record_on_line d))) }
+    ensures none { (frame : FrameContent)
+        → CarriesDatagram frame.link frame.bytes (datagram_content datagram.entry)
+        → IfNone result (AreOfFrame lines.now frame []) }
+    ensures counts { (frame : FrameContent)
+        → CarriesDatagram frame.link frame.bytes (datagram_content datagram.entry)
+        → CountsFrame lines.now frame counts.old counts.new }
+{
+    match line_to(lines, &datagram) {
+        Some(line) => {
+            counts.add_to_line();
+            Some(LineDatagram {
+                venue: line.venue,
+                line: line.line,
+                bytes: datagram.bytes,
+            })
+        }
+        None => {
+            counts.add_elsewhere();
+            None
+        }
+    }
+}
+
+/// Returns the datagram that a frame of any kind carries to a line, if it carries one, and counts
+/// the frame.
+#[cold]
+#[inline(never)]
+fn any_datagram_in<'b>(
     lines: &[CapturedLine],
     frame: Frame<'b>,
     counts: &mut FrameCounts,
-) -> Option<Record<'b>>
-    ensures some { IfSome result (λ r.
-        AreOfFrame lines.now (frame_of frame.entry) (record_of r ∷ [])) }
-    ensures of_line { IfSome result (λ r. IsOfLine lines.now (record_of r)) }
+) -> Option<LineDatagram<'b>>
+    ensures some { IfSome result (λ d.
+        AreOfFrame lines.now (frame_of frame.entry) (record_of (record_on_line d) ∷ [])) }
+    ensures of_line { IfSome result (λ d. IsOfLine lines.now (record_of (record_on_line d))) }
     ensures none { IfNone result (AreOfFrame lines.now (frame_of frame.entry) []) }
     ensures counts { CountsFrame lines.now (frame_of frame.entry) counts.old counts.new }
 {
     match read_datagram(frame.link, frame.bytes) {
-        Ok(datagram) => match line_to(lines, &datagram) {
-            Some(line) => {
-                counts.add_to_line();
-                Some(Record::Datagram {
-                    venue: line.venue,
-                    line: line.line,
-                    bytes: datagram.bytes,
-                })
-            }
-            None => {
-                counts.add_elsewhere();
-                None
-            }
-        },
+        Ok(datagram) => line_datagram(lines, datagram, counts),
         Err(fault) => {
             counts.add_fault(fault);
             None
@@ -129,37 +155,110 @@ fn record_in<'b>(
     }
 }
 
+/// Returns the datagram that a frame carries to a line, if it carries one, and counts the frame.
+// Plain datagrams have a way of their own, in which the address is known to be of IPv4. What the
+// other way returns is taken apart, so that it needn't lie in memory.
+#[inline(always)]
+fn datagram_in<'b>(
+    lines: &[CapturedLine],
+    frame: Frame<'b>,
+    counts: &mut FrameCounts,
+) -> Option<LineDatagram<'b>>
+    ensures some { IfSome result (λ d.
+        AreOfFrame lines.now (frame_of frame.entry) (record_of (record_on_line d) ∷ [])) }
+    ensures of_line { IfSome result (λ d. IsOfLine lines.now (record_of (record_on_line d))) }
+    ensures none { IfNone result (AreOfFrame lines.now (frame_of frame.entry) []) }
+    ensures counts { CountsFrame lines.now (frame_of frame.entry) counts.old counts.new }
+{
+    match read_plain_datagram(frame.link, frame.bytes) {
+        Some(datagram) => line_datagram(lines, datagram, counts),
+        None => match any_datagram_in(lines, frame, counts) {
+            Some(datagram) => Some(datagram),
+            None => None,
+        },
+    }
+}
+
 /// Returns the step of a piece, and counts the piece.
 #[inline(always)]
-fn step_of<'b>(
-    lines: &[CapturedLine],
-    piece: Piece<'b>,
-    progress: &mut Progress,
-) -> Step<'b, CaptureFault>
-    ensures step { IsStepOf lines.now (piece_of piece.entry) result }
+fn step_of<'b>(lines: &[CapturedLine], piece: Piece<'b>, progress: &mut Progress) -> PieceStep<'b>
+    ensures step { IsStepOf lines.now (piece_of piece.entry) (step_from result) }
     ensures counts { CountsPieces lines.now progress.old (piece_of piece.entry ∷ []) progress.new }
-    ensures came { (venues : ℕ) → AreOfVenues venues lines.now → CameOf venues result }
+    ensures came { (venues : ℕ) → AreOfVenues venues lines.now
+        → CameOf venues (step_from result) }
 {
     let len = piece.len;
     progress.add_piece(&piece);
     let Some(frame) = piece.frame else {
-        return Step::Passed(len);
+        return PieceStep::Passed(len);
     };
     let time = frame.time;
     progress.add_time(time);
-    match record_in(lines, frame, &mut progress.counts) {
-        Some(record) => Step::Came { record, time, len },
-        None => Step::Passed(len),
+    match datagram_in(lines, frame, &mut progress.counts) {
+        Some(datagram) => PieceStep::Came {
+            len,
+            venue: datagram.venue,
+            line: datagram.line,
+            bytes: datagram.bytes,
+            time,
+        },
+        None => PieceStep::Passed(len),
     }
 }
 
 /// Returns the step where no piece is read.
-fn step_at<'b>(stop: Stop) -> Step<'b, CaptureFault>
-    ensures { IsStopStep stop result }
+fn step_at<'b>(stop: Stop) -> PieceStep<'b>
+    ensures { IsStopStep stop (step_from result) }
 {
     match stop {
-        Stop::Wants(_) => Step::Wants,
-        Stop::Bad(fault) => Step::Bad(fault),
+        Stop::Wants(_) => PieceStep::Wants,
+        Stop::Bad(fault) => PieceStep::Bad(fault),
+    }
+}
+
+/// Returns the step at the front of some bytes, whatever they are, and counts the piece, if there
+/// is one.
+#[cold]
+#[inline(never)]
+fn any_step<'b>(
+    capture: &mut CaptureReader,
+    lines: &[CapturedLine],
+    progress: &mut Progress,
+    bytes: &'b [u8],
+) -> PieceStep<'b>
+    ensures steps { (venues : ℕ) → StepsTo ReadsPackets wants_packets is_bad_packets
+        (packet_state venues lines.now capture.old progress.old) bytes.now (step_from result)
+        (packet_state venues lines.now capture.new progress.new) }
+    ensures came { (venues : ℕ) → AreOfVenues venues lines.now
+        → CameOf venues (step_from result) }
+{
+    read_as_bytes_come();
+    match capture.next_piece(bytes) {
+        Ok(piece) => step_of(lines, piece, progress),
+        Err(stop) => step_at(stop),
+    }
+}
+
+/// Returns the step at the front of some bytes, as a replay takes it, and counts the piece, if
+/// there is one. Packets have a way of their own; what the call returns is taken apart.
+#[inline(always)]
+fn front_step<'b>(
+    capture: &mut CaptureReader,
+    lines: &[CapturedLine],
+    progress: &mut Progress,
+    bytes: &'b [u8],
+) -> Step<'b, CaptureFault>
+    ensures steps { (venues : ℕ) → StepsTo ReadsPackets wants_packets is_bad_packets
+        (packet_state venues lines.now capture.old progress.old) bytes.now result
+        (packet_state venues lines.now capture.new progress.new) }
+    ensures came { (venues : ℕ) → AreOfVenues venues lines.now → CameOf venues result }
+{
+    read_as_bytes_come();
+    match capture.next_packet(bytes) {
+        Some(piece) => step_of(lines, piece, progress).into_step(),
+        None => any_step(capture, lines, progress, bytes)
+            .apart()
+            .into_step(),
     }
 }
 
@@ -186,11 +285,7 @@ impl RecordFormat for PacketFormat<'_> {
 
     #[inline(always)]
     fn next<'b>(&mut self, bytes: &'b [u8]) -> Step<'b, CaptureFault> {
-        read_as_bytes_come();
-        match self.capture.next_piece(bytes) {
-            Ok(piece) => step_of(self.lines, piece, &mut self.progress),
-            Err(stop) => step_at(stop),
-        }
+        front_step(&mut self.capture, self.lines, &mut self.progress, bytes)
     }
 
     fn may_end(&self) -> bool {

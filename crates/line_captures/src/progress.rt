@@ -50,13 +50,13 @@ impl Progress {
     pub(crate) fn add_piece(&mut self, piece: &Piece<'_>)
         ensures { self.new ≡ piece_after self.old (piece_of piece.now) }
     {
+        self.drops.add(piece.dropped);
         if let Some(frame) = &piece.frame {
             if is_empty(frame) && self.second_start.is_none() {
                 self.second_start = Some(self.position);
             }
         }
         self.position = self.position.saturating_add(piece.len as u64);
-        self.drops.add(piece.dropped);
     }
 
     /// Counts a frame where its time is before that of the frame before.

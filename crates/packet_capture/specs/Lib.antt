@@ -16,3 +16,5 @@ pub mod Stops
 pub mod Written
 pub mod WrittenFrames
 pub mod WrittenSections
+-- laws, which proofs of the crates above cite
+pub mod laws

@@ -11,7 +11,7 @@ use crate::savefile::LONGEST;
 use crate::stop::Stop;
 
 /// The number of bytes that show a block's order and length.
-const BLOCK_FRONT: usize = 12;
+pub(crate) const BLOCK_FRONT: usize = 12;
 
 /// The type of a section's header.
 pub(crate) const SECTION_HEADER: u32 = 0x0a0d_0d0a;

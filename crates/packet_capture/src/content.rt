@@ -42,6 +42,9 @@ pub(crate) enum BlockContent<'a> {
     Other,
 }
 
+/// The type of an enhanced packet's block.
+pub(crate) const ENHANCED_PACKET: u32 = 6;
+
 #[inline(always)]
 pub(crate) fn kind_of(block_type: u32) -> BlockKind
     ensures { result ≡ kind_of block_type }
@@ -51,7 +54,7 @@ pub(crate) fn kind_of(block_type: u32) -> BlockKind
         1 => BlockKind::Description,
         2 => BlockKind::Old,
         3 => BlockKind::Simple,
-        6 => BlockKind::Enhanced,
+        ENHANCED_PACKET => BlockKind::Enhanced,
         _ => BlockKind::Unread,
     }
 }
@@ -181,8 +184,8 @@ fn read_frame<'a>(
     }
     let start = frame_start(kind);
     Ok(Frame {
-        link: interface.link,
         time: time_in(kind, order, interface, block),
+        link: interface.link,
         wire_len: wire_len_in(kind, order, block),
         bytes: &block[start..start + captured],
     })

@@ -33,7 +33,7 @@ mod reader;
 mod savefile;
 mod stop;
 
-pub use datagram::{Address, Datagram, read_datagram};
+pub use datagram::{Address, Datagram, read_datagram, read_plain_datagram};
 pub use drop_report::DropReport;
 pub use fault::{CaptureFault, FrameFault};
 pub use fields::ByteOrder;

@@ -2,6 +2,7 @@
 ghost use Rattle.std.specs.Prelude.{◌≡◌, ◌+◌, ◌≤◌, ◌<◌, ◌⊎◌, Some, None, IfSome, IfNone, IfOk, IfErr, true, length, drop};
 ghost use Rattle.packet_capture.specs.declared.fault.FrameFault.TheVariants.{NotIp, ShortFrame};
 ghost use Rattle.packet_capture.specs.declared.fields.ByteOrder.TheVariants.{Big};
+ghost use Rattle.packet_capture.specs.declared.link.IpVersion.TheVariants.{V4};
 ghost use Rattle.packet_capture.specs.Fields.{u16_in};
 ghost use Rattle.packet_capture.specs.Datagrams.{HasPacket};
 ghost use Rattle.packet_capture.specs.FrameFaults.{HasLinkFault};
@@ -225,10 +226,21 @@ fn is_plain(frame: &[u8]) -> bool
     frame.len() >= 14 && read_u16(ByteOrder::Big, frame, 12) == 0x0800
 }
 
-/// The IP packet that a frame of any kind carries, with its version, or why there is none.
-#[cold]
-#[inline(never)]
-fn read_any(link: LinkType, frame: &[u8]) -> Result<(IpVersion, &[u8]), FrameFault>
+/// Returns the packet of an Ethernet frame that carries IPv4 with no tag before its EtherType.
+#[inline(always)]
+pub(crate) fn plain_packet(link: LinkType, frame: &[u8]) -> Option<&[u8]>
+    ensures found { IfSome result (λ _. HasPacket link frame.now V4) }
+    ensures packet { IfSome result (λ r. r.now ≡ packet_in link frame.now) }
+{
+    match link {
+        LinkType::Ethernet if is_plain(frame) => Some(&frame[14..]),
+        _ => None,
+    }
+}
+
+/// Returns the IP packet that a frame carries, with its version, or `ShortFrame` where the frame
+/// ends before it, or `NotIp`.
+pub(crate) fn read_link(link: LinkType, frame: &[u8]) -> Result<(IpVersion, &[u8]), FrameFault>
     ensures found { IfOk result (λ r. HasPacket link frame.now r.0) }
     ensures packet { IfOk result (λ r. r.1.now ≡ packet_in link frame.now) }
     ensures fault { IfErr result (HasLinkFault link frame.now) }
@@ -244,19 +256,5 @@ fn read_any(link: LinkType, frame: &[u8]) -> Result<(IpVersion, &[u8]), FrameFau
         LinkType::Raw => packet_after(0, by_start(frame), frame),
         LinkType::Ipv4 => packet_after(0, Some(IpVersion::V4), frame),
         LinkType::Ipv6 => packet_after(0, Some(IpVersion::V6), frame),
-    }
-}
-
-/// Returns the IP packet that a frame carries, with its version, or `ShortFrame` where the frame
-/// ends before it, or `NotIp`.
-#[inline(always)]
-pub(crate) fn read_link(link: LinkType, frame: &[u8]) -> Result<(IpVersion, &[u8]), FrameFault>
-    ensures found { IfOk result (λ r. HasPacket link frame.now r.0) }
-    ensures packet { IfOk result (λ r. r.1.now ≡ packet_in link frame.now) }
-    ensures fault { IfErr result (HasLinkFault link frame.now) }
-{
-    match link {
-        LinkType::Ethernet if is_plain(frame) => Ok((IpVersion::V4, &frame[14..])),
-        _ => read_any(link, frame),
     }
 }

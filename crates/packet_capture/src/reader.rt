@@ -5,8 +5,8 @@ ghost use Rattle.packet_capture.specs.Savefiles.{magic_at};
 ghost use Rattle.packet_capture.specs.Captures.{new_context, frame_in_piece, frame_in_event, interfaces_after, IsOneTooMany, piece_of, IsPiece, IsRecordPiece, IsHeaderPiece, IsBlockPiece, StopsReading, StopsInSection};
 ghost use Rattle.packet_capture.specs.Stops.{StopsInHeader, StopsInRecord};
 
-use crate::block::{SECTION_HEADER, read_block};
-use crate::content::{BlockContent, read_content, read_enhanced};
+use crate::block::{BLOCK_FRONT, SECTION_HEADER, read_block};
+use crate::content::{BlockContent, ENHANCED_PACKET, read_content, read_enhanced};
 use crate::drop_report::{DropReport, read_report};
 use crate::fault::CaptureFault;
 use crate::fields::{ByteOrder, read_u32};
@@ -14,6 +14,7 @@ use crate::frame::Frame;
 use crate::interface::Interface;
 use crate::savefile::{
     Magic, RECORD_HEADER, SAVEFILE_HEADER, Savefile, magic_at, read_record, read_savefile,
+    whole_record,
 };
 use crate::stop::Stop;
 use arrayvec::ArrayVec;
@@ -36,12 +37,12 @@ pub(crate) enum Format {
 /// A piece of a capture: a header, a packet record or a block.
 #[derive(Clone, Copy, Debug, PartialEq, Eq)]
 pub struct Piece<'a> {
-    /// Its length in bytes: 12 to 1,048,592, a packet record's 16 and its frame's.
-    pub len: usize,
     /// Its frame, if it has one.
     pub frame: Option<Frame<'a>>,
     /// What it says of frames that were dropped.
     pub dropped: DropReport,
+    /// Its length in bytes: 12 to 1,048,592, a packet record's 16 and its frame's.
+    pub len: usize,
 }
 
 /// Updates the interfaces after a block, and returns its frame, if it has one. Where there would be
@@ -125,9 +126,9 @@ impl CaptureReader {
                 self.format = Format::InSavefile(savefile);
                 self.interfaces.clear();
                 Ok(Piece {
-                    len: SAVEFILE_HEADER,
                     frame: None,
                     dropped: DropReport::Silent,
+                    len: SAVEFILE_HEADER,
                 })
             }
             Err(stop) => Err(stop),
@@ -135,7 +136,6 @@ impl CaptureReader {
     }
 
     /// Reads the next packet record of the savefile.
-    #[inline(always)]
     fn read_frame<'a>(&self, savefile: Savefile, bytes: &'a [u8]) -> Result<Piece<'a>, Stop>
         ensures piece { IfOk result (λ p.
             IsRecordPiece savefile self.now bytes.now (piece_of p) self.now) }
@@ -143,16 +143,29 @@ impl CaptureReader {
     {
         match read_record(savefile, bytes) {
             Ok(frame) => Ok(Piece {
-                len: RECORD_HEADER + frame.bytes.len(),
                 frame: Some(frame),
                 dropped: DropReport::Silent,
+                len: RECORD_HEADER + frame.bytes.len(),
             }),
             Err(stop) => Err(stop),
         }
     }
 
-    /// Reads the first piece of a capture.
+    /// Reads the next packet record of the savefile where it is whole and no longer than is read.
     #[inline(always)]
+    fn read_record<'a>(&self, savefile: Savefile, bytes: &'a [u8]) -> Option<Piece<'a>>
+        ensures { IfSome result (λ p.
+            IsRecordPiece savefile self.now bytes.now (piece_of p) self.now) }
+    {
+        let frame = whole_record(savefile, bytes)?;
+        Some(Piece {
+            frame: Some(frame),
+            dropped: DropReport::Silent,
+            len: RECORD_HEADER + frame.bytes.len(),
+        })
+    }
+
+    /// Reads the first piece of a capture.
     fn read_first<'a>(&mut self, bytes: &'a [u8]) -> Result<Piece<'a>, Stop>
         requires { self.old.format ≡ Format.Start }
         ensures piece { IfOk result (λ p. IsPiece self.old bytes.now (piece_of p) self.new) }
@@ -190,10 +203,46 @@ impl CaptureReader {
         ensures stop { IfErr result (StopsReading self.old bytes.now) }
         ensures kept { OnErr result (self.new ≡ self.old) }
     {
+        if let Some(piece) = self.next_packet(bytes) {
+            return Ok(piece);
+        }
         match self.format {
             Format::Start => self.read_first(bytes),
             Format::InSavefile(savefile) => self.read_frame(savefile, bytes),
-            Format::InSection(order) => self.read_section(order, bytes),
+            Format::InSection(order) => self.read_any(order, bytes),
+        }
+    }
+
+    /// Returns the piece at the front where it is a whole packet record of a savefile, or a whole
+    /// block of an enhanced packet with no fault and no option, as nearly all pieces are, and goes
+    /// past it. Of any other bytes nothing is read, and [`next_piece`](Self::next_piece) says what
+    /// they begin with.
+    ///
+    /// The numbers of the capture have their lowest byte first, as nearly all captures do, so that
+    /// the order is known where they are read.
+    #[inline(always)]
+    pub fn next_packet<'a>(&mut self, bytes: &'a [u8]) -> Option<Piece<'a>>
+        ensures piece { IfSome result (λ p. IsPiece self.old bytes.now (piece_of p) self.new) }
+        ensures kept { IfNone result (self.new ≡ self.old) }
+    {
+        match self.format {
+            Format::InSavefile(
+                Savefile {
+                    magic: Magic {
+                        order: ByteOrder::Little,
+                        nanoseconds,
+                    },
+                    link,
+                },
+            ) => {
+                let magic = Magic {
+                    order: ByteOrder::Little,
+                    nanoseconds,
+                };
+                self.read_record(Savefile { magic, link }, bytes)
+            }
+            Format::InSection(ByteOrder::Little) => self.read_packet(ByteOrder::Little, bytes),
+            _ => None,
         }
     }
 
@@ -205,6 +254,11 @@ impl CaptureReader {
             IsBlockPiece section self.old bytes.now (piece_of p) self.new) }
         ensures kept { IfNone result (self.new ≡ self.old) }
     {
+        // The type is looked at first: no section's header stands there then, so that the order of
+        // the block's numbers is known.
+        if bytes.len() < BLOCK_FRONT || read_u32(section, bytes, 0) != ENHANCED_PACKET {
+            return None;
+        }
         let Ok(block) = read_block(section, bytes) else {
             return None;
         };
@@ -212,9 +266,9 @@ impl CaptureReader {
             Some(frame) => {
                 self.format = Format::InSection(block.order);
                 Some(Piece {
-                    len: block.bytes.len(),
                     frame: Some(frame),
                     dropped: DropReport::Silent,
+                    len: block.bytes.len(),
                 })
             }
             None => None,
@@ -222,8 +276,6 @@ impl CaptureReader {
     }
 
     /// Reads the next block, of any kind, in a section of this order.
-    #[cold]
-    #[inline(never)]
     fn read_any<'a>(&mut self, section: ByteOrder, bytes: &'a [u8]) -> Result<Piece<'a>, Stop>
         ensures piece { IfOk result (λ p.
             IsBlockPiece section self.old bytes.now (piece_of p) self.new) }
@@ -242,30 +294,12 @@ impl CaptureReader {
             Ok(frame) => {
                 self.format = Format::InSection(block.order);
                 Ok(Piece {
-                    len: block.bytes.len(),
                     frame,
                     dropped: read_report(block.order, block.bytes),
+                    len: block.bytes.len(),
                 })
             }
             Err(fault) => Err(Stop::Bad(fault)),
-        }
-    }
-
-    /// Reads the next block, in a section of this order. That packets have a way of their own saves
-    /// 34 instructions a frame.
-    #[inline(always)]
-    fn read_section<'a>(&mut self, section: ByteOrder, bytes: &'a [u8]) -> Result<Piece<'a>, Stop>
-        ensures piece { IfOk result (λ p.
-            IsBlockPiece section self.old bytes.now (piece_of p) self.new) }
-        ensures stop { IfErr result (StopsInSection section self.old bytes.now) }
-        ensures kept { OnErr result (self.new ≡ self.old) }
-    {
-        if let Some(piece) = self.read_packet(section, bytes) {
-            return Ok(piece);
-        }
-        match self.read_any(section, bytes) {
-            Ok(piece) => Ok(piece),
-            Err(stop) => Err(stop),
         }
     }
 }

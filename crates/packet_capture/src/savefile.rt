@@ -1,5 +1,5 @@
 //! Savefiles, which tcpdump writes.
-ghost use Rattle.std.specs.Prelude.{◌≡◌, ◌≤◌, ◌+◌, ◌*◌, IfOk, IfErr, IsTrue, ◌↔◌, Some, length, if◌then◌else◌};
+ghost use Rattle.std.specs.Prelude.{◌≡◌, ◌≤◌, ◌+◌, ◌*◌, IfSome, IfOk, IfErr, IsTrue, ◌↔◌, Some, length, if◌then◌else◌};
 ghost use Rattle.packet_capture.specs.Savefiles.{magic_at, IsVersion, BeginsSavefile, HasOtherVersion, captured_at, record_time, IsPacketRecord};
 ghost use Rattle.packet_capture.specs.Frames.{frame_of};
 ghost use Rattle.packet_capture.specs.Stops.{StopsInHeader, StopsInRecord};
@@ -100,8 +100,44 @@ fn record_time(savefile: Savefile, bytes: &[u8]) -> u64
     seconds * 1_000_000_000 + parts * unit
 }
 
-/// Reads the frame of the packet record at the front.
+/// The frame of a packet record that ends at `end`, with all its bytes there.
 #[inline(always)]
+fn frame_up_to(savefile: Savefile, bytes: &[u8], end: usize) -> Frame<'_>
+    requires there { 16 ≤ length bytes.now }
+    requires short { captured_at savefile bytes.now ≤ 1048576 }
+    requires end { end ≡ 16 + captured_at savefile bytes.now }
+    requires whole { end ≤ length bytes.now }
+    ensures { IsPacketRecord savefile bytes.now (frame_of result) }
+{
+    Frame {
+        time: Some(record_time(savefile, bytes)),
+        link: savefile.link,
+        wire_len: read_u32(savefile.magic.order, bytes, 12),
+        bytes: &bytes[RECORD_HEADER..end],
+    }
+}
+
+/// Returns the frame of the packet record at the front, where that is whole and no longer than is
+/// read.
+#[inline(always)]
+pub(crate) fn whole_record(savefile: Savefile, bytes: &[u8]) -> Option<Frame<'_>>
+    ensures { IfSome result (λ f. IsPacketRecord savefile bytes.now (frame_of f)) }
+{
+    if bytes.len() < RECORD_HEADER {
+        return None;
+    }
+    let captured = read_u32(savefile.magic.order, bytes, 8);
+    if captured > LONGEST {
+        return None;
+    }
+    let end = RECORD_HEADER + captured as usize;
+    if bytes.len() < end {
+        return None;
+    }
+    Some(frame_up_to(savefile, bytes, end))
+}
+
+/// Reads the frame of the packet record at the front.
 pub(crate) fn read_record(savefile: Savefile, bytes: &[u8]) -> Result<Frame<'_>, Stop>
     ensures frame { IfOk result (λ f. IsPacketRecord savefile bytes.now (frame_of f)) }
     ensures stop { IfErr result (StopsInRecord savefile bytes.now) }
@@ -117,10 +153,5 @@ pub(crate) fn read_record(savefile: Savefile, bytes: &[u8]) -> Result<Frame<'_>,
     if bytes.len() < end {
         return Err(Stop::Wants(end));
     }
-    Ok(Frame {
-        link: savefile.link,
-        time: Some(record_time(savefile, bytes)),
-        wire_len: read_u32(savefile.magic.order, bytes, 12),
-        bytes: &bytes[RECORD_HEADER..end],
-    })
+    Ok(frame_up_to(savefile, bytes, end))
 }

@@ -1,6 +1,5 @@
--- What stands at the front of bytes: a piece of some bytes, of which there are as many, or less
--- than the
--- longest one.
+-- The front of some bytes: a piece has one byte at least, and no more than they have; and bytes
+-- that are less than a piece are fewer than the longest piece has.
 use Rattle.std.proofs.Common.{◌≡◌, ℕ, ◌<◌, ◌≤◌, List, length, take, ap, ◌∙◌, arith, inl, inr, length-take-le}
 use Rattle.packet_capture.specs.declared.fields.ByteOrder.{ByteOrder}
 use Rattle.packet_capture.specs.declared.fields.ByteOrder.TheVariants.{Big}
