@@ -11,5 +11,10 @@ pub mod OneTelling
 pub mod Digits
 pub mod Places
 pub mod Passing
+pub mod ToldRecords
+pub mod TakenRecords
+pub mod RecordStops
+pub mod ReadRecords
 pub mod Runs
+pub mod RunEnds
 pub mod OwnSteps

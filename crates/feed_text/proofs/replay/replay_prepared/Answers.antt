@@ -1,6 +1,6 @@
 use Rattle.std.proofs.Common.{arith}
 use Rattle.feed_text.proofs.Tales.{SinkLaws, laws_by}
-use Rattle.feed_text.proofs.Runs.{closed_by}
+use Rattle.feed_text.proofs.RunEnds.{closed_by}
 use Rattle.feed_text.proofs.replay.replay_prepared.Given.{Over}
 use Rattle.feed_text.proofs.replay.replay_prepared.Goals.{in-Ok, in-Err}
 use Rattle.feed_text.proofs.replay.replay_prepared.Goals as goal

@@ -6,7 +6,9 @@ use Rattle.feed_text.specs.Formats.{TimedRecord, timed_record}
 use Rattle.feed_text.specs.ReplayStates.{state_of_replay}
 use Rattle.feed_text.proofs.Taking.{next_taken}
 use Rattle.feed_text.proofs.Tales.{SinkLaws, laws_by}
-use Rattle.feed_text.proofs.Runs.{InLaws, ran_none, ran_step, ran_passed, ran_read, ran_shown, ran_kept, ran_by, ran_to_end, answers_bad, answers_stopped, answers_unshown}
+use Rattle.feed_text.proofs.ReadRecords.{InLaws}
+use Rattle.feed_text.proofs.Runs.{ran_none, ran_step, ran_passed, ran_read, ran_shown, ran_kept}
+use Rattle.feed_text.proofs.RunEnds.{ran_by, ran_to_end, answers_bad, answers_stopped, answers_unshown}
 use Rattle.feed_text.proofs.run.run.Given.{Over}
 use Rattle.feed_text.proofs.run.run.Goals as goal
 
