@@ -3,7 +3,7 @@
 -- OneStep.antt) puts that part back in its place. Refusals are listed in the order in which they
 -- are
 -- looked for.
-use Rattle.std.specs.Prelude.{◌≡◌, ℕ, ◌+◌, Bool, nat_le, List, [], ◌∷◌, ◌++◌, length, Option, Some, None, Result, Ok, Err, if◌then◌else◌}
+use Rattle.std.specs.Prelude.{◌≡◌, ℕ, ◌+◌, Bool, true, false, nat_le, List, [], ◌∷◌, ◌++◌, length, Option, Some, None, Result, Ok, Err, if◌then◌else◌}
 use Rattle.feed_types.specs.declared.item.Numbered.{Numbered}
 use Rattle.feed_types.specs.declared.journal.Entry.{Entry}
 use Rattle.feed_types.specs.declared.journal.Entry.TheVariants as entry
@@ -15,6 +15,8 @@ use Rattle.line_arbiter.specs.declared.faults.SkipFault.{SkipFault}
 use Rattle.line_arbiter.specs.Codes.{line_fault_code, renew_fault_code, skip_fault_code}
 use Rattle.feed_steps.specs.declared.event.Done.{Done}
 use Rattle.feed_steps.specs.declared.event.Done.TheVariants as done
+use Rattle.feed_steps.specs.declared.unsent.Unsent.{Unsent}
+use Rattle.feed_steps.specs.declared.unsent.Unsent.TheVariants.{Nothing, LaneFull}
 
 -- the machine's own refusals, by their codes
 abbrev pub journal_full : Done
@@ -107,3 +109,9 @@ renewal_done (Err fault) = done.Refused (renew_fault_code fault)
 abbrev pub skip_done : ℕ → Result (Unit {0}) SkipFault → Done
 skip_done number (Ok _) = done.Skipped number
 skip_done number (Err fault) = done.Refused (skip_fault_code fault)
+
+-- a lane refused what was pushed
+abbrev pub is_lane_full : Result ℕ Unsent → Bool
+is_lane_full (Ok number) = false
+is_lane_full (Err Nothing) = false
+is_lane_full (Err LaneFull) = true

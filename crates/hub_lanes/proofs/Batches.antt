@@ -92,7 +92,7 @@ module _ (venue : ℕ) (old : HubState) where
     one_item items position r one =
         let found = item_journaled between.journal.journal venue
         (hub_intake one.lane between.journal)
-        one.after (nat_le between.journal.journal (length between.journal.entries)) one.next
+        one.after (nat_le between.journal.journal (length between.journal.entries)) one.popped
         position
         one.comes in
         let x = found.0 in
@@ -122,7 +122,7 @@ module _ (venue : ℕ) (old : HubState) where
     no_item_more items r one =
         let found = none_journaled between.journal.journal venue
         (hub_intake one.lane between.journal)
-        one.after (nat_le between.journal.journal (length between.journal.entries)) one.next
+        one.after (nat_le between.journal.journal (length between.journal.entries)) one.popped
         one.comes in
         record {
           lane = r.lane;
@@ -167,7 +167,7 @@ module _ (venue : ℕ) (old : HubState) where
       let one = subst (λ (s : HubState). ConsumesOne venue (Ok None) s new) same later in
       let found = none_journaled old.journal.journal venue (hub_intake one.lane old.journal)
       one.after
-      (nat_le old.journal.journal (length old.journal.entries)) one.next one.comes in
+      (nat_le old.journal.journal (length old.journal.entries)) one.popped one.comes in
       room_of old.journal.journal (length old.journal.entries) found.0
 
   -- the journal was full
@@ -175,5 +175,5 @@ module _ (venue : ℕ) (old : HubState) where
       → old.journal.journal ≤ length old.journal.entries
   was_full new one =
       let found = refused_full old.journal.journal venue (hub_intake one.lane old.journal) one.after
-      (nat_le old.journal.journal (length old.journal.entries)) one.next one.comes in
+      (nat_le old.journal.journal (length old.journal.entries)) one.popped one.comes in
       full_of old.journal.journal (length old.journal.entries) found.0

@@ -322,7 +322,7 @@ module _ (venue : ℕ) (s : HubState) (r : LaneEnd Numbered)
   consume_refused JournalFull j e = record {
     lane = r;
     at = at;
-    next = None;
+    popped = None;
     after = hub_intake r s.journal;
     comes = rw (full_is s.journal.journal (length s.journal.entries) e.0) (refl, refl);
     received = sym (put_same s.receivers venue r at);
@@ -346,7 +346,7 @@ module _ (venue : ℕ) (s : HubState) (r : LaneEnd Numbered)
     consume_none same = record {
       lane = r;
       at = at;
-      next = None;
+      popped = None;
       after = hub_intake r s.journal;
       comes = rw (room_is s.journal.journal (length s.journal.entries) room) (refl, refl);
       received = ap (slice_set s.receivers venue) same;
@@ -385,7 +385,7 @@ module _ (venue : ℕ) (s : HubState) (r : LaneEnd Numbered)
           record {
             lane = r;
             at = at;
-            next = Some x;
+            popped = Some x;
             after = record {
               received = r.items ++ x ∷ [];
               entries = s.journal.entries
@@ -495,8 +495,7 @@ module _ {S : Type 0} (premise : Genuine S) (lanes : FeedLanes) (s : HubState) (
       at = from;
       terms = c.terms;
       terms_is = terms_here;
-      full = false;
-      was_full = λ t. absurd cc;
+      full = λ t. absurd cc;
       sent = l.items;
       comes = rw (wanted_next, ← none) (refl, refl);
       sent_is = sym (put_same s.senders id l from);
@@ -511,8 +510,7 @@ module _ {S : Type 0} (premise : Genuine S) (lanes : FeedLanes) (s : HubState) (
       at = from;
       terms = c.terms;
       terms_is = terms_here;
-      full = true;
-      was_full = λ t. was;
+      full = λ t. was;
       sent = l.items;
       comes = rw (wanted_next, ← here) (refl, refl);
       sent_is = ap (slice_set s.senders id) same;
@@ -528,8 +526,7 @@ module _ {S : Type 0} (premise : Genuine S) (lanes : FeedLanes) (s : HubState) (
       at = from;
       terms = c.terms;
       terms_is = terms_here;
-      full = false;
-      was_full = λ t. absurd cc;
+      full = λ t. absurd cc;
       sent = l.items ++ n ∷ [];
       comes = rw (wanted_next, ← here, is) (refl, refl);
       sent_is = ap (slice_set s.senders id) grown;

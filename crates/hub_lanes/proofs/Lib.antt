@@ -1,5 +1,4 @@
 pub mod HubMoves
-pub mod Nationals
 pub mod Sparing
 pub mod OfSessions
 pub mod Batches

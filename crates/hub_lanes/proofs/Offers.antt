@@ -13,7 +13,7 @@ use Rattle.journal_book.specs.Wanted.{wanted_of}
 use Rattle.fifo_lane.specs.Lane.{LaneEnd, HasFilled, with_items}
 use Rattle.feed_types.specs.ListLaws.{get_within}
 use Rattle.feed_steps.specs.declared.event.Done.TheVariants as done
-use Rattle.feed_steps.specs.Steps.{AppliesTo, offer_next}
+use Rattle.feed_steps.specs.Steps.{AppliesTo, is_lane_full, offer_next}
 use Rattle.feed_steps.specs.declared.unsent.Unsent.{Unsent}
 use Rattle.feed_steps.specs.declared.unsent.Unsent.TheVariants as unsent
 use Rattle.hub_lanes.specs.Hubs.{HubState}
@@ -26,26 +26,22 @@ use Rattle.feed_steps.specs.laws.Counts.{shown_sum}
 -- ---- the answer to Offer
 
 module _ (old after : List Notice) where
-  notice_sent : (full : Bool) (next : Option Notice) (number : ℕ)
-      → AppliesTo (offer_next full next old) old (done.Offered number) after
+  notice_sent : (next : Option Notice) (number : ℕ)
+      → AppliesTo (offer_next false next old) old (done.Offered number) after
       → (n : Notice) × (after ≡ old ++ n ∷ [])
-  notice_sent full None number e = absurd (let h = e.0 in cc)
-  notice_sent true (Some n) number e = absurd (let h = e.0 in cc)
-  notice_sent false (Some n) number e = (n, e.1)
+  notice_sent None number e = absurd (let h = e.0 in cc)
+  notice_sent (Some n) number e = (n, e.1)
 
-  none_wanted : (full : Bool) (next : Option Notice)
-      → AppliesTo (offer_next full next old) old done.NothingWanted after
+  none_wanted : (next : Option Notice)
+      → AppliesTo (offer_next false next old) old done.NothingWanted after
       → (next ≡ None) × (after ≡ old)
-  none_wanted full None e = (refl, e.1)
-  none_wanted true (Some n) e = absurd (let h = e.0 in cc)
-  none_wanted false (Some n) e = absurd (let h = e.0 in cc)
+  none_wanted None e = (refl, e.1)
+  none_wanted (Some n) e = absurd (let h = e.0 in cc)
 
-  lane_full : (full : Bool) (next : Option Notice)
-      → AppliesTo (offer_next full next old) old done.LaneFull after
-      → (full ≡ true) × (after ≡ old)
-  lane_full full None e = absurd (let h = e.0 in cc)
-  lane_full true (Some n) e = (refl, e.1)
-  lane_full false (Some n) e = absurd (let h = e.0 in cc)
+  none_taken : (next : Option Notice)
+      → AppliesTo (offer_next true next old) old done.LaneFull after → after ≡ old
+  none_taken None e = absurd (let h = e.0 in cc)
+  none_taken (Some n) e = e.1
 
 -- ---- what stays
 
@@ -113,7 +109,7 @@ module _ (id pushed : ℕ) (old between new : HubState)
   pub one_notice : (number more : ℕ) → HubOffersOne id (Ok number) between new
       → more ≡ shown (pushed + 1) → SendsNotices id more old new
   one_notice number more one is =
-      let found = notice_sent one.lane.items one.sent one.full
+      let found = notice_sent one.lane.items one.sent
       (slice_get (wanted_of between.journal.symbols one.terms between.journal.entries)
       (length one.lane.items)) number one.comes in
       let n = found.0 in
@@ -143,11 +139,11 @@ module _ (id pushed : ℕ) (old between new : HubState)
             (length one.lane.items)
 
         by_why : (u : Unsent)
-            → AppliesTo (offer_next one.full next one.lane.items) one.lane.items
+            → AppliesTo (offer_next (is_lane_full (Err u)) next one.lane.items) one.lane.items
             (offer_done (Err u)) one.sent
             → one.sent ≡ one.lane.items
-        by_why unsent.Nothing comes = (none_wanted one.lane.items one.sent one.full next comes).1
-        by_why unsent.LaneFull comes = (lane_full one.lane.items one.sent one.full next comes).1
+        by_why unsent.Nothing comes = (none_wanted one.lane.items one.sent next comes).1
+        by_why unsent.LaneFull comes = none_taken one.lane.items one.sent next comes
 
     pub no_notice : SendsNotices id pushed old new
     no_notice = record {
@@ -169,7 +165,7 @@ module _ (id pushed : ℕ) (why : Unsent) (old between new : HubState)
     at = one.at;
     terms = one.terms;
     terms_is = one.terms_is;
-    why = by_why why one.comes;
+    why = by_why why one.comes one.full;
   }
     where
       next : Option Notice
@@ -177,12 +173,13 @@ module _ (id pushed : ℕ) (why : Unsent) (old between new : HubState)
           (length one.lane.items)
 
       by_why : (u : Unsent)
-          → AppliesTo (offer_next one.full next one.lane.items) one.lane.items
+          → AppliesTo (offer_next (is_lane_full (Err u)) next one.lane.items) one.lane.items
           (offer_done (Err u)) one.sent
+          → (is_lane_full (Err u) ≡ true → HasFilled one.lane)
           → HasFilled one.lane ⊎ (next ≡ None)
-      by_why unsent.Nothing comes = inr (none_wanted one.lane.items one.sent one.full next comes).0
-      by_why unsent.LaneFull comes =
-          inl (one.was_full (lane_full one.lane.items one.sent one.full next comes).0)
+      by_why unsent.Nothing comes full =
+          inr (none_wanted one.lane.items one.sent next comes).0
+      by_why unsent.LaneFull comes full = inl (full refl)
 
   pub offered : Offers id pushed old new
   offered = record {

@@ -31,8 +31,7 @@ HasEntryRoom s = length s.journal.entries < s.journal.journal
 
 -- The answer to who asks for at most `most` items, by cases. It is how many were journaled: none
 -- only where none was asked for, or where there was room for one. A full journal is answered as
--- such
--- where no item was journaled, whether or not there is one; a refused call changes nothing.
+-- such where no item was journaled, whether or not there is one; a refused call changes nothing.
 abbrev pub ConsumesBatch : FeedLanes → ℕ → ℕ → Result ℕ JournalFault → HubState → HubState
     → Type 0
 ConsumesBatch lanes venue most (Ok count) old new =

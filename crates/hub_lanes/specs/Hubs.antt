@@ -67,9 +67,10 @@ pub record HubLockInvariant {S : Type 0} (premise : Genuine S) (lanes : FeedLane
   pub spare : (k : ℕ) (x : SpareLane) → slice_get s.spare k ≡ Some x
       → IsSpare lanes (length s.journal.cursors + k) x
 
--- What was done in a section under the consolidator's lock, of which a caller knows nothing else
--- than what it keeps: there are two such states, and the section leads from the one to the other.
-pub record UnderHubLock {S : Type 0} (premise : Genuine S) (lanes : FeedLanes)
+-- The section is possible: there are two states that the consolidator's lock may keep, and it leads
+-- from the one to the other. Outside of the lock nothing is known of its states, so this says which
+-- answers may come, and not that these two were the lock's own.
+pub record IsPossibleAtHub {S : Type 0} (premise : Genuine S) (lanes : FeedLanes)
     (section : HubState → HubState → Type 0) : Type 0 where
   pub old : HubState
   pub kept : HubLockInvariant premise lanes old

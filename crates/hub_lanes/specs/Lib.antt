@@ -4,6 +4,5 @@ pub mod Sections
 pub mod Batches
 pub mod Offers
 pub mod Turns
-pub mod Nationals
 -- lanes that no subscriber has yet
 pub mod Spares

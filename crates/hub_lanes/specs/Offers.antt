@@ -46,8 +46,7 @@ pub record IsPartSeen (id to : ℕ) (s : HubState) : Type 0 where
 
 -- The answer to who looks at no change past number `to` for the subscriber: how many notices were
 -- sent to it, and whether changes are left that weren't looked at. If none is, no further notice
--- can
--- be sent.
+-- can be sent.
 pub record OffersUpTo (id to pushed : ℕ) (unfinished : Bool) (old new : HubState) : Type 0 where
   pub sends : SendsNotices id pushed old new
   pub over : MatchBool unfinished (IsPartSeen id to new) (HasNoOffer id new)

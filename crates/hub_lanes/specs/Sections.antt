@@ -15,7 +15,7 @@ use Rattle.fifo_lane.specs.declared.fault.NoItem.{NoItem}
 use Rattle.fifo_lane.specs.Lane.{LaneEnd, HasFilled, with_items}
 use Rattle.feed_steps.specs.declared.event.Done.{Done}
 use Rattle.feed_steps.specs.declared.event.Done.TheVariants as done
-use Rattle.feed_steps.specs.Steps.{Intake, consume_next, offer_next, AppliesTo}
+use Rattle.feed_steps.specs.Steps.{Intake, consume_next, is_lane_full, offer_next, AppliesTo}
 use Rattle.feed_steps.specs.declared.unsent.Unsent.{Unsent}
 use Rattle.feed_steps.specs.declared.unsent.Unsent.TheVariants as unsent
 use Rattle.feed_steps.specs.Lanes.{FeedLanes}
@@ -31,16 +31,16 @@ consume_done (Ok (Some position)) = done.Consumed position
 consume_done (Ok None) = done.LaneEmpty
 consume_done (Err fault) = done.Refused (journal_fault_code fault)
 
--- Consume: the next item of the venue's lane was journaled; or none was, though there was room for
--- it; or the journal is full.
+-- Consume: the item that was popped from the venue's lane was journaled; or none was popped, though
+-- there was room for it in the journal; or the journal is full.
 pub record ConsumesOne (venue : ℕ) (answer : Result (Option ℕ) JournalFault)
     (old new : HubState) : Type 0 where
   pub lane : LaneEnd Numbered
   pub at : slice_get old.receivers venue ≡ Some lane
-  pub next : Option Numbered
+  pub popped : Option Numbered
   pub after : Intake
   pub comes : AppliesTo
-      (consume_next old.journal.journal venue next (hub_intake lane old.journal))
+      (consume_next old.journal.journal venue popped (hub_intake lane old.journal))
       (hub_intake lane old.journal) (consume_done answer) after
   pub received : new.receivers ≡ slice_set old.receivers venue (with_items lane after.received)
   pub entries : new.journal.entries ≡ after.entries
@@ -82,27 +82,24 @@ offer_done (Ok number) = done.Offered number
 offer_done (Err unsent.Nothing) = done.NothingWanted
 offer_done (Err unsent.LaneFull) = done.LaneFull
 
--- Offer: the next notice that the subscriber wants was sent to it, or was refused by its lane,
--- which
--- was sent as many as it has room for.
+-- Offer: the next notice that the subscriber wants was sent to it, if there is one; or its lane
+-- refused it, which was sent as many as it has room for.
 pub record HubOffersOne (id : ℕ) (answer : Result ℕ Unsent) (old new : HubState) : Type 0 where
   pub lane : LaneEnd Notice
   pub at : slice_get old.senders id ≡ Some lane
   pub terms : Terms
   pub terms_is : terms_at old.journal id ≡ Some terms
-  pub full : Bool
-  pub was_full : full ≡ true → HasFilled lane
+  pub full : is_lane_full answer ≡ true → HasFilled lane
   pub sent : List Notice
   pub comes : AppliesTo
-      (offer_next full
+      (offer_next (is_lane_full answer)
       (slice_get (wanted_of old.journal.symbols terms old.journal.entries) (length lane.items))
       lane.items)
       lane.items (offer_done answer) sent
   pub sent_is : new.senders ≡ slice_set old.senders id (with_items lane sent)
 
 -- No change up to number `to` that wasn't looked at for the subscriber is wanted by it; its cursor
--- is
--- past these, and there are more. Nothing else has changed.
+-- is past these, and there are more. Nothing else has changed.
 pub record LooksOn (id to : ℕ) (old new : HubState) : Type 0 where
   pub most : ℕ
   pub passes : PassesUnwanted old.journal id most new.journal

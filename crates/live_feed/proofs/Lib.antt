@@ -1,4 +1,4 @@
-pub mod HubSections
+pub mod PossibleSections
 pub mod FeedMoves
 pub mod ClosedLanes
 pub mod ClosedSubscribers

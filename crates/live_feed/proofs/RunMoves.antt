@@ -14,15 +14,15 @@ use Rattle.live_feed.specs.declared.subscriber.logged.PollFault.TheVariants.{NoM
 use Rattle.line_arbiter.specs.Counts.{shown}
 use Rattle.feed_steps.specs.Lanes.{FeedLanes}
 use Rattle.venue_lines.specs.Seats.{SeatState}
-use Rattle.venue_lines.specs.Datagrams.{AreGenuineBytes, IsTakenBy}
+use Rattle.venue_lines.specs.Datagrams.{AreGenuineBytes, TakesDatagram}
 use Rattle.live_feed.specs.subscriber.Logs.{SubscriberLogState, Polls, logged}
-use Rattle.live_feed.specs.run.Runs.{failures_after, Taking, AreTakenBy, HasTaken, LineHasEnded, HasPolled, Pairwise}
+use Rattle.live_feed.specs.run.Runs.{failures_after, Taking, TakesDatagrams, HasTaken, LineHasEnded, HasPolled, Pairwise}
 use Rattle.feed_steps.specs.laws.Counts.{shown_sum}
 
 -- a datagram leaves a seat where it is
 pub seat_stays : {S : Type 0} (premise : Genuine S) (lanes : FeedLanes)
     (bytes : List ℕ) (old : SeatState) (answer : Result Outcome TakeFault) (new : SeatState)
-    → IsTakenBy premise lanes bytes old answer new
+    → TakesDatagram premise lanes bytes old answer new
     → (new.venue ≡ old.venue) × (new.line ≡ old.line)
 seat_stays premise lanes bytes old (Err (faults.Packet fault)) new taken =
     (ap (λ s. s.venue) taken.1, ap (λ s. s.line) taken.1)
@@ -37,11 +37,11 @@ taken_itself premise lanes s = record { takings = []; bytes = refl; taken = refl
 
 taking_more : {S : Type 0} (premise : Genuine S) (lanes : FeedLanes)
     (takings : List Taking) (first old : SeatState) (t : Taking)
-    → AreTakenBy premise lanes first takings old
-    → IsTakenBy premise lanes t.bytes old t.answer t.seat
-    → AreTakenBy premise lanes first (takings ++ t ∷ []) t.seat
+    → TakesDatagrams premise lanes first takings old
+    → TakesDatagram premise lanes t.bytes old t.answer t.seat
+    → TakesDatagrams premise lanes first (takings ++ t ∷ []) t.seat
 taking_more premise lanes [] first old t same one =
-    let P : SeatState → Type 0 = λ s. IsTakenBy premise lanes t.bytes s t.answer t.seat
+    let P : SeatState → Type 0 = λ s. TakesDatagram premise lanes t.bytes s t.answer t.seat
     in (subst P same one, refl)
 taking_more premise lanes (u ∷ more) first old t all one =
     (all.0, taking_more premise lanes more u.seat old t all.1 one)
@@ -51,7 +51,7 @@ pub taken_more : {S : Type 0} (premise : Genuine S) (lanes : FeedLanes)
     (brought : List (List ℕ)) (bytes : List ℕ) (answer : Result Outcome TakeFault)
     (first old new : SeatState)
     → HasTaken premise lanes first brought old
-    → IsTakenBy premise lanes bytes old answer new
+    → TakesDatagram premise lanes bytes old answer new
     → HasTaken premise lanes first (brought ++ bytes ∷ []) new
 taken_more premise lanes brought bytes answer first old new so_far one =
     let t : Taking = record { bytes = bytes; answer = answer; seat = new } in record {

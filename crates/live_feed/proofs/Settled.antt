@@ -14,7 +14,7 @@ use Rattle.venue_lines.specs.Seats.{SeatState}
 use Rattle.venue_lines.specs.Brought.{Brought, counts_of}
 use Rattle.feed_types.specs.declared.per_line.PerLine.{PerLine}
 use Rattle.live_feed.specs.subscriber.Logs.{SubscriberLogState}
-use Rattle.live_feed.specs.settle.Settlements.{AllAgree, AreInOrder, IsClosedVenue, IsSettled, IsSettlement, SettlementState, ShowsSubscriber, SubscriberEndState, ShowsVenue, VenueEndState, brought_by_seats}
+use Rattle.live_feed.specs.settle.Settlements.{AllAgree, AreInOrder, IsClosedVenue, IsSettled, IsSettlement, SettlementState, ShowsSubscriber, SubscriberEndState, ShowsVenue, VenueEndState, brought_of_seats}
 use Rattle.live_feed.specs.settle.Closings.{IsClosedFeed}
 use Rattle.feed_steps.specs.laws.Lists.{found_within}
 use Rattle.live_feed.proofs.Sides.{zipped_at}
@@ -44,10 +44,10 @@ module _ {S : Type 0} (premise : Genuine S) (lanes : FeedLanes) (seats : List Se
         consumed = closed.consumed
             ∙ ap (items_in (kept_of s.journal.kept s.journal.entries)) same.venue_is;
         wins = λ line. ap (on_line line) closed.wins ∙ (same.on line).wins
-            ∙ (λ i. (counts_of (brought_by_seats (same.venue_is i) line seats)).wins);
+            ∙ (λ i. (counts_of (brought_of_seats (same.venue_is i) line seats)).wins);
         accepted = λ line. ap (λ (x : PerLine Brought). (counts_of (on_line line x)).accepted)
             closed.brought ∙ (same.on line).accepted
-            ∙ (λ i. (counts_of (brought_by_seats (same.venue_is i) line seats)).accepted);
+            ∙ (λ i. (counts_of (brought_of_seats (same.venue_is i) line seats)).accepted);
       }
 
   pub settlement : length cells ≡ hub.journal.venues → length logs ≡ length hub.journal.cursors

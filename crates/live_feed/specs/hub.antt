@@ -4,4 +4,3 @@ pub use Rattle.hub_lanes.specs.Sections
 pub use Rattle.hub_lanes.specs.Batches
 pub use Rattle.hub_lanes.specs.Offers
 pub use Rattle.hub_lanes.specs.Turns
-pub use Rattle.hub_lanes.specs.Nationals

@@ -12,15 +12,18 @@
 //! `specs/subscriber/Logs.antt`, and at `feed/open_feed.rt` for the code.
 //!
 //! A [`LiveFeed`] has all lanes of a feed, to which nothing came yet (`specs/feed/Feeds.antt`). An
-//! [`OpenFeed`] has them under its locks; each call takes one of these. Of what a call did under
-//! the consolidator's lock, or a flush under a venue's, its clauses say which section led from one
-//! state that the lock keeps to another (`UnderHubLock`, `UnderVenueLock`). Once all threads have
-//! returned, `OpenFeed::settle` closes all lanes and returns a [`Settlement`]: per venue, what was
-//! consumed, is in the lane and is ready are the sessions' streams; per subscriber, its log, what
-//! is queued and what wasn't offered are what it wants (`specs/settle/Settlements.antt`).
-//! `settle/venue_lane.rt` closes a venue's lane, `settle/subscriber_lane.rt` a subscriber's,
-//! `settle.rt` all. `run.rt` runs a feed by threads: a [`Line`] brings what its
-//! [`LineSource`] returns (`specs/run/Runs.antt`), and a [`StopHandle`] ends the run.
+//! [`OpenFeed`] has them under its locks; each call takes one of these. Outside of a lock nothing
+//! is known of its states, so a call's clauses say which answers are possible (`IsPossibleAtHub`,
+//! `IsPossibleAtVenue`). What is done to the lock's own state the clauses of the sections say that
+//! it calls, those of [`JournalAndLanes`] and [`VenueCell`].
+//!
+//! Once all threads have returned, `OpenFeed::settle` closes all lanes and returns a
+//! [`Settlement`]: per venue, what was consumed, is in the lane and is ready are the sessions'
+//! streams; per subscriber, its log, what is queued and what wasn't offered are what it wants
+//! (`specs/settle/Settlements.antt`). `settle/venue_lane.rt` closes a venue's lane,
+//! `settle/subscriber_lane.rt` a subscriber's, `settle.rt` all. `run.rt` runs a feed by threads: a
+//! [`Line`] brings what its [`LineSource`] returns (`specs/run/Runs.antt`), and a [`StopHandle`]
+//! ends the run.
 #![tactic(auto)]
 
 mod feed;

@@ -34,12 +34,12 @@ use feed_steps::{Bells, FeedName};
 use feed_types::Genuine;
 use std::alloc::Global;
 use std::sync::{Arc, Mutex, Wait};
-use venue_lines::{Guarded, LineSeat, VenueLock, VenueLocks};
+use venue_lines::{LineSeat, LockedVenue, VenueLock, VenueLocks};
 
 /// A feed out of its locks, and an empty list with room for the venues' locks.
 #[derive(Drop)]
 struct Unlocked<G: Genuine, N: FeedName> {
-    venues: Vec<Guarded<G, N>>,
+    venues: Vec<LockedVenue<G, N>>,
     hub: HubCell<G, N>,
     locks: Vec<VenueLock<G, N>>,
     bells: Arc<Bells, Global>,
@@ -114,8 +114,8 @@ fn first_missing<G: Genuine, N: FeedName, W: Wait>(
     subscribers: &[Subscriber<N>],
 ) -> Option<SettleFault> {
     for lock in feed.venues.as_slice() {
-        let guarded = lock.lock(rt);
-        if !has_its_seats(&guarded, seats) {
+        let locked = lock.lock(rt);
+        if !has_its_seats(&locked, seats) {
             return Some(SettleFault::SeatsMissing);
         }
     }
@@ -185,10 +185,10 @@ fn close_lanes<G: Genuine, N: FeedName, W: Wait>(
         receivers,
         room.venues,
         room.venue_ends,
-        &|guarded, receiver, room| -> VenueEnd
-            requires { IsToClose G.Genuine N.lanes journal guarded.cell receiver room }
-            ensures { IsClosedVenue G.Genuine N.lanes journal guarded.cell result }
-        { settle_venue(rt, &journal, guarded.cell, receiver, room) },
+        &|locked, receiver, room| -> VenueEnd
+            requires { IsToClose G.Genuine N.lanes journal locked.cell receiver room }
+            ensures { IsClosedVenue G.Genuine N.lanes journal locked.cell result }
+        { settle_venue(rt, &journal, locked.cell, receiver, room) },
     );
     let subscriber_ends = made_of_three(
         subscribers,

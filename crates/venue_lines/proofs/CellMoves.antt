@@ -39,7 +39,7 @@ use Rattle.feed_types.specs.PerLines.{on_line, with_line}
 use Rattle.venue_lines.specs.declared.accepted_packet.AcceptedPacket.{AcceptedPacket}
 use Rattle.venue_lines.specs.declared.faults.TakeFault.{TakeFault}
 use Rattle.venue_lines.specs.Brought.{Brought, accepted_as, accepted_in, accepted_on, brought_after, nothing_brought, refused_on_line, with_answer, with_packet}
-use Rattle.venue_lines.specs.Cells.{CellState, CellFitsHistory, AreGivenFrom, VenueLockInvariant, DoneAtVenue, IsOthersLock, UnderVenueLock, arrivals_of, new_cell}
+use Rattle.venue_lines.specs.Cells.{CellState, CellFitsHistory, AreGivenFrom, VenueLockInvariant, IsPossibleCall, MayMeetAnother, IsPossibleAtVenue, arrivals_of, new_cell}
 use Rattle.venue_lines.specs.Sections.{TakesPacket, HasNoneReady, KeepsButSent, Pushes, TakesAndPushes, PushesOne, RenewsSession, SkipsGap, GoesOnFrom, PushesAndSkips}
 use Rattle.feed_steps.specs.declared.event.Done.TheVariants as done
 use Rattle.feed_steps.specs.Steps.{AppliesTo, push_next}
@@ -334,8 +334,7 @@ module _ (c : CellState) (h : History) (f : CellFitsHistory c h) where
       → new.lane ≡ with_items c.lane (c.lane.items ++ x ∷ []) → CellFitsHistory new h
       → PushesOne (Ok number) h c new
   pushes new x number e is lane fits = record {
-    full = false;
-    was_full = λ t. absurd cc;
+    full = λ t. absurd cc;
     comes = rw (next_of_cell, ← e, is) (refl, ap (λ (e : LaneEnd Numbered). e.items) lane);
     fits = fits;
   }
@@ -343,8 +342,7 @@ module _ (c : CellState) (h : History) (f : CellFitsHistory c h) where
   pub push_nothing : None ≡ slice_get (stream_of h.present.packets) place
       → PushesOne (Err unsent.Nothing) h c c
   push_nothing e = record {
-    full = false;
-    was_full = λ t. absurd cc;
+    full = λ t. absurd cc;
     comes = rw (next_of_cell, ← e) (refl, refl);
     fits = f;
   }
@@ -353,8 +351,7 @@ module _ (c : CellState) (h : History) (f : CellFitsHistory c h) where
       → Some x ≡ slice_get (stream_of h.present.packets) place → HasFilled c.lane
       → PushesOne (Err unsent.LaneFull) h c c
   push_full x e was = record {
-    full = true;
-    was_full = λ t. was;
+    full = λ t. was;
     comes = rw (next_of_cell, ← e) (refl, refl);
     fits = f;
   }
@@ -764,7 +761,7 @@ pub skips_at : {S : Type 0} (premise : Genuine S) (lanes : FeedLanes)
     → ((h : History) → CellFitsHistory before h → SkipsGap number answer h before between)
     → OnOk answer (GoesOnFrom number before between) → OnErr answer (between ≡ before)
     → Pushes (2 ^ 64 - 1) pushed between new → VenueLockInvariant premise lanes new
-    → UnderVenueLock premise lanes venue (PushesAndSkips number answer)
+    → IsPossibleAtVenue premise lanes venue (PushesAndSkips number answer)
 skips_at premise lanes venue number first pushed answer old before between new kept is
     sends ready skips on refused
     pushes keeps = record {
@@ -790,17 +787,10 @@ skips_at premise lanes venue number first pushed answer old before between new k
 
 -- ---- Push, again and again
 
-none_ready : (sent after : List Numbered) (full : Bool) (next : Option Numbered)
-    → AppliesTo (push_next full next sent) sent done.NothingReady after → next ≡ None
-none_ready sent after full None e = refl
-none_ready sent after true (Some x) e = absurd (let h = e.0 in cc)
-none_ready sent after false (Some x) e = absurd (let h = e.0 in cc)
-
-was_refused : (sent after : List Numbered) (full : Bool) (next : Option Numbered)
-    → AppliesTo (push_next full next sent) sent done.LaneFull after → full ≡ true
-was_refused sent after full None e = absurd (let h = e.0 in cc)
-was_refused sent after true (Some x) e = refl
-was_refused sent after false (Some x) e = absurd (let h = e.0 in cc)
+none_ready : (sent after : List Numbered) (next : Option Numbered)
+    → AppliesTo (push_next false next sent) sent done.NothingReady after → next ≡ None
+none_ready sent after None e = refl
+none_ready sent after (Some x) e = absurd (let h = e.0 in cc)
 
 -- Pushes of a section so far.
 pub record PushesSoFar (pushed : ℕ) (old new : CellState) : Type 0 where
@@ -859,13 +849,9 @@ module _ (pushed : ℕ) (old between new : CellState) (r : PushesSoFar pushed ol
       by_why : (u : Unsent)
           → ((h : History) → CellFitsHistory between h → PushesOne (Err u) h between new)
           → HasFilled between.lane ⊎ HasNoneReady between
-      by_why unsent.Nothing all = inr (λ h f. none_ready between.lane.items
-          new.lane.items (all h f).full
+      by_why unsent.Nothing all = inr (λ h f. none_ready between.lane.items new.lane.items
           (slice_get (streams_of h) (length between.lane.items)) (all h f).comes)
-      by_why unsent.LaneFull all =
-          let p = all k.history fits in
-          inl (p.was_full (was_refused between.lane.items new.lane.items p.full
-          (slice_get (streams_of k.history) (length between.lane.items)) p.comes))
+      by_why unsent.LaneFull all = inl ((all k.history fits).full refl)
 
 -- ---- a section under a venue's lock
 
@@ -874,7 +860,7 @@ module _ {S : Type 0} (premise : Genuine S) (lanes : FeedLanes) (venue : ℕ)
   -- what was done under it
   pub at_venue : (old new : CellState) → VenueLockInvariant premise lanes old
       → old.arbiter.venue ≡ venue → VenueLockInvariant premise lanes new → section old new
-      → DoneAtVenue premise lanes venue section answer
+      → IsPossibleCall premise lanes venue section answer
   at_venue old new kept is keeps leads =
       inl (record {
         old = old;
@@ -888,13 +874,14 @@ module _ {S : Type 0} (premise : Genuine S) (lanes : FeedLanes) (venue : ℕ)
 
   -- it was another venue's
   pub at_another : (cell : CellState) → VenueLockInvariant premise lanes cell
-      → cell.arbiter.venue ≢ venue → answer → DoneAtVenue premise lanes venue section answer
+      → cell.arbiter.venue ≢ venue → answer → IsPossibleCall premise lanes venue section answer
   at_another cell kept other is =
       inr (inr (record { cell = cell; kept = kept; other = other }), is)
 
   -- there is such a venue
-  pub at_one : DoneAtVenue premise lanes venue section answer → venue < length lanes.venues
-      → UnderVenueLock premise lanes venue section ⊎ (IsOthersLock premise lanes venue × answer)
+  pub at_one : IsPossibleCall premise lanes venue section answer → venue < length lanes.venues
+      → IsPossibleAtVenue premise lanes venue section
+      ⊎ (MayMeetAnother premise lanes venue × answer)
   at_one (inl done) below = inl done
   at_one (inr ((inl past), is)) below = absurd (omega arith)
   at_one (inr ((inr other), is)) below = inr (other, is)

@@ -10,7 +10,7 @@ use Rattle.venue_lines.specs.Codes.{take_fault_code}
 use Rattle.venue_lines.specs.declared.faults.TakeFault.{TakeFault}
 use Rattle.venue_lines.specs.declared.faults.TakeFault.TheVariants.{Packet, Line}
 use Rattle.venue_lines.specs.declared.line_counts.LineCounts.{LineCounts}
-use Rattle.venue_lines.specs.Brought.{Brought, brought_by_both, count_of_code, counted_codes, counts_of, is_of_end, is_of_heartbeat, is_of_messages, is_past_window, new_in, repeats_in, with_refusal}
+use Rattle.venue_lines.specs.Brought.{Brought, brought_together, count_of_code, counted_codes, counts_of, is_of_end, is_of_heartbeat, is_of_messages, is_past_window, new_in, repeats_in, with_refusal}
 use Rattle.venue_lines.specs.declared.accepted_packet.AcceptedPacket.{AcceptedPacket}
 use Rattle.line_arbiter.specs.declared.outcome.Outcome.{Outcome}
 
@@ -97,7 +97,7 @@ abbrev number_of : (Outcome → Bool) → AcceptedPacket → ℕ
 number_of kind x = if kind x.outcome then x.number else 0
 
 pub both_counted : (s t : LineCounts) (b c : Brought) → s ≡ counts_of b → t ≡ counts_of c
-    → together s t ≡ counts_of (brought_by_both b c)
+    → together s t ≡ counts_of (brought_together b c)
 both_counted s t b c is are =
     (λ i. together (is i) (are i))
     ∙ (λ i. record {

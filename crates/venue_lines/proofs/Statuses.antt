@@ -9,7 +9,7 @@ use Rattle.feed_types.specs.declared.genuine.Genuine.{Ghosts as Genuine}
 use Rattle.feed_steps.specs.Lanes.{FeedLanes}
 use Rattle.venue_lines.specs.declared.status.VenueStatus.{VenueStatus}
 use Rattle.venue_lines.specs.Cells.{CellState, CellFitsHistory, VenueLockInvariant}
-use Rattle.venue_lines.specs.Statuses.{ShowsHistory, ShowsUnderLock}
+use Rattle.venue_lines.specs.Statuses.{ShowsHistory, ShowsSomeCell}
 
 -- what holds of each line holds of all
 pub on_each : (R : LineId → Type 0) → R A → R B → R Recovery → (line : LineId) → R line
@@ -18,14 +18,14 @@ on_each R a b recovery B = b
 on_each R a b recovery Recovery = recovery
 
 -- what was read of a cell that a venue's lock kept
-pub shows_under_lock : {S : Type 0} (premise : Genuine S)
+pub shows_some_cell : {S : Type 0} (premise : Genuine S)
     (lanes : FeedLanes) (venue : ℕ) (cell : CellState) (status : VenueStatus)
     → VenueLockInvariant premise lanes cell → cell.arbiter.venue ≡ venue
     → status.cursors.sent ≡ cell.arbiter.sent
     → ((h : History) → CellFitsHistory cell h
     → ShowsHistory cell.arbiter.window h cell.brought status)
-    → ShowsUnderLock premise lanes venue status
-shows_under_lock premise lanes venue cell status kept is sent shows = record {
+    → ShowsSomeCell premise lanes venue status
+shows_some_cell premise lanes venue cell status kept is sent shows = record {
   cell = cell;
   kept = kept;
   venue_is = is;

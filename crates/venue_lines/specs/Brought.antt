@@ -46,8 +46,8 @@ abbrev pub with_refusal : TakeFault → Brought → Brought
 with_refusal fault b = record b { refused = b.refused ++ fault ∷ [] }
 
 -- what the one brought, and then the other
-abbrev pub brought_by_both : Brought → Brought → Brought
-brought_by_both b c = record {
+abbrev pub brought_together : Brought → Brought → Brought
+brought_together b c = record {
   accepted = b.accepted ++ c.accepted;
   refused = b.refused ++ c.refused;
 }

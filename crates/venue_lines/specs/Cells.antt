@@ -103,9 +103,10 @@ pub record SkipsPast {S : Type 0} (premise : Genuine S) (lanes : FeedLanes) (ven
   pub given_up : Contains kept.history.present.packets (Skip number)
   pub past : length session.items + 1 < number
 
--- What was done in a section under the venue's lock, of which a caller knows nothing else than what
--- it keeps: there are two such cells of the venue, and the section leads from the one to the other.
-pub record UnderVenueLock {S : Type 0} (premise : Genuine S)
+-- The section is possible: there are two cells of the venue that its lock may keep, and it leads
+-- from the one to the other. Outside of the lock nothing is known of its cell, so this says which
+-- answers may come, and not that these two were the lock's own.
+pub record IsPossibleAtVenue {S : Type 0} (premise : Genuine S)
     (lanes : FeedLanes) (venue : ℕ) (section : CellState → CellState → Type 0) : Type 0 where
   pub old : CellState
   pub kept : VenueLockInvariant premise lanes old
@@ -114,20 +115,21 @@ pub record UnderVenueLock {S : Type 0} (premise : Genuine S)
   pub keeps : VenueLockInvariant premise lanes new
   pub leads : section old new
 
--- The lock was another venue's, which no run meets.
-pub record IsOthersLock {S : Type 0} (premise : Genuine S)
+-- The call may have met another venue's lock, though no run does: there is a cell of such a venue.
+pub record MayMeetAnother {S : Type 0} (premise : Genuine S)
     (lanes : FeedLanes) (venue : ℕ) : Type 0 where
   pub cell : CellState
   pub kept : VenueLockInvariant premise lanes cell
   pub other : cell.arbiter.venue ≢ venue
 
--- The call met no lock of this venue: the feed has no such venue, or the lock was another's.
-abbrev pub MeetsNoLock : {S : Type 0} → Genuine S → FeedLanes → ℕ → Type 0
-MeetsNoLock premise lanes venue =
-    (length lanes.venues ≤ venue) ⊎ IsOthersLock premise lanes venue
+-- The call may have met no lock of this venue: the feed has no such venue, or has another one.
+abbrev pub MayMeetNoLock : {S : Type 0} → Genuine S → FeedLanes → ℕ → Type 0
+MayMeetNoLock premise lanes venue =
+    (length lanes.venues ≤ venue) ⊎ MayMeetAnother premise lanes venue
 
--- The section was done under the venue's lock; or the call met none, and the answer is this.
-abbrev pub DoneAtVenue : {S : Type 0} → Genuine S → FeedLanes → ℕ
+-- The section is possible at the venue; or the call may have met no lock of it, and the answer is
+-- this.
+abbrev pub IsPossibleCall : {S : Type 0} → Genuine S → FeedLanes → ℕ
     → (CellState → CellState → Type 0) → Type 0 → Type 0
-DoneAtVenue premise lanes venue section answer =
-    UnderVenueLock premise lanes venue section ⊎ (MeetsNoLock premise lanes venue × answer)
+IsPossibleCall premise lanes venue section answer =
+    IsPossibleAtVenue premise lanes venue section ⊎ (MayMeetNoLock premise lanes venue × answer)

@@ -13,7 +13,7 @@ use Rattle.venue_lines.specs.declared.datagram.Datagram.{Datagram}
 use Rattle.venue_lines.specs.declared.faults.TakeFault.{TakeFault}
 use Rattle.venue_lines.specs.declared.faults.TakeFault.TheVariants as faults
 use Rattle.feed_steps.specs.Lanes.{FeedLanes}
-use Rattle.venue_lines.specs.Cells.{DoneAtVenue, SkipsPast}
+use Rattle.venue_lines.specs.Cells.{IsPossibleCall, SkipsPast}
 use Rattle.venue_lines.specs.Seats.{SeatState, seat_after, seat_refusing}
 use Rattle.venue_lines.specs.Sections.{PushesReady, TakesAndPushesReady}
 
@@ -30,7 +30,7 @@ AreGenuineBytes premise venue bytes =
 abbrev pub IsAnsweredAt : {S : Type 0} → Genuine S → FeedLanes → SeatState → Content
     → Result Outcome LineFault → Type 0
 IsAnsweredAt premise lanes seat p answer =
-    DoneAtVenue premise lanes seat.venue
+    IsPossibleCall premise lanes seat.venue
     (TakesAndPushesReady seat.line p answer) (answer ≡ Err OtherSession)
 
 -- The bytes are a packet, to which this is the venue's answer; the seat counts it where it is
@@ -46,15 +46,15 @@ pub record IsPacketTaken {S : Type 0} (premise : Genuine S) (lanes : FeedLanes) 
 -- The answer to a datagram, and the seat then: the packet's fault exactly; or it is a packet, and
 -- the answer is the venue's. What is ready then is pushed in each case. What is refused is counted
 -- as such, and changes nothing else.
-abbrev pub IsTakenBy : {S : Type 0} → Genuine S → FeedLanes → List ℕ → SeatState
+abbrev pub TakesDatagram : {S : Type 0} → Genuine S → FeedLanes → List ℕ → SeatState
     → Result Outcome TakeFault → SeatState → Type 0
-IsTakenBy premise lanes bytes old (Err (faults.Packet fault)) new =
+TakesDatagram premise lanes bytes old (Err (faults.Packet fault)) new =
     HasFault bytes fault × (new ≡ seat_refusing (faults.Packet fault) old)
     × PushesReady premise lanes old.venue
-IsTakenBy premise lanes bytes old (Err (faults.Line fault)) new =
+TakesDatagram premise lanes bytes old (Err (faults.Line fault)) new =
     IsPacketTaken premise lanes bytes old (Err fault) old
     × (new ≡ seat_refusing (faults.Line fault) old)
-IsTakenBy premise lanes bytes old (Ok outcome) new =
+TakesDatagram premise lanes bytes old (Ok outcome) new =
     IsPacketTaken premise lanes bytes old (Ok outcome) new
 
 -- Whatever packet the bytes are: where the lines bring exactly these sessions, a packet of one of

@@ -21,7 +21,7 @@ use Rattle.fifo_lane.specs.Lane.{HasFilled, with_items}
 use Rattle.feed_steps.specs.declared.event.Done.{Done}
 use Rattle.feed_steps.specs.declared.event.Done.TheVariants as done
 use Rattle.line_arbiter.specs.Additions.{AddsArrival, AddsRenewal, AddsSkip}
-use Rattle.feed_steps.specs.Steps.{push_next, AppliesTo}
+use Rattle.feed_steps.specs.Steps.{push_next, is_lane_full, AppliesTo}
 use Rattle.feed_types.specs.declared.genuine.Genuine.{Ghosts as Genuine}
 use Rattle.feed_steps.specs.Premises.{BringExactly}
 use Rattle.venue_lines.specs.declared.faults.FeedFault.{FeedFault}
@@ -33,7 +33,7 @@ use Rattle.venue_lines.specs.declared.faults.GapFault.TheVariants as gaps
 use Rattle.feed_steps.specs.declared.unsent.Unsent.{Unsent}
 use Rattle.feed_steps.specs.declared.unsent.Unsent.TheVariants as unsent
 use Rattle.feed_steps.specs.Lanes.{FeedLanes}
-use Rattle.venue_lines.specs.Cells.{DoneAtVenue, CellState, CellFitsHistory, IsOthersLock, SkipsPast, UnderVenueLock, new_pace}
+use Rattle.venue_lines.specs.Cells.{IsPossibleCall, CellState, CellFitsHistory, MayMeetAnother, SkipsPast, IsPossibleAtVenue, new_pace}
 
 -- Packet: the venue's history has grown by the packet, and the cell represents it.
 pub record TakesPacket (line : LineId) (p : Content) (answer : Result Outcome LineFault)
@@ -63,15 +63,14 @@ push_done (Ok number) = done.Pushed number
 push_done (Err unsent.Nothing) = done.NothingReady
 push_done (Err unsent.LaneFull) = done.LaneFull
 
--- Push: the next item of the venue's streams was sent, or was refused by the lane, which was sent
--- as
--- many items as it has room for.
+-- Push: the next item of the venue's streams was sent, if there is one; or the lane refused it,
+-- which was sent as many items as it has room for.
 pub record PushesOne (answer : Result ℕ Unsent)
     (h : History) (old new : CellState) : Type 0 where
-  pub full : Bool
-  pub was_full : full ≡ true → HasFilled old.lane
+  pub full : is_lane_full answer ≡ true → HasFilled old.lane
   pub comes : AppliesTo
-      (push_next full (slice_get (streams_of h) (length old.lane.items)) old.lane.items)
+      (push_next (is_lane_full answer) (slice_get (streams_of h) (length old.lane.items))
+      old.lane.items)
       old.lane.items (push_done answer) new.lane.items
   pub fits : CellFitsHistory new h
 
@@ -117,9 +116,9 @@ pub record Pushes (most pushed : ℕ)
 
 -- The answer to who asks to push what is ready of the venue, at most `most` items: how many items
 -- its lane was sent.
-abbrev pub IsFlushedBy : {S : Type 0} → Genuine S → FeedLanes → ℕ → ℕ → ℕ → Type 0
-IsFlushedBy premise lanes venue most pushed =
-    DoneAtVenue premise lanes venue (Pushes most pushed) (pushed ≡ 0)
+abbrev pub FlushesVenue : {S : Type 0} → Genuine S → FeedLanes → ℕ → ℕ → ℕ → Type 0
+FlushesVenue premise lanes venue most pushed =
+    IsPossibleCall premise lanes venue (Pushes most pushed) (pushed ≡ 0)
 
 -- The answer to a call on a venue: UnknownVenue where the feed has no such venue, and no other
 -- fault; else what the section under the venue's lock answered, or, where the lock was another's,
@@ -128,8 +127,8 @@ abbrev pub AnswersAtVenue : {S A : Type 0} → Genuine S → FeedLanes → ℕ
     → (A → CellState → CellState → Type 0) → A → Result A FeedFault → Type 0
 AnswersAtVenue premise lanes venue section other (Ok answer) =
     (venue < length lanes.venues)
-    × (UnderVenueLock premise lanes venue (section answer)
-    ⊎ (IsOthersLock premise lanes venue × (answer ≡ other)))
+    × (IsPossibleAtVenue premise lanes venue (section answer)
+    ⊎ (MayMeetAnother premise lanes venue × (answer ≡ other)))
 AnswersAtVenue premise lanes venue section other (Err fault) =
     (fault ≡ UnknownVenue) × (length lanes.venues ≤ venue)
 
@@ -137,7 +136,7 @@ AnswersAtVenue premise lanes venue section other (Err fault) =
 pub record PushesReady {S : Type 0} (premise : Genuine S) (lanes : FeedLanes) (venue : ℕ)
     : Type 0 where
   pub pushed : ℕ
-  pub flushed : IsFlushedBy premise lanes venue (2 ^ 64 - 1) pushed
+  pub flushed : FlushesVenue premise lanes venue (2 ^ 64 - 1) pushed
 
 -- Packet and then Push, again and again, in one section: what came to the venue has grown by the
 -- packet, and what is ready then was pushed, until nothing was or the lane refused it. (The first
@@ -185,15 +184,15 @@ abbrev pub IsOutOfTurn : ℕ → CellState → CellState → Type 0
 IsOutOfTurn ordinal old new = (ordinal ≢ ordinal_of old.arbiter + 1) × (new ≡ old)
 
 -- The answer to who begins the venue's session of this ordinal and name, by cases.
-abbrev pub IsRenewedBy : {S : Type 0} → Genuine S → FeedLanes → ℕ → ℕ → List ℕ
+abbrev pub RenewsVenue : {S : Type 0} → Genuine S → FeedLanes → ℕ → ℕ → List ℕ
     → Result ℕ RenewalFault → Type 0
-IsRenewedBy premise lanes venue ordinal name (Ok begun) =
-    UnderVenueLock premise lanes venue (RenewsInTurn ordinal name (Ok begun))
-IsRenewedBy premise lanes venue ordinal name (Err (renewal.Venue fault)) =
-    UnderVenueLock premise lanes venue (RenewsInTurn ordinal name (Err fault))
-IsRenewedBy premise lanes venue ordinal name (Err renewal.WrongOrdinal) =
-    UnderVenueLock premise lanes venue (IsOutOfTurn ordinal) ⊎ IsOthersLock premise lanes venue
-IsRenewedBy premise lanes venue ordinal name (Err renewal.UnknownVenue) =
+RenewsVenue premise lanes venue ordinal name (Ok begun) =
+    IsPossibleAtVenue premise lanes venue (RenewsInTurn ordinal name (Ok begun))
+RenewsVenue premise lanes venue ordinal name (Err (renewal.Venue fault)) =
+    IsPossibleAtVenue premise lanes venue (RenewsInTurn ordinal name (Err fault))
+RenewsVenue premise lanes venue ordinal name (Err renewal.WrongOrdinal) =
+    IsPossibleAtVenue premise lanes venue (IsOutOfTurn ordinal) ⊎ MayMeetAnother premise lanes venue
+RenewsVenue premise lanes venue ordinal name (Err renewal.UnknownVenue) =
     length lanes.venues ≤ venue
 
 -- Skip: what is missing below the number is given up, or nothing changes.
@@ -225,16 +224,16 @@ pub record PushesAndSkips (number : ℕ)
 
 -- The answer to who gives up what the venue lacks below the number, by cases. Where the lock was
 -- another venue's, nothing is missing.
-abbrev pub IsSkippedBy : {S : Type 0} → Genuine S → FeedLanes → ℕ → ℕ
+abbrev pub SkipsVenue : {S : Type 0} → Genuine S → FeedLanes → ℕ → ℕ
     → Result (Unit {0}) GapFault → Type 0
-IsSkippedBy premise lanes venue number (Ok done) =
-    UnderVenueLock premise lanes venue
+SkipsVenue premise lanes venue number (Ok done) =
+    IsPossibleAtVenue premise lanes venue
     (PushesAndSkips number (Ok done))
-IsSkippedBy premise lanes venue number (Err (gaps.Venue fault)) =
-    UnderVenueLock premise lanes venue
+SkipsVenue premise lanes venue number (Err (gaps.Venue fault)) =
+    IsPossibleAtVenue premise lanes venue
     (PushesAndSkips number (Err fault))
-    ⊎ (IsOthersLock premise lanes venue × (fault ≡ NothingMissing))
-IsSkippedBy premise lanes venue number (Err gaps.UnknownVenue) = length lanes.venues ≤ venue
+    ⊎ (MayMeetAnother premise lanes venue × (fault ≡ NothingMissing))
+SkipsVenue premise lanes venue number (Err gaps.UnknownVenue) = length lanes.venues ≤ venue
 
 -- The request for the gap to send now, if any; only the pace of requests has changed.
 pub record RequestsGap (now_ms : ℕ) (request : Option Request) (old new : CellState) : Type 0 where
@@ -247,4 +246,4 @@ pub record RequestsGap (now_ms : ℕ) (request : Option Request) (old new : Cell
 -- The answer to who asks for the request to send now.
 abbrev pub IsDueAt : {S : Type 0} → Genuine S → FeedLanes → ℕ → ℕ → Option Request → Type 0
 IsDueAt premise lanes venue now_ms request =
-    DoneAtVenue premise lanes venue (RequestsGap now_ms request) (request ≡ None)
+    IsPossibleCall premise lanes venue (RequestsGap now_ms request) (request ≡ None)

@@ -15,7 +15,7 @@ use Rattle.venue_lines.specs.declared.status.VenueStatus.{VenueStatus}
 use Rattle.feed_steps.specs.Lanes.{FeedLanes}
 use Rattle.feed_types.specs.PerLines.{on_line}
 use Rattle.venue_lines.specs.Brought.{Brought, accepted_on, counts_of}
-use Rattle.venue_lines.specs.Cells.{CellState, MeetsNoLock, VenueLockInvariant, arrivals_of}
+use Rattle.venue_lines.specs.Cells.{CellState, MayMeetNoLock, VenueLockInvariant, arrivals_of}
 
 abbrev pub status_on : LineId → VenueStatus → LineCounts
 status_on A status = status.a
@@ -45,9 +45,9 @@ pub record ShowsHistory (window : ℕ) (h : History) (brought : PerLine Brought)
   pub lines : (line : LineId)
       → ShowsLine h line (on_line line brought) (status_on line status)
 
--- What was read under a venue's lock, of which nothing else is known than what it keeps: there is
--- such a cell of this venue, and the status is that of the cell's history.
-pub record ShowsUnderLock {S : Type 0} (premise : Genuine S)
+-- The status is possible: there is a cell of this venue that its lock may keep, and the status is
+-- that of the cell's history. So its parts agree with each other.
+pub record ShowsSomeCell {S : Type 0} (premise : Genuine S)
     (lanes : FeedLanes) (venue : ℕ) (status : VenueStatus) : Type 0 where
   pub cell : CellState
   pub kept : VenueLockInvariant premise lanes cell
@@ -56,11 +56,11 @@ pub record ShowsUnderLock {S : Type 0} (premise : Genuine S)
   pub shows : ShowsHistory lanes.setting.window kept.history cell.brought status
 
 -- The answer to who asks for a venue's status, by cases.
-abbrev pub IsStatusOf : {S : Type 0} → Genuine S → FeedLanes → ℕ
+abbrev pub IsPossibleStatus : {S : Type 0} → Genuine S → FeedLanes → ℕ
     → Result VenueStatus FeedFault → Type 0
-IsStatusOf premise lanes venue (Ok status) =
-    ShowsUnderLock premise lanes venue status
-IsStatusOf premise lanes venue (Err UnknownVenue) =
-    MeetsNoLock premise lanes venue
-IsStatusOf premise lanes venue (Err UnknownSubscriber) = ⊥
-IsStatusOf premise lanes venue (Err SeatTaken) = ⊥
+IsPossibleStatus premise lanes venue (Ok status) =
+    ShowsSomeCell premise lanes venue status
+IsPossibleStatus premise lanes venue (Err UnknownVenue) =
+    MayMeetNoLock premise lanes venue
+IsPossibleStatus premise lanes venue (Err UnknownSubscriber) = ⊥
+IsPossibleStatus premise lanes venue (Err SeatTaken) = ⊥

@@ -6,14 +6,14 @@ ghost use Rattle.feed_steps.specs.Premises.{IsGenuinePacket};
 ghost use Rattle.venue_lines.specs.Seats.{new_seat, seat_after, seat_refusing};
 ghost use Rattle.venue_lines.specs.Cells.{CellFitsHistory};
 ghost use Rattle.venue_lines.specs.Brought.{requests_after};
-ghost use Rattle.venue_lines.specs.Sections.{AcceptsTheirPacket, AnswersAtVenue, IsDueAt, IsFlushedBy, IsRenewedBy, IsSkippedBy, KeepsButPushed, Pushes, RequestsGap, TakesPacket};
-ghost use Rattle.venue_lines.specs.Datagrams.{AreGenuineBytes, AcceptsTheirs, IsAnsweredAt, IsTakenBy, bytes_of};
+ghost use Rattle.venue_lines.specs.Sections.{AcceptsTheirPacket, AnswersAtVenue, IsDueAt, FlushesVenue, RenewsVenue, SkipsVenue, KeepsButPushed, Pushes, RequestsGap, TakesPacket};
+ghost use Rattle.venue_lines.specs.Datagrams.{AreGenuineBytes, AcceptsTheirs, IsAnsweredAt, TakesDatagram, bytes_of};
 
 use crate::cell::VenueCell;
 use crate::datagram::Datagram;
 use crate::faults::{FeedFault, GapFault, RenewalFault, TakeFault};
-use crate::guarded::Guarded;
-use crate::locks::{VenueLocks, enter};
+use crate::locked_venue::LockedVenue;
+use crate::locks::{VenueLocks, lock_spinning};
 use crate::seat::LineSeat;
 use feed_steps::{FeedName, Unsent};
 use feed_types::{Genuine, LineId, VenueId};
@@ -53,7 +53,7 @@ fn flush_cell<G: Genuine, N: FeedName, W: Wait>(
     venue: VenueId,
     most: u64,
 ) -> (u64, bool)
-    ensures { IsFlushedBy G.Genuine N.lanes venue most result.0 }
+    ensures { FlushesVenue G.Genuine N.lanes venue most result.0 }
 {
     cell.show_lock_invariant();
     if cell.venue() != venue {
@@ -133,19 +133,19 @@ fn due_in<G: Genuine, N: FeedName>(
 
 /// Returns the request for the gap to send now as `due_in` does, and counts it.
 fn due_and_counted<G: Genuine, N: FeedName>(
-    guarded: &mut Guarded<G, N>,
+    locked: &mut LockedVenue<G, N>,
     venue: VenueId,
     now_ms: u64,
 ) -> Option<Request>
     ensures due { IsDueAt G.Genuine N.lanes venue now_ms result }
-    ensures counted { guarded.new ≡ record guarded.old {
-      cell = guarded.new.cell;
-      requests = requests_after result guarded.old.requests;
+    ensures counted { locked.new ≡ record locked.old {
+      cell = locked.new.cell;
+      requests = requests_after result locked.old.requests;
     } }
 {
-    let request = due_in(&mut guarded.cell, venue, now_ms);
+    let request = due_in(&mut locked.cell, venue, now_ms);
     if request.is_some() {
-        guarded.requests = guarded.requests.saturating_add(1);
+        locked.requests = locked.requests.saturating_add(1);
     }
     request
 }
@@ -160,7 +160,7 @@ fn renew_in<G: Genuine, N: FeedName>(
     requires { G.sessions venue ordinal session }
     ensures ordinal { IfOk result (λ begun. begun ≡ ordinal) }
     ensures known { IsErrOf result RenewalFault.UnknownVenue → ⊥ }
-    ensures renewed { IsRenewedBy G.Genuine N.lanes venue ordinal session result }
+    ensures renewed { RenewsVenue G.Genuine N.lanes venue ordinal session result }
 {
     cell.show_lock_invariant();
     if cell.venue() != venue || cell.ordinal() + 1 != ordinal {
@@ -184,18 +184,18 @@ fn skip_in<G: Genuine, N: FeedName, W: Wait>(
     number: u64,
 ) -> (Result<(), GapFault>, (u64, bool))
     ensures known { IsErrOf result.0 GapFault.UnknownVenue → ⊥ }
-    ensures skipped { IsSkippedBy G.Genuine N.lanes venue number result.0 }
+    ensures skipped { SkipsVenue G.Genuine N.lanes venue number result.0 }
 {
     cell.show_lock_invariant();
     if cell.venue() != venue {
         return (Err(GapFault::Venue(SkipFault::NothingMissing)), (0, false));
     }
-    let (before, _is_held_back) = push_ready(rt, cell, u64::MAX);
+    let (before, _has_backlog) = push_ready(rt, cell, u64::MAX);
     cell.show_lock_invariant();
     let answer = cell.skip_to(number);
-    let (after, is_held_back) = push_ready(rt, cell, u64::MAX);
+    let (after, has_backlog) = push_ready(rt, cell, u64::MAX);
     cell.show_lock_invariant();
-    let pushed = (before.saturating_add(after), is_held_back);
+    let pushed = (before.saturating_add(after), has_backlog);
     match answer {
         Ok(()) => (Ok(()), pushed),
         Err(fault) => (Err(GapFault::Venue(fault)), pushed),
@@ -216,7 +216,7 @@ impl<G: Genuine, N: FeedName> VenueLocks<G, N> {
         gap: &mut bool,
     ) -> Result<Outcome, TakeFault>
         requires { AreGenuineBytes G.Genuine seat.old.venue (bytes_of datagram.now) }
-        ensures taken { IsTakenBy G.Genuine N.lanes (bytes_of datagram.now)
+        ensures taken { TakesDatagram G.Genuine N.lanes (bytes_of datagram.now)
             seat.old result seat.new }
         ensures accepts { AcceptsTheirs G.Genuine N.lanes seat.old.venue (bytes_of datagram.now)
             result }
@@ -245,7 +245,7 @@ impl<G: Genuine, N: FeedName> VenueLocks<G, N> {
     {
         seat.refuse(fault);
         if let Some(lock) = self.get(seat.venue()) {
-            enter(rt, lock).cell.refuse(seat.line(), fault);
+            lock_spinning(rt, lock).cell.refuse(seat.line(), fault);
         }
     }
 
@@ -266,12 +266,12 @@ impl<G: Genuine, N: FeedName> VenueLocks<G, N> {
         let Some(lock) = self.get(seat.venue()) else {
             return Err(LineFault::OtherSession);
         };
-        let mut guarded = enter(rt, lock);
-        let (answer, (pushed, is_held_back)) = take_in(rt, &mut guarded.cell, seat, packet);
-        self.set_held_back(seat.venue(), is_held_back);
-        *gap = guarded.cell.has_gap();
-        drop(guarded);
-        if pushed > 0 || is_held_back || has_news(&answer) {
+        let mut locked = lock_spinning(rt, lock);
+        let (answer, (pushed, has_backlog)) = take_in(rt, &mut locked.cell, seat, packet);
+        self.set_backlog(seat.venue(), has_backlog);
+        *gap = locked.cell.has_gap();
+        drop(locked);
+        if pushed > 0 || has_backlog || has_news(&answer) {
             self.bells().ring_work();
         }
         answer
@@ -279,17 +279,17 @@ impl<G: Genuine, N: FeedName> VenueLocks<G, N> {
 
     /// Pushes what is ready of the venue, at most `most` items, until nothing is or the lane is
     /// full, and returns how many items were pushed: none where there is no such venue. Where
-    /// something may be ready still, the venue is held back.
+    /// something may be ready still, the venue has a backlog.
     pub fn flush_some<W: Wait>(&self, rt: &W, venue: VenueId, most: u64) -> u64
-        ensures { IsFlushedBy G.Genuine N.lanes venue most result }
+        ensures { FlushesVenue G.Genuine N.lanes venue most result }
     {
         let Some(lock) = self.get(venue) else {
             return 0;
         };
-        let mut guarded = enter(rt, lock);
-        let (pushed, is_held_back) = flush_cell(rt, &mut guarded.cell, venue, most);
-        self.set_held_back(venue, is_held_back);
-        drop(guarded);
+        let mut locked = lock_spinning(rt, lock);
+        let (pushed, has_backlog) = flush_cell(rt, &mut locked.cell, venue, most);
+        self.set_backlog(venue, has_backlog);
+        drop(locked);
         if pushed > 0 {
             self.bells().ring_work();
         }
@@ -301,33 +301,23 @@ impl<G: Genuine, N: FeedName> VenueLocks<G, N> {
     /// The refusals, in this order: UnknownVenue, ItemsReady (the lane is full), PastEnd,
     /// NothingMissing, HeldBelow.
     pub fn skip_to<W: Wait>(&self, rt: &W, venue: VenueId, number: u64) -> Result<(), GapFault>
-        ensures skipped { IsSkippedBy G.Genuine N.lanes venue number result }
+        ensures skipped { SkipsVenue G.Genuine N.lanes venue number result }
         ensures unknown { IsErrOf result GapFault.UnknownVenue
             ↔ (length N.lanes.venues ≤ venue) }
     {
         let Some(lock) = self.get(venue) else {
             return Err(GapFault::UnknownVenue);
         };
-        let mut guarded = enter(rt, lock);
-        let (answer, (pushed, is_held_back)) = skip_in(rt, &mut guarded.cell, venue, number);
-        self.set_held_back(venue, is_held_back);
-        drop(guarded);
+        let mut locked = lock_spinning(rt, lock);
+        let (answer, (pushed, has_backlog)) = skip_in(rt, &mut locked.cell, venue, number);
+        self.set_backlog(venue, has_backlog);
+        drop(locked);
         if pushed > 0 {
             self.bells().ring_work();
         }
         answer
     }
 
-    /// The request for the venue's gap to send now, if any, which is counted; None where there is
-    /// no such venue.
-    pub fn due<W: Wait>(&self, rt: &W, venue: VenueId, now_ms: u64) -> Option<Request>
-        ensures { IsDueAt G.Genuine N.lanes venue now_ms result }
-    {
-        let Some(lock) = self.get(venue) else {
-            return None;
-        };
-        due_and_counted(&mut enter(rt, lock), venue, now_ms)
-    }
     /// Hands out the seat of the venue's line, which has brought nothing. UnknownVenue, else
     /// SeatTaken where it was handed out already.
     pub fn line_seat<W: Wait>(
@@ -342,11 +332,11 @@ impl<G: Genuine, N: FeedName> VenueLocks<G, N> {
         let Some(lock) = self.get(venue) else {
             return Err(FeedFault::UnknownVenue);
         };
-        let mut guarded = lock.lock(rt);
-        if guarded.cell.venue() != venue {
+        let mut locked = lock.lock(rt);
+        if locked.cell.venue() != venue {
             return Err(FeedFault::SeatTaken);
         }
-        guarded.give_seat(line)
+        locked.give_seat(line)
     }
 
     /// Pushes what is ready of the venue, until nothing is or the lane is full, and returns how
@@ -362,8 +352,8 @@ impl<G: Genuine, N: FeedName> VenueLocks<G, N> {
         Ok(self.flush_some(rt, venue, u64::MAX))
     }
 
-    /// Returns the request for the venue's gap to send now, if any. UnknownVenue where there is no
-    /// such venue.
+    /// Returns the request for the venue's gap to send now, if any, and counts it. UnknownVenue
+    /// where there is no such venue.
     #[tactic(auto, using(crate::proofs::CellMoves::at_one))]
     pub fn request_due<W: Wait>(
         &self,
@@ -373,10 +363,10 @@ impl<G: Genuine, N: FeedName> VenueLocks<G, N> {
     ) -> Result<Option<Request>, FeedFault>
         ensures { AnswersAtVenue G.Genuine N.lanes venue (RequestsGap now_ms) None result }
     {
-        if venue.index() >= self.len() {
+        let Some(lock) = self.get(venue) else {
             return Err(FeedFault::UnknownVenue);
-        }
-        Ok(self.due(rt, venue, now_ms))
+        };
+        Ok(due_and_counted(&mut lock_spinning(rt, lock), venue, now_ms))
     }
 
     /// Begins the venue's session of this ordinal and name, once End of the one before it was sent,
@@ -390,7 +380,7 @@ impl<G: Genuine, N: FeedName> VenueLocks<G, N> {
     ) -> Result<u64, RenewalFault>
         requires { G.sessions venue ordinal session }
         ensures ordinal { IfOk result (λ begun. begun ≡ ordinal) }
-        ensures renewed { IsRenewedBy G.Genuine N.lanes venue ordinal session result }
+        ensures renewed { RenewsVenue G.Genuine N.lanes venue ordinal session result }
         ensures unknown { IsErrOf result RenewalFault.UnknownVenue
             ↔ (length N.lanes.venues ≤ venue) }
     {

@@ -2,7 +2,7 @@
 //! its lines show.
 //!
 //! A venue's lock guards the venue's arbiter, the sending end of its lane and the counts of its
-//! lines, a [`VenueCell`], and which seats were handed out ([`Guarded`]). A line has a
+//! lines, a [`VenueCell`], and which seats were handed out ([`LockedVenue`]). A line has a
 //! [`LineSeat`], which counts what it brought, too ([`LineCounts`]). [`VenueLocks`] are the venues
 //! of a feed; each of their calls takes one lock.
 //!
@@ -18,9 +18,9 @@ mod counted_line;
 mod counted_lines;
 mod datagram;
 mod faults;
-mod guarded;
 mod laws;
 mod line_counts;
+mod locked_venue;
 mod locks;
 mod reading;
 mod seat;
@@ -32,12 +32,12 @@ pub use cell::VenueCell;
 pub use counted_lines::CountedLines;
 pub use datagram::Datagram;
 pub use faults::{FeedFault, GapFault, RenewalFault, TakeFault};
-pub use guarded::Guarded;
 pub use laws::{
     packets_of_the_sessions_are_accepted, sent_items_are_the_sessions,
     sent_items_are_the_sessions_parts, sent_items_skip_nothing,
 };
 pub use line_counts::LineCounts;
+pub use locked_venue::LockedVenue;
 pub use locks::{VenueLock, VenueLocks};
 pub use seat::LineSeat;
 pub use start::VenueStart;

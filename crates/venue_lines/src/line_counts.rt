@@ -2,7 +2,7 @@
 
 ghost use Rattle.std.specs.Prelude.{◌≡◌, ◌+◌, ◌<◌, map, slice_index};
 ghost use Rattle.line_arbiter.specs.Counts.{shown};
-ghost use Rattle.venue_lines.specs.Brought.{Brought, brought_by_both, counted_codes, counts_of, nothing_brought, with_packet, with_refusal};
+ghost use Rattle.venue_lines.specs.Brought.{Brought, brought_together, counted_codes, counts_of, nothing_brought, with_packet, with_refusal};
 
 use crate::accepted_packet::AcceptedPacket;
 use crate::faults::TakeFault;
@@ -122,7 +122,7 @@ impl LineCounts {
     #[tactic(auto, using(crate::proofs::Counting::both_counted))]
     pub fn together(&self, others: &LineCounts) -> LineCounts
         ensures { (b c : Brought) → self.now ≡ counts_of b → others.now ≡ counts_of c
-            → result ≡ counts_of (brought_by_both b c) }
+            → result ≡ counts_of (brought_together b c) }
     {
         LineCounts {
             wins: self.wins.saturating_add(others.wins),

@@ -2,7 +2,7 @@
 
 ghost use Rattle.std.specs.Prelude.{◌≡◌, ◌<◌, ◌↔◌, length, IsSome};
 
-use crate::guarded::Guarded;
+use crate::locked_venue::LockedVenue;
 use crossbeam_utils::CachePadded;
 use feed_steps::{Bells, FeedName};
 use feed_types::{Genuine, VenueId};
@@ -22,7 +22,7 @@ const MOST_PAUSES: u32 = 64;
 /// long a pause: a section is short, and one that sleeps has to be woken by a system call.
 /// Meanwhile the other thread, whose caches have what the lock guards, takes what else came on its
 /// line.
-pub(crate) fn enter<'l, T, W: Wait>(rt: &W, lock: &'l Mutex<T>) -> MutexGuard<'l, T> {
+pub(crate) fn lock_spinning<'l, T, W: Wait>(rt: &W, lock: &'l Mutex<T>) -> MutexGuard<'l, T> {
     let mut pauses: u32 = 16;
     for _ in 0..TRIES {
         if let Some(guard) = lock.try_lock() {
@@ -37,7 +37,7 @@ pub(crate) fn enter<'l, T, W: Wait>(rt: &W, lock: &'l Mutex<T>) -> MutexGuard<'l
 }
 
 /// A venue under its lock, on cache lines of its own.
-pub type VenueLock<G, N> = CachePadded<Mutex<Guarded<G, N>>>;
+pub type VenueLock<G, N> = CachePadded<Mutex<LockedVenue<G, N>>>;
 
 /// The venues under their locks, in order. There are as many as the feed has lanes for. Contracts
 /// see how many.
@@ -46,7 +46,7 @@ pub struct VenueLocks<G: Genuine, N: FeedName> {
     locks: Vec<VenueLock<G, N>>,
     /// By venue, whether something may be ready that wasn't pushed. It changes under the
     /// venue's lock alone, and is stored only where it differs.
-    held_back: [AtomicBool; 16],
+    backlogged: [AtomicBool; 16],
     bells: Arc<Bells, Global>,
 }
 
@@ -61,13 +61,13 @@ impl<G: Genuine, N: FeedName> Model for VenueLocks<G, N> {
 }
 
 impl<G: Genuine, N: FeedName> VenueLocks<G, N> {
-    /// The venues under these locks, in order, where none is held back.
+    /// The venues under these locks, in order, where none has a backlog.
     pub fn new(locks: Vec<VenueLock<G, N>>, bells: Arc<Bells, Global>) -> VenueLocks<G, N>
         requires { length locks.items ≡ length N.lanes.venues }
     {
         VenueLocks {
             locks,
-            held_back: array::from_fn(|_| AtomicBool::new(false)),
+            backlogged: array::from_fn(|_| AtomicBool::new(false)),
             bells,
         }
     }
@@ -83,14 +83,14 @@ impl<G: Genuine, N: FeedName> VenueLocks<G, N> {
     }
 
     /// Whether something may be ready at the venue that wasn't pushed.
-    pub fn is_held_back(&self, venue: VenueId) -> bool {
-        self.held_back[venue.index()].load(Ordering::SeqCst)
+    pub fn has_backlog(&self, venue: VenueId) -> bool {
+        self.backlogged[venue.index()].load(Ordering::SeqCst)
     }
 
     /// Notes whether something may be ready at the venue that wasn't pushed.
-    pub(crate) fn set_held_back(&self, venue: VenueId, is_held_back: bool) {
-        if self.is_held_back(venue) != is_held_back {
-            self.held_back[venue.index()].store(is_held_back, Ordering::SeqCst);
+    pub(crate) fn set_backlog(&self, venue: VenueId, has_backlog: bool) {
+        if self.has_backlog(venue) != has_backlog {
+            self.backlogged[venue.index()].store(has_backlog, Ordering::SeqCst);
         }
     }
 
@@ -102,7 +102,7 @@ impl<G: Genuine, N: FeedName> VenueLocks<G, N> {
     }
 
     /// The venue's lock, if there is such a venue.
-    pub(crate) fn get(&self, venue: VenueId) -> Option<&Mutex<Guarded<G, N>>>
+    pub(crate) fn get(&self, venue: VenueId) -> Option<&Mutex<LockedVenue<G, N>>>
         ensures { IsSome result ↔ (venue < length N.lanes.venues) }
     {
         match self.locks.get(venue.index()) {
@@ -122,7 +122,7 @@ impl<G: Genuine, N: FeedName> VenueLocks<G, N> {
     {
         let VenueLocks {
             locks,
-            held_back: _,
+            backlogged: _,
             bells,
         } = self;
         (locks, bells)

@@ -4,7 +4,7 @@ ghost use Rattle.std.specs.Prelude.{◌≡◌, ◌≤◌, ◌<◌, [], All, leng
 ghost use Rattle.venue_lines.specs.Starts.{AreNamed, AreStarts, HasItsLane};
 
 use crate::cell::VenueCell;
-use crate::guarded::Guarded;
+use crate::locked_venue::LockedVenue;
 use crate::locks::{VenueLock, VenueLocks};
 use crate::start::VenueStart;
 use crossbeam_utils::CachePadded;
@@ -70,7 +70,7 @@ fn locked<G: Genuine, N: FeedName>(
     for start in starts {
         let (arbiter, lane) = start.into_parts();
         let cell = VenueCell::new(arbiter, lane);
-        venues.push_reserved(CachePadded::new(Mutex::new(Guarded {
+        venues.push_reserved(CachePadded::new(Mutex::new(LockedVenue {
             cell,
             seated: PerLine::all(false),
             requests: 0,

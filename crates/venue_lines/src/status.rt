@@ -7,8 +7,8 @@ ghost use Rattle.feed_types.specs.PerLines.{on_line};
 ghost use Rattle.venue_lines.specs.Statuses.{ShowsBrought, ShowsHistory, ShowsLine, status_on};
 
 use crate::cell::VenueCell;
-use crate::guarded::Guarded;
 use crate::line_counts::LineCounts;
+use crate::locked_venue::LockedVenue;
 use feed_steps::FeedName;
 use feed_types::{Genuine, LineId};
 use line_arbiter::ArbiterStatus;
@@ -49,24 +49,24 @@ fn line_counts<G: Genuine, N: FeedName>(cell: &VenueCell<G, N>, line: LineId) ->
 
 impl VenueStatus {
     /// The status by what the venue's lock guards.
-    pub(crate) fn of<G: Genuine, N: FeedName>(guarded: &Guarded<G, N>) -> VenueStatus
-        ensures shows { (h : History) → CellFitsHistory guarded.now.cell h
-            → ShowsHistory guarded.now.cell.arbiter.window h guarded.now.cell.brought result }
-        ensures sent { result.cursors.sent ≡ guarded.now.cell.arbiter.sent }
-        ensures requests { result.requests ≡ guarded.now.requests }
+    pub(crate) fn of<G: Genuine, N: FeedName>(locked: &LockedVenue<G, N>) -> VenueStatus
+        ensures shows { (h : History) → CellFitsHistory locked.now.cell h
+            → ShowsHistory locked.now.cell.arbiter.window h locked.now.cell.brought result }
+        ensures sent { result.cursors.sent ≡ locked.now.cell.arbiter.sent }
+        ensures requests { result.requests ≡ locked.now.requests }
         ensures counts { (line : LineId)
-            → ShowsBrought (on_line line guarded.now.cell.brought) (status_on line result) }
+            → ShowsBrought (on_line line locked.now.cell.brought) (status_on line result) }
     {
-        let arbiter = guarded.cell.arbiter();
+        let arbiter = locked.cell.arbiter();
         VenueStatus {
             ordinal: arbiter.ordinal(),
             session: arbiter.session(),
             cursors: arbiter.status(),
             gap: arbiter.gap(),
-            requests: guarded.requests,
-            a: line_counts(&guarded.cell, LineId::A),
-            b: line_counts(&guarded.cell, LineId::B),
-            recovery: line_counts(&guarded.cell, LineId::Recovery),
+            requests: locked.requests,
+            a: line_counts(&locked.cell, LineId::A),
+            b: line_counts(&locked.cell, LineId::B),
+            recovery: line_counts(&locked.cell, LineId::Recovery),
         }
     }
 

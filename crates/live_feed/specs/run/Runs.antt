@@ -11,7 +11,7 @@ use Rattle.live_feed.specs.declared.run.source.SourceFault.TheVariants as faults
 use Rattle.live_feed.specs.declared.run.report.Stop.{Stop}
 use Rattle.live_feed.specs.declared.run.report.Stop.TheVariants as stops
 use Rattle.venue_lines.specs.declared.datagram.Datagram.{Datagram}
-use Rattle.venue_lines.specs.Datagrams.{IsTakenBy, bytes_of}
+use Rattle.venue_lines.specs.Datagrams.{TakesDatagram, bytes_of}
 use Rattle.feed_steps.specs.Lanes.{FeedLanes}
 use Rattle.venue_lines.specs.Seats.{SeatState}
 use Rattle.live_feed.specs.subscriber.Logs.{SubscriberLogState}
@@ -34,10 +34,10 @@ failures_after failures faults.TooManyTurns = failures + 1
 failures_after failures faults.NoMemory = failures
 
 -- the bytes of the datagram that a source returned, as a list of one, or none
-abbrev pub brought_by : Result (Option Datagram) SourceFault → List (List ℕ)
-brought_by (Ok (Some datagram)) = bytes_of datagram ∷ []
-brought_by (Ok None) = []
-brought_by (Err fault) = []
+abbrev pub brought_in : Result (Option Datagram) SourceFault → List (List ℕ)
+brought_in (Ok (Some datagram)) = bytes_of datagram ∷ []
+brought_in (Ok None) = []
+brought_in (Err fault) = []
 
 -- The lists have the same length, and the relation holds at each place.
 abbrev pub Pairwise : {A B : Type 0} → (A → B → Type 0) → List A → List B → Type 0
@@ -53,19 +53,19 @@ pub record Taking : Type 0 where
   pub seat : SeatState
 
 -- The seat took these datagrams, one after the other, and the last seat is the one then.
-abbrev pub AreTakenBy : {S : Type 0} → Genuine S → FeedLanes → SeatState → List Taking
+abbrev pub TakesDatagrams : {S : Type 0} → Genuine S → FeedLanes → SeatState → List Taking
     → SeatState → Type 0
-AreTakenBy premise lanes old [] last = last ≡ old
-AreTakenBy premise lanes old (t ∷ more) last =
-    IsTakenBy premise lanes t.bytes old t.answer t.seat
-    × AreTakenBy premise lanes t.seat more last
+TakesDatagrams premise lanes old [] last = last ≡ old
+TakesDatagrams premise lanes old (t ∷ more) last =
+    TakesDatagram premise lanes t.bytes old t.answer t.seat
+    × TakesDatagrams premise lanes t.seat more last
 
 -- A seat, later on: it took the datagrams of these bytes, in order, and nothing else changed it.
 pub record HasTaken {S : Type 0} (premise : Genuine S) (lanes : FeedLanes) (old : SeatState)
     (brought : List (List ℕ)) (last : SeatState) : Type 0 where
   pub takings : List Taking
   pub bytes : map (λ t. t.bytes) takings ≡ brought
-  pub taken : AreTakenBy premise lanes old takings last
+  pub taken : TakesDatagrams premise lanes old takings last
 
 -- A line that has ended: its seat took each datagram that its source brought, in order and once;
 -- the count of datagrams is how many these are, empty ones too, as a u64 shows it; and of the

@@ -16,7 +16,7 @@ use Rattle.feed_steps.specs.Lanes.{FeedLanes}
 use Rattle.venue_lines.specs.Cells.{AreGivenFrom, CellState, VenueLockInvariant, arrivals_of}
 use Rattle.journal_book.specs.ItemsIn.{items_in}
 use Rattle.venue_lines.specs.Seats.{SeatState, is_seat_of}
-use Rattle.venue_lines.specs.Brought.{Brought, accepted_on, brought_by_both, counts_of, nothing_brought}
+use Rattle.venue_lines.specs.Brought.{Brought, accepted_on, brought_together, counts_of, nothing_brought}
 use Rattle.live_feed.specs.subscriber.Logs.{SubscriberLogState}
 
 -- A venue whose lane is closed, through which these items were sent: what was consumed, then what
@@ -69,18 +69,18 @@ pub record SettlementState : Type 0 where
 
 -- with what one more seat brought, if it is of the venue's line
 abbrev pub with_seat : ℕ → LineId → Brought → SeatState → Brought
-with_seat venue line b s = if is_seat_of venue line s then brought_by_both b s.brought else b
+with_seat venue line b s = if is_seat_of venue line s then brought_together b s.brought else b
 
 -- what the seats of the venue's line brought, one seat after the other
-abbrev pub brought_by_seats : ℕ → LineId → List SeatState → Brought
-brought_by_seats venue line seats = fold (with_seat venue line) nothing_brought seats
+abbrev pub brought_of_seats : ℕ → LineId → List SeatState → Brought
+brought_of_seats venue line seats = fold (with_seat venue line) nothing_brought seats
 
 -- the cell counts on the line what the line's seats show
 pub record AgreesOn (seats : List SeatState) (c : CellState) (line : LineId) : Type 0 where
   pub wins : on_line line c.arbiter.wins
-      ≡ (counts_of (brought_by_seats c.arbiter.venue line seats)).wins
+      ≡ (counts_of (brought_of_seats c.arbiter.venue line seats)).wins
   pub accepted : (counts_of (on_line line c.brought)).accepted
-      ≡ (counts_of (brought_by_seats c.arbiter.venue line seats)).accepted
+      ≡ (counts_of (brought_of_seats c.arbiter.venue line seats)).accepted
 
 -- the cell is that of the venue, and agrees with the seats
 pub record AgreesWithSeats (seats : List SeatState) (venue : ℕ) (c : CellState) : Type 0 where
@@ -125,9 +125,9 @@ pub record ShowsVenue {S : Type 0} (premise : Genuine S) (lanes : FeedLanes)
       (items_in journal.entries venue) v.in_lane v.ready v.wins v.brought
   pub consumed : v.consumed ≡ items_in (kept_of journal.kept journal.entries) venue
   pub wins : (line : LineId)
-      → on_line line v.wins ≡ (counts_of (brought_by_seats venue line seats)).wins
+      → on_line line v.wins ≡ (counts_of (brought_of_seats venue line seats)).wins
   pub accepted : (line : LineId) → (counts_of (on_line line v.brought)).accepted
-      ≡ (counts_of (brought_by_seats venue line seats)).accepted
+      ≡ (counts_of (brought_of_seats venue line seats)).accepted
 
 -- a subscriber of a closed feed: its lane is closed, and the log is its own
 pub record ShowsSubscriber (journal : JournalState) (id : ℕ) (t : SubscriberLogState)

@@ -1,15 +1,14 @@
 //! An open feed: its venues and its journal, under locks.
 
 ghost use Rattle.std.specs.Prelude.{◌≡◌, ◌<◌, ◌≤◌, ◌↔◌, ◌-◌, ◌^◌, [], None, length, IfOk, IfErr, IsErrOf};
-ghost use Rattle.journal_book.specs.Journals.{Declares};
-ghost use Rattle.hub_lanes.specs.Hubs.{UnderHubLock};
+ghost use Rattle.hub_lanes.specs.Hubs.{IsPossibleAtHub};
 ghost use Rattle.hub_lanes.specs.Sections.{Consumes, DeclaresAt};
 ghost use Rattle.hub_lanes.specs.Batches.{ConsumesBatch};
 ghost use Rattle.hub_lanes.specs.Offers.{LacksSubscriber, Offers};
 ghost use Rattle.hub_lanes.specs.Turns.{TakesTurn};
-ghost use Rattle.venue_lines.specs.Sections.{AnswersAtVenue, IsRenewedBy, IsSkippedBy, Pushes, RequestsGap};
+ghost use Rattle.venue_lines.specs.Sections.{AnswersAtVenue, RenewsVenue, SkipsVenue, Pushes, RequestsGap};
 ghost use Rattle.venue_lines.specs.Seats.{new_seat};
-ghost use Rattle.venue_lines.specs.Datagrams.{AreGenuineBytes, AcceptsTheirs, IsTakenBy, bytes_of};
+ghost use Rattle.venue_lines.specs.Datagrams.{AreGenuineBytes, AcceptsTheirs, TakesDatagram, bytes_of};
 
 use crate::feed::log_size::LogSize;
 use crate::hub_cell::HubCell;
@@ -19,7 +18,7 @@ use crossbeam_utils::CachePadded;
 use feed_steps::FeedName;
 use feed_types::{Genuine, LineId, SubscriberId, VenueId};
 use filter_terms::{Filter, Strategy};
-use hub_lanes::Consolidated;
+use hub_lanes::{Consolidated, consume_next, consume_some, offer_some, take_turn};
 use journal_book::JournalFault;
 use line_arbiter::Outcome;
 use mold_packet::Request;
@@ -62,7 +61,7 @@ impl<G: Genuine, N: FeedName> OpenFeed<G, N> {
         datagram: &Datagram,
     ) -> Result<Outcome, TakeFault>
         requires { AreGenuineBytes G.Genuine seat.old.venue (bytes_of datagram.now) }
-        ensures taken { IsTakenBy G.Genuine N.lanes (bytes_of datagram.now)
+        ensures taken { TakesDatagram G.Genuine N.lanes (bytes_of datagram.now)
             seat.old result seat.new }
 
         // Where it is known which sessions the lines bring, a packet of one of them is refused only
@@ -107,7 +106,7 @@ impl<G: Genuine, N: FeedName> OpenFeed<G, N> {
     ) -> Result<u64, RenewalFault>
         requires { G.sessions venue ordinal session }
         ensures ordinal { IfOk result (λ begun. begun ≡ ordinal) }
-        ensures renewed { IsRenewedBy G.Genuine N.lanes venue ordinal session result }
+        ensures renewed { RenewsVenue G.Genuine N.lanes venue ordinal session result }
         ensures unknown { IsErrOf result RenewalFault.UnknownVenue
             ↔ (length N.lanes.venues ≤ venue) }
     {
@@ -119,7 +118,7 @@ impl<G: Genuine, N: FeedName> OpenFeed<G, N> {
     /// The refusals, in this order: UnknownVenue, ItemsReady (the lane is full), PastEnd,
     /// NothingMissing, HeldBelow. Who joins a session in its middle skips to its first packet.
     pub fn skip_to<W: Wait>(&self, rt: &W, venue: VenueId, number: u64) -> Result<(), GapFault>
-        ensures skipped { IsSkippedBy G.Genuine N.lanes venue number result }
+        ensures skipped { SkipsVenue G.Genuine N.lanes venue number result }
         ensures unknown { IsErrOf result GapFault.UnknownVenue
             ↔ (length N.lanes.venues ≤ venue) }
     {
@@ -129,16 +128,16 @@ impl<G: Genuine, N: FeedName> OpenFeed<G, N> {
     /// Journals the next item of the venue's lane, and returns its position; None where the lane
     /// was empty. UnknownVenue, JournalFull, NoMemory or SubscriberBehind come before an item is
     /// taken out of the lane.
-    #[tactic(auto, using(crate::proofs::HubSections::under_hub_lock))]
+    #[tactic(auto, using(crate::proofs::PossibleSections::possible_at_hub))]
     pub fn consume<W: Wait>(&self, rt: &W, venue: VenueId) -> Result<Option<u64>, JournalFault>
         ensures unknown { IsErrOf result JournalFault.UnknownVenue
             ↔ (length N.lanes.venues ≤ venue) }
-        ensures consumes { venue < length N.lanes.venues → UnderHubLock G.Genuine N.lanes
+        ensures consumes { venue < length N.lanes.venues → IsPossibleAtHub G.Genuine N.lanes
             (Consumes venue result) }
     {
         let mut hub = self.hub.lock(rt);
         hub.core.show_lock_invariant();
-        let consumed = hub.consume_next(rt, venue);
+        let consumed = consume_next(rt, &mut hub.core, venue);
         hub.core.show_lock_invariant();
         drop(hub);
         if let Ok(Some(_)) = consumed {
@@ -150,7 +149,7 @@ impl<G: Genuine, N: FeedName> OpenFeed<G, N> {
     /// Journals the next items of the venue's lane as `consume` does, at most `most`, under the
     /// consolidator's lock taken once, and returns how many there were. A refusal is returned where
     /// it comes before any of them; else the next call returns it.
-    #[tactic(auto, using(crate::proofs::HubSections::under_hub_lock))]
+    #[tactic(auto, using(crate::proofs::PossibleSections::possible_at_hub))]
     pub fn consume_batch<W: Wait>(
         &self,
         rt: &W,
@@ -160,12 +159,12 @@ impl<G: Genuine, N: FeedName> OpenFeed<G, N> {
         ensures unknown { IsErrOf result JournalFault.UnknownVenue
             ↔ (length N.lanes.venues ≤ venue) }
         ensures most { IfOk result (λ count. count ≤ most) }
-        ensures batch { UnderHubLock G.Genuine N.lanes
+        ensures batch { IsPossibleAtHub G.Genuine N.lanes
             (ConsumesBatch N.lanes venue most result) }
     {
         let mut hub = self.hub.lock(rt);
         hub.core.show_lock_invariant();
-        let consumed = hub.consume_some(rt, venue, most);
+        let consumed = consume_some(rt, &mut hub.core, venue, most);
         hub.core.show_lock_invariant();
         drop(hub);
         if let Ok(1..) = consumed {
@@ -181,16 +180,21 @@ impl<G: Genuine, N: FeedName> OpenFeed<G, N> {
     /// venue after the last one that the call before asked, so that none of them waits for ever. It
     /// waits for no sender that stands in the middle of its push, and looks at no more than 1,024
     /// changes for a subscriber. This is what the consolidator of `run` calls.
-    #[tactic(auto, using(crate::proofs::HubSections::under_hub_lock))]
+    #[tactic(auto, using(crate::proofs::PossibleSections::possible_at_hub))]
     pub fn consolidate<W: Wait>(&self, rt: &W) -> Consolidated
         ensures most { result.consumed ≤ 64 }
-        ensures turn { UnderHubLock G.Genuine N.lanes (TakesTurn G.Genuine N.lanes
+        ensures turn { IsPossibleAtHub G.Genuine N.lanes (TakesTurn G.Genuine N.lanes
             result.consumed result.offered result.unfinished result.refused) }
     {
         let bells = self.venues.bells();
         let mut hub = self.hub.lock(rt);
         hub.core.show_lock_invariant();
-        let done = hub.take_turn(rt, bells);
+        let HubCell {
+            core,
+            filters,
+            next,
+        } = &mut *hub;
+        let done = take_turn(rt, core, filters.as_slice(), next, bells);
         hub.core.show_lock_invariant();
         drop(hub);
         if done.consumed > 0 {
@@ -202,15 +206,15 @@ impl<G: Genuine, N: FeedName> OpenFeed<G, N> {
     /// Declares self-help on the venue, or withdraws it, and returns the entry's position. It is
     /// refused as UnknownVenue, AlreadySo (the venue's self-help is in that state), JournalFull,
     /// NoMemory or SubscriberBehind: the first that fits. A refused call changes nothing.
-    #[tactic(auto, using(crate::proofs::HubSections::under_hub_lock))]
+    #[tactic(auto, using(crate::proofs::PossibleSections::possible_at_hub))]
     pub fn declare<W: Wait>(&self, rt: &W, venue: VenueId, on: bool) -> Result<u64, JournalFault>
         ensures unknown { IsErrOf result JournalFault.UnknownVenue
             ↔ (length N.lanes.venues ≤ venue) }
-        ensures declares { UnderHubLock G.Genuine N.lanes (DeclaresAt venue on result) }
+        ensures declares { IsPossibleAtHub G.Genuine N.lanes (DeclaresAt venue on result) }
     {
         let mut hub = self.hub.lock(rt);
         hub.core.show_lock_invariant();
-        let declared = hub.declare(venue, on);
+        let declared = hub.core.declare(venue, on);
         hub.core.show_lock_invariant();
         drop(hub);
         if declared.is_ok() {
@@ -264,15 +268,17 @@ impl<G: Genuine, N: FeedName> OpenFeed<G, N> {
     /// Pushes the notices that the subscriber wants, until there is none or its lane is full, and
     /// returns how many were pushed. UnknownSubscriber where there is none of this id, and no other
     /// fault.
-    #[tactic(auto, using(crate::proofs::HubSections::under_hub_lock))]
+    #[tactic(auto, using(crate::proofs::PossibleSections::possible_at_hub))]
     pub fn offer<W: Wait>(&self, rt: &W, id: SubscriberId) -> Result<u64, FeedFault>
-        ensures offers { IfOk result (λ pushed. UnderHubLock G.Genuine N.lanes (Offers id pushed)) }
+        ensures offers { IfOk result (λ pushed. IsPossibleAtHub G.Genuine N.lanes
+            (Offers id pushed)) }
         ensures unknown { IfErr result (λ fault. (fault ≡ FeedFault.UnknownSubscriber)
-            × UnderHubLock G.Genuine N.lanes (LacksSubscriber id)) }
+            × IsPossibleAtHub G.Genuine N.lanes (LacksSubscriber id)) }
     {
         let mut hub = self.hub.lock(rt);
         hub.core.show_lock_invariant();
-        let offered = hub.offer_some(rt, self.venues.bells(), id);
+        let HubCell { core, filters, .. } = &mut *hub;
+        let offered = offer_some(rt, core, filters.as_slice(), self.venues.bells(), id);
         hub.core.show_lock_invariant();
         drop(hub);
         match offered {

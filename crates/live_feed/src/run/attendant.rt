@@ -1,8 +1,8 @@
 //! Who stands beside a run.
 
 ghost use Rattle.std.specs.Prelude.{◌≡◌, ◌≤◌, ◌↔◌, length, Err, IsErrOf};
-ghost use Rattle.venue_lines.specs.Sections.{IsSkippedBy};
-ghost use Rattle.venue_lines.specs.Statuses.{IsStatusOf};
+ghost use Rattle.venue_lines.specs.Sections.{SkipsVenue};
+ghost use Rattle.venue_lines.specs.Statuses.{IsPossibleStatus};
 
 use crate::run::signals::Signals;
 use crate::subscriber::log::SubscriberLog;
@@ -35,7 +35,7 @@ impl<'r, G: Genuine, N: FeedName> RunView<'r, G, N> {
     /// Returns what the venue has come to at a moment of the call, as
     /// [`crate::OpenFeed::status`] does.
     pub fn status<W: Wait>(&self, rt: &W, venue: VenueId) -> Result<VenueStatus, FeedFault>
-        ensures status { IsStatusOf G.Genuine N.lanes venue result }
+        ensures status { IsPossibleStatus G.Genuine N.lanes venue result }
         ensures unknown { length N.lanes.venues ≤ venue → result ≡ Err FeedFault.UnknownVenue }
     {
         self.venues.status(rt, venue)
@@ -44,7 +44,7 @@ impl<'r, G: Genuine, N: FeedName> RunView<'r, G, N> {
     /// Gives up the messages of the venue that are missing below `number`, as
     /// [`crate::OpenFeed::skip_to`] does, with the same refusals.
     pub fn skip_to<W: Wait>(&self, rt: &W, venue: VenueId, number: u64) -> Result<(), GapFault>
-        ensures skipped { IsSkippedBy G.Genuine N.lanes venue number result }
+        ensures skipped { SkipsVenue G.Genuine N.lanes venue number result }
         ensures unknown { IsErrOf result GapFault.UnknownVenue
             ↔ (length N.lanes.venues ≤ venue) }
     {

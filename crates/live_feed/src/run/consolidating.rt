@@ -2,12 +2,13 @@
 
 use crate::feed::open_feed::OpenFeed;
 use crate::feed::sharing::Shareable;
+use crate::hub_cell::HubCell;
 use crate::run::idle::{back_off, should_sleep};
 use crate::run::report::Stop;
 use crate::run::signals::Signals;
 use feed_steps::{Bells, FeedName};
 use feed_types::{Genuine, MAX_SUBSCRIBERS, MAX_VENUES, SubscriberId, VenueId};
-use hub_lanes::Consolidated;
+use hub_lanes::{Consolidated, offer_each};
 use journal_book::JournalFault;
 use std::sync::Wait;
 use std::thread::{JoinHandle, Scope, Threads};
@@ -27,7 +28,7 @@ fn flush_each<G: Genuine, N: FeedName, W: Wait>(
     let mut moved = false;
     for place in 0..feed.venues.len().min(MAX_VENUES) {
         let venue = VenueId::at(place);
-        if all || (!done.venues[venue.index()] && feed.venues.is_held_back(venue)) {
+        if all || (!done.venues[venue.index()] && feed.venues.has_backlog(venue)) {
             let pushed = feed.venues.flush_some(rt, venue, ITEMS_A_SECTION);
             moved = moved || pushed > 0;
         }
@@ -87,7 +88,10 @@ fn run_turn<G: Genuine, N: FeedName, W: Wait>(
         return feed.consolidate(rt);
     }
     let mut done = Consolidated::nothing();
-    let offers = feed.hub.lock(rt).offer_each(rt, feed.venues.bells());
+    let mut hub = feed.hub.lock(rt);
+    let HubCell { core, filters, .. } = &mut *hub;
+    let offers = offer_each(rt, core, filters.as_slice(), feed.venues.bells());
+    drop(hub);
     done.offered = offers.pushed;
     done.unfinished = offers.unfinished;
     done

@@ -46,9 +46,9 @@ fn request_due<G: Genuine, N: FeedName, S: LineSource<G>, W: Wait>(
         return Ok(());
     }
     let now_ms = source.now_ms();
-    match venues.due(rt, venue, now_ms) {
-        Some(request) => source.request(&request),
-        None => Ok(()),
+    match venues.request_due(rt, venue, now_ms) {
+        Ok(Some(request)) => source.request(&request),
+        Ok(None) | Err(_) => Ok(()),
     }
 }
 

@@ -5,7 +5,7 @@
 
 ghost use Rattle.std.specs.Prelude.{◌≡◌, [], ◌++◌, Ok, Some, IfOk, IfErr};
 ghost use Rattle.venue_lines.specs.Datagrams.{AreGenuineBytes, bytes_of};
-ghost use Rattle.live_feed.specs.run.Runs.{brought_by};
+ghost use Rattle.live_feed.specs.run.Runs.{brought_in};
 ghost use Rattle.live_feed.specs.run.Runs.{failures_after, source_fault_code};
 
 use feed_types::{Genuine, VenueId};
@@ -78,7 +78,7 @@ pub trait LineSource<G: Genuine>: Drop {
     /// no failure.
     fn next(&mut self) -> Result<Option<Datagram>, SourceFault>
         ensures venue { venue_of self.new ≡ venue_of self.old }
-        ensures brings { brings self.old (brought_by result) self.new }
+        ensures brings { brings self.old (brought_in result) self.new }
         ensures genuine { (datagram : Datagram) → result ≡ Ok (Some datagram)
             → AreGenuineBytes G.Genuine (venue_of self.old) (bytes_of datagram) }
         ensures sound { IfOk result (λ _. failures self.new ≡ failures self.old) }

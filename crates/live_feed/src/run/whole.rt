@@ -327,45 +327,23 @@ impl<G: Genuine + Send + Sync> LiveFeed<G> {
             S.failures A.attends task.lines.items (is_some task.attended)
             (vec_len task.subscriptions) attendant result.attendant) }
     {
-        match self.open::<N>(alloc) {
-            Ok(feed) => run_open(rt, alloc, feed, task, attendant),
-            Err(_) => unrun(WholeFault::NoMemory, attendant),
+        let Ok(feed) = self.open::<N>(alloc) else {
+            return unrun(WholeFault::NoMemory, attendant);
+        };
+        let (lines, log, subscribers) = match begin(rt, alloc, &feed, task) {
+            Ok(begun) => begun,
+            Err(fault) => return unrun(fault, attendant),
+        };
+        let attended = Attended { attendant, log };
+        let (ran, attended) = feed.run_attended(rt, alloc, lines, subscribers, attended);
+        let Attended { attendant, log } = attended;
+        let Ok(report) = ran else {
+            return unrun(WholeFault::NoMemory, attendant);
+        };
+        FeedEnd {
+            outcome: settled(rt, alloc, feed, report, log),
+            attendant,
         }
-    }
-}
-
-/// Runs the feed, which is open, and settles it.
-fn run_open<G, N, S, A, R>(
-    rt: &R,
-    alloc: Global,
-    feed: OpenFeed<G, N>,
-    task: FeedTask<S>,
-    attendant: A,
-) -> FeedEnd<S, A>
-where
-    G: Genuine + Send + Sync,
-    N: FeedName + Send + Sync,
-    S: LineSource<G> + Send,
-    A: Attendant<G, N, OwnLog<N>>,
-    R: Threads + Wait + Sync,
-    ensures attendant { HasAttended A.attends (is_some task.attended) attendant result.attendant }
-    ensures whole { IfOk result.outcome (IsWholeRun G N G.Genuine N.lanes S.venue_of S.brings
-        S.failures A.attends task.lines.items (is_some task.attended)
-        (vec_len task.subscriptions) attendant result.attendant) }
-{
-    let (lines, log, subscribers) = match begin(rt, alloc, &feed, task) {
-        Ok(begun) => begun,
-        Err(fault) => return unrun(fault, attendant),
-    };
-    let attended = Attended { attendant, log };
-    let (ran, attended) = feed.run_attended(rt, alloc, lines, subscribers, attended);
-    let Attended { attendant, log } = attended;
-    let Ok(report) = ran else {
-        return unrun(WholeFault::NoMemory, attendant);
-    };
-    FeedEnd {
-        outcome: settled(rt, alloc, feed, report, log),
-        attendant,
     }
 }
 

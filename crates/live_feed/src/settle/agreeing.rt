@@ -10,7 +10,7 @@ use crate::settle::tally::{is_of, seats_together};
 use crate::subscriber::Subscriber;
 use feed_steps::FeedName;
 use feed_types::{Genuine, LineId, VenueId};
-use venue_lines::{Guarded, LineSeat, VenueCell};
+use venue_lines::{LineSeat, LockedVenue, VenueCell};
 
 /// Whether one of the seats is of the venue's line.
 fn is_among<G, N>(seats: &[LineSeat<G, N>], venue: VenueId, line: LineId) -> bool
@@ -26,29 +26,29 @@ fn is_among<G, N>(seats: &[LineSeat<G, N>], venue: VenueId, line: LineId) -> boo
 
 /// Whether the line's seat is here, if it was handed out.
 fn is_back<G: Genuine, N: FeedName>(
-    guarded: &Guarded<G, N>,
+    locked: &LockedVenue<G, N>,
     seats: &[LineSeat<G, N>],
     venue: VenueId,
     line: LineId,
 ) -> bool
-    ensures { IsTrue result ↔ (on_line line guarded.now.seated ≡ true
+    ensures { IsTrue result ↔ (on_line line locked.now.seated ≡ true
         → list_any (is_seat_of venue line) seats.now ≡ true) }
 {
-    !guarded.seated.on(line) || is_among(seats, venue, line)
+    !locked.seated.on(line) || is_among(seats, venue, line)
 }
 
 /// Whether each seat of the venue that was handed out is here.
 pub(crate) fn has_its_seats<G: Genuine, N: FeedName>(
-    guarded: &Guarded<G, N>,
+    locked: &LockedVenue<G, N>,
     seats: &[LineSeat<G, N>],
 ) -> bool
     ensures { IsTrue result
-        ↔ HasItsSeats seats.now guarded.now.cell.arbiter.venue guarded.now.seated }
+        ↔ HasItsSeats seats.now locked.now.cell.arbiter.venue locked.now.seated }
 {
-    let venue = guarded.cell.venue();
-    is_back(guarded, seats, venue, LineId::A)
-        && is_back(guarded, seats, venue, LineId::B)
-        && is_back(guarded, seats, venue, LineId::Recovery)
+    let venue = locked.cell.venue();
+    is_back(locked, seats, venue, LineId::A)
+        && is_back(locked, seats, venue, LineId::B)
+        && is_back(locked, seats, venue, LineId::Recovery)
 }
 
 /// Whether the cell counts on the line what the line's seats show.
@@ -79,7 +79,7 @@ fn agrees<G: Genuine, N: FeedName>(
 
 /// Whether the cells are those of the venues, in order, and each counts what its seats show.
 pub(crate) fn all_agree<G: Genuine, N: FeedName>(
-    venues: &[Guarded<G, N>],
+    venues: &[LockedVenue<G, N>],
     seats: &[LineSeat<G, N>],
 ) -> bool
     ensures { IsTrue result → AllAgree seats.now (map (λ g. g.cell) venues.now) }

@@ -13,7 +13,7 @@ use fifo_lane::{RisingNotices, Sender};
 use hub_lanes::JournalAndLanes;
 use journal_book::Journal;
 use std::alloc::{AllocError, Global};
-use venue_lines::{Guarded, VenueCell};
+use venue_lines::{LockedVenue, VenueCell};
 
 /// Empty lists for a venue's items: those that were consumed, that are in its lane, and that are
 /// ready.
@@ -63,7 +63,7 @@ fn venue_room<G: Genuine, N: FeedName>(
 fn venue_rooms<G: Genuine, N: FeedName>(
     alloc: Global,
     entries: &[Entry],
-    venues: &[Guarded<G, N>],
+    venues: &[LockedVenue<G, N>],
 ) -> Result<Vec<VenueRoom>, AllocError>
     ensures count { IfOk result (λ rooms. length rooms.items ≡ length venues.now) }
     ensures rooms { IfOk result (λ rooms. HaveVenueRooms entries.now
@@ -113,7 +113,7 @@ fn subscriber_rooms(
 /// Makes room for what is left of the venues and of the subscribers.
 pub(crate) fn feed_room<G: Genuine, N: FeedName>(
     alloc: Global,
-    venues: &[Guarded<G, N>],
+    venues: &[LockedVenue<G, N>],
     core: &JournalAndLanes<G, N>,
 ) -> Result<FeedRoom, AllocError>
     ensures { IfOk result (HasRoom (map (λ g. g.cell) venues.now) core.now) }

@@ -4,7 +4,7 @@ ghost use Rattle.std.specs.Prelude.{◌≡◌};
 ghost use Rattle.line_arbiter.specs.Streams.{is_same_line};
 ghost use Rattle.venue_lines.specs.Brought.{Brought, counts_of};
 ghost use Rattle.venue_lines.specs.Seats.{is_seat_of};
-ghost use Rattle.live_feed.specs.settle.Settlements.{brought_by_seats, with_seat};
+ghost use Rattle.live_feed.specs.settle.Settlements.{brought_of_seats, with_seat};
 
 use feed_types::{LineId, VenueId};
 use venue_lines::{LineCounts, LineSeat};
@@ -49,7 +49,7 @@ pub(crate) fn seats_together<G, N>(
     venue: VenueId,
     line: LineId,
 ) -> LineCounts
-    ensures { result ≡ counts_of (brought_by_seats venue line seats.now) }
+    ensures { result ≡ counts_of (brought_of_seats venue line seats.now) }
 {
     let mut tally = LineCounts::none();
     for place in 0..seats.len() {

@@ -37,22 +37,13 @@ impl Model for KeptLog {
     ghost invariant = { λ k. KeepsLog k.all.items k.limit k.earlier k.list.items k.gone };
 }
 
-/// The line of the notice and the advice.
-fn line_of(notice: &Notice, advice: &Advice) -> Logged
-    ensures { result ≡ logged notice.now advice.now }
-{
-    let notice = *notice;
-    let advice = *advice;
-    Logged { notice, advice }
-}
-
 /// Appends a line, for which there is room.
-fn push_line(list: &mut Vec<Logged>, line: &Logged)
+fn push_line(list: &mut Vec<Logged>, line: Logged)
     requires { vec_len list.old < vec_capacity list.old }
-    ensures { list.new.items ≡ list.old.items ++ line.now ∷ [] }
+    ensures { list.new.items ≡ list.old.items ++ line ∷ [] }
 {
     let _named: Option<(Notice, Advice, National, Best, SymbolName, VenueId)> = None;
-    list.push_reserved(*line);
+    list.push_reserved(line);
 }
 
 impl KeptLog {
@@ -112,9 +103,10 @@ impl KeptLog {
           ready = self.new.ready;
         } }
     {
-        let line = line_of(notice, advice);
-        push_line(&mut self.list, &line);
+        let (notice, advice) = (*notice, *advice);
+        let line = Logged { notice, advice };
         self.all = self.all.with(&line);
+        push_line(&mut self.list, line);
     }
 
     /// Forgets the next `count` lines, of at least as many that weren't forgotten. They go from the

@@ -55,15 +55,13 @@ impl<N: FeedName> Model for SubscriberLog<N> {
 }
 
 /// What the strategy advises, which is asked once, where its limits are these; for another one,
-/// which no subscriber has, it is to hold. It is shown a copy, so that the notice itself goes into
-/// the log as it was read.
+/// which no subscriber has, it is to hold.
 fn advised(strategy: &mut Strategy, bounds: Limits, notice: &Notice) -> Advice
     ensures allowed { IsAllowed bounds notice.now result }
     ensures asks { AsksOnce bounds notice.now result strategy.old strategy.new }
 {
     let same = strategy.limits == bounds;
-    let shown = *notice;
-    let advice = advise(strategy, &shown);
+    let advice = advise(strategy, notice);
     // No subscriber has other limits here than its strategy's: they are taken from it in
     // `subscribe`, or its strategy is made for them. That can't be said of a type that holds a
     // closure beside a feed's name, so it is looked at, and what isn't known to be allowed doesn't

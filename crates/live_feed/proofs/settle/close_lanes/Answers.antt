@@ -34,17 +34,17 @@ made_of_three-venue_ends-requires-clause-callable g c =
     let lanes = g.N.FeedName.lanes in
     let made = c.into_parts-journal in
     let parts = made.ensures.parts in
-    λ venue guarded e r left mid right.
-    (let at = at_map (λ v. v.cell) c.args.unlocked.venues.items venue guarded left in
-    let is = c.requires.venues venue guarded.cell at in
+    λ venue locked e r left mid right.
+    (let at = at_map (λ v. v.cell) c.args.unlocked.venues.items venue locked left in
+    let is = c.requires.venues venue locked.cell at in
     record {
       consumed = subst (λ (x : JournalState × ℕ). IsConsumed premise lanes x.0.entries x.1 e)
           (λ i. (sym parts.0 i, sym is i))
           (made.ensures.hub.consumed venue e
           (ap (λ (l : List (LaneEnd Numbered)). slice_get l venue) (sym parts.1) ∙ mid));
-      room = subst (λ (j : JournalState). HasVenueRoom (kept_of j.kept j.entries) guarded.cell r)
+      room = subst (λ (j : JournalState). HasVenueRoom (kept_of j.kept j.entries) locked.cell r)
           (sym parts.0)
-          (c.requires.room.venues venue guarded.cell r at right);
+          (c.requires.room.venues venue locked.cell r at right);
     })
 
 pub made_of_three-subscriber_ends-requires-clause-counts :
@@ -102,7 +102,7 @@ returns g c =
       kept = made.ensures.hub;
       journal = made.ensures.parts.0;
       venues = seen_zipped _ (IsClosedVenue premise lanes journal) (λ v. v.cell)
-          (λ guarded end one. one.2) unlocked.venues.items
+          (λ locked end one. one.2) unlocked.venues.items
           venue_ends.result.items venue_ends.ensures;
       subscribers = seen_zipped _ (λ t x. ShowsSubscriber journal t.id t x) (λ s. s.log)
           (λ s x one. one.2) subscribers

@@ -1,5 +1,5 @@
 use Rattle.std.proofs.Common.{[], ◌∷◌, ◌++◌, None, Some, ap, rules, Ok, subst, ◌∙◌}
-use Rattle.live_feed.specs.run.Runs.{brought_by}
+use Rattle.live_feed.specs.run.Runs.{brought_in}
 use Rattle.venue_lines.specs.Datagrams.{bytes_of}
 use Rattle.live_feed.specs.run.Runs.{HasTaken, failures_after}
 use Rattle.live_feed.proofs.RunMoves.{brings_still, genuine_at, line_ended, read_more, seat_stays, taken_more}
@@ -26,7 +26,7 @@ loop-preserved g c =
     taken_more g.G.Genuine g.N.FeedName.lanes
     so_far.0 bytes c.take_and_look-answer.result c.args.line.seat c.loop.seat
     c.take_and_look-answer.new.seat so_far.1 c.take_and_look-answer.ensures.taken in
-    let one = subst (λ found. g.S.LineSource.brings waited (brought_by (Ok found))
+    let one = subst (λ found. g.S.LineSource.brings waited (brought_in (Ok found))
     c.next-in-loop.new.self) c.in-Ok-Some.field-0-is c.in-Ok-Some.ensures.brings in
     let waits = still first c.loop.source waited so_far.0 so_far.2 c.is_next_there.ensures.brings in
     let read = laws.brings_more first waited c.next-in-loop.new.self so_far.0 (bytes ∷ []) waits one
@@ -73,7 +73,7 @@ returns g c =
       | in-Some+else-not-is_next_there+in-Ok-None w ↦
           let waited = w.is_next_there.new.source in
           let waits = still first before waited so_far.0 so_far.2 w.is_next_there.ensures.brings in
-          let nothing = subst (λ found. brings waited (brought_by (Ok found))
+          let nothing = subst (λ found. brings waited (brought_in (Ok found))
           w.next-in-loop.new.self)
           w.in-Ok-None.field-0-is w.in-Ok-None.ensures.brings in
           rw w.seat-is (rw w.source-is (rw w.datagrams-is (rw w.fault-is (rw i.7
@@ -100,7 +100,7 @@ returns g c =
           g.N.FeedName.lanes so_far.0 bytes answer.result c.args.line.seat old
           answer.new.seat so_far.1
           answer.ensures.taken in
-          let one = subst (λ found. brings waited (brought_by (Ok found)) w.next-in-loop.new.self)
+          let one = subst (λ found. brings waited (brought_in (Ok found)) w.next-in-loop.new.self)
           w.in-Ok-Some.field-0-is w.in-Ok-Some.ensures.brings in
           let read = laws.brings_more first waited w.next-in-loop.new.self so_far.0
           (bytes ∷ []) waits one in

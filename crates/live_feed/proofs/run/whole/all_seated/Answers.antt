@@ -1,6 +1,4 @@
-use Rattle.std.proofs.Common.{◌≡◌, ◌∷◌, [], ◌++◌, rules, subst, sym}
-use Rattle.venue_lines.specs.Seats.{new_seat}
-use Rattle.live_feed.specs.run.Runs.{Pairwise}
+use Rattle.std.proofs.Common.{◌≡◌, ◌∷◌, [], ◌++◌, rules}
 use Rattle.live_feed.proofs.RunMoves.{pairwise_more}
 use Rattle.live_feed.proofs.run.whole.all_seated.Goals as goal
 

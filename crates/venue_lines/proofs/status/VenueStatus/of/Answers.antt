@@ -17,7 +17,7 @@ module _ (g : Over) (c : After-line_counts-3 g) where
     session = c.session.result;
     cursors = c.status.result;
     gap = c.gap.result;
-    requests = c.args.guarded.now.requests;
+    requests = c.args.locked.now.requests;
     a = c.line_counts.result;
     b = c.line_counts-2.result;
     recovery = c.line_counts-3.result;
@@ -26,7 +26,7 @@ module _ (g : Over) (c : After-line_counts-3 g) where
 pub returns-clause-shows : goal.returns-clause-shows
 returns-clause-shows g c = λ h fits.
     let packets = h.present.packets in
-    let arbiter : c.arbiter-arbiter.result.now ≡ c.args.guarded.now.cell.arbiter =
+    let arbiter : c.arbiter-arbiter.result.now ≡ c.args.locked.now.cell.arbiter =
     c.arbiter-arbiter.ensures in
     let here = subst (λ (s : State). Fits s packets) (sym arbiter) fits.history.present in
     let sent = sym c.status.ensures.cursors.sent in
@@ -38,7 +38,7 @@ returns-clause-shows g c = λ h fits.
       gap = c.gap.ensures packets here
           ∙ (λ i. gap_of (name i) ((arbiter i).window) (sent i) packets);
       lines = on_each
-          (λ line. ShowsLine h line (on_line line c.args.guarded.now.cell.brought)
+          (λ line. ShowsLine h line (on_line line c.args.locked.now.cell.brought)
           (status_on line (shown_so g c)))
           (c.line_counts.ensures.shows h fits) (c.line_counts-2.ensures.shows h fits)
           (c.line_counts-3.ensures.shows h fits);
@@ -46,6 +46,6 @@ returns-clause-shows g c = λ h fits.
 
 pub returns-clause-counts : goal.returns-clause-counts
 returns-clause-counts g c =
-    on_each (λ line. ShowsBrought (on_line line c.args.guarded.now.cell.brought)
+    on_each (λ line. ShowsBrought (on_line line c.args.locked.now.cell.brought)
     (status_on line (shown_so g c)))
     c.line_counts.ensures.counts c.line_counts-2.ensures.counts c.line_counts-3.ensures.counts

@@ -12,13 +12,13 @@ use feed_types::{Genuine, LineId, PerLine};
 /// The part that a venue's lock guards: the cell, which lines have their seats, and how many
 /// requests were handed out.
 #[derive(Drop)]
-pub struct Guarded<G: Genuine, N: FeedName> {
+pub struct LockedVenue<G: Genuine, N: FeedName> {
     pub cell: VenueCell<G, N>,
     pub seated: PerLine<bool>,
     pub requests: u64,
 }
 
-impl<G: Genuine, N: FeedName> Guarded<G, N> {
+impl<G: Genuine, N: FeedName> LockedVenue<G, N> {
     /// Hands out the seat of the line, which has brought nothing: SeatTaken where it was handed out
     /// already.
     pub(crate) fn give_seat(&mut self, line: LineId) -> Result<LineSeat<G, N>, FeedFault>

@@ -1,16 +1,16 @@
-use Rattle.std.proofs.Common.{◌≡◌, ◌∙◌, List, length, map, sym}
+use Rattle.std.proofs.Common.{◌≡◌, ◌∙◌, length, map, sym}
 use Rattle.std.proofs.lemmas.List.{length-map}
 use Rattle.venue_lines.specs.Seats.{new_seat}
 use Rattle.live_feed.specs.run.Runs.{HasPolled, HasTaken, LineHasEnded}
 use Rattle.live_feed.proofs.RunMoves.{ended_of}
 use Rattle.live_feed.proofs.WholeRuns.{at_ok, both_ok, pairwise_length, pairwise_two, so_at_ok}
-use Rattle.live_feed.proofs.run.whole.run_open.Goals as goal
+use Rattle.live_feed.proofs.feed.LiveFeed.run_whole.Goals as goal
 
 pub returns-clause-whole : goal.returns-clause-whole
 returns-clause-whole g c =
     let takes = HasTaken g.G.Genuine g.N.FeedName.lanes in
     let source = g.S.LineSource in
-    let begun = c.in-Ok.begun in
+    let begun = c.in-Ok-begin.begun in
     let ran = c.run_attended-ran in
     let report = c.in-Ok-ran.report in
     let lines =
@@ -24,7 +24,7 @@ returns-clause-whole g c =
     ended_of takes source.brings source.failures line.seat
     (new_seat (source.venue_of task.source) task.line) line.source task.source
     ended given.0 given.1 so)
-    c.args.task.lines.items begun.0.items report.lines.items c.in-Ok.ensures.lines
+    c.args.task.lines.items begun.0.items report.lines.items c.in-Ok-begin.ensures.lines
     (at_ok _ ran.result.0 report c.in-Ok-ran.is ran.ensures.lines) in
     let polled =
     pairwise_length (λ given back. HasPolled given.log back.log) begun.2.items
@@ -36,10 +36,11 @@ returns-clause-whole g c =
       lines = lines;
       reported = reported;
       log = begun.1;
-      begun = c.in-Ok.ensures.log;
+      begun = c.in-Ok-begin.ensures.log;
       later = ran.result.1.log;
       attended = so_at_ok ran.result.0 report c.in-Ok-ran.is ran.ensures.attended;
       others = logs;
-      all = length-map report.subscribers.items (λ s. s.log) ∙ sym polled ∙ c.in-Ok.ensures.count;
+      all = length-map report.subscribers.items (λ s. s.log) ∙ sym polled
+          ∙ c.in-Ok-begin.ensures.count;
       settled = settled;
     }) c.settled.result c.settled.ensures.lines c.settled.ensures.settled

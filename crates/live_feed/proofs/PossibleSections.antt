@@ -1,14 +1,14 @@
 -- A section under the consolidator's lock.
 use Rattle.feed_types.specs.declared.genuine.Genuine.{Ghosts as Genuine}
 use Rattle.feed_steps.specs.Lanes.{FeedLanes}
-use Rattle.hub_lanes.specs.Hubs.{HubState, HubLockInvariant, UnderHubLock}
+use Rattle.hub_lanes.specs.Hubs.{HubState, HubLockInvariant, IsPossibleAtHub}
 
-pub under_hub_lock : {S : Type 0} (premise : Genuine S) (lanes : FeedLanes)
+pub possible_at_hub : {S : Type 0} (premise : Genuine S) (lanes : FeedLanes)
     (section : HubState → HubState → Type 0)
     (old new : HubState) → HubLockInvariant premise lanes old → HubLockInvariant premise lanes new
     → section old new
-    → UnderHubLock premise lanes section
-under_hub_lock premise lanes section old new kept keeps leads = record {
+    → IsPossibleAtHub premise lanes section
+possible_at_hub premise lanes section old new kept keeps leads = record {
   old = old;
   kept = kept;
   new = new;
