@@ -8,16 +8,24 @@ use Rattle.clap.specs.Faults.{fault_of}
 use Rattle.clap.specs.declared.error.kind.ErrorKind.{ErrorKind}
 use Rattle.clap.specs.declared.error.kind.ErrorKind.TheVariants.{DisplayHelp, DisplayVersion, OutOfMemory}
 use Rattle.command_words.specs.CapturedLines.{HasInputFault}
-use Rattle.command_words.specs.CommandLine.{GivesNoConversion, GivesNoDiscovery, IsAccepted, IsCommand, IsRefused, RefusesBy, lines_refusal_by, values_of}
+use Rattle.command_words.specs.CommandLine.{GivesNoConversion, GivesNoDiscovery, IsAccepted, IsCommand, IsRefused, RefusesBy, lines_refusal_by, senders_refusal_by, stats_refusal_by, values_of}
 use Rattle.command_words.specs.FeedRequests.{GivesFeed}
-use Rattle.command_words.specs.ListenRequests.{GivesNoListening}
+use Rattle.command_words.specs.ListenRequests.{GivesBadListenStats, GivesListenStats, GivesNoListening, ListensToNoSenders}
+use Rattle.command_words.specs.StatsFormats.{HasListenStatsFault, NamesListenStats}
+use Rattle.run_settings.specs.declared.listen_stats.ListenStats.{ListenStats}
 use Rattle.command_words.specs.OptionValues.{IsCount, IsFlag, IsGivenCount, IsWindowOf}
-use Rattle.command_words.specs.RunRequests.{GivesBadFormat, GivesNoRun, GivesNoStats, GivesOutput}
+use Rattle.command_words.specs.RunRequests.{GivesBadFormat, GivesNoRun, GivesNoStats, GivesNoStatsOutput, GivesOutput, GivesStatsOutput}
 use Rattle.command_words.specs.BestFormats.{HasFormatFault, NamesFormat}
+use Rattle.command_words.specs.StatsOutputs.{HasStatsFault, NamesStatsOutput}
 use Rattle.command_words.specs.declared.best_format.FormatFault.{FormatFault}
 use Rattle.command_words.specs.Commands.{nbbo_app}
 use Rattle.command_words.specs.declared.addresses.LinesFault.{LinesFault}
 use Rattle.command_words.specs.declared.addresses.LinesFault.TheVariants as lines
+use Rattle.command_words.specs.SenderLists.{HasSendersFault}
+use Rattle.command_words.specs.declared.sender_list.SendersFault.{SendersFault}
+use Rattle.command_words.specs.declared.sender_list.SendersFault.TheVariants as senders
+use Rattle.command_words.specs.declared.stats_output.StatsFault.{StatsFault}
+use Rattle.command_words.specs.declared.stats_output.StatsFault.TheVariants as stats
 use Rattle.run_settings.specs.declared.feed_settings.FeedSettings.{FeedSettings}
 use Rattle.run_settings.specs.declared.run_output.RunOutput.{RunOutput}
 use Rattle.command_words.specs.declared.refusal.Refusal.{Refusal}
@@ -100,6 +108,31 @@ gives_bad_format rows flag text (Err fault) given e told = record {
   fault = subst (λ (t : Option Text). HasFormatFault flag t) e told;
 }
 
+-- the counts that the options of listen ask for, and that they ask for none
+pub gives_listen_stats : (rows : List Row) (seconds : Option ℕ) (text : Option Text)
+    (r : Result (Option ListenStats) FormatFault)
+    → IsGivenCount (one_of (codes "stats") rows) seconds
+    → text ≡ first_of (codes "stats-format") rows → IfOk r (NamesListenStats seconds text)
+    → IfOk r (GivesListenStats rows)
+gives_listen_stats rows seconds text (Ok stats) given e told = record {
+  seconds = seconds;
+  given = given;
+  named = subst (λ (t : Option Text). NamesListenStats seconds t stats) e told;
+}
+gives_listen_stats rows seconds text (Err fault) given e told = tt
+
+pub gives_bad_listen_stats : (rows : List Row) (seconds : Option ℕ) (text : Option Text)
+    (r : Result (Option ListenStats) FormatFault)
+    → IsGivenCount (one_of (codes "stats") rows) seconds
+    → text ≡ first_of (codes "stats-format") rows
+    → IfErr r (λ _. HasListenStatsFault seconds text) → IfErr r (λ _. GivesBadListenStats rows)
+gives_bad_listen_stats rows seconds text (Ok stats) given e told = tt
+gives_bad_listen_stats rows seconds text (Err fault) given e told = record {
+  seconds = seconds;
+  given = given;
+  fault = subst (λ (t : Option Text). HasListenStatsFault seconds t) e told;
+}
+
 -- a fault of the list of lines is the refusal, where the settings of the feed and the output are
 -- right
 pub GivesNoRun-lines : (rows : List Row) (IsOutput : RunOutput → Type 0) (IsFault : Type 0)
@@ -116,6 +149,55 @@ GivesNoRun-lines rows IsOutput IsFault feed output lines.BadLines given prints f
   ),
 )
 GivesNoRun-lines rows IsOutput IsFault feed output lines.NoMemory given prints fault = tt
+
+-- what stats prints by its options
+pub gives_stats_output : (rows : List Row) (gaps : Bool) (every format list : Option Text)
+    (r : Result RunOutput StatsFault) → IsFlag (one_of (codes "gaps") rows) gaps
+    → every ≡ first_of (codes "every") rows
+    → format ≡ first_of (codes "format") rows → list ≡ first_of (codes "lines") rows
+    → IfOk r (NamesStatsOutput gaps every format list) → IfOk r (GivesStatsOutput rows)
+gives_stats_output rows gaps every format list (Ok output) given e f l told =
+    record { gaps = gaps; flag = given; names = rw (← e, ← f, ← l) told }
+gives_stats_output rows gaps every format list (Err fault) given e f l told = tt
+
+pub gives_no_stats_output : (rows : List Row) (gaps : Bool) (every format list : Option Text)
+    (r : Result RunOutput StatsFault) → IsFlag (one_of (codes "gaps") rows) gaps
+    → every ≡ first_of (codes "every") rows
+    → format ≡ first_of (codes "format") rows → list ≡ first_of (codes "lines") rows
+    → IfErr r (HasStatsFault gaps every format list) → IfErr r (GivesNoStatsOutput rows)
+gives_no_stats_output rows gaps every format list (Ok output) given e f l told = tt
+gives_no_stats_output rows gaps every format list (Err fault) given e f l told =
+    record { gaps = gaps; flag = given; has = rw (← e, ← f, ← l) told }
+
+-- a fault of the output, or of the list of lines, is the refusal
+pub GivesNoStats-output : (rows : List Row) (feed : FeedSettings) (fault : StatsFault)
+    → GivesFeed rows feed → GivesNoStatsOutput rows fault
+    → GivesNoStats rows (stats_refusal_by fault)
+GivesNoStats-output rows feed stats.BadPeriod given fault =
+    (feed.sessions.items, given.sessions, (feed.symbols.items, given.symbols, fault))
+GivesNoStats-output rows feed stats.BadFormat given fault =
+    (feed.sessions.items, given.sessions, (feed.symbols.items, given.symbols, fault))
+GivesNoStats-output rows feed stats.EveryWithoutLines given fault =
+    (feed.sessions.items, given.sessions, (feed.symbols.items, given.symbols, fault))
+GivesNoStats-output rows feed stats.GapsWithEvery given fault =
+    (feed.sessions.items, given.sessions, (feed.symbols.items, given.symbols, fault))
+
+pub GivesNoStats-lines : (rows : List Row) (feed : FeedSettings) (output : RunOutput)
+    (fault : LinesFault) → GivesFeed rows feed → GivesStatsOutput rows output
+    → HasInputFault (first_of (codes "lines") rows) (length feed.sessions.items) fault
+    → GivesNoStats rows (lines_refusal_by fault)
+GivesNoStats-lines rows feed output lines.BadLines given prints fault =
+    GivesNoRun-lines rows (GivesStatsOutput rows) (GivesNoStatsOutput rows stats.BadFormat)
+    feed output lines.BadLines given prints fault
+GivesNoStats-lines rows feed output lines.NoMemory given prints fault = tt
+
+-- a fault of the list of senders is the refusal, where all that is looked at before is right
+pub GivesNoListening-senders : (rows : List Row) (fault : SendersFault)
+    → (HasSendersFault (first_of (codes "from") rows) senders.BadSender → ListensToNoSenders rows)
+    → HasSendersFault (first_of (codes "from") rows) fault
+    → GivesNoListening rows (senders_refusal_by fault)
+GivesNoListening-senders rows senders.BadSender wrong has = wrong has
+GivesNoListening-senders rows senders.NoMemory wrong has = tt
 
 -- one subcommand isn't another one
 not_both : (words : List Text) → IsCommand (codes "listen") words

@@ -3,3 +3,4 @@ mod Listing
 mod Naming
 mod Spelling
 pub mod CapturedLists
+pub mod PeriodReading

@@ -6,7 +6,7 @@ use Rattle.std.specs.List.{slice_index_or}
 use Rattle.std.specs.Net.Grammar.{IsSocketText}
 use Rattle.std.specs.declared.net.socket_addr.SocketAddr.{SocketAddr}
 use Rattle.std.proofs.lemmas.List.{length-map, map-append, take_more}
-use Rattle.command_words.specs.Addresses.{AreAddresses, HasLinesFault, NameLines}
+use Rattle.command_words.specs.Addresses.{AreSpelled, HasLinesFault, NameLines}
 use Rattle.command_words.specs.Sessions.{names_in}
 use Rattle.command_words.specs.declared.addresses.LinesFault.{LinesFault}
 use Rattle.command_words.specs.declared.addresses.LinesFault.TheVariants.{BadLines, NoMemory}
@@ -16,64 +16,65 @@ use Rattle.command_words.proofs.Naming.{AreNamesOf}
 abbrev texts_at : List (Bor (List ℕ)) → List (List ℕ)
 texts_at texts = map (λ text. text.now) texts
 
-one_more : (texts : List (List ℕ)) (lines : List SocketAddr) (text : List ℕ) (line : SocketAddr)
-    → AreAddresses texts lines → IsSocketText text line
-    → AreAddresses (texts ++ text ∷ []) (lines ++ line ∷ [])
-one_more [] [] text line all is = (is, tt)
-one_more [] (x ∷ xs) text line all is = absurd all
-one_more (t ∷ ts) [] text line all is = absurd all
-one_more (t ∷ ts) (x ∷ xs) text line all is = (all.0, one_more ts xs text line all.1 is)
+module _ {X : Type 0} (Spells : List ℕ → X → Type 0) where
+  one_more : (texts : List (List ℕ)) (xs : List X) (text : List ℕ) (x : X)
+      → AreSpelled Spells texts xs → Spells text x
+      → AreSpelled Spells (texts ++ text ∷ []) (xs ++ x ∷ [])
+  one_more [] [] text x all is = (is, tt)
+  one_more [] (y ∷ ys) text x all is = absurd all
+  one_more (t ∷ ts) [] text x all is = absurd all
+  one_more (t ∷ ts) (y ∷ ys) text x all is = (all.0, one_more ts ys text x all.1 is)
 
-pub AreAddresses-more : (texts : List (Bor (List ℕ))) (i : ℕ) (d : Bor (List ℕ))
-    (lines : List SocketAddr) (line : SocketAddr) → i < length texts
-    → AreAddresses (texts_at (take i texts)) lines → IsSocketText (slice_index_or texts i d).now
-    line → AreAddresses (texts_at (take (i + 1) texts)) (lines ++ line ∷ [])
-AreAddresses-more texts i d lines line lt all is =
-    let more : texts_at (take (i + 1) texts) ≡ texts_at (take i texts)
-    ++ (slice_index_or texts i d).now
-    ∷ [] = rw (take_more texts i d lt) (map-append (λ text. text.now) (take i texts)
-    (slice_index_or texts i d ∷ [])) in
-    subst (λ (ts : List (List ℕ)). AreAddresses ts (lines ++ line ∷ [])) (sym more)
-    (one_more _ lines _ line all is)
+  pub AreSpelled-more : (texts : List (Bor (List ℕ))) (i : ℕ) (d : Bor (List ℕ))
+      (xs : List X) (x : X) → i < length texts
+      → AreSpelled Spells (texts_at (take i texts)) xs → Spells (slice_index_or texts i d).now x
+      → AreSpelled Spells (texts_at (take (i + 1) texts)) (xs ++ x ∷ [])
+  AreSpelled-more texts i d xs x lt all is =
+      let more : texts_at (take (i + 1) texts) ≡ texts_at (take i texts)
+      ++ (slice_index_or texts i d).now
+      ∷ [] = rw (take_more texts i d lt) (map-append (λ text. text.now) (take i texts)
+      (slice_index_or texts i d ∷ [])) in
+      subst (λ (ts : List (List ℕ)). AreSpelled Spells ts (xs ++ x ∷ [])) (sym more)
+      (one_more _ xs _ x all is)
 
--- each text of such a list spells an address
-pub AreAddresses-at : (texts : List (Bor (List ℕ))) (i : ℕ) (d : Bor (List ℕ))
-    (lines : List SocketAddr) → i < length texts → AreAddresses (texts_at texts) lines
-    → (line : SocketAddr) × IsSocketText (slice_index_or texts i d).now line
-AreAddresses-at [] i d lines lt all = absurd (omega (arith, lt))
-AreAddresses-at (t ∷ ts) i d [] lt all = absurd all
-AreAddresses-at (t ∷ ts) zero d (x ∷ xs) lt all = (x, all.0)
-AreAddresses-at (t ∷ ts) (suc i) d (x ∷ xs) lt all = AreAddresses-at ts i d xs
-    (omega (arith, lt)) all.1
+  -- each text of such a list spells something
+  pub AreSpelled-at : (texts : List (Bor (List ℕ))) (i : ℕ) (d : Bor (List ℕ))
+      (xs : List X) → i < length texts → AreSpelled Spells (texts_at texts) xs
+      → (x : X) × Spells (slice_index_or texts i d).now x
+  AreSpelled-at [] i d xs lt all = absurd (omega (arith, lt))
+  AreSpelled-at (t ∷ ts) i d [] lt all = absurd all
+  AreSpelled-at (t ∷ ts) zero d (x ∷ xs) lt all = (x, all.0)
+  AreSpelled-at (t ∷ ts) (suc i) d (x ∷ xs) lt all =
+      AreSpelled-at ts i d xs (omega (arith, lt)) all.1
 
-AreAddresses-length : (texts : List (List ℕ)) (lines : List SocketAddr) → AreAddresses texts lines
-    → length lines ≡ length texts
-AreAddresses-length [] [] all = refl
-AreAddresses-length [] (x ∷ xs) all = absurd all
-AreAddresses-length (t ∷ ts) [] all = absurd all
-AreAddresses-length (t ∷ ts) (x ∷ xs) all = ap suc (AreAddresses-length ts xs all.1)
+  AreSpelled-length : (texts : List (List ℕ)) (xs : List X) → AreSpelled Spells texts xs
+      → length xs ≡ length texts
+  AreSpelled-length [] [] all = refl
+  AreSpelled-length [] (x ∷ xs) all = absurd all
+  AreSpelled-length (t ∷ ts) [] all = absurd all
+  AreSpelled-length (t ∷ ts) (x ∷ xs) all = ap suc (AreSpelled-length ts xs all.1)
 
 -- a list of another length names no lines
 pub other_length : (texts : List (Bor (List ℕ))) (list : List ℕ) (venues : ℕ)
     → AreNamesOf texts list → length texts ≢ 2 * venues → HasLinesFault list venues BadLines
 other_length texts list venues cut other = λ lines named.
-    let all = AreAddresses-length (names_in list) lines named.spelled in
+    let all = AreSpelled-length IsSocketText (names_in list) lines named.spelled in
     let n : length (names_in list) ≡ length texts = ap length (sym cut)
     ∙ length-map texts (λ text. text.now) in
     other (sym n ∙ sym all ∙ named.two_each)
 
 pub NameLines-all : (texts : List (Bor (List ℕ))) (list : List ℕ) (venues : ℕ)
     (lines : List SocketAddr) → AreNamesOf texts list → length texts ≡ 2 * venues
-    → AreAddresses (texts_at texts) lines → NameLines list venues lines
+    → AreSpelled IsSocketText (texts_at texts) lines → NameLines list venues lines
 NameLines-all texts list venues lines cut count all = record {
-  spelled = subst (λ (ts : List (List ℕ)). AreAddresses ts lines) cut all;
-  two_each = AreAddresses-length (texts_at texts) lines all ∙ length-map texts (λ text. text.now)
-      ∙ count;
+  spelled = subst (λ (ts : List (List ℕ)). AreSpelled IsSocketText ts lines) cut all;
+  two_each = AreSpelled-length IsSocketText (texts_at texts) lines all
+      ∙ length-map texts (λ text. text.now) ∙ count;
 }
 
 pub none_spelled : (texts : List (Bor (List ℕ))) (list : List ℕ) (venues : ℕ) (fault : LinesFault)
     → AreNamesOf texts list → (fault ≡ BadLines → (lines : List SocketAddr)
-    → AreAddresses (texts_at texts) lines → ⊥) → HasLinesFault list venues fault
+    → AreSpelled IsSocketText (texts_at texts) lines → ⊥) → HasLinesFault list venues fault
 none_spelled texts list venues BadLines cut none = λ lines named. none refl lines
-    (subst (λ (ts : List (List ℕ)). AreAddresses ts lines) (sym cut) named.spelled)
+    (subst (λ (ts : List (List ℕ)). AreSpelled IsSocketText ts lines) (sym cut) named.spelled)
 none_spelled texts list venues NoMemory cut none = tt

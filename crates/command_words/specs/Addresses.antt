@@ -11,17 +11,16 @@ use Rattle.command_words.specs.Sessions.{names_in}
 use Rattle.command_words.specs.declared.addresses.LinesFault.{LinesFault}
 use Rattle.command_words.specs.declared.addresses.LinesFault.TheVariants.{BadLines, NoMemory}
 
--- the texts spell these addresses, one by one
-abbrev pub AreAddresses : List (List ℕ) → List SocketAddr → Type 0
-AreAddresses [] [] = Unit {0}
-AreAddresses [] (address ∷ addresses) = ⊥
-AreAddresses (text ∷ texts) [] = ⊥
-AreAddresses (text ∷ texts) (address ∷ addresses) =
-    IsSocketText text address × AreAddresses texts addresses
+-- the texts spell these things, one by one
+abbrev pub AreSpelled : {X : Type 0} → (List ℕ → X → Type 0) → List (List ℕ) → List X → Type 0
+AreSpelled Spells [] [] = Unit {0}
+AreSpelled Spells [] (x ∷ xs) = ⊥
+AreSpelled Spells (text ∷ texts) [] = ⊥
+AreSpelled Spells (text ∷ texts) (x ∷ xs) = Spells text x × AreSpelled Spells texts xs
 
 -- The list names these lines of `venues` venues.
 pub record NameLines (list : List ℕ) (venues : ℕ) (lines : List SocketAddr) : Type 0 where
-  pub spelled : AreAddresses (names_in list) lines
+  pub spelled : AreSpelled IsSocketText (names_in list) lines
   pub two_each : length lines ≡ 2 * venues
 
 -- Why a list names no lines. Memory may be refused at any time.
@@ -39,6 +38,18 @@ abbrev pub IsAskable : List SocketAddr → SocketAddr → Type 0
 IsAskable lines address =
     (socket_port address ≢ 0) × (IsUnspecified address → ⊥)
     × All (λ line. is_ipv4 (socket_ip line) ≡ is_ipv4 (socket_ip address)) lines
+
+-- the address at which metrics are served, if there is one
+abbrev pub NamesMetrics : Option (List ℕ) → Option SocketAddr → Type 0
+NamesMetrics None None = Unit {0}
+NamesMetrics None (Some address) = ⊥
+NamesMetrics (Some text) None = ⊥
+NamesMetrics (Some text) (Some address) = IsSocketText text address
+
+-- the text that is given for it is no address
+abbrev pub NamesNoMetrics : Option (List ℕ) → Type 0
+NamesNoMetrics None = ⊥
+NamesNoMetrics (Some text) = (address : SocketAddr) → IsSocketText text address → ⊥
 
 -- the address to which these lines' requests go, if there is one
 abbrev pub NamesRequest : List SocketAddr → Option (List ℕ) → Option SocketAddr → Type 0

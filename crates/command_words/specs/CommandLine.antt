@@ -14,8 +14,12 @@ use Rattle.command_words.specs.CapturedLines.{HasAllLinesFault, NameAllLines}
 use Rattle.command_words.specs.Commands.{nbbo_app}
 use Rattle.command_words.specs.declared.addresses.LinesFault.{LinesFault}
 use Rattle.command_words.specs.declared.addresses.LinesFault.TheVariants as lines
+use Rattle.command_words.specs.declared.sender_list.SendersFault.{SendersFault}
+use Rattle.command_words.specs.declared.sender_list.SendersFault.TheVariants as senders
 use Rattle.command_words.specs.declared.sessions.SessionsFault.{SessionsFault}
 use Rattle.command_words.specs.declared.sessions.SessionsFault.TheVariants as sessions
+use Rattle.command_words.specs.declared.stats_output.StatsFault.{StatsFault}
+use Rattle.command_words.specs.declared.stats_output.StatsFault.TheVariants as stats
 use Rattle.command_words.specs.declared.symbols.SymbolsFault.{SymbolsFault}
 use Rattle.command_words.specs.declared.symbols.SymbolsFault.TheVariants as symbols
 use Rattle.run_settings.specs.declared.formats.StatsFormat.{StatsFormat}
@@ -24,7 +28,7 @@ use Rattle.run_settings.specs.declared.run_settings.RunSettings.{RunSettings}
 use Rattle.command_words.specs.declared.task.Task.{Task}
 use Rattle.command_words.specs.declared.task.Task.TheVariants.{Run, Convert, Discover, Listen}
 use Rattle.command_words.specs.declared.refusal.Refusal.{Refusal}
-use Rattle.command_words.specs.declared.refusal.Refusal.TheVariants.{Shown, Usage, NotText, BadSession, TooManySessions, BadLines, BadRequest, BadFormat, BadEnd, KeptUnfollowed, BadSymbol, TooManySymbols, DuplicateSymbol, NoMemory}
+use Rattle.command_words.specs.declared.refusal.Refusal.TheVariants.{Shown, Usage, NotText, BadSession, TooManySessions, BadLines, BadRequest, BadFormat, BadPeriod, EveryWithoutLines, GapsWithEvery, BadEnd, KeptUnfollowed, BadSender, BadMetrics, BadSymbol, TooManySymbols, DuplicateSymbol, NoMemory}
 use Rattle.run_settings.specs.declared.captured_line.CapturedLine.{CapturedLine}
 use Rattle.command_words.specs.OptionValues.{lines_in, rows_of_command}
 use Rattle.command_words.specs.RunRequests.{Gives, GivesNoStats, GivesNone, GivesStats}
@@ -55,11 +59,21 @@ abbrev pub lines_refusal_by : LinesFault → Refusal
 lines_refusal_by lines.BadLines = BadLines
 lines_refusal_by lines.NoMemory = NoMemory
 
+abbrev pub stats_refusal_by : StatsFault → Refusal
+stats_refusal_by stats.BadPeriod = BadPeriod
+stats_refusal_by stats.BadFormat = BadFormat
+stats_refusal_by stats.EveryWithoutLines = EveryWithoutLines
+stats_refusal_by stats.GapsWithEvery = GapsWithEvery
+
 abbrev pub symbols_refusal_by : SymbolsFault → Refusal
 symbols_refusal_by symbols.BadSymbol = BadSymbol
 symbols_refusal_by symbols.TooManySymbols = TooManySymbols
 symbols_refusal_by symbols.DuplicateSymbol = DuplicateSymbol
 symbols_refusal_by symbols.NoMemory = NoMemory
+
+abbrev pub senders_refusal_by : SendersFault → Refusal
+senders_refusal_by senders.BadSender = BadSender
+senders_refusal_by senders.NoMemory = NoMemory
 
 -- a text that was asked for: help, or the version
 abbrev pub IsAsked : ErrorKind → Type 0
@@ -169,8 +183,13 @@ refusal_text TooManySessions = codes "nbbo: too many sessions\n"
 refusal_text BadLines = codes "nbbo: bad lines\n"
 refusal_text BadRequest = codes "nbbo: bad request address\n"
 refusal_text BadFormat = codes "nbbo: bad format\n"
+refusal_text BadPeriod = codes "nbbo: bad period\n"
+refusal_text EveryWithoutLines = codes "nbbo: --every without --lines\n"
+refusal_text GapsWithEvery = codes "nbbo: --gaps with --every\n"
 refusal_text BadEnd = codes "nbbo: bad end\n"
 refusal_text KeptUnfollowed = codes "nbbo: --kept without --follow\n"
+refusal_text BadSender = codes "nbbo: bad sender\n"
+refusal_text BadMetrics = codes "nbbo: bad metrics address\n"
 refusal_text BadSymbol = codes "nbbo: bad symbol\n"
 refusal_text TooManySymbols = codes "nbbo: too many symbols\n"
 refusal_text DuplicateSymbol = codes "nbbo: duplicate symbol\n"

@@ -1,9 +1,9 @@
 -- The commands of the program with their options, as the crate clap sees them.
 use Rattle.std.specs.Prelude.{codes, true}
 use Rattle.clap.specs.Simple.{App, new_app, on_top, with_rule, with_subcommand}
-use Rattle.command_words.specs.ListenOptions.{buffer_rule, datagrams_rule, follow_rule, kept_rule, live_journal_rule, request_rule, seconds_rule, skip_after_rule, stats_rule, until_input_ends_rule, which_end_rule}
-use Rattle.command_words.specs.Options.{captured_lines_rule, format_rule, join_rule, journal_rule, lines_rule, sessions_rule, skip_gaps_rule, symbols_rule, window_rule}
-use Rattle.command_words.specs.ReplayOptions.{best_only_rule, gaps_rule}
+use Rattle.command_words.specs.ListenOptions.{buffer_rule, complete_rule, datagrams_rule, follow_rule, from_rule, kept_rule, listen_stats_format_rule, live_journal_rule, metrics_rule, request_rule, seconds_rule, skip_after_rule, stats_rule, until_input_ends_rule, which_end_rule}
+use Rattle.command_words.specs.Options.{captured_lines_rule, every_rule, format_rule, gaps_rule, join_rule, journal_rule, lines_rule, sessions_rule, skip_gaps_rule, symbols_rule, window_rule}
+use Rattle.command_words.specs.ReplayOptions.{best_only_rule}
 
 -- replay with its options that have a value
 abbrev pub options_app : App
@@ -26,8 +26,9 @@ replay_app = with_rule (with_rule choices_app format_rule) symbols_rule
 -- listen with its options that say where
 abbrev pub lines_app : App
 lines_app =
-    with_rule (with_rule (with_rule (new_app (codes "listen")) sessions_rule) lines_rule)
-    request_rule
+    with_rule
+    (with_rule (with_rule (with_rule (new_app (codes "listen")) sessions_rule) lines_rule)
+    request_rule) from_rule
 
 -- listen with its options that say how long a gap is waited for, too
 abbrev pub waits_app : App
@@ -38,19 +39,25 @@ abbrev pub counts_app : App
 counts_app =
     with_rule (with_rule (with_rule waits_app window_rule) live_journal_rule) datagrams_rule
 
--- listen with its options that say when it ends, too
+-- listen with its options that say when it ends, and how, too
 abbrev pub ends_app : App
 ends_app =
-    with_rule (with_rule (with_rule counts_app which_end_rule) seconds_rule) until_input_ends_rule
+    with_rule
+    (with_rule (with_rule (with_rule counts_app which_end_rule) seconds_rule) until_input_ends_rule)
+    complete_rule
 
 -- listen with its options for the time until then, too
 abbrev pub meanwhile_app : App
 meanwhile_app =
-    with_rule (with_rule (with_rule (with_rule ends_app buffer_rule) follow_rule) kept_rule)
-    stats_rule
+    with_rule (with_rule (with_rule ends_app buffer_rule) follow_rule) kept_rule
+
+-- listen with its options for counts, too
+abbrev pub counting_meanwhile_app : App
+counting_meanwhile_app =
+    with_rule (with_rule (with_rule meanwhile_app stats_rule) listen_stats_format_rule) metrics_rule
 
 abbrev pub listen_app : App
-listen_app = with_rule meanwhile_app symbols_rule
+listen_app = with_rule counting_meanwhile_app symbols_rule
 
 -- the program without its subcommands, which then does nothing
 abbrev pub program_app : App
@@ -86,8 +93,12 @@ counting_app =
 abbrev pub stats_skips_app : App
 stats_skips_app = with_rule (with_rule counting_app join_rule) skip_gaps_rule
 
+-- and with those that ask for rows in place of counts
+abbrev pub stats_rows_app : App
+stats_rows_app = with_rule (with_rule stats_skips_app gaps_rule) every_rule
+
 abbrev pub stats_app : App
-stats_app = with_rule (with_rule stats_skips_app format_rule) symbols_rule
+stats_app = with_rule (with_rule stats_rows_app format_rule) symbols_rule
 
 abbrev pub reporting_app : App
 reporting_app = with_subcommand converting_app stats_app.top

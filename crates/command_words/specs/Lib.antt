@@ -11,7 +11,10 @@ pub mod OptionValues
 pub mod Options
 pub mod ReplayOptions
 pub mod RunRequests
+pub mod SenderLists
 pub mod Sessions
 pub mod SkipRules
 pub mod StatsFormats
+pub mod PeriodWords
+pub mod StatsOutputs
 pub mod Symbols

@@ -12,6 +12,10 @@ request_rule = record (new_rule (codes "request")) {
   value_names = 1;
 }
 
+-- --from LIST
+abbrev pub from_rule : Rule
+from_rule = record (new_rule (codes "from")) { long = Some (codes "from"); value_names = 1 }
+
 -- --skip-after MS, a number from 1 to 4294967295
 abbrev pub skip_after_rule : Rule
 skip_after_rule = record (new_rule (codes "skip-after")) {
@@ -66,6 +70,13 @@ until_input_ends_rule = record (new_rule (codes "until-input-ends")) {
   action = Some SetTrue;
 }
 
+-- --complete
+abbrev pub complete_rule : Rule
+complete_rule = record (new_rule (codes "complete")) {
+  long = Some (codes "complete");
+  action = Some SetTrue;
+}
+
 -- --follow
 abbrev pub follow_rule : Rule
 follow_rule = record (new_rule (codes "follow")) {
@@ -87,4 +98,18 @@ stats_rule = record (new_rule (codes "stats")) {
   long = Some (codes "stats");
   value_names = 1;
   parser = Some (Signed (pos 1) (pos 4294967295));
+}
+
+-- --stats-format FORMAT
+abbrev pub listen_stats_format_rule : Rule
+listen_stats_format_rule = record (new_rule (codes "stats-format")) {
+  long = Some (codes "stats-format");
+  value_names = 1;
+}
+
+-- --metrics ADDR
+abbrev pub metrics_rule : Rule
+metrics_rule = record (new_rule (codes "metrics")) {
+  long = Some (codes "metrics");
+  value_names = 1;
 }

@@ -58,12 +58,20 @@ skip_gaps_rule = record (new_rule (codes "skip-gaps")) {
   action = Some SetTrue;
 }
 
+-- --gaps
+abbrev pub gaps_rule : Rule
+gaps_rule = record (new_rule (codes "gaps")) { long = Some (codes "gaps"); action = Some SetTrue }
+
 -- --format FORMAT
 abbrev pub format_rule : Rule
 format_rule = record (new_rule (codes "format")) {
   long = Some (codes "format");
   value_names = 1;
 }
+
+-- --every PERIOD
+abbrev pub every_rule : Rule
+every_rule = record (new_rule (codes "every")) { long = Some (codes "every"); value_names = 1 }
 
 -- SYMBOL.., any number of words that belong to no option
 abbrev pub symbols_rule : Rule

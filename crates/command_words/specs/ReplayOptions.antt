@@ -4,10 +4,6 @@ use Rattle.clap.specs.Walk.{Rule}
 use Rattle.clap.specs.Simple.{new_rule}
 use Rattle.clap.specs.declared.builder.action.ArgAction.TheVariants.{SetTrue}
 
--- --gaps
-abbrev pub gaps_rule : Rule
-gaps_rule = record (new_rule (codes "gaps")) { long = Some (codes "gaps"); action = Some SetTrue }
-
 -- --best-only
 abbrev pub best_only_rule : Rule
 best_only_rule = record (new_rule (codes "best-only")) {

@@ -6,12 +6,13 @@ use Rattle.run_settings.specs.declared.skip_rule.SkipRule.{SkipRule}
 use Rattle.command_words.specs.BestFormats.{HasFormatFault, NamesFormat}
 use Rattle.command_words.specs.SkipRules.{skip_rule_by}
 use Rattle.command_words.specs.declared.addresses.LinesFault.TheVariants as lines
-use Rattle.command_words.specs.StatsFormats.{NamesNoStatsFormat, NamesStatsFormat}
+use Rattle.command_words.specs.StatsOutputs.{HasStatsFault, NamesStatsOutput}
+use Rattle.command_words.specs.declared.stats_output.StatsFault.{StatsFault}
+use Rattle.command_words.specs.declared.stats_output.StatsFault.TheVariants as stats
 use Rattle.run_settings.specs.declared.run_output.RunOutput.{RunOutput}
-use Rattle.run_settings.specs.declared.run_output.RunOutput.TheVariants.{Stats}
 use Rattle.run_settings.specs.declared.run_settings.RunSettings.{RunSettings}
 use Rattle.command_words.specs.declared.refusal.Refusal.{Refusal}
-use Rattle.command_words.specs.declared.refusal.Refusal.TheVariants.{BadLines, BadFormat}
+use Rattle.command_words.specs.declared.refusal.Refusal.TheVariants.{BadLines, BadFormat, BadPeriod, EveryWithoutLines, GapsWithEvery}
 use Rattle.command_words.specs.OptionValues.{IsCount, IsFlag}
 use Rattle.command_words.specs.FeedRequests.{GivesFeed, GivesFeedOf, GivesNoFeed}
 
@@ -27,10 +28,20 @@ pub record GivesBadFormat (rows : List Row) : Type 0 where
   pub flag : IsFlag (one_of (codes "best-only") rows) best_only
   pub fault : HasFormatFault best_only (first_of (codes "format") rows)
 
--- The values of the options of stats ask for statistics, in a format.
-abbrev pub GivesStatsOutput : List Row → RunOutput → Type 0
-GivesStatsOutput rows (Stats format) = NamesStatsFormat (first_of (codes "format") rows) format
-GivesStatsOutput rows _ = ⊥
+-- The values of the options of stats ask for counts, or for the rows of gaps or of periods, in a
+-- format.
+pub record GivesStatsOutput (rows : List Row) (output : RunOutput) : Type 0 where
+  pub gaps : Bool
+  pub flag : IsFlag (one_of (codes "gaps") rows) gaps
+  pub names : NamesStatsOutput gaps (first_of (codes "every") rows) (first_of (codes "format") rows)
+      (first_of (codes "lines") rows) output
+
+-- They ask for none of these.
+pub record GivesNoStatsOutput (rows : List Row) (fault : StatsFault) : Type 0 where
+  pub gaps : Bool
+  pub flag : IsFlag (one_of (codes "gaps") rows) gaps
+  pub has : HasStatsFault gaps (first_of (codes "every") rows) (first_of (codes "format") rows)
+      (first_of (codes "lines") rows) fault
 
 -- The values of the options of replay, or of stats, give up gaps by this rule.
 pub record GivesSkips (rows : List Row) (skips : SkipRule) : Type 0 where
@@ -54,8 +65,8 @@ pub record Gives (rows : List Row) (settings : RunSettings) : Type 0 where
   pub gaps : IsFlag (one_of (codes "gaps") rows) settings.gaps
   pub output : GivesOutput rows settings.output
 
--- The values of the options of stats give these settings: no gaps are printed, and the journal has
--- the most room.
+-- The values of the options of stats give these settings: no gap lines are printed, and the journal
+-- has the most room.
 pub record GivesStats (rows : List Row) (settings : RunSettings) : Type 0 where
   pub replayed : GivesReplayed rows settings
   pub journal : settings.feed.journal ≡ 4294967295
@@ -77,6 +88,10 @@ abbrev pub GivesNone : List Row → Refusal → Type 0
 GivesNone rows refusal = GivesNoRun rows (GivesOutput rows) (GivesBadFormat rows) refusal
 
 abbrev pub GivesNoStats : List Row → Refusal → Type 0
+GivesNoStats rows BadPeriod = GivesFeedOf rows (λ _. GivesNoStatsOutput rows stats.BadPeriod)
+GivesNoStats rows EveryWithoutLines =
+    GivesFeedOf rows (λ _. GivesNoStatsOutput rows stats.EveryWithoutLines)
+GivesNoStats rows GapsWithEvery =
+    GivesFeedOf rows (λ _. GivesNoStatsOutput rows stats.GapsWithEvery)
 GivesNoStats rows refusal =
-    GivesNoRun rows (GivesStatsOutput rows) (NamesNoStatsFormat (first_of (codes "format") rows))
-    refusal
+    GivesNoRun rows (GivesStatsOutput rows) (GivesNoStatsOutput rows stats.BadFormat) refusal

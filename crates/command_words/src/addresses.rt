@@ -1,7 +1,8 @@
 //! The addresses on the command line.
 ghost use Rattle.std.specs.Prelude.{◌≡◌, ◌*◌, ◌≤◌, ◌↔◌, List, IfOk, OnErr, IfErr, IsTrue, length, map, option_map, vec_len};
+ghost use Rattle.std.specs.Net.Grammar.{IsSocketText};
 ghost use Rattle.std.specs.declared.net.socket_addr.SocketAddr.{SocketAddr};
-ghost use Rattle.command_words.specs.Addresses.{AreAddresses, HasLinesFault, IsAskable, NameLines, NamesNoRequest, NamesRequest};
+ghost use Rattle.command_words.specs.Addresses.{AreSpelled, HasLinesFault, IsAskable, NameLines, NamesMetrics, NamesNoMetrics, NamesNoRequest, NamesRequest};
 ghost use Rattle.command_words.specs.declared.addresses.LinesFault.TheVariants.{BadLines, NoMemory};
 
 use std::alloc::{AllocError, Global};
@@ -27,10 +28,10 @@ impl From<AllocError> for LinesFault {
 /// The addresses that the texts spell, in order.
 fn spelled(alloc: Global, texts: &[&str]) -> Result<Vec<SocketAddr>, LinesFault>
     ensures ok { IfOk result (λ lines.
-        AreAddresses (map (λ text. text.now) texts.now) lines.items) }
+        AreSpelled IsSocketText (map (λ text. text.now) texts.now) lines.items) }
     ensures count { IfOk result (λ lines. vec_len lines ≡ length texts.now) }
     ensures err { IfErr result (λ fault. fault ≡ BadLines → (lines : List SocketAddr)
-        → AreAddresses (map (λ text. text.now) texts.now) lines → ⊥) }
+        → AreSpelled IsSocketText (map (λ text. text.now) texts.now) lines → ⊥) }
 {
     let mut lines = Vec::with_capacity(alloc, texts.len())?;
     for text in texts {
@@ -58,6 +59,24 @@ pub fn read_lines(alloc: Global, list: &str, venues: usize) -> Result<Vec<Socket
     match spelled(alloc, texts.as_slice()) {
         Ok(lines) => Ok(lines),
         Err(fault) => Err(fault),
+    }
+}
+
+/// The text for the address of metrics is no address.
+#[derive(Clone, Copy, Debug, PartialEq, Eq)]
+pub struct MetricsFault;
+
+/// The address at which metrics are served, if a text is given for it.
+pub fn read_metrics(text: Option<&str>) -> Result<Option<SocketAddr>, MetricsFault>
+    ensures ok { IfOk result (NamesMetrics (option_map (λ text. text.now) text.entry)) }
+    ensures err { OnErr result (NamesNoMetrics (option_map (λ text. text.now) text.entry)) }
+{
+    let Some(text) = text else {
+        return Ok(None);
+    };
+    match SocketAddr::parse_ascii(text.as_bytes()) {
+        Ok(address) => Ok(Some(address)),
+        Err(_) => Err(MetricsFault),
     }
 }
 

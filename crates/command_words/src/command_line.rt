@@ -4,31 +4,36 @@ ghost use Rattle.clap.specs.Matches.{found_of};
 ghost use Rattle.clap.specs.Simple.{subcommand_of, subcommand_rows_of};
 ghost use Rattle.clap.specs.Values.{kind_of};
 ghost use Rattle.clap.specs.Walk.{first_of, one_of, rows_of};
-ghost use Rattle.command_words.specs.Addresses.{HasLinesFault, NameLines, NamesNoRequest, NamesRequest};
+ghost use Rattle.command_words.specs.Addresses.{HasLinesFault, NameLines, NamesMetrics, NamesNoMetrics, NamesNoRequest, NamesRequest};
 ghost use Rattle.command_words.specs.CommandLine.{Asks, GivesConversion, GivesNoConversion, GivesNoDiscovery, IsRefused, IsAccepted, RefusesBy};
 ghost use Rattle.command_words.specs.FeedRequests.{GivesFeed, GivesNoFeed};
 ghost use Rattle.command_words.specs.ListenRequests.{GivesListening, GivesNoListening};
 ghost use Rattle.command_words.specs.OptionValues.{IsCount, IsFlag, IsGivenCount, IsWindowOf, lines_in, symbol_words_in};
 ghost use Rattle.command_words.specs.Commands.{nbbo_app};
 ghost use Rattle.command_words.specs.EndRules.{NamesEndRule, NamesNoEndRule};
+ghost use Rattle.command_words.specs.SenderLists.{HasSendersFault, NameSenders};
 ghost use Rattle.command_words.specs.StatsFormats.{NamesStatsFormat};
 ghost use Rattle.command_words.specs.Symbols.{HasSymbolsFault, NameSymbols};
 
-use crate::addresses::{LinesFault, RequestFault, read_lines, read_request};
+use crate::addresses::{
+    LinesFault, MetricsFault, RequestFault, read_lines, read_metrics, read_request,
+};
 use crate::captured_lines::read_all_lines;
 use crate::commands::nbbo_command;
 use crate::end_rule::{EndRuleFault, read_end_rule};
 use crate::limits::DEFAULT_WINDOW;
 use crate::listen_counts::{datagrams_of, kept_of, usual_journal};
+use crate::listen_stats::listen_stats_of;
 use crate::refusal::Refusal;
 use crate::run_words::{replay_of, stats_format_of, stats_of};
+use crate::sender_list::{SendersFault, read_senders};
 use crate::sessions::read_sessions;
 use crate::symbols::{SymbolsFault, read_symbols};
 use crate::task::Task;
 use clap::error::ErrorKind;
 use clap::{ArgMatches, Error};
 use feed_types::{MAX_WINDOW, SymbolName};
-use run_settings::{CapturedLine, EndRule, FeedSettings, ListenSettings, StatsFormat};
+use run_settings::{CapturedLine, EndRule, FeedSettings, ListenSettings, Senders, StatsFormat};
 use std::alloc::Global;
 use std::net::SocketAddr;
 
@@ -153,6 +158,16 @@ fn request_of(
     read_request(listen.get_str("request"), lines)
 }
 
+/// The address at which metrics are served that the option gives, if it is given.
+fn metrics_of(listen: &ArgMatches<'_>) -> Result<Option<SocketAddr>, MetricsFault>
+    ensures ok { IfOk result
+        (NamesMetrics (first_of (codes "metrics") (rows_of (found_of listen.now)))) }
+    ensures err { OnErr result
+        (NamesNoMetrics (first_of (codes "metrics") (rows_of (found_of listen.now)))) }
+{
+    read_metrics(listen.get_str("metrics"))
+}
+
 /// The rule for ends of session that the option gives.
 fn end_rule_of(listen: &ArgMatches<'_>) -> Result<EndRule, EndRuleFault>
     ensures ok { IfOk result
@@ -161,6 +176,16 @@ fn end_rule_of(listen: &ArgMatches<'_>) -> Result<EndRule, EndRuleFault>
         NamesNoEndRule (first_of (codes "end") (rows_of (found_of listen.now)))) }
 {
     read_end_rule(listen.get_str("end"))
+}
+
+/// The senders that the option gives.
+fn senders_of(alloc: Global, listen: &ArgMatches<'_>) -> Result<Senders, SendersFault>
+    ensures ok { IfOk result
+        (NameSenders (first_of (codes "from") (rows_of (found_of listen.now)))) }
+    ensures err { IfErr result
+        (HasSendersFault (first_of (codes "from") (rows_of (found_of listen.now)))) }
+{
+    read_senders(alloc, listen.get_str("from"))
 }
 
 /// The settings of a feed that the options give, with room for `journal` entries.
@@ -216,10 +241,14 @@ fn listening_of(alloc: Global, listen: &ArgMatches<'_>) -> Result<ListenSettings
     };
     let end = end_rule_of(listen)?;
     let kept = kept_of(listen, follow)?;
+    let from = senders_of(alloc, listen)?;
+    let metrics = metrics_of(listen)?;
+    let stats = listen_stats_of(listen)?;
     Ok(ListenSettings {
         feed,
         lines,
         request,
+        from,
         join: flag_of(listen, "join"),
         skip_after: given_count_of(listen, "skip-after"),
         datagrams: datagrams_of(listen, follow),
@@ -227,9 +256,11 @@ fn listening_of(alloc: Global, listen: &ArgMatches<'_>) -> Result<ListenSettings
         buffer: given_count_of(listen, "buffer"),
         seconds: given_count_of(listen, "seconds"),
         until_input_ends: flag_of(listen, "until-input-ends"),
+        complete: flag_of(listen, "complete"),
         follow,
         kept,
-        stats: given_count_of(listen, "stats"),
+        stats,
+        metrics,
     })
 }
 

@@ -6,8 +6,9 @@
 //! the options of each command give (`specs/FeedRequests.antt`, `specs/RunRequests.antt`,
 //! `specs/ListenRequests.antt`) and the definitions of each kind of value (`specs/Sessions.antt`,
 //! `specs/Symbols.antt`, `specs/Addresses.antt`, `specs/CapturedLines.antt`,
-//! `specs/BestFormats.antt`, `specs/StatsFormats.antt`, `specs/SkipRules.antt`,
-//! `specs/EndRules.antt`).
+//! `specs/BestFormats.antt`, `specs/StatsFormats.antt`, `specs/StatsOutputs.antt`,
+//! `specs/PeriodWords.antt`, `specs/SkipRules.antt`, `specs/EndRules.antt`,
+//! `specs/SenderLists.antt`).
 //!
 //! Begin with `command_line.rt`, then `commands.rt` and a command, as `listen_command.rt`. An
 //! option stands with its texts in `options.rt` if commands share it, else in `listen_options.rt`,
@@ -26,15 +27,19 @@ mod limits;
 mod listen_command;
 mod listen_counts;
 mod listen_options;
+mod listen_stats;
 mod options;
+mod period_words;
 mod refusal;
 mod replay_command;
 mod replay_options;
 mod run_words;
+mod sender_list;
 mod sessions;
 mod skip_words;
 mod stats_command;
 mod stats_format;
+mod stats_output;
 mod symbols;
 mod task;
 

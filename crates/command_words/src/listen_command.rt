@@ -2,12 +2,13 @@
 ghost use Rattle.std.specs.Prelude.{◌≡◌, IfOk, false, codes};
 ghost use Rattle.clap.specs.Simple.{app_of, new_app};
 ghost use Rattle.clap.specs.declared.builder.command.Command.TheViews.{out-Command as fields_of};
-ghost use Rattle.command_words.specs.Commands.{counts_app, ends_app, lines_app, listen_app, meanwhile_app, waits_app};
+ghost use Rattle.command_words.specs.Commands.{counting_meanwhile_app, counts_app, ends_app, lines_app, listen_app, meanwhile_app, waits_app};
 
 use crate::listen_options::{
-    buffer_option, datagrams_option, follow_flag, kept_option, lines_option, live_join_flag,
-    live_journal_option, request_option, seconds_option, skip_after_option, stats_option,
-    until_input_ends_flag, which_end_option,
+    buffer_option, complete_flag, datagrams_option, follow_flag, from_option, kept_option,
+    lines_option, live_join_flag, live_journal_option, metrics_option, request_option,
+    seconds_option, skip_after_option, stats_format_option, stats_option, until_input_ends_flag,
+    which_end_option,
 };
 use crate::options::{sessions_option, symbols_argument, window_option};
 use clap::Command;
@@ -82,11 +83,13 @@ Status:
                         as where a firewall refuses them or there is no route
        line V L went on after N ends of session
                         which by --end don't end it
+       line V L passed over N datagrams of senders not in --from
        line V L ended by --datagrams
                         the line has read as many datagrams as it may
        venue V lacks COUNT messages from NUMBER
                         they never came, though later ones did: the first that are missing, as far
-                        as the window goes. Nothing past them was printed
+                        as the window goes. Nothing past them was printed; with --complete the
+                        status is 3
   1  standard error says what went wrong:
        line V L failed  the line's socket gave a fault, and that line ended there; the others
                         went on, and what they brought was printed
@@ -96,8 +99,8 @@ Status:
                         more changes than --kept wait to be printed, and nobody goes on to print
                         them, so all lines were ended; what was taken was printed
        no thread        a thread could not be started; what was taken was printed
-       bind failed      an address of --lines isn't of this machine, or is in use; nothing was
-                        read
+       bind failed      an address of --lines, or that of --metrics, isn't of this machine, or is
+                        in use; nothing was read
        write failed     standard output can't be written
        no memory        memory was refused
   2  the command line was refused; standard error says why. 'bad session', 'too many sessions',
@@ -105,12 +108,22 @@ Status:
      two addresses for each session; 'bad request address': it is none, or none that the lines
      can send to (port 0, IP address 0.0.0.0 or [::], another version of IP than a line's);
      'bad end': --end is neither any nor own nor none; '--kept without --follow': without it all
-     changes are kept
+     changes are kept; 'bad sender': --from isn't IP addresses, with or without a port; 'bad
+     metrics address': --metrics isn't an IP address and a port; 'bad format': --stats-format is
+     neither table nor json, or --stats isn't given
+  3  with --complete: as 0, and a venue lacks messages
 
 While it runs standard error says when a line ends or fails, and at its first request that can't
-be sent, and at the first end of session after which it goes on:
+be sent, the first end of session after which it goes on, and the first datagram of a sender that
+isn't in --from:
   nbbo: second N line V L ended by an end of session
-.. ended by --datagrams, failed, can't send requests, goes on after an end of session";
+.. ended by --datagrams, failed, can't send requests, goes on after an end of session, passes over
+datagrams of senders not in --from. With an option other than --sessions, --lines, --request,
+--window, --journal and --datagrams it also says when a gap has stood for a second, and when its
+messages have come, and at the first gap for whose messages nothing came in two seconds after
+they were asked for:
+  nbbo: second N venue V lacks COUNT messages from NUMBER
+.. no longer lacks COUNT .., has no reply to requests for COUNT ..";
 
 /// The texts of `listen`, without its options.
 fn listen_texts<'a>(alloc: Global) -> Command<'a>
@@ -133,7 +146,8 @@ fn lines_command<'a>(alloc: Global) -> Result<Command<'a>, AllocError>
     listen_texts(alloc)
         .arg(sessions_option(alloc))?
         .arg(lines_option(alloc))?
-        .arg(request_option(alloc))
+        .arg(request_option(alloc))?
+        .arg(from_option(alloc))
 }
 
 /// `listen` with its options that say how long a gap is waited for, too.
@@ -157,7 +171,7 @@ fn counts_command<'a>(alloc: Global) -> Result<Command<'a>, AllocError>
         .arg(datagrams_option(alloc))
 }
 
-/// `listen` with its options that say when it ends, too.
+/// `listen` with its options that say when it ends, and how, too.
 fn ends_command<'a>(alloc: Global) -> Result<Command<'a>, AllocError>
     ensures app { IfOk result (λ c. app_of c ≡ ends_app) }
     ensures local { IfOk result (λ c. (fields_of c).has_globals ≡ false) }
@@ -165,7 +179,8 @@ fn ends_command<'a>(alloc: Global) -> Result<Command<'a>, AllocError>
     counts_command(alloc)?
         .arg(which_end_option(alloc))?
         .arg(seconds_option(alloc))?
-        .arg(until_input_ends_flag(alloc))
+        .arg(until_input_ends_flag(alloc))?
+        .arg(complete_flag(alloc))
 }
 
 /// `listen` with its options for the time until then, too.
@@ -176,8 +191,18 @@ fn meanwhile_command<'a>(alloc: Global) -> Result<Command<'a>, AllocError>
     ends_command(alloc)?
         .arg(buffer_option(alloc))?
         .arg(follow_flag(alloc))?
-        .arg(kept_option(alloc))?
-        .arg(stats_option(alloc))
+        .arg(kept_option(alloc))
+}
+
+/// `listen` with its options for counts, too.
+fn counting_command<'a>(alloc: Global) -> Result<Command<'a>, AllocError>
+    ensures app { IfOk result (λ c. app_of c ≡ counting_meanwhile_app) }
+    ensures local { IfOk result (λ c. (fields_of c).has_globals ≡ false) }
+{
+    meanwhile_command(alloc)?
+        .arg(stats_option(alloc))?
+        .arg(stats_format_option(alloc))?
+        .arg(metrics_option(alloc))
 }
 
 /// The whole of `listen`.
@@ -185,5 +210,5 @@ pub fn listen_command<'a>(alloc: Global) -> Result<Command<'a>, AllocError>
     ensures app { IfOk result (λ c. app_of c ≡ listen_app) }
     ensures local { IfOk result (λ c. (fields_of c).has_globals ≡ false) }
 {
-    meanwhile_command(alloc)?.arg(symbols_argument(alloc))
+    counting_command(alloc)?.arg(symbols_argument(alloc))
 }

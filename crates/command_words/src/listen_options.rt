@@ -2,7 +2,7 @@
 //! rule stands in `specs/ListenOptions.antt`.
 ghost use Rattle.std.specs.Prelude.{◌≡◌, false};
 ghost use Rattle.clap.specs.Walk.{rule_of};
-ghost use Rattle.command_words.specs.ListenOptions.{buffer_rule, datagrams_rule, follow_rule, kept_rule, live_journal_rule, request_rule, seconds_rule, skip_after_rule, stats_rule, until_input_ends_rule, which_end_rule};
+ghost use Rattle.command_words.specs.ListenOptions.{buffer_rule, complete_rule, datagrams_rule, follow_rule, from_rule, kept_rule, listen_stats_format_rule, live_journal_rule, metrics_rule, request_rule, seconds_rule, skip_after_rule, stats_rule, until_input_ends_rule, which_end_rule};
 ghost use Rattle.command_words.specs.Options.{join_rule, lines_rule};
 
 use crate::limits::{MAX_BUFFER, text};
@@ -49,6 +49,24 @@ pub fn request_option<'a>(alloc: Global) -> Arg<'a>
         .value_name("ADDR")
         .help("Where messages that are missing are asked for")
         .long_help(REQUEST_HELP)
+}
+
+const FROM_HELP: &str = "\
+Whose datagrams are taken: IP addresses, or IP addresses with a port, parted by commas, as
+10.0.0.7,10.0.0.8:26400 or [::1]:7001. What others send comes to nothing, replies to
+requests, too: standard error says so of each line, at the first datagram, and at the end
+how many there were. Without this option the datagrams of any sender are taken";
+
+/// `--from LIST`.
+pub fn from_option<'a>(alloc: Global) -> Arg<'a>
+    ensures rule { rule_of result ≡ from_rule }
+    ensures local { result.global ≡ false }
+{
+    Arg::new(alloc, "from")
+        .long("from")
+        .value_name("LIST")
+        .help("Whose datagrams are taken: IP addresses, with or without a port")
+        .long_help(FROM_HELP)
 }
 
 const JOIN_HELP: &str = "\
@@ -203,6 +221,23 @@ pub fn until_input_ends_flag<'a>(alloc: Global) -> Arg<'a>
         .long_help(UNTIL_INPUT_ENDS_HELP)
 }
 
+const COMPLETE_HELP: &str = "\
+Ends with status 3 where a venue lacks messages at the end, as standard error says of it.
+What --join or --skip-after gave up isn't waited for, and isn't lacking. Without this option
+the status is 0 then";
+
+/// `--complete`.
+pub fn complete_flag<'a>(alloc: Global) -> Arg<'a>
+    ensures rule { rule_of result ≡ complete_rule }
+    ensures local { result.global ≡ false }
+{
+    Arg::new(alloc, "complete")
+        .long("complete")
+        .action(ArgAction::SetTrue)
+        .help("Ends with status 3 where a venue lacks messages at the end")
+        .long_help(COMPLETE_HELP)
+}
+
 const FOLLOW_HELP: &str = "\
 Prints each best line as it comes, in the same order as without this option, and the
 lines of the venues once all lines have ended. Where standard output can't be written any
@@ -266,4 +301,42 @@ pub fn stats_option<'a>(alloc: Global) -> Arg<'a>
             "Every how many seconds standard error has counts of each venue, 1 to " MAX_COUNT
         ))
         .long_help(STATS_HELP)
+}
+
+const STATS_FORMAT_HELP: &str = "\
+The form of what --stats prints: 'table', as without this option, or 'json', an object on a
+line of its own for each venue and period, with the same names; \"time\" is when it was
+printed, in seconds since 1970 in UTC, \"time_ns\" the same in nanoseconds, and both are null
+where the system has no time. At the end there is one for each venue of the whole run, which
+has \"total\":true in place of \"second\"";
+
+/// `--stats-format FORMAT`.
+pub fn stats_format_option<'a>(alloc: Global) -> Arg<'a>
+    ensures rule { rule_of result ≡ listen_stats_format_rule }
+    ensures local { result.global ≡ false }
+{
+    Arg::new(alloc, "stats-format")
+        .long("stats-format")
+        .value_name("FORMAT")
+        .help("The form of what --stats prints: table or json [default: table]")
+        .long_help(STATS_FORMAT_HELP)
+}
+
+const METRICS_HELP: &str = "\
+Serves the counts by HTTP while the run goes on, to whoever asks this address for /metrics, as
+Prometheus does: an IP address of this machine and a port, as 127.0.0.1:9464; with port 0
+the system picks one, and standard error says which. Each count begins with nbbo_, and is
+that of the run, of a venue, or of a line of a venue, which its labels name. Whoever can
+reach the address can read them. A client has 2 seconds, and holds nothing up";
+
+/// `--metrics ADDR`.
+pub fn metrics_option<'a>(alloc: Global) -> Arg<'a>
+    ensures rule { rule_of result ≡ metrics_rule }
+    ensures local { result.global ≡ false }
+{
+    Arg::new(alloc, "metrics")
+        .long("metrics")
+        .value_name("ADDR")
+        .help("Where the counts are served by HTTP, as Prometheus reads them")
+        .long_help(METRICS_HELP)
 }

@@ -1,13 +1,15 @@
 //! The reasons why the program has no settings.
 ghost use Rattle.std.specs.Prelude.{◌≡◌};
-ghost use Rattle.command_words.specs.CommandLine.{lines_refusal_by, refusal_by, refusal_status, refusal_text, symbols_refusal_by};
-ghost use Rattle.command_words.specs.declared.refusal.Refusal.TheVariants.{BadEnd, BadFormat, BadRequest, KeptUnfollowed, NoMemory};
+ghost use Rattle.command_words.specs.CommandLine.{lines_refusal_by, refusal_by, refusal_status, refusal_text, senders_refusal_by, stats_refusal_by, symbols_refusal_by};
+ghost use Rattle.command_words.specs.declared.refusal.Refusal.TheVariants.{BadEnd, BadFormat, BadMetrics, BadRequest, KeptUnfollowed, NoMemory};
 
-use crate::addresses::{LinesFault, RequestFault};
+use crate::addresses::{LinesFault, MetricsFault, RequestFault};
 use crate::best_format::FormatFault;
 use crate::end_rule::EndRuleFault;
 use crate::listen_counts::KeptFault;
+use crate::sender_list::SendersFault;
 use crate::sessions::SessionsFault;
+use crate::stats_output::StatsFault;
 use crate::symbols::SymbolsFault;
 use std::alloc::AllocError;
 
@@ -29,13 +31,23 @@ pub enum Refusal {
     /// The text for the address of requests is no address, or one to which no request can be sent.
     BadRequest,
     /// The format of the best lines is none of those that there are, or is given where all lines
-    /// are printed.
+    /// are printed; or so is that of counts, which is given where none are printed.
     BadFormat,
+    /// The length of periods is none from a millisecond to an hour.
+    BadPeriod,
+    /// Rows of periods are asked for, and the input has no times.
+    EveryWithoutLines,
+    /// Rows of gaps are asked for, and rows of periods, too.
+    GapsWithEvery,
     /// The rule by which an end of session ends a line is none of those that there are.
     BadEnd,
     /// How many changes are kept is said where all are, since best lines aren't printed as they
     /// come.
     KeptUnfollowed,
+    /// The list of senders isn't addresses, with or without a port.
+    BadSender,
+    /// The text for the address of metrics is no address.
+    BadMetrics,
     /// A symbol is empty, has more than eight bytes, or has a byte outside of `21` to `7e`.
     BadSymbol,
     /// More than 4,096 symbols are named.
@@ -57,7 +69,9 @@ impl Refusal {
             Refusal::Usage(_) | Refusal::NotText => 2,
             Refusal::BadSession | Refusal::TooManySessions => 2,
             Refusal::BadLines | Refusal::BadRequest => 2,
-            Refusal::BadFormat | Refusal::BadEnd | Refusal::KeptUnfollowed => 2,
+            Refusal::BadFormat | Refusal::BadPeriod | Refusal::EveryWithoutLines => 2,
+            Refusal::GapsWithEvery | Refusal::BadEnd | Refusal::KeptUnfollowed => 2,
+            Refusal::BadSender | Refusal::BadMetrics => 2,
             Refusal::BadSymbol | Refusal::TooManySymbols | Refusal::DuplicateSymbol => 2,
         }
     }
@@ -75,8 +89,13 @@ impl Refusal {
             Refusal::BadLines => "nbbo: bad lines\n",
             Refusal::BadRequest => "nbbo: bad request address\n",
             Refusal::BadFormat => "nbbo: bad format\n",
+            Refusal::BadPeriod => "nbbo: bad period\n",
+            Refusal::EveryWithoutLines => "nbbo: --every without --lines\n",
+            Refusal::GapsWithEvery => "nbbo: --gaps with --every\n",
             Refusal::BadEnd => "nbbo: bad end\n",
             Refusal::KeptUnfollowed => "nbbo: --kept without --follow\n",
+            Refusal::BadSender => "nbbo: bad sender\n",
+            Refusal::BadMetrics => "nbbo: bad metrics address\n",
             Refusal::BadSymbol => "nbbo: bad symbol\n",
             Refusal::TooManySymbols => "nbbo: too many symbols\n",
             Refusal::DuplicateSymbol => "nbbo: duplicate symbol\n",
@@ -132,6 +151,19 @@ impl From<FormatFault> for Refusal {
     }
 }
 
+impl From<StatsFault> for Refusal {
+    ghost from_gives = { λ fault refusal. refusal ≡ stats_refusal_by fault };
+
+    fn from(fault: StatsFault) -> Refusal {
+        match fault {
+            StatsFault::BadPeriod => Refusal::BadPeriod,
+            StatsFault::BadFormat => Refusal::BadFormat,
+            StatsFault::EveryWithoutLines => Refusal::EveryWithoutLines,
+            StatsFault::GapsWithEvery => Refusal::GapsWithEvery,
+        }
+    }
+}
+
 impl From<EndRuleFault> for Refusal {
     ghost from_gives = { λ _ refusal. refusal ≡ BadEnd };
 
@@ -145,6 +177,25 @@ impl From<KeptFault> for Refusal {
 
     fn from(_fault: KeptFault) -> Refusal {
         Refusal::KeptUnfollowed
+    }
+}
+
+impl From<SendersFault> for Refusal {
+    ghost from_gives = { λ fault refusal. refusal ≡ senders_refusal_by fault };
+
+    fn from(fault: SendersFault) -> Refusal {
+        match fault {
+            SendersFault::BadSender => Refusal::BadSender,
+            SendersFault::NoMemory => Refusal::NoMemory,
+        }
+    }
+}
+
+impl From<MetricsFault> for Refusal {
+    ghost from_gives = { λ _ refusal. refusal ≡ BadMetrics };
+
+    fn from(_fault: MetricsFault) -> Refusal {
+        Refusal::BadMetrics
     }
 }
 

@@ -2,8 +2,8 @@
 //! rule stands in `specs/ReplayOptions.antt`.
 ghost use Rattle.std.specs.Prelude.{◌≡◌, false};
 ghost use Rattle.clap.specs.Walk.{rule_of};
-ghost use Rattle.command_words.specs.Options.{format_rule};
-ghost use Rattle.command_words.specs.ReplayOptions.{best_only_rule, gaps_rule};
+ghost use Rattle.command_words.specs.Options.{format_rule, gaps_rule};
+ghost use Rattle.command_words.specs.ReplayOptions.{best_only_rule};
 
 use clap::{Arg, ArgAction};
 use std::alloc::Global;

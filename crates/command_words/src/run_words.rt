@@ -5,7 +5,7 @@ ghost use Rattle.clap.specs.Walk.{first_of, rows_of};
 ghost use Rattle.run_settings.specs.Lists.{AreOfVenues};
 ghost use Rattle.command_words.specs.CapturedLines.{HasInputFault, NamesInput};
 ghost use Rattle.run_settings.specs.RunInputs.{captured_lines_in};
-ghost use Rattle.command_words.specs.RunRequests.{Gives, GivesBadFormat, GivesNone, GivesNoStats, GivesOutput, GivesStats};
+ghost use Rattle.command_words.specs.RunRequests.{Gives, GivesBadFormat, GivesNone, GivesNoStats, GivesNoStatsOutput, GivesOutput, GivesStats, GivesStatsOutput};
 ghost use Rattle.command_words.specs.StatsFormats.{NamesNoStatsFormat, NamesStatsFormat};
 
 use crate::addresses::LinesFault;
@@ -16,6 +16,7 @@ use crate::limits::DEFAULT_COUNT;
 use crate::refusal::Refusal;
 use crate::skip_words::skips_of;
 use crate::stats_format::read_stats_format;
+use crate::stats_output::{StatsFault, read_stats_output};
 use clap::ArgMatches;
 use run_settings::{RunInput, RunOutput, RunSettings, StatsFormat};
 use std::alloc::Global;
@@ -40,14 +41,27 @@ fn output_of(replay: &ArgMatches<'_>) -> Result<RunOutput, FormatFault>
     read_output(flag_of(replay, "best-only"), replay.get_str("format"))
 }
 
-/// The form of statistics, or of the rows of `lines`.
-pub fn stats_format_of(stats: &ArgMatches<'_>) -> Result<StatsFormat, FormatFault>
+/// The form of the rows of `lines`.
+pub fn stats_format_of(lines: &ArgMatches<'_>) -> Result<StatsFormat, FormatFault>
     ensures ok { IfOk result
-        (NamesStatsFormat (first_of (codes "format") (rows_of (found_of stats.now)))) }
+        (NamesStatsFormat (first_of (codes "format") (rows_of (found_of lines.now)))) }
     ensures err { IfErr result (λ _.
-        NamesNoStatsFormat (first_of (codes "format") (rows_of (found_of stats.now)))) }
+        NamesNoStatsFormat (first_of (codes "format") (rows_of (found_of lines.now)))) }
 {
-    read_stats_format(stats.get_str("format"))
+    read_stats_format(lines.get_str("format"))
+}
+
+/// What `stats` prints: counts, or the rows of gaps or of periods, in a form.
+fn stats_output_of(stats: &ArgMatches<'_>) -> Result<RunOutput, StatsFault>
+    ensures ok { IfOk result (GivesStatsOutput (rows_of (found_of stats.now))) }
+    ensures err { IfErr result (GivesNoStatsOutput (rows_of (found_of stats.now))) }
+{
+    read_stats_output(
+        flag_of(stats, "gaps"),
+        stats.get_str("every"),
+        stats.get_str("format"),
+        stats.get_str("lines"),
+    )
 }
 
 /// The settings that the options of `replay` give.
@@ -67,20 +81,20 @@ pub fn replay_of(alloc: Global, replay: &ArgMatches<'_>) -> Result<RunSettings, 
     })
 }
 
-/// The settings that the options of `stats` give. No gap is printed, and the journal's entries,
-/// which take no memory, have the most room.
+/// The settings that the options of `stats` give. No gap line is printed, and the journal's
+/// entries, which take no memory, have the most room.
 pub fn stats_of(alloc: Global, stats: &ArgMatches<'_>) -> Result<RunSettings, Refusal>
     ensures ok { IfOk result (GivesStats (rows_of (found_of stats.now))) }
     ensures err { IfErr result (GivesNoStats (rows_of (found_of stats.now))) }
 {
     let feed = feed_of(alloc, stats, u32::MAX)?;
-    let format = stats_format_of(stats)?;
+    let output = stats_output_of(stats)?;
     let input = input_of(alloc, stats, feed.sessions.len())?;
     Ok(RunSettings {
         feed,
         gaps: false,
         skips: skips_of(stats),
         input,
-        output: RunOutput::Stats(format),
+        output,
     })
 }

@@ -3,14 +3,14 @@ ghost use Rattle.std.specs.Prelude.{◌≡◌, IfOk, false, codes};
 ghost use Rattle.clap.specs.Simple.{app_of, new_app};
 ghost use Rattle.clap.specs.Walk.{rule_of};
 ghost use Rattle.clap.specs.declared.builder.command.Command.TheViews.{out-Command as fields_of};
-ghost use Rattle.command_words.specs.Commands.{counting_app, stats_app, stats_skips_app};
-ghost use Rattle.command_words.specs.Options.{format_rule, symbols_rule};
+ghost use Rattle.command_words.specs.Commands.{counting_app, stats_app, stats_rows_app, stats_skips_app};
+ghost use Rattle.command_words.specs.Options.{every_rule, format_rule, gaps_rule, symbols_rule};
 
 use crate::limits::text;
 use crate::options::{
     captured_lines_option, join_flag, sessions_option, skip_gaps_flag, window_option,
 };
-use clap::{Arg, Command};
+use clap::{Arg, ArgAction, Command};
 use std::alloc::{AllocError, Global};
 
 /// `stats`, in one line.
@@ -58,35 +58,92 @@ lost, as it never brought them; and how many it doubled. A message that comes mo
 late counts as lost and as doubled.
 
 With --lines there follows, by the times of the frames, in nanoseconds: the most messages of a
-second and of a millisecond, on all lines; of each venue how long the second line took with a
-message that the first one had brought: half of them within, 99 of a hundred within (a sixteenth
-more at most), and the longest; how long messages were missing: the spells that are over, how many
-each line ended, all together, the longest and when it began, and whether one is open; and when
-each line was last heard. A frame without a time has no part in this.
+second and of a millisecond, on all lines; of each venue, of the messages that both lines brought,
+how long the second line took where the other one was first in time: half of them within, 99 of a
+hundred within (a sixteenth more at most), and the longest; the mean, and 90 of a hundred and 999 of
+a thousand within; how long messages were missing: the spells that are over, how many each line
+ended, all together, the longest and when it began, and whether one is open; and when each line was
+last heard. A frame without a time has no part in this.
+
+With --every there are rows in place of all these: of each period in which a frame to any line came,
+for each venue a row of line A and one of line B, with the time at which the period began, a whole
+multiple of its length from 1970 on (UTC); the line's datagrams; the messages in them that were
+taken, or had come before; those that the line brought first; and how many messages the numbers of
+its packets passed over. A period without a frame has no row. A frame without a time counts with
+those before it; and where times go back, as in captures that were joined, a period can come again.
+The rows of the last period are printed at the end of a whole capture alone.
 
 In JSON a venue's 'lines' have 'A', 'B' and 'recovery', 'missing' is null where nothing is,
 'best_bids' and 'best_offers' are those changes, 'losses' has what lines lost, and 'in_time' is
 there with --lines, where times that there aren't are null. The words and numbers of refusals are
 those of 'nbbo replay --help'.
 
+With --gaps a row has the venue; the line, A, B or 'all' for what all lines together left out; the
+first and the last number; how many messages between were left out; when the gap began and when it
+ended, in seconds from 1970 on with nine places, in JSON also in nanoseconds, empty or null where
+the frame has no time or there are no frames; and what ended it: the line A, B or 'recovery' after
+whose packet the venue's sequence went past it, 'skip' where it was given up, 'before' where the
+sequence was past it when it was shown, as where the other line was first, or 'open' where nothing
+did, to the end of its session or of the capture.
+
 Examples:
   nbbo stats --sessions NORTH,SOUTH ACME < capture
   zcat day.capture.gz | nbbo stats --sessions NORTH,SOUTH --format json | jq '.venues[].lines.B'
   nbbo stats --sessions NORTH --lines 239.1.1.1:26400,239.1.1.2:26400 < day.pcap
+  nbbo stats --sessions NORTH --lines 239.1.1.1:26400,239.1.1.2:26400 --gaps < day.pcap
+  nbbo stats --sessions NORTH --lines 239.1.1.1:26400,239.1.1.2:26400 --every 1s < day.pcap
 
 Status:
   0  the capture was replayed to its end and the counts were printed, or help was shown
   1  the input or the run was refused; standard error says why, as of 'nbbo replay', and the counts
      of the records before were printed, unless it is 'write failed' or 'no memory'
-  2  the command line was refused: 'bad format' where the format is none of those; else as of
+  2  the command line was refused: 'bad format' where the format is none of those; 'bad period'
+     where that of --every is none; '--every without --lines'; '--gaps with --every'; else as of
      'nbbo replay'
 
 At the end of a whole capture standard error says what each venue still lacks, as of 'nbbo replay',
 and with --lines it counts what was passed over, as of 'nbbo replay --lines'.";
 
+const GAPS_HELP: &str = "\
+Prints in place of the counts a row for each gap in the numbers of the messages, as it ends,
+and at the end of the capture those of the gaps that are open. A gap of line A, of line B,
+or of all lines together begins with a packet of it whose number is past the next one; what
+further packets leave out while it is open goes with it. It ends once the venue's sequence
+is past its last message";
+
+/// `--gaps` of `stats`.
+fn stats_gaps_flag<'a>(alloc: Global) -> Arg<'a>
+    ensures rule { rule_of result ≡ gaps_rule }
+    ensures local { result.global ≡ false }
+{
+    Arg::new(alloc, "gaps")
+        .long("gaps")
+        .action(ArgAction::SetTrue)
+        .help("Prints a row for each gap in place of the counts")
+        .long_help(GAPS_HELP)
+}
+
+const EVERY_HELP: &str = "\
+Prints a row for each line of each venue in each period of this length, in place of the
+counts: a whole number of milliseconds or seconds, as 100ms or 1s, from 1ms to 3600s.
+Only with --lines, by the times of the frames";
+
+/// `--every PERIOD`.
+fn every_option<'a>(alloc: Global) -> Arg<'a>
+    ensures rule { rule_of result ≡ every_rule }
+    ensures local { result.global ≡ false }
+{
+    Arg::new(alloc, "every")
+        .long("every")
+        .value_name("PERIOD")
+        .help("Prints rows of each period of this length in place of counts, as 100ms or 1s")
+        .long_help(EVERY_HELP)
+}
+
 const FORMAT_HELP: &str = "\
 The format of the counts: 'table', as without this option, or 'json', an object on a line
-of its own";
+of its own. With --gaps or --every that of the rows: 'csv', as without this option, a line with the
+columns' names and then a row each; or 'json', an object on a line each";
 
 /// `--format FORMAT`.
 fn stats_format_option<'a>(alloc: Global) -> Arg<'a>
@@ -96,7 +153,7 @@ fn stats_format_option<'a>(alloc: Global) -> Arg<'a>
     Arg::new(alloc, "format")
         .long("format")
         .value_name("FORMAT")
-        .help("The format of the counts: table or json")
+        .help("The format of the counts: table or json; of rows: csv or json")
         .long_help(FORMAT_HELP)
 }
 
@@ -153,12 +210,22 @@ fn stats_skips_command<'a>(alloc: Global) -> Result<Command<'a>, AllocError>
         .arg(skip_gaps_flag(alloc))
 }
 
+/// `stats` with its options that ask for rows in place of counts, too.
+fn stats_rows_command<'a>(alloc: Global) -> Result<Command<'a>, AllocError>
+    ensures app { IfOk result (λ c. app_of c ≡ stats_rows_app) }
+    ensures local { IfOk result (λ c. (fields_of c).has_globals ≡ false) }
+{
+    stats_skips_command(alloc)?
+        .arg(stats_gaps_flag(alloc))?
+        .arg(every_option(alloc))
+}
+
 /// The whole of `stats`.
 pub fn stats_command<'a>(alloc: Global) -> Result<Command<'a>, AllocError>
     ensures app { IfOk result (λ c. app_of c ≡ stats_app) }
     ensures local { IfOk result (λ c. (fields_of c).has_globals ≡ false) }
 {
-    stats_skips_command(alloc)?
+    stats_rows_command(alloc)?
         .arg(stats_format_option(alloc))?
         .arg(counted_symbols_argument(alloc))
 }

@@ -1,3 +1,5 @@
+pub mod FurtherOptions
 pub mod ListLaws
 pub mod Lists
 pub mod RunInputs
+pub mod Senders

@@ -1,4 +1,6 @@
 //! Which ends of session end a line that is listened to.
+ghost use Rattle.std.specs.Prelude.{◌≡◌};
+ghost use Rattle.run_settings.specs.FurtherOptions.{passes_ends};
 
 /// Which ends of session end a line.
 #[derive(Clone, Copy, Debug, PartialEq, Eq)]
@@ -9,4 +11,16 @@ pub enum EndRule {
     OwnSession,
     /// None.
     NoSession,
+}
+
+impl EndRule {
+    /// Whether a line goes on after an end of some session.
+    pub fn passes_ends(self) -> bool
+        ensures { result ≡ passes_ends self }
+    {
+        match self {
+            EndRule::AnySession => false,
+            EndRule::OwnSession | EndRule::NoSession => true,
+        }
+    }
 }

@@ -19,3 +19,12 @@ pub enum StatsFormat {
     /// One JSON object.
     Json,
 }
+
+/// The form of the rows of gaps, or of periods.
+#[derive(Clone, Copy, Debug, PartialEq, Eq)]
+pub enum RowFormat {
+    /// A header line, and then a row of comma-separated values for each.
+    Csv,
+    /// A JSON object for each, on a line of its own.
+    Json,
+}

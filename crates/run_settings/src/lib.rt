@@ -1,11 +1,13 @@
 //! What a run of the program is asked to do, and how: the settings of each command, the lines whose
-//! datagrams a packet capture has, the rules for gaps and for ends of session, and the forms in
-//! which best lines and statistics are printed.
+//! datagrams a packet capture has, the rules for gaps and for ends of session, the senders whose
+//! datagrams are taken, and the forms in which best lines, statistics, gaps and periods are
+//! printed.
 //!
 //! Contract: each value that a setting can have is in its range, by the invariants of the types:
 //! 1 to 16 sessions, each symbol once, two lines for each venue, the lines of a packet capture
 //! those of the feed's venues. [`lines_at`] makes the lines of a list of addresses, and
 //! [`are_apart`] says whether no two are of one address and port (`specs/Lists.antt`).
+//! [`Senders::takes_from`] says whether a datagram is of one of them (`specs/Senders.antt`).
 //!
 //! `command_words` reads settings from words, and the runs take them: neither waits for the other.
 //!
@@ -16,20 +18,29 @@ mod captured_line;
 mod end_rule;
 mod feed_settings;
 mod formats;
+mod further_options;
 mod line_list;
 mod listen_settings;
+mod listen_stats;
+mod period_length;
+mod period_style;
 mod run_input;
 mod run_output;
 mod run_settings;
+mod sender;
 mod skip_rule;
 
 pub use captured_line::CapturedLine;
 pub use end_rule::EndRule;
 pub use feed_settings::FeedSettings;
-pub use formats::{BestFormat, StatsFormat};
+pub use formats::{BestFormat, RowFormat, StatsFormat};
 pub use line_list::{are_apart, lines_at};
 pub use listen_settings::ListenSettings;
+pub use listen_stats::ListenStats;
+pub use period_length::PeriodLength;
+pub use period_style::PeriodStyle;
 pub use run_input::RunInput;
 pub use run_output::RunOutput;
 pub use run_settings::RunSettings;
+pub use sender::{Sender, Senders};
 pub use skip_rule::SkipRule;

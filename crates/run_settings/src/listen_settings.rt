@@ -3,6 +3,8 @@ ghost use Rattle.std.specs.Prelude.{◌≡◌, ◌*◌, vec_len};
 
 use crate::end_rule::EndRule;
 use crate::feed_settings::FeedSettings;
+use crate::listen_stats::ListenStats;
+use crate::sender::Senders;
 use std::net::SocketAddr;
 
 /// The settings of `nbbo listen`.
@@ -14,6 +16,8 @@ pub struct ListenSettings {
     pub lines: Vec<SocketAddr>,
     /// The address that requests for missing messages go to, if there is one.
     pub request: Option<SocketAddr>,
+    /// The senders whose datagrams are taken.
+    pub from: Senders,
     /// Whether a gap before the first message in sequence is given up at once.
     pub join: bool,
     /// After how many milliseconds a gap is given up that stands so long, if after any number.
@@ -28,12 +32,16 @@ pub struct ListenSettings {
     pub seconds: Option<u32>,
     /// Whether the run ends when standard input ends.
     pub until_input_ends: bool,
+    /// Whether a run at whose end messages are missing has a status of its own.
+    pub complete: bool,
     /// Whether each best line is printed as it comes.
     pub follow: bool,
     /// How many changes the subscriber may be behind, where each best line is printed as it comes;
     /// else all changes are kept.
     pub kept: Option<u32>,
-    /// Every how many seconds standard error has counts of each venue, if it has any.
-    pub stats: Option<u32>,
+    /// The counts of each venue that standard error has, if it has any.
+    pub stats: Option<ListenStats>,
+    /// The address at which the counts are served to who asks for them, if at any.
+    pub metrics: Option<SocketAddr>,
     ghost two_lines_each: { vec_len lines ≡ 2 * vec_len feed.sessions },
 }

@@ -1,6 +1,7 @@
 //! The output of a run.
 
-use crate::formats::{BestFormat, StatsFormat};
+use crate::formats::{BestFormat, RowFormat, StatsFormat};
+use crate::period_style::PeriodStyle;
 
 /// What is printed of a replay.
 #[derive(Clone, Copy, Debug, PartialEq, Eq)]
@@ -11,4 +12,8 @@ pub enum RunOutput {
     Bests(BestFormat),
     /// Statistics, in a format.
     Stats(StatsFormat),
+    /// The gaps alone, in a format.
+    Gaps(RowFormat),
+    /// Rows of what each line brought in each period.
+    Periods(PeriodStyle),
 }

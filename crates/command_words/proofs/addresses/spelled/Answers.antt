@@ -1,24 +1,24 @@
 use Rattle.std.proofs.Common.{rules, ℕ, ◌+◌, List, map, take, subst, sym}
-use Rattle.command_words.specs.Addresses.{AreAddresses}
+use Rattle.command_words.specs.Addresses.{AreSpelled}
 use Rattle.std.specs.Net.Grammar.{IsSocketText}
 use Rattle.std.specs.declared.net.socket_addr.SocketAddr.{SocketAddr}
-use Rattle.command_words.proofs.Spelling.{AreAddresses-at, AreAddresses-more}
+use Rattle.command_words.proofs.Spelling.{AreSpelled-at, AreSpelled-more}
 use Rattle.command_words.proofs.addresses.spelled.Goals as goal
 
 pub returns-in_default-clause-err : goal.returns-in_default-clause-err
 returns-in_default-clause-err c = λ _ lines all.
-    let at = AreAddresses-at c.args.texts.now c.loop-text.text-index _ lines
+    let at = AreSpelled-at IsSocketText c.args.texts.now c.loop-text.text-index _ lines
     c.loop-text-test.true all in
     c.in_default.ensures at.0 (subst (λ (t : List ℕ). IsSocketText t at.0)
     (sym c.as_bytes.ensures.value) at.1)
 
 pub loop-text-preserved : goal.loop-text-preserved
 loop-text-preserved c = (
-  subst (λ (ls : List SocketAddr). AreAddresses
+  subst (λ (ls : List SocketAddr). AreSpelled IsSocketText
       (map (λ text. text.now) (take (c.loop-text.text-index + 1) c.args.texts.now)) ls)
       (search rules)
-      (AreAddresses-more c.args.texts.now c.loop-text.text-index _ c.loop-text.lines.items
-      c.in-Ok.address c.loop-text-test.true c.loop-text.invariant.0
+      (AreSpelled-more IsSocketText c.args.texts.now c.loop-text.text-index _
+      c.loop-text.lines.items c.in-Ok.address c.loop-text-test.true c.loop-text.invariant.0
       (subst (λ (t : List ℕ). IsSocketText t c.in-Ok.address)
       c.as_bytes.ensures.value c.in-Ok.ensures)),
   search rules,

@@ -1,9 +1,10 @@
 use Rattle.std.proofs.Common.{◌≡◌, map, take}
 use Rattle.std.specs.Prelude.{vec_len}
-use Rattle.command_words.specs.Addresses.{AreAddresses}
+use Rattle.std.specs.Net.Grammar.{IsSocketText}
+use Rattle.command_words.specs.Addresses.{AreSpelled}
 use Rattle.command_words.proofs.addresses.spelled.Given as goal
 
 abbrev pub invariant-loop-text : goal.invariant-loop-text
 invariant-loop-text l =
-    AreAddresses (map (λ text. text.now) (take l.text-index l.texts)) l.lines.items
+    AreSpelled IsSocketText (map (λ text. text.now) (take l.text-index l.texts)) l.lines.items
     × (vec_len l.lines ≡ l.text-index)

@@ -1,0 +1,44 @@
+-- The list of senders on the command line: a sender is an IP address, or one with a port, as std
+-- reads them, and commas stand between senders.
+use Rattle.std.specs.Prelude.{◌≡◌, ℕ, List, Option, Some, None}
+use Rattle.std.specs.Net.Grammar.{IsIpText, IsSocketText}
+use Rattle.std.specs.Net.Socket.{socket_ip, socket_port}
+use Rattle.std.specs.declared.net.ip_addr.IpAddr.{IpAddr}
+use Rattle.std.specs.declared.net.socket_addr.SocketAddr.{SocketAddr}
+use Rattle.run_settings.specs.declared.sender.Sender.{Sender}
+use Rattle.run_settings.specs.declared.sender.Senders.{Senders}
+use Rattle.run_settings.specs.declared.sender.Senders.TheVariants.{Any, These}
+use Rattle.command_words.specs.Addresses.{AreSpelled}
+use Rattle.command_words.specs.Sessions.{names_in}
+use Rattle.command_words.specs.declared.sender_list.SendersFault.{SendersFault}
+use Rattle.command_words.specs.declared.sender_list.SendersFault.TheVariants.{BadSender, NoMemory}
+
+-- the text spells this address and port
+pub record SpellsPort (text : List ℕ) (address : IpAddr) (port : ℕ) : Type 0 where
+  pub at : SocketAddr
+  pub spelled : IsSocketText text at
+  pub address_is : socket_ip at ≡ address
+  pub port_is : socket_port at ≡ port
+
+-- the text spells this address, with the port if there is one
+abbrev pub SpellsAddress : List ℕ → IpAddr → Option ℕ → Type 0
+SpellsAddress text address None = IsIpText text address
+SpellsAddress text address (Some port) = SpellsPort text address port
+
+abbrev pub IsSenderText : List ℕ → Sender → Type 0
+IsSenderText text sender = SpellsAddress text sender.address sender.port
+
+-- the list names these senders; without a list it is any
+abbrev pub NameSenders : Option (List ℕ) → Senders → Type 0
+NameSenders None Any = Unit {0}
+NameSenders None (These senders) = ⊥
+NameSenders (Some list) Any = ⊥
+NameSenders (Some list) (These senders) =
+    AreSpelled IsSenderText (names_in list) senders.items
+
+-- Why a list names no senders. Memory may be refused at any time.
+abbrev pub HasSendersFault : Option (List ℕ) → SendersFault → Type 0
+HasSendersFault None fault = ⊥
+HasSendersFault (Some list) BadSender =
+    (senders : List Sender) → AreSpelled IsSenderText (names_in list) senders → ⊥
+HasSendersFault (Some list) NoMemory = Unit {0}
