@@ -9,3 +9,6 @@ pub mod Places
 pub mod Losing
 pub mod Timed
 pub mod Putting
+pub mod TakingGaps
+pub mod PeriodCounting
+pub mod PeriodWriting

@@ -17,7 +17,6 @@ use Rattle.replay_reports.specs.times.Extents.{extent_heard, extent_renewed}
 use Rattle.replay_reports.specs.times.Figures.{capped}
 use Rattle.replay_reports.specs.times.Heard.{begins_session, has_numbers, is_accepted}
 use Rattle.replay_reports.specs.times.Numbers.{AreLineNumbers, AreVenueNumbers, HearsNumbers, HearsOn, RenewsNumbers, RenewsOn, brings_at, brings_on, brought_at, told_count, extent_at, messages_brought, new_told, told_number}
-use Rattle.replay_reports.proofs.Leading.{same_line}
 
 -- messages more of a line
 pub messages_more : (messages count : ℕ) → count_after (capped messages) count

@@ -1,6 +1,6 @@
 -- How many of some durations are within a bound.
 use Rattle.std.proofs.Common.{◌≡◌, ℕ, zero, suc, ◌+◌, ◌-◌, ◌*◌, ◌^◌, ◌<◌, ◌≤◌, inl, inr, Bool, true, false, List, [], ◌∷◌, length, refl, sym, ap, subst, ◌∙◌, arith}
-use Rattle.std.specs.Prelude.{◌&&◌, min, max, nat_lt, nat_le, slice_index, slice_set}
+use Rattle.std.specs.Prelude.{◌&&◌, min, max, nat_lt, nat_le, slice_index, slice_set, sum}
 use Rattle.std.specs.Int.{div_ceil}
 use Rattle.std.specs.List.{count_by}
 use Rattle.std.proofs.lemmas.Bool.{and_parts, and_from, cases_Bool, cases_eq, cases_lt, le-leb, le-ltb, leb-true, lt-leb, lt-ltb, ltb-true}
@@ -103,13 +103,13 @@ none_shorter (suc place) shorter none less = absurd (omega (arith, none))
 
 -- the bound at a place, where enough durations are before the next place, and too few before this
 -- one
-pub shared : (percent place longest wanted : ℕ) (ds : List ℕ) → longest ≡ longest_of ds
+pub shared : (share_of place longest wanted : ℕ) (ds : List ℕ) → longest ≡ longest_of ds
     → (0 < place → count_before (first_at place) ds < wanted)
     → wanted ≤ count_before (first_at (place + 1)) ds
-    → length ds * percent ≤ 100 * wanted
-    → ((n : ℕ) → n < wanted → 100 * n < length ds * percent)
-    → IsShareBound percent ds (min (last_at place) longest)
-shared percent place longest wanted ds is few enough share less = record {
+    → length ds * share_of ≤ 1000 * wanted
+    → ((n : ℕ) → n < wanted → 1000 * n < length ds * share_of)
+    → IsShareBound share_of ds (min (last_at place) longest)
+shared share_of place longest wanted ds is few enough share less = record {
   within =
       let next = next_first place in
       let some = step_some place in
@@ -135,18 +135,18 @@ shared percent place longest wanted ds is few enough share less = record {
 }
 
 -- the longest one is a bound where too few are before all places' end
-pub shared_longest : (percent end longest wanted : ℕ) (ds : List ℕ)
-    → longest ≡ longest_of ds → percent ≤ 100
+pub shared_longest : (share_of end longest wanted : ℕ) (ds : List ℕ)
+    → longest ≡ longest_of ds → share_of ≤ 1000
     → longest ≤ first_at end → count_before (first_at end) ds < wanted
-    → ((n : ℕ) → n < wanted → 100 * n < length ds * percent)
-    → IsShareBound percent ds longest
-shared_longest percent end longest wanted ds is share far few less = record {
+    → ((n : ℕ) → n < wanted → 1000 * n < length ds * share_of)
+    → IsShareBound share_of ds longest
+shared_longest share_of end longest wanted ds is share far few less = record {
   within =
       let all : length ds ≤ count_within longest ds =
       subst (λ (k : ℕ). k ≤ count_within longest ds) (count_all ds)
       (count_less (λ _. true) (λ d. nat_le d longest) (longest_of ds) ds (omega arith)
       (λ d short _. le-leb d longest (omega (arith, short, is)))) in
-      let part = mul-le (length ds) percent (length ds) 100 (omega arith) share in
+      let part = mul-le (length ds) share_of (length ds) 1000 (omega arith) share in
       omega (arith, all, part);
   near = λ shorter near.
       let fewer = count_less (λ d. nat_le d shorter) (λ d. nat_lt d (first_at end))
@@ -196,10 +196,14 @@ pub counted_more : (d place count : ℕ) (ds : List ℕ) (old new : Durations)
     → IsAt d place → place < 976
     → AreCounted ds old → count ≡ slice_index old.counts.items place
     → new.counts.items ≡ slice_set old.counts.items place (min (count + 1) 18446744073709551615)
-    → new.count ≡ min (old.count + 1) 18446744073709551615 → new.longest ≡ max old.longest d
+    → new.count ≡ min (old.count + 1) 18446744073709551615
+    → new.total ≡ min (old.total + d) 18446744073709551615 → new.longest ≡ max old.longest d
     → AreCounted (d ∷ ds) new
-counted_more d place count ds old new at small held is counts total longest = record {
-  count = omega (arith, total, held.count);
+counted_more d place count ds old new at small held is counts one_more total longest = record {
+  count = omega (arith, one_more, held.count);
+  total =
+      let all : sum (d ∷ ds) ≡ d + sum ds = sum_by-cons (λ x. x) d ds in
+      omega (arith, total, held.total, all);
   longest = omega (arith, longest, held.longest);
   size = ap length counts ∙ length-set old.counts.items place (min (count + 1) 18446744073709551615)
       ∙ held.size;
@@ -245,38 +249,38 @@ seen_next place seen count sum held ds are fits small seen_is count_is sum_is =
     let next = count_next place ds in
     omega (arith, here, few, all, next, seen_is, sum_is, fits)
 
-module _ (percent total share wanted : ℕ) (held : Durations) (ds : List ℕ)
+module _ (share_of total share wanted : ℕ) (held : Durations) (ds : List ℕ)
     (are : AreCounted ds held)
-    (fits : length ds < 2 ^ 64) (total_is : total ≡ held.count) (share_is : share ≡ percent)
-    (wanted_is : wanted ≡ div_ceil (total * share) 100) where
-  part : total * share ≡ length ds * percent
+    (fits : length ds < 2 ^ 64) (total_is : total ≡ held.count) (share_is : share ≡ share_of)
+    (wanted_is : wanted ≡ div_ceil (total * share) 1000) where
+  part : total * share ≡ length ds * share_of
   part =
       let all : total ≡ length ds = omega (arith, total_is, are.count, fits) in
       ap (λ (n : ℕ). n * share) all ∙ ap (λ (n : ℕ). length ds * n) share_is
 
-  wanted_at : wanted ≡ div_ceil (length ds * percent) 100
-  wanted_at = wanted_is ∙ ap (λ (n : ℕ). div_ceil n 100) part
+  wanted_at : wanted ≡ div_ceil (length ds * share_of) 1000
+  wanted_at = wanted_is ∙ ap (λ (n : ℕ). div_ceil n 1000) part
 
-  enough : length ds * percent ≤ 100 * wanted
+  enough : length ds * share_of ≤ 1000 * wanted
   enough = omega (arith, wanted_at)
 
-  too_few : (n : ℕ) → n < wanted → 100 * n < length ds * percent
+  too_few : (n : ℕ) → n < wanted → 1000 * n < length ds * share_of
   too_few n less = omega (arith, wanted_at, less)
 
   pub bound_at : (place sum last result : ℕ) → place < 976
       → (0 < place → count_before (first_at place) ds < wanted)
       → sum ≡ count_before (first_at (place + 1)) ds
       → wanted ≤ sum → (place < 976 → last ≡ last_at place) → result ≡ min last held.longest
-      → IsShareBound percent ds result
+      → IsShareBound share_of ds result
   bound_at place sum last result small few sum_is most last_is result_is =
       let is : result ≡ min (last_at place) held.longest = omega (arith, result_is, last_is small)
       in
-      subst (λ (bound : ℕ). IsShareBound percent ds bound) (sym is)
-      (shared percent place held.longest wanted ds are.longest few (omega (arith, most, sum_is))
+      subst (λ (bound : ℕ). IsShareBound share_of ds bound) (sym is)
+      (shared share_of place held.longest wanted ds are.longest few (omega (arith, most, sum_is))
       enough too_few)
 
-  pub bound_past : percent ≤ 100 → (longest : ℕ) → longest ≡ longest_of ds → longest < 2 ^ 64
-      → count_before (first_at 976) ds < wanted → IsShareBound percent ds longest
+  pub bound_past : share_of ≤ 1000 → (longest : ℕ) → longest ≡ longest_of ds → longest < 2 ^ 64
+      → count_before (first_at 976) ds < wanted → IsShareBound share_of ds longest
   bound_past small longest is short few =
-      shared_longest percent 976 longest wanted ds is small
+      shared_longest share_of 976 longest wanted ds is small
       (let end : first_at 976 ≡ 2 ^ 64 = refl in omega (arith, short, end)) few too_few

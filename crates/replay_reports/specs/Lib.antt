@@ -1,5 +1,7 @@
 pub mod rows
 pub mod counts
 pub mod times
+pub mod gaps
+pub mod periods
 pub mod Texts
 pub mod TextLaws

@@ -3,16 +3,20 @@
 //!
 //! A [`BestRows`] writes the row of each national best that changed, in its [`RowStyle`], after the
 //! format's header: text, comma-separated values or JSON lines. A row's time is that of its own
-//! event (`specs/rows/RowSinks.antt`). A [`Stats`] writes nothing: it counts events for each venue,
-//! each of its lines and the national bests (`specs/counts/Counts.antt`: a filter, then a count or
-//! a sum). A [`TimedStats`] also holds how a packet capture's lines run in time
-//! (`specs/times/Timing.antt`). Each is a [`StatsSink`], which has its statistics as a text: a
-//! table or JSON (`specs/Texts.antt`).
+//! event (`specs/rows/RowSinks.antt`). A [`GapRows`] writes the rows of the gaps in the numbers of
+//! packets, as they end (`specs/gaps/Gaps.antt`), and a [`PeriodRows`] what each line brought in
+//! each period of the clock (`specs/periods/PeriodTexts.antt`). A [`Stats`] writes nothing: it
+//! counts events for each venue, each of its lines and the national bests
+//! (`specs/counts/Counts.antt`: a filter, then a count or a sum). A [`TimedStats`] also holds how a
+//! packet capture's lines run in time (`specs/times/Timing.antt`). Each is a [`StatsSink`], which
+//! has its statistics as a text: a table or JSON (`specs/Texts.antt`).
 //!
-//! Begin at `rows/row_sink.rt`, or at `counts/stats.rt`.
+//! Begin at `rows/row_sink.rt`, `gaps/gap_rows.rt`, `periods/period_rows.rt` or `counts/stats.rt`.
 #![tactic(auto)]
 
 mod counts;
+mod gaps;
+mod periods;
 mod rows;
 mod text;
 mod times;
@@ -21,6 +25,15 @@ pub use counts::gap_stats::{GapStats, SequenceStats};
 pub use counts::line_stats::{LineStats, Refusals};
 pub use counts::stats::{StateStats, Stats};
 pub use counts::venue_stats::{ItemStats, SessionStats, VenueStats};
+pub use gaps::gap_line::GapLine;
+pub use gaps::gap_rows::GapRows;
+pub use gaps::line_gaps::LineGaps;
+pub use gaps::open_gap::{EndedGap, GapEnd, OpenGap};
+pub use gaps::venue_gaps::{EndedGaps, VenueGaps};
+pub use periods::line_figures::LineFigures;
+pub use periods::period_counts::PeriodCounts;
+pub use periods::period_row::PeriodRow;
+pub use periods::period_rows::PeriodRows;
 pub use rows::read_back::csv_reads_back;
 pub use rows::row_sink::BestRows;
 pub use rows::style::{RowStyle, has_times};

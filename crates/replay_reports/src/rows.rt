@@ -7,12 +7,12 @@ ghost use Rattle.replay_reports.specs.rows.RowTexts.{row_of};
 ghost use Rattle.replay_reports.specs.rows.Times.{row_time};
 
 mod csv_rows;
-mod json_rows;
+pub(crate) mod json_rows;
 mod quoting;
 pub(crate) mod read_back;
 pub(crate) mod row_sink;
 mod row_time;
-mod seconds;
+pub(crate) mod seconds;
 pub(crate) mod style;
 
 use csv_rows::put_csv;

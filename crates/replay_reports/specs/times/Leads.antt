@@ -1,9 +1,11 @@
--- By how much which of two lines is first. Of a list of arrivals the last one stands first.
+-- By how much which of two lines is ahead, by the times at which messages came on them. Of a list
+-- of arrivals the last one stands first.
 use Rattle.std.specs.Prelude.{◌≡◌, ℕ, ◌+◌, ◌-◌, ◌%◌, ◌<◌, ◌==◌, ◌&&◌, ◌||◌, ◌⊎◌, zero, suc, Bool, true, false, not, nat_lt, List, [], ◌∷◌, ◌++◌, length, Option, Some, None, is_some, slice_get, if◌then◌else◌}
 use Rattle.feed_types.specs.declared.line.LineId.{LineId}
 use Rattle.feed_types.specs.declared.line.LineId.TheVariants.{A, B, Recovery}
 use Rattle.line_arbiter.specs.Streams.{is_same_line}
 use Rattle.replay_reports.specs.declared.times.line_leads.FirstArrival.{FirstArrival}
+use Rattle.replay_reports.specs.declared.times.line_leads.Lead.{Lead}
 use Rattle.replay_reports.specs.declared.times.line_leads.LineLeads.{LineLeads}
 use Rattle.replay_reports.specs.times.Durations.{AreCounted}
 
@@ -34,22 +36,34 @@ is_passed window number (last ∷ earlier) =
     (nat_lt number last.number && last.number % window == number % window)
     || is_passed window number earlier
 
--- how long the second line took, where the first one had brought the message by then, and the
--- second one hadn't
+-- how far the first line is ahead with a message that the second one brings at this time, for the
+-- first time, and that it had brought at an earlier time, or at the same one
 abbrev pub lead_between : Option ℕ → Option ℕ → ℕ → List ℕ
 lead_between None second time = []
-lead_between (Some first) None time = (time - first) ∷ []
+lead_between (Some first) None time = if nat_lt time first then [] else (time - first) ∷ []
 lead_between (Some first) (Some second) time = []
 
--- how long the second line took, of each message that both lines brought, the first one first, and
--- that wasn't passed by then
+-- how far it is ahead with one that it brings itself at this time, and that the second one had
+-- brought at a later time
+abbrev pub lead_back : Option ℕ → Option ℕ → ℕ → List ℕ
+lead_back None first time = []
+lead_back (Some second) None time = if nat_lt time second then (second - time) ∷ [] else []
+lead_back (Some second) (Some first) time = []
+
+-- the same with a message, by when the lines had brought it before
+abbrev pub lead_with : LineId → LineId → MessageOn → Option ℕ → Option ℕ → List ℕ
+lead_with first second last first_time second_time =
+    if is_same_line last.line second then lead_between first_time second_time last.time
+    else (if is_same_line last.line first then lead_back second_time first_time last.time else [])
+
+-- how far the first line is ahead by time, with each message that both lines brought, and that
+-- wasn't passed when the second of them came
 abbrev pub leads_of : ℕ → LineId → LineId → List MessageOn → List ℕ
 leads_of window first second [] = []
 leads_of window first second (last ∷ earlier) =
-    (if is_same_line last.line second && not (is_passed window last.number earlier)
-    then lead_between (first_on first last.number earlier) (first_on second last.number earlier)
-    last.time
-    else [])
+    (if is_passed window last.number earlier then []
+    else lead_with first second last (first_on first last.number earlier)
+    (first_on second last.number earlier))
     ++ leads_of window first second earlier
 
 -- what came once messages came on a line, from a number on
@@ -78,11 +92,19 @@ held_after held last =
           || (held.number == last.number && not (is_same_line held.line last.line));
     }
 
--- how long the second line took, where it now brings the message that is held
-abbrev pub lead_by : FirstArrival → MessageOn → Option ℕ
+-- which line is ahead by time, and how far: of two that bring a message at the same time the one
+-- whose arrival is held
+abbrev pub lead_from : FirstArrival → MessageOn → Lead
+lead_from held last =
+    if nat_lt last.time held.time
+    then record { line = last.line; took = held.time - last.time }
+    else record { line = held.line; took = last.time - held.time }
+
+-- the same, where the other line now brings the message that is held
+abbrev pub lead_by : FirstArrival → MessageOn → Option Lead
 lead_by held last =
     if held.number == last.number && not (held.is_met || is_same_line held.line last.line)
-    then Some (last.time - held.time) else None
+    then Some (lead_from held last) else None
 
 -- the message came on the line at the time, and on the other line, too, where `is_met` says so
 pub record IsFirstOn (line other : LineId) (came : List MessageOn) (held : FirstArrival)

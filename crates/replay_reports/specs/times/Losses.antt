@@ -1,6 +1,5 @@
 -- What the lines of a venue lost and doubled.
 use Rattle.std.specs.Prelude.{◌≡◌, ℕ, ◌-◌, List}
-use Rattle.feed_types.specs.declared.line.LineId.{LineId}
 use Rattle.feed_types.specs.declared.line.LineId.TheVariants.{A, B}
 use Rattle.feed_text.specs.SinkEvents.{TimedEvent}
 use Rattle.replay_reports.specs.declared.times.figures.LineLosses.{LineLosses}

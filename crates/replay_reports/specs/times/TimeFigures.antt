@@ -7,17 +7,21 @@ use Rattle.replay_reports.specs.declared.times.figures.SpellTimes.{SpellTimes}
 use Rattle.replay_reports.specs.declared.times.figures.TimeFigures.{TimeFigures}
 use Rattle.replay_reports.specs.declared.times.figures.VenueTimes.{VenueTimes}
 use Rattle.replay_reports.specs.times.Durations.{IsShareBound}
-use Rattle.replay_reports.specs.times.Figures.{capped, longest_of}
+use Rattle.replay_reports.specs.times.Figures.{capped, longest_of, mean_of}
 use Rattle.replay_reports.specs.times.Losses.{AreVenueLosses}
 use Rattle.replay_reports.specs.times.Rates.{most_in_period}
 use Rattle.replay_reports.specs.times.Spells.{AreEnds, AreLastHeard, MissingAt, longest_began, missing_since, spells_of, took_each}
 use Rattle.replay_reports.specs.times.Timing.{leads_told, messages_told, notes_told}
 
--- how many durations there are, bounds of half of them and of 99 of a hundred, and the longest
+-- how many durations there are, their mean, bounds of half of them, of 90 and 99 of a hundred and
+-- of 999 of a thousand, and the longest
 pub record AreDurationTimes (durations : List ℕ) (t : DurationTimes) : Type 0 where
   pub count : t.count ≡ capped (length durations)
-  pub half : length durations < 2 ^ 64 → IsShareBound 50 durations t.half
-  pub most : length durations < 2 ^ 64 → IsShareBound 99 durations t.most
+  pub mean : t.mean ≡ mean_of durations
+  pub half : length durations < 2 ^ 64 → IsShareBound 500 durations t.half
+  pub nine_in_ten : length durations < 2 ^ 64 → IsShareBound 900 durations t.nine_in_ten
+  pub most : length durations < 2 ^ 64 → IsShareBound 990 durations t.most
+  pub nearly_all : length durations < 2 ^ 64 → IsShareBound 999 durations t.nearly_all
   pub longest : t.longest ≡ longest_of durations
 
 -- how many spells are over, how long they took together and the longest, when that one began, how

@@ -10,7 +10,15 @@ use Rattle.replay_reports.specs.counts.Pieces.{first_texts, optional_text, piece
 
 -- of no event
 abbrev pub no_durations : DurationTimes
-no_durations = record { count = 0; half = 0; most = 0; longest = 0 }
+no_durations = record {
+  count = 0;
+  mean = 0;
+  half = 0;
+  nine_in_ten = 0;
+  most = 0;
+  nearly_all = 0;
+  longest = 0;
+}
 
 abbrev pub no_spells : SpellTimes
 no_spells = record {
@@ -43,8 +51,11 @@ abbrev pub durations_json : List ℕ → DurationTimes → List ℕ
 durations_json label t =
     pieces_text 0 (
     (label, t.count)
+    ∷ (codes ",\"mean_ns\":", t.mean)
     ∷ (codes ",\"p50_ns\":", t.half)
+    ∷ (codes ",\"p90_ns\":", t.nine_in_ten)
     ∷ (codes ",\"p99_ns\":", t.most)
+    ∷ (codes ",\"p999_ns\":", t.nearly_all)
     ∷ (codes ",\"longest_ns\":", t.longest)
     ∷ [])
     ++ codes "}"

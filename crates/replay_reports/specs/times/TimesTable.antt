@@ -17,7 +17,10 @@ times_heading place =
 -- durations after this label, and how many there are
 abbrev pub durations_table : List ℕ → DurationTimes → List ℕ
 durations_table label t =
-    rows_text ((label, t.half, t.most, t.longest) ∷ [])
+    rows_text (
+    (label, t.half, t.most, t.longest)
+    ∷ (codes "\n    mean, 90 %, 99.9 % within ", t.mean, t.nine_in_ten, t.nearly_all)
+    ∷ [])
     ++ pieces_text 14 ((codes "\n    messages                  ", t.count) ∷ [])
 
 -- a time after this label

@@ -53,7 +53,7 @@ fn highest_after(outcome: &Outcome, highest: u64, last: u64) -> u64
 impl SequenceStats {
     /// Counts a packet that wasn't refused, with this many messages from a number on.
     #[inline(always)]
-    fn hear(&mut self, number: u64, count: u16, outcome: &Outcome)
+    pub(crate) fn hear(&mut self, number: u64, count: u16, outcome: &Outcome)
         ensures { self.new ≡ sequence_heard self.old number count outcome.now }
     {
         let left_out = number.saturating_sub(self.highest).saturating_sub(1);
@@ -69,7 +69,7 @@ impl SequenceStats {
     }
 
     /// Begins anew with a next session.
-    fn renew(&mut self)
+    pub(crate) fn renew(&mut self)
         ensures { self.new ≡ record self.old { begun = false; highest = 0 } }
     {
         self.begun = false;
@@ -77,7 +77,7 @@ impl SequenceStats {
     }
 
     /// Begins at a number to which a skip goes, where no packet came yet.
-    fn skip_to(&mut self, number: u64)
+    pub(crate) fn skip_to(&mut self, number: u64)
         ensures { self.new ≡ sequence_after self.old (told_skip 0 number (Ok tt)) }
     {
         if !self.begun {

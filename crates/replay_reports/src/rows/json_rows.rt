@@ -33,7 +33,7 @@ fn put_json_side(text: &mut LineBuffer, side: &Option<Best>)
 }
 
 /// Appends a time that is known as two more members, in seconds and in nanoseconds.
-fn put_known_time(text: &mut LineBuffer, time: u64)
+pub(crate) fn put_known_time(text: &mut LineBuffer, time: u64)
     requires { 69 ≤ text.old.room }
     ensures { Appends text.old (json_known_time time) 69 text.new }
 {

@@ -1,7 +1,7 @@
 //! Durations, counted by their size.
 ghost use Rattle.std.specs.Prelude.{◌≡◌, ℕ, ◌^◌, ◌<◌, ◌≤◌, List, [], ◌∷◌, IfOk, length};
 ghost use Rattle.replay_reports.specs.times.Durations.{AreCounted, IsShareBound};
-ghost use Rattle.replay_reports.specs.times.Figures.{capped, longest_of};
+ghost use Rattle.replay_reports.specs.times.Figures.{capped, longest_of, mean_of};
 ghost use Rattle.replay_reports.specs.times.TimeFigures.{AreDurationTimes};
 ghost use Rattle.replay_reports.specs.times.Places.{IsAt, last_at};
 
@@ -24,6 +24,7 @@ const PART_DIGITS: u32 = 4;
 pub struct Durations {
     counts: Vec<u64>,
     count: u64,
+    total: u64,
     longest: u64,
 }
 
@@ -64,6 +65,7 @@ impl Durations {
         Ok(Durations {
             counts: vec![in alloc; 0u64; COUNTS]?,
             count: 0,
+            total: 0,
             longest: 0,
         })
     }
@@ -77,6 +79,7 @@ impl Durations {
             *count = count.saturating_add(1);
         }
         self.count = self.count.saturating_add(1);
+        self.total = self.total.saturating_add(duration);
         self.longest = self.longest.max(duration);
     }
 
@@ -88,6 +91,14 @@ impl Durations {
         self.count
     }
 
+    /// Returns the mean of the durations, rounded down, 0 where there is none.
+    pub fn mean(&self) -> u64
+        ensures { (durations : List ℕ) → AreCounted durations self.now
+            → result ≡ mean_of durations }
+    {
+        self.total / self.count.max(1)
+    }
+
     /// Returns the longest duration, 0 where there is none.
     pub fn longest(&self) -> u64
         ensures { (durations : List ℕ) → AreCounted durations self.now
@@ -96,13 +107,13 @@ impl Durations {
         self.longest
     }
 
-    /// Returns a bound of the shortest `percent` of a hundred of the durations, which is one of
-    /// them, or at most one sixteenth longer: with 50 the median.
-    pub fn bound_of(&self, percent: u64) -> u64
+    /// Returns a bound of the shortest `share` of a thousand of the durations, which is one of
+    /// them, or at most one sixteenth longer: with 500 the median.
+    pub fn bound_of(&self, share: u64) -> u64
         ensures { (durations : List ℕ) → AreCounted durations self.now → length durations < 2 ^ 64
-            → percent ≤ 100 → IsShareBound percent durations result }
+            → share ≤ 1000 → IsShareBound share durations result }
     {
-        let wanted = (u128::from(self.count) * u128::from(percent)).div_ceil(100);
+        let wanted = (u128::from(self.count) * u128::from(share)).div_ceil(1000);
         let mut seen: u128 = 0;
         for place in 0..self.counts.len() {
             seen = seen.saturating_add(u128::from(self.counts[place]));
@@ -120,8 +131,11 @@ impl Durations {
     {
         DurationTimes {
             count: self.count(),
-            half: self.bound_of(50),
-            most: self.bound_of(99),
+            mean: self.mean(),
+            half: self.bound_of(500),
+            nine_in_ten: self.bound_of(900),
+            most: self.bound_of(990),
+            nearly_all: self.bound_of(999),
             longest: self.longest(),
         }
     }

@@ -7,10 +7,16 @@ use crate::times::spell_ends::SpellEnds;
 #[derive(Clone, Copy, Debug, Default, PartialEq, Eq)]
 pub struct DurationTimes {
     pub count: u64,
+    /// The mean, rounded down.
+    pub mean: u64,
     /// A bound of the shortest half: one of them, or at most one sixteenth longer.
     pub half: u64,
+    /// The same of the shortest 90 of a hundred.
+    pub nine_in_ten: u64,
     /// The same of the shortest 99 of a hundred.
     pub most: u64,
+    /// The same of the shortest 999 of a thousand.
+    pub nearly_all: u64,
     pub longest: u64,
 }
 

@@ -1,4 +1,4 @@
-//! By how much which line of a venue is first.
+//! By how much which line of a venue is ahead.
 ghost use Rattle.std.specs.Prelude.{◌≡◌, ◌⊎◌, ℕ, ◌+◌, ◌%◌, ◌^◌, ◌<◌, ◌≤◌, List, [], IfOk, ◌∷◌, ◌++◌, Ok, Some, length, max, if◌then◌else◌};
 ghost use Rattle.feed_types.specs.declared.line.LineId.TheVariants.{A, B};
 ghost use Rattle.feed_text.specs.SinkEvents.{told_packet};
@@ -23,6 +23,14 @@ struct FirstArrival {
     is_met: bool,
 }
 
+/// Which line is ahead of the other with a message, by the times at which both brought it.
+#[derive(Clone, Copy, Debug, PartialEq, Eq)]
+struct Lead {
+    line: LineId,
+    /// How many nanoseconds the other line took.
+    took: u64,
+}
+
 impl FirstArrival {
     /// Returns what is held after a message of the same place came.
     fn after(self, line: LineId, number: u64, time: u64) -> FirstArrival
@@ -45,14 +53,24 @@ impl FirstArrival {
         }
     }
 
-    /// Returns how long the second line took, where it now brings the message that is held.
-    fn lead(self, line: LineId, number: u64, time: u64) -> Option<u64>
+    /// Returns which line is ahead, where the other line now brings the message that is held. Of
+    /// two that bring it at the same time it is the one whose arrival is held.
+    fn lead(self, line: LineId, number: u64, time: u64) -> Option<Lead>
         ensures { result ≡ lead_by self (message_on line number time) }
     {
         if self.number != number || self.is_met || self.line == line {
             return None;
         }
-        Some(time.saturating_sub(self.time))
+        if time < self.time {
+            return Some(Lead {
+                line,
+                took: self.time - time,
+            });
+        }
+        Some(Lead {
+            line: self.line,
+            took: time - self.time,
+        })
     }
 }
 
@@ -77,15 +95,16 @@ fn place_after(place: u64, size: u64) -> u64
     0
 }
 
-/// By how much which of two lines is first: of each message that both bring, how long the second
-/// one takes, by the line that brings it first. A message isn't counted where the one `window`
-/// numbers further has come before.
+/// By how much which of two lines is ahead: of each message that both bring, how long the second
+/// one takes, by the line that brings it first in time. The order in which they come doesn't count,
+/// but for two at the same time. A message isn't counted where the one `window` numbers further has
+/// come before.
 #[derive(Drop)]
 pub struct LineLeads {
     arrivals: Vec<FirstArrival>,
-    /// How long line B takes where line A is first.
+    /// How long line B takes where line A is ahead.
     pub a: Durations,
-    /// How long line A takes where line B is first.
+    /// How long line A takes where line B is ahead.
     pub b: Durations,
 }
 
@@ -127,12 +146,12 @@ impl LineLeads {
         };
         let held = *first;
         *first = held.after(line, number, time);
-        let Some(took) = held.lead(line, number, time) else {
+        let Some(lead) = held.lead(line, number, time) else {
             return;
         };
-        match held.line {
-            LineId::B => self.b.add(took),
-            _ => self.a.add(took),
+        match lead.line {
+            LineId::B => self.b.add(lead.took),
+            _ => self.a.add(lead.took),
         }
     }
 

@@ -13,8 +13,11 @@ fn put_durations(text: &mut Vec<u8>, label: &str, t: &DurationTimes) -> Result<(
 {
     let pieces = [
         (label, t.count),
+        (",\"mean_ns\":", t.mean),
         (",\"p50_ns\":", t.half),
+        (",\"p90_ns\":", t.nine_in_ten),
         (",\"p99_ns\":", t.most),
+        (",\"p999_ns\":", t.nearly_all),
         (",\"longest_ns\":", t.longest),
     ];
     put_pieces(text, 0, &pieces)?;

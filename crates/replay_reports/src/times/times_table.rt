@@ -22,7 +22,12 @@ fn put_heading(text: &mut Vec<u8>, place: usize) -> Result<(), AllocError>
 fn put_durations(text: &mut Vec<u8>, label: &str, t: &DurationTimes) -> Result<(), AllocError>
     ensures { OnOk result (text.new.items ≡ text.old.items ++ durations_table label.now t.now) }
 {
-    put_rows(text, &[(label, t.half, t.most, t.longest)])?;
+    let mean = "\n    mean, 90 %, 99.9 % within ";
+    let rows = [
+        (label, t.half, t.most, t.longest),
+        (mean, t.mean, t.nine_in_ten, t.nearly_all),
+    ];
+    put_rows(text, &rows)?;
     let pieces = [("\n    messages                  ", t.count)];
     put_pieces(text, COLUMNS, &pieces)
 }

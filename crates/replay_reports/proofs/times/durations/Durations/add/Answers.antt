@@ -18,6 +18,7 @@ returns c = λ durations held.
           (record {
             counts = c.match-get_mut.self.counts;
             count = c.saturating_add-self.result;
+            total = c.saturating_add-self-2.result;
             longest = c.max-self.result;
           })
           c.place_of.ensures.at c.place_of.ensures.within held
@@ -27,6 +28,8 @@ returns c = λ durations held.
           ∙ ap (λ (n : ℕ). slice_set old.counts.items place n) w.saturating_add.ensures)
           (c.saturating_add-self.ensures
           ∙ ap (λ (s : Durations). min (s.count + 1) 18446744073709551615) w.self-is)
+          (c.saturating_add-self-2.ensures
+          ∙ ap (λ (s : Durations). min (s.total + c.args.duration) 18446744073709551615) w.self-is)
           (c.max-self.ensures ∙ ap (λ (s : Durations). max s.longest c.args.duration) w.self-is)
       | in_default w ↦ let bad : false ≡ true = w.in_default.ensures.variant.1
           (omega (arith, there, old.counts.ok.0)) in absurd cc

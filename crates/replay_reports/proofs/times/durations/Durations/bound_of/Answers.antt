@@ -22,7 +22,7 @@ returns-then-seen-wanted c = λ durations held fits share.
       held.size,
     ) in
     let small : place < 976 = omega (arith, c.loop-place-test.true, size) in
-    bound_at c.args.percent c.from.result c.from-2.result c.div_ceil-wanted.result
+    bound_at c.args.share c.from.result c.from-2.result c.div_ceil-wanted.result
     self durations held fits
     c.from.ensures c.from-2.ensures c.div_ceil-wanted.ensures place c.saturating_add-seen.result
     c.longest_at.result c.min.result
@@ -69,7 +69,7 @@ returns c = λ durations held fits share.
       held.size,
     ) in
     let some : 0 < c.loop-place.place = omega (arith, end) in
-    bound_past c.args.percent c.from.result c.from-2.result c.div_ceil-wanted.result
+    bound_past c.args.share c.from.result c.from-2.result c.div_ceil-wanted.result
     self durations held fits
     c.from.ensures c.from-2.ensures c.div_ceil-wanted.ensures share c.longest.result
     (c.longest.ensures durations held) c.longest.type_inv

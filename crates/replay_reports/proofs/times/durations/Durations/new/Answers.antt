@@ -9,6 +9,7 @@ returns c =
     c.in_ok-vec.ensures.items_if_clones_equal (λ y same. same) in
     record {
       count = refl;
+      total = refl;
       longest = refl;
       size = ap length items ∙ length-replicate {A = ℕ} 976 0;
       each = λ place small. ap (λ (xs : List ℕ). slice_index xs place) items

@@ -50,7 +50,7 @@ returns-in-B-clause-leads c = λ window came before_a before_b leads.
     (slice_get_read items (length items) place held refl (ltb-true place (length items)
     (sym c.in-Some.ensures.item.0))
     c.in-Some.ensures.item.1)
-    (ap (λ (h : FirstArrival). slice_set items place h) c.after.ensures) c.in-Some-lead.took
+    (ap (λ (h : FirstArrival). slice_set items place h) c.after.ensures) c.in-Some-lead.lead
     (sym c.in-Some-lead.is ∙ c.lead.ensures) c.in-B.is c.add.ensures refl
 
 pub returns-in_default-line-clause-leads : goal.returns-in_default-line-clause-leads
@@ -73,6 +73,6 @@ returns-in_default-line-clause-leads c = λ window came before_a before_b leads.
     (slice_get_read items (length items) place held refl (ltb-true place (length items)
     (sym c.in-Some.ensures.item.0))
     c.in-Some.ensures.item.1)
-    (ap (λ (h : FirstArrival). slice_set items place h) c.after.ensures) c.in-Some-lead.took
+    (ap (λ (h : FirstArrival). slice_set items place h) c.after.ensures) c.in-Some-lead.lead
     (sym c.in-Some-lead.is ∙ c.lead.ensures) c.in_default-line.not-B c.add-in_default-line.ensures
     refl

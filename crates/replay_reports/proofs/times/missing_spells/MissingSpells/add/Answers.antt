@@ -1,7 +1,6 @@
 use Rattle.std.proofs.Common.{◌≡◌, ◌+◌, ◌∷◌, ℕ, Option, ap, arith, ◌∙◌}
 use Rattle.std.specs.Prelude.{sum}
 use Rattle.std.proofs.lemmas.List.Sums.{sum_by-cons}
-use Rattle.replay_reports.specs.times.Figures.{longest_of}
 use Rattle.replay_reports.specs.times.Spells.{began_after, longest_began, took_each}
 use Rattle.replay_reports.proofs.times.missing_spells.MissingSpells.add.Goals as goal
 

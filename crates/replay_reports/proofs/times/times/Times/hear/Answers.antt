@@ -1,4 +1,4 @@
-use Rattle.std.proofs.Common.{flat_map, length, subst, sym}
+use Rattle.std.proofs.Common.{flat_map}
 use Rattle.replay_reports.specs.times.Timing.{messages_told}
 use Rattle.replay_reports.proofs.Timed.{heard_answered, refused_timed}
 use Rattle.replay_reports.proofs.times.times.Times.hear.Goals as goal

@@ -1,4 +1,4 @@
-use Rattle.std.proofs.Common.{ℕ, ap, ◌∙◌}
+use Rattle.std.proofs.Common.{ap, ◌∙◌}
 use Rattle.feed_types.specs.declared.line.LineId.TheVariants.{A, B}
 use Rattle.replay_reports.specs.times.Extents.{known_in}
 use Rattle.replay_reports.specs.times.Numbers.{brought_at, messages_brought, new_told}

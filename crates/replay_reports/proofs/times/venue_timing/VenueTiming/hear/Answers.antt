@@ -1,4 +1,4 @@
-use Rattle.std.proofs.Common.{List, ℕ, None, Ok, Option, subst, sym}
+use Rattle.std.proofs.Common.{List, ℕ, Ok, Option, subst, sym}
 use Rattle.feed_text.specs.SinkEvents.{told_packet}
 use Rattle.replay_reports.specs.times.Leads.{AreLeadsOf, MessageOn}
 use Rattle.replay_reports.specs.times.Timing.{came_after}

@@ -1,0 +1,15 @@
+use Rattle.replay_reports.specs.gaps.GapTexts.{gap_json}
+use Rattle.replay_reports.proofs.Appending.{appends_more}
+use Rattle.replay_reports.proofs.gaps.gap_texts.put_json.Goals as goal
+
+pub returns : goal.returns
+unfolding gap_json
+returns c =
+    let venue = appends_more c.put_bytes.ensures c.put_venue.ensures in
+    let line = appends_more (appends_more venue c.put_bytes-2.ensures) c.put_line.ensures in
+    let first = appends_more (appends_more line c.put_bytes-3.ensures) c.put_number.ensures in
+    let last = appends_more (appends_more first c.put_bytes-4.ensures) c.put_number-2.ensures in
+    let messages = appends_more (appends_more last c.put_bytes-5.ensures) c.put_number-3.ensures in
+    let times = appends_more (appends_more messages c.put_began.ensures) c.put_ended.ensures in
+    appends_more (appends_more (appends_more times c.put_bytes-6.ensures) c.put_end.ensures)
+    c.put_bytes-7.ensures

@@ -1,0 +1,7 @@
+-- What comes in each period of the clock, by rows.
+pub mod Periods
+pub mod PeriodFigures
+pub mod PeriodTexts
+pub mod PageTexts
+pub mod PeriodSinks
+pub mod PeriodLaws

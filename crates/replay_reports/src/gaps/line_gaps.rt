@@ -1,0 +1,89 @@
+//! The gap of a line.
+ghost use Rattle.std.specs.Prelude.{◌≡◌};
+ghost use Rattle.replay_reports.specs.gaps.Gaps.{gap_if_over, gap_unless_over, line_heard, line_renewed, line_skipped, no_line_gaps, open_gap_after};
+
+use crate::counts::gap_stats::SequenceStats;
+use crate::gaps::open_gap::{EndedGap, GapPass, OpenGap, gap_after};
+use crate::times::venue_timing::HeardPacket;
+use line_arbiter::Outcome;
+
+/// What the numbers of a line's packets tell of its gaps, or those of all lines of a venue.
+#[derive(Clone, Copy, Debug, PartialEq, Eq)]
+pub struct LineGaps {
+    pub sequence: SequenceStats,
+    /// The gap that is open, if there is one.
+    pub standing: Option<OpenGap>,
+}
+
+impl LineGaps {
+    /// Of a line on which nothing came.
+    pub(crate) fn new() -> LineGaps
+        ensures { result ≡ no_line_gaps }
+    {
+        LineGaps {
+            sequence: SequenceStats {
+                begun: false,
+                highest: 0,
+                found: 0,
+                left_out: 0,
+                longest: 0,
+                again: 0,
+            },
+            standing: None,
+        }
+    }
+
+    /// Returns the gap that is open after a packet: what it leaves out is between the next number
+    /// and its own.
+    fn open_gap_after(&self, packet: HeardPacket) -> Option<OpenGap>
+        ensures { result ≡ open_gap_after self.now packet.time packet.number }
+    {
+        let highest = self.sequence.highest;
+        let left_out = packet.number.saturating_sub(highest).saturating_sub(1);
+        if left_out == 0 {
+            return self.standing;
+        }
+        Some(gap_after(self.standing, packet.number, left_out, packet.time))
+    }
+
+    /// Notes a packet that was answered so.
+    pub(crate) fn hear(&mut self, packet: HeardPacket, outcome: &Outcome)
+        ensures { self.new
+            ≡ line_heard self.old packet.time packet.number packet.count outcome.now }
+    {
+        self.standing = self.open_gap_after(packet);
+        self.sequence.hear(packet.number, packet.count, outcome);
+    }
+
+    /// Begins at a number to which a skip goes, where no packet came yet.
+    pub(crate) fn skip_to(&mut self, number: u64)
+        ensures { self.new ≡ line_skipped self.old number }
+    {
+        self.sequence.skip_to(number);
+    }
+
+    /// Begins anew with a next session.
+    pub(crate) fn renew(&mut self)
+        ensures { self.new ≡ line_renewed self.old }
+    {
+        self.sequence.renew();
+    }
+
+    /// Takes the gap that is open, if it is over.
+    pub(crate) fn take_ended(&mut self, pass: GapPass) -> Option<EndedGap>
+        ensures over { result ≡ gap_if_over pass self.old.standing }
+        ensures left { self.new
+            ≡ record self.old { standing = gap_unless_over pass self.old.standing } }
+    {
+        match self.standing {
+            None => None,
+            Some(gap) => {
+                if !pass.is_over(gap) {
+                    return None;
+                }
+                self.standing = None;
+                Some(pass.end(gap))
+            }
+        }
+    }
+}

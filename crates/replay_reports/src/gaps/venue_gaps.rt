@@ -1,0 +1,172 @@
+//! The gaps of a venue.
+ghost use Rattle.std.specs.Prelude.{◌≡◌};
+ghost use Rattle.feed_text.specs.SinkEvents.{told_by};
+ghost use Rattle.replay_reports.specs.gaps.Gaps.{end_by_line, gaps_heard, gaps_noted, gaps_over, gaps_renewed, gaps_skipped, no_gaps_yet, pass_after, pass_by, venue_gaps_after};
+
+use crate::gaps::line_gaps::LineGaps;
+use crate::gaps::open_gap::{EndedGap, GapEnd, GapPass};
+use crate::times::venue_timing::HeardPacket;
+use feed_text::Event;
+use feed_types::LineId;
+use line_arbiter::Outcome;
+
+/// The gaps of a venue: of line A, of line B, and of all lines together.
+#[derive(Clone, Copy, Debug, PartialEq, Eq)]
+pub struct VenueGaps {
+    pub a: LineGaps,
+    pub b: LineGaps,
+    pub all: LineGaps,
+    /// The number of the present session's last item, 0 where there is none.
+    pub front: u64,
+    /// What the venue's next items come by: its last packet, or a skip after that.
+    pub cause: GapEnd,
+}
+
+/// The gaps of a venue that an event ends.
+#[derive(Clone, Copy, Debug, PartialEq, Eq)]
+pub struct EndedGaps {
+    pub a: Option<EndedGap>,
+    pub b: Option<EndedGap>,
+    pub all: Option<EndedGap>,
+}
+
+/// Returns what ends a gap that a packet of the line ends.
+fn end_by_line(line: LineId) -> GapEnd
+    ensures { result ≡ end_by_line line }
+{
+    match line {
+        LineId::A => GapEnd::A,
+        LineId::B => GapEnd::B,
+        LineId::Recovery => GapEnd::Recovery,
+    }
+}
+
+impl VenueGaps {
+    /// Of a venue to which nothing came.
+    pub(crate) fn new() -> VenueGaps
+        ensures { result ≡ no_gaps_yet }
+    {
+        VenueGaps {
+            a: LineGaps::new(),
+            b: LineGaps::new(),
+            all: LineGaps::new(),
+            front: 0,
+            cause: GapEnd::Open,
+        }
+    }
+
+    /// Notes a packet that was answered so.
+    fn hear(&mut self, packet: HeardPacket, outcome: &Outcome)
+        ensures { self.new ≡ gaps_heard self.old packet.time packet.line packet.number packet.count
+            outcome.now }
+    {
+        self.cause = end_by_line(packet.line);
+        self.all.hear(packet, outcome);
+        match packet.line {
+            LineId::A => self.a.hear(packet, outcome),
+            LineId::B => self.b.hear(packet, outcome),
+            LineId::Recovery => {}
+        }
+    }
+
+    /// Notes a skip to a number that was granted.
+    fn skip_to(&mut self, number: u64)
+        ensures { self.new ≡ gaps_skipped self.old number }
+    {
+        self.a.skip_to(number);
+        self.b.skip_to(number);
+        self.all.skip_to(number);
+        self.cause = GapEnd::Skip;
+    }
+
+    /// Begins the next session.
+    fn renew(&mut self)
+        ensures { self.new ≡ gaps_renewed self.old }
+    {
+        self.a.renew();
+        self.b.renew();
+        self.all.renew();
+        self.front = 0;
+    }
+
+    /// Notes an event of the venue.
+    fn note(&mut self, time: Option<u64>, event: &Event<'_>)
+        ensures { self.new ≡ gaps_noted self.old time (told_by event.now) }
+    {
+        match event {
+            Event::Packet {
+                line,
+                number,
+                count,
+                answer: Ok(outcome),
+                ..
+            } => {
+                let packet = HeardPacket {
+                    line: *line,
+                    number: *number,
+                    count: *count,
+                    time,
+                };
+                self.hear(packet, outcome);
+            }
+            Event::Packet { answer: Err(_), .. } => {}
+            Event::Item { item, .. } => self.front = item.number,
+            Event::Skip {
+                number,
+                answer: Ok(()),
+                ..
+            } => self.skip_to(*number),
+            Event::Skip { answer: Err(_), .. } => {}
+            Event::Renewal { answer: Ok(_), .. } => self.renew(),
+            Event::Renewal { answer: Err(_), .. } => {}
+            Event::Refusal { .. } => {}
+            Event::Best { .. } => {}
+            Event::Gap { .. } => {}
+            Event::Declaration { .. } => {}
+            Event::Last { .. } => {}
+        }
+    }
+
+    /// Returns how far the items are, where this ends the gaps that they are past.
+    fn pass_by(&self, time: Option<u64>, by: GapEnd) -> GapPass
+        ensures { result ≡ pass_by self.now time by }
+    {
+        GapPass {
+            front: self.front,
+            time,
+            by,
+        }
+    }
+
+    /// Returns how far the items are after an event, and what ends the gaps that they are past.
+    fn pass_after(&self, time: Option<u64>, event: &Event<'_>) -> GapPass
+        ensures { result ≡ pass_after self.now time (told_by event.now) }
+    {
+        match event {
+            Event::Packet { .. } => self.pass_by(time, GapEnd::Before),
+            Event::Renewal { answer: Ok(_), .. } => self.pass_by(None, GapEnd::Open),
+            Event::Renewal { answer: Err(_), .. } => self.pass_by(time, self.cause),
+            Event::Last { .. } => self.pass_by(None, GapEnd::Open),
+            Event::Item { .. } => self.pass_by(time, self.cause),
+            Event::Skip { .. } => self.pass_by(time, self.cause),
+            Event::Refusal { .. } => self.pass_by(time, self.cause),
+            Event::Best { .. } => self.pass_by(time, self.cause),
+            Event::Gap { .. } => self.pass_by(time, self.cause),
+            Event::Declaration { .. } => self.pass_by(time, self.cause),
+        }
+    }
+
+    /// Takes an event of the venue, and returns the gaps that it ends.
+    pub(crate) fn take(&mut self, time: Option<u64>, event: &Event<'_>) -> EndedGaps
+        ensures over { result ≡ gaps_over self.old time (told_by event.now) }
+        ensures gaps { self.new ≡ venue_gaps_after self.old time (told_by event.now) }
+    {
+        self.note(time, event);
+        let pass = self.pass_after(time, event);
+        EndedGaps {
+            a: self.a.take_ended(pass),
+            b: self.b.take_ended(pass),
+            all: self.all.take_ended(pass),
+        }
+    }
+}
