@@ -5,3 +5,5 @@ pub mod Tables
 pub mod Surveys
 pub mod SurveyLaws
 pub mod SurveyTexts
+pub mod KeyedRows
+pub mod KeyedRowLaws

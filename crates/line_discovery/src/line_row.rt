@@ -1,6 +1,7 @@
 //! What was counted of a line.
 ghost use Rattle.std.specs.Prelude.{◌≡◌};
-ghost use Rattle.line_discovery.specs.Tables.{row_at_first, grown};
+ghost use Rattle.line_discovery.specs.KeyedRows.{grown_by};
+ghost use Rattle.line_discovery.specs.Tables.{by_line, row_at_first, row_with};
 
 use crate::line_key::{LineKey, is_same};
 use crate::sighting::Sighting;
@@ -37,17 +38,23 @@ impl LineRow {
         }
     }
 
-    /// Counts a datagram, if it is of this line.
-    pub(crate) fn count(&mut self, sighting: &Sighting)
-        ensures { self.new ≡ grown sighting.now self.old }
+    /// Counts a datagram of this line.
+    pub(crate) fn grow(&mut self, sighting: &Sighting)
+        ensures { self.new ≡ row_with sighting.now self.old }
     {
-        if !is_same(&self.key, &sighting.key) {
-            return;
-        }
         self.packets = self.packets.saturating_add(1);
         self.messages = self.messages.saturating_add(sighting.messages);
         self.bytes = self.bytes.saturating_add(sighting.bytes);
         self.numbers = wider(self.numbers, sighting.numbers);
         self.times = wider(self.times, sighting.times);
+    }
+
+    /// Counts a datagram, if it is of this line.
+    pub(crate) fn count(&mut self, sighting: &Sighting)
+        ensures { self.new ≡ grown_by by_line row_with sighting.now self.old }
+    {
+        if is_same(&self.key, &sighting.key) {
+            self.grow(sighting);
+        }
     }
 }

@@ -1,6 +1,7 @@
 //! The table of the lines that were seen.
 ghost use Rattle.std.specs.Prelude.{◌≡◌, ◌≤◌, ◌<◌, [], ◌∷◌, ◌++◌, IfOk, length, map, vec_capacity, vec_len};
-ghost use Rattle.line_discovery.specs.Tables.{grown, has_row, listed_in, packets_at, rows_after, rows_of, unlisted_of, up_to_most};
+ghost use Rattle.line_discovery.specs.KeyedRows.{grown_by, has_row, rows_grown};
+ghost use Rattle.line_discovery.specs.Tables.{by_line, listed_in, packets_at, row_with, rows_of, unlisted_of, up_to_most};
 
 use crate::line_key::{LineKey, is_same};
 use crate::line_row::LineRow;
@@ -36,14 +37,14 @@ impl Model for Table {
 
 /// Whether there is a row of this key.
 fn has_row(rows: &[LineRow], key: &LineKey) -> bool
-    ensures { result ≡ has_row rows.now key.now }
+    ensures { result ≡ has_row by_line rows.now key.now }
 {
     rows.iter().any(|row| is_same(&row.key, key))
 }
 
 /// Counts a datagram in the row of its line, if there is one.
 fn count_row(rows: &mut [LineRow], sighting: &Sighting)
-    ensures { rows.new ≡ map (grown sighting.now) rows.old }
+    ensures { rows.new ≡ map (grown_by by_line row_with sighting.now) rows.old }
 {
     for place in 0..rows.len() {
         rows[place].count(sighting);
@@ -55,14 +56,14 @@ fn count_row(rows: &mut [LineRow], sighting: &Sighting)
 fn count_in(rows: &mut Vec<LineRow>, sighting: &Sighting)
     requires room { 4096 ≤ vec_capacity rows.old }
     requires few { length rows.old.items ≤ 4096 }
-    ensures rows { rows.new.items ≡ rows_after rows.old.items sighting.now }
+    ensures rows { rows.new.items ≡ rows_grown by_line row_with rows.old.items sighting.now }
     ensures room { 4096 ≤ vec_capacity rows.new }
 {
     let found = has_row(rows.as_slice(), &sighting.key);
     count_row(rows.as_mut_slice(), sighting);
     if !found && rows.len() < MOST {
         let mut row = LineRow::empty(sighting.key);
-        row.count(sighting);
+        row.grow(sighting);
         rows.push_reserved(row);
     }
 }

@@ -1,11 +1,11 @@
-use Rattle.line_discovery.proofs.Growth.{table_more}
+use Rattle.line_discovery.proofs.Growth.{line_table_more}
 use Rattle.line_discovery.proofs.table.Table.count.Goals as goal
 
 pub invariant_of-self : goal.invariant_of-self
 invariant_of-self c =
     let here = c.self.inside in (
       rw (c.count_in.ensures.rows, c.saturating_add-self-inside.ensures, c.with-self-inside.ensures)
-          (table_more here.rows.items here.count here.past.items c.args.sighting.now
+          (line_table_more here.rows.items here.count here.past.items c.args.sighting.now
           c.self.invariant.0),
       c.count_in.ensures.room,
     )
