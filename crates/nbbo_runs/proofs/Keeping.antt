@@ -10,7 +10,7 @@ use Rattle.feed_text.specs.Formats.{Parsing, TimedRecord}
 use Rattle.feed_text.specs.ReplayStates.{SinkTaking}
 use Rattle.feed_text.specs.SinkEvents.{TimedEvent}
 use Rattle.feed_text.specs.Told.{ToldFacts}
-use Rattle.nbbo_runs.specs.Printing.{keeping}
+use Rattle.nbbo_runs.specs.Kept.{keeping}
 
 module _ {R S F K : Type 0} (reading : Reading R) (parsing : Parsing S F)
     (config : ReplayConfig) (facts : ToldFacts) (one : SinkTaking K) (is_shown : K → Type 0)

@@ -1,7 +1,11 @@
 pub mod CaptureCounts
+pub mod FirstAbsent
 pub mod Keeping
 pub mod NamedLines
 pub mod PrintedTexts
 pub mod SaidLacks
 pub mod StatsTexts
-pub mod Watching
+pub mod SymbolKeys
+pub mod WatchedRuns
+pub mod SessionCounts
+pub mod PeriodPrints

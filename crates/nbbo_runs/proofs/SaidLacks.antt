@@ -1,9 +1,10 @@
--- What is told of what venues lack, of a list that is seen as a slice.
-use Rattle.std.proofs.Common.{◌≡◌, List, subst}
+-- What is told of what is missing, of lists that are seen as slices.
+use Rattle.std.proofs.Common.{◌≡◌, ℕ, List, subst}
 use Rattle.std.specs.Prelude.{Bool, Result}
 use Rattle.feed_text.specs.Devices.{Writing}
 use Rattle.feed_text.specs.StandardError.{SaysEach}
 use Rattle.feed_text.specs.declared.lack.Lack.{Lack}
+use Rattle.nbbo_runs.specs.AbsentSymbols.{symbols_with, told_absent}
 use Rattle.nbbo_runs.specs.Lacks.{told_lacks}
 
 pub tells_items : {S F : Type 0} (w : Writing S) (outcome : Result (Unit {0}) F)
@@ -13,3 +14,12 @@ pub tells_items : {S F : Type 0} (w : Writing S) (outcome : Result (Unit {0}) F)
 tells_items w outcome is_told due seen items s t when same says =
     subst (λ (b : Bool). SaysEach w (told_lacks outcome b items) s t) when
     (subst (λ (lacks : List Lack). SaysEach w (told_lacks outcome is_told lacks) s t) same says)
+
+pub tells_absent : {S F : Type 0} (w : Writing S) (outcome : Result (Unit {0}) F)
+    (is_told due : Bool) (seen items : List (List ℕ)) (absent : List ℕ) (s t : S) → is_told ≡ due
+    → seen ≡ items → SaysEach w (told_absent outcome is_told (symbols_with absent seen)) s t
+    → SaysEach w (told_absent outcome due (symbols_with absent items)) s t
+tells_absent w outcome is_told due seen items absent s t when same says =
+    subst (λ (b : Bool). SaysEach w (told_absent outcome b (symbols_with absent items)) s t) when
+    (subst (λ (symbols : List (List ℕ)).
+    SaysEach w (told_absent outcome is_told (symbols_with absent symbols)) s t) same says)

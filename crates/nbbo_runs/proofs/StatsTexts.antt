@@ -1,5 +1,5 @@
 -- The texts of a sink of statistics that took the events of a replay.
-use Rattle.std.proofs.Common.{◌≡◌, ℕ, ◌<◌, List, [], Ok, Err, length, ◌∙◌}
+use Rattle.std.proofs.Common.{◌≡◌, ℕ, ◌<◌, List, [], Ok, Err, length}
 use Rattle.std.specs.Prelude.{Bool, IfOk, Result}
 use Rattle.feed_text.specs.SinkEvents.{TimedEvent}
 use Rattle.run_settings.specs.declared.formats.StatsFormat.{StatsFormat}

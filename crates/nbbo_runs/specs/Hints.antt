@@ -22,7 +22,7 @@ is_packets start =
 abbrev pub gzip_hint : ℕ → List ℕ
 gzip_hint start =
     if start / 65536 == 8075
-    then codes "nbbo: the input is in gzip; to unpack it write 'zcat FILE | nbbo replay ..'\n"
+    then codes "nbbo: the input is in gzip; to unpack it write 'zcat FILE | nbbo ..'\n"
     else []
 
 -- one line, where the input is a packet capture, or that one

@@ -3,19 +3,19 @@ use Rattle.std.specs.Prelude.{ℕ, Bool, true, false, ◌||◌, List, [], flat_m
 use Rattle.feed_text.specs.LackTexts.{lack_texts}
 use Rattle.feed_text.specs.declared.lack.Lack.{Lack}
 use Rattle.run_settings.specs.declared.skip_rule.SkipRule.{SkipRule}
-use Rattle.run_settings.specs.declared.skip_rule.SkipRule.TheVariants.{Never, Join, Gaps}
+use Rattle.run_settings.specs.declared.skip_rule.SkipRule.TheVariants as skips
 use Rattle.run_settings.specs.declared.run_input.RunInput.{RunInput}
 use Rattle.run_settings.specs.declared.run_input.RunInput.TheVariants.{Own, Packets}
 use Rattle.run_settings.specs.declared.run_output.RunOutput.{RunOutput}
-use Rattle.run_settings.specs.declared.run_output.RunOutput.TheVariants.{Lines, Bests, Stats}
+use Rattle.run_settings.specs.declared.run_output.RunOutput.TheVariants.{Lines, Bests, Stats, Gaps, Periods}
 use Rattle.run_settings.specs.declared.run_settings.RunSettings.{RunSettings}
 use Rattle.nbbo_runs.specs.declared.terminals.Terminals.{Terminals}
 
 -- whether any gaps are given up
 abbrev pub has_rule : SkipRule → Bool
-has_rule Never = false
-has_rule Join = true
-has_rule Gaps = true
+has_rule skips.Never = false
+has_rule skips.Join = true
+has_rule skips.Gaps = true
 
 -- whether the input is a packet capture
 abbrev pub is_packet_input : RunInput → Bool
@@ -27,6 +27,8 @@ abbrev pub is_part : RunOutput → Bool
 is_part Lines = false
 is_part (Bests format) = true
 is_part (Stats format) = true
+is_part (Gaps format) = true
+is_part (Periods style) = true
 
 -- A replay of a packet capture tells it; one of a capture of the project's own format where
 -- standard error is a terminal, where not all lines are printed, and where gaps are given up. So

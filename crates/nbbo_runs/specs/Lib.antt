@@ -1,10 +1,14 @@
+pub mod AbsentSymbols
+pub mod AbsentLaws
 pub mod CaptureTexts
 pub mod Discovery
 pub mod Ending
 pub mod Hints
+pub mod Kept
 pub mod Lacks
 pub mod Printing
 pub mod Runs
+pub mod Sessions
 pub mod Starts
 pub mod Streams
 pub mod Watches

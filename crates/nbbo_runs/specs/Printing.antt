@@ -1,5 +1,5 @@
 -- What is printed of a replay.
-use Rattle.std.specs.Prelude.{◌≡◌, ⊤, ℕ, ◌+◌, Bool, List, [], ◌++◌, IsOkAnd, OnOk, Result, Ok, Err}
+use Rattle.std.specs.Prelude.{◌≡◌, ⊤, ℕ, ◌+◌, Bool, List, [], IsOkAnd, OnOk, Result, Ok, Err}
 use Rattle.std.specs.Result.{result_and}
 use Rattle.run_settings.specs.declared.formats.StatsFormat.{StatsFormat}
 use Rattle.feed_text.specs.declared.replay.ReplayConfig.{ReplayConfig}
@@ -13,12 +13,16 @@ use Rattle.feed_text.specs.declared.lack.Lack.{Lack}
 use Rattle.feed_text.specs.ReplayStates.{SinkTaking}
 use Rattle.feed_text.specs.Replays.{text_told}
 use Rattle.feed_text.specs.SinkEvents.{TimedEvent}
+use Rattle.replay_reports.specs.gaps.GapTexts.{text_of_gaps}
+use Rattle.replay_reports.specs.periods.PeriodTexts.{text_of_periods}
 use Rattle.replay_reports.specs.rows.RowSinks.{text_of_rows}
 use Rattle.replay_reports.specs.Texts.{IsTextOfTimes}
 use Rattle.replay_run.specs.Printed.{facts_of_run}
 use Rattle.run_settings.specs.declared.run_output.RunOutput.{RunOutput}
-use Rattle.run_settings.specs.declared.run_output.RunOutput.TheVariants.{Lines, Bests, Stats}
+use Rattle.run_settings.specs.declared.run_output.RunOutput.TheVariants.{Lines, Bests, Stats, Gaps, Periods}
 use Rattle.run_settings.specs.declared.run_settings.RunSettings.{RunSettings}
+use Rattle.nbbo_runs.specs.AbsentSymbols.{LeavesAbsent}
+use Rattle.nbbo_runs.specs.Kept.{keeping}
 use Rattle.nbbo_runs.specs.Lacks.{is_packet_input}
 
 -- A writer takes the text of events; or it takes a front of it, and fails.
@@ -40,10 +44,6 @@ PrintsEvents reading writing parsing config text_of from to start finish before 
     config (facts_of_run config) from to start finish before after outcome
 
 -- ---- statistics
-
--- events are kept
-abbrev pub keeping : SinkTaking (List TimedEvent)
-keeping = record { takes = λ kept told after. after ≡ kept ++ told; fails = λ kept told after. ⊥ }
 
 -- A text of this kind was printed whole, or a front of it, up to a call that failed, or nothing,
 -- where memory was refused.
@@ -86,8 +86,8 @@ IsStatsText config format timed told text =
 
 -- ---- by what is asked for
 
--- All lines, the rows of best lines alone, or statistics; rows and statistics are `timed` where the
--- records have times.
+-- All lines, the rows of best lines alone, statistics, or the rows of gaps or of periods; rows of
+-- best lines and statistics are `timed` where the records have times.
 abbrev pub PrintsBy : {R S F W : Type 0} (reading : Reading R) (writing : Writing W)
     (parsing : Parsing S F) (config : ReplayConfig) (timed : Bool)
     (from to : R) (start finish : S) (before after : W)
@@ -104,6 +104,14 @@ PrintsBy reading writing parsing config timed from to start finish before after 
     (Stats format) =
     PrintsFigures reading writing parsing config (IsStatsText config format timed)
     from to start finish before after outcome
+PrintsBy reading writing parsing config timed from to start finish before after outcome
+    (Gaps format) =
+    PrintsEvents reading writing parsing config (text_of_gaps format)
+    from to start finish before after outcome
+PrintsBy reading writing parsing config timed from to start finish before after outcome
+    (Periods style) =
+    PrintsEvents reading writing parsing config (text_of_periods style (venues_in config))
+    from to start finish before after outcome
 
 -- the settings as a replay takes them; it makes at most 1,000,000,000 calls of the reader
 pub record IsConfigOf (settings : RunSettings) (config : ReplayConfig) : Type 0 where
@@ -116,13 +124,15 @@ pub record IsConfigOf (settings : RunSettings) (config : ReplayConfig) : Type 0 
   pub turns : config.turns ≡ 1000000000
 
 -- A capture was replayed and printed as the settings say. Where it came to its end, what its venues
--- lack was appended to a list.
+-- lack was appended to a list, and these are the symbols of which no item came, if that is watched.
 pub record PrintsAsked {R S F W : Type 0} (reading : Reading R) (writing : Writing W)
-    (parsing : Parsing S F) (settings : RunSettings) (from to : R) (start finish : S)
-    (before after : W) (old new : List Lack) (outcome : Result (Unit {0}) (ReplayStop F))
-    : Type 0 where
+    (parsing : Parsing S F) (settings : RunSettings) (is_watched : Bool) (from to : R)
+    (start finish : S) (before after : W) (old new : List Lack) (absent : List (List ℕ))
+    (outcome : Result (Unit {0}) (ReplayStop F)) : Type 0 where
   pub config : ReplayConfig
   pub is : IsConfigOf settings config
   pub prints : PrintsBy reading writing parsing config (is_packet_input settings.input)
       from to start finish before after outcome settings.output
   pub lacks : OnOk outcome (AppendsLacks reading parsing config from to start finish old new)
+  pub absent_are : OnOk outcome
+      (LeavesAbsent reading parsing config from to start finish outcome is_watched absent)

@@ -19,6 +19,7 @@ use Rattle.run_settings.specs.declared.run_input.RunInput.{RunInput}
 use Rattle.run_settings.specs.declared.run_input.RunInput.TheVariants.{Own, Packets}
 use Rattle.run_settings.specs.declared.run_settings.RunSettings.{RunSettings}
 use Rattle.command_words.specs.declared.task.Task.TheVariants.{Listen}
+use Rattle.nbbo_runs.specs.AbsentSymbols.{told_absent}
 use Rattle.nbbo_runs.specs.CaptureTexts.{capture_texts}
 use Rattle.nbbo_runs.specs.Discovery.{Discovered}
 use Rattle.nbbo_runs.specs.Ending.{ending_status, own_end_texts, write_failed_text}
@@ -33,8 +34,8 @@ use Rattle.nbbo_runs.specs.declared.program_run.Next.TheVariants.{Ended, Listens
 use Rattle.nbbo_runs.specs.declared.terminals.Terminals.{Terminals}
 
 -- A capture of a format was replayed and printed, as the settings say. Standard error has the hint,
--- then what venues lack, if that is told, and then what is to be said of what was read and of the
--- outcome, by `end_texts`.
+-- then what venues lack and which symbols never came, if that is told, and then what is to be said
+-- of what was read and of the outcome, by `end_texts`.
 pub record RunsOver {R W E S F : Type 0} (devices : Devices R W E) (parsing : Parsing S F)
     (end_texts : S → Result (Unit {0}) (ReplayStop F) → List (List ℕ))
     (settings : RunSettings) (terminals : Terminals) (start : S)
@@ -42,11 +43,14 @@ pub record RunsOver {R W E S F : Type 0} (devices : Devices R W E) (parsing : Pa
   pub finish : S
   pub outcome : Result (Unit {0}) (ReplayStop F)
   pub lacks : List Lack
+  pub absent : List (List ℕ)
   pub prints : PrintsAsked devices.reading devices.writing parsing settings
-      before.input after.input start finish before.output after.output [] lacks outcome
+      (tells_lacks settings terminals) before.input after.input start finish before.output
+      after.output [] lacks absent outcome
   pub says : SaysEach devices.telling
       (hint_text terminals.input
-      ∷ told_lacks outcome (tells_lacks settings terminals) lacks ++ end_texts finish outcome)
+      ∷ told_lacks outcome (tells_lacks settings terminals) lacks
+      ++ (told_absent outcome (tells_lacks settings terminals) absent ++ end_texts finish outcome))
       before.errors after.errors
   pub ends : status ≡ ending_status outcome
 

@@ -1,8 +1,11 @@
 -- The laws of a format that is watched.
-use Rattle.std.proofs.Common.{◌≡◌, ℕ, List, [], ◌∷◌, ◌++◌, refl, ap, ◌∙◌}
+use Rattle.std.proofs.Common.{◌≡◌, ℕ, List, [], ◌∷◌, ◌++◌, refl, sym, ap, ◌∙◌, append-nil, append_assoc, flat_map}
+use Rattle.std.proofs.lemmas.Grind.{flat_map-append}
 use Rattle.feed_text.specs.Formats.{TimedRecord}
+use Rattle.nbbo_runs.specs.declared.session_row.SessionSighting.{SessionSighting}
 use Rattle.nbbo_runs.specs.declared.venue_watch.VenueWatch.{VenueWatch}
 use Rattle.nbbo_runs.specs.declared.watched_format.WatchedFormat.{WatchedFormat}
+use Rattle.nbbo_runs.specs.Sessions.{sightings_in, sightings_of}
 use Rattle.nbbo_runs.specs.Watches.{WatchedReads, watched_after, watched_with}
 
 after_more : (ws : List VenueWatch) (rs qs : List TimedRecord)
@@ -10,10 +13,19 @@ after_more : (ws : List VenueWatch) (rs qs : List TimedRecord)
 after_more ws [] qs = refl
 after_more ws (r ∷ rs) qs = after_more (watched_with ws r.what) rs qs
 
+seen_more : (sessions : List (List ℕ)) (a b c : List SessionSighting) (rs qs : List TimedRecord)
+    → b ≡ a ++ sightings_of sessions rs → c ≡ b ++ sightings_of sessions qs
+    → c ≡ a ++ sightings_of sessions (rs ++ qs)
+seen_more sessions a b c rs qs e d =
+    let one = λ (r : TimedRecord). sightings_in sessions r.what in
+    d ∙ ap (λ (l : List SessionSighting). l ++ flat_map one qs) e
+    ∙ append_assoc a (flat_map one rs) (flat_map one qs)
+    ∙ ap (λ (l : List SessionSighting). a ++ l) (sym (flat_map-append one rs qs))
+
 module _ {S : Type 0} (reads : S → List ℕ → List TimedRecord → S → List ℕ → Type 0) where
   pub watched_none : ((s : S) (xs : List ℕ) → reads s xs [] s xs)
       → (s : WatchedFormat S) (xs : List ℕ) → WatchedReads reads s xs [] s xs
-  watched_none none s xs = (none s.format xs, refl, refl)
+  watched_none none s xs = (none s.format xs, refl, sym (append-nil s.seen), refl)
 
   pub watched_more : ((s t u : S) (xs ys zs : List ℕ) (rs qs : List TimedRecord)
       → reads s xs rs t ys → reads t ys qs u zs → reads s xs (rs ++ qs) u zs)
@@ -23,7 +35,9 @@ module _ {S : Type 0} (reads : S → List ℕ → List TimedRecord → S → Lis
   watched_more more s t u xs ys zs rs qs a b = (
     more s.format t.format u.format xs ys zs rs qs a.0 b.0,
     b.1 ∙ ap (λ (ws : List VenueWatch). watched_after ws qs) a.1 ∙ after_more s.venues rs qs,
-    b.2 ∙ a.2,
+    seen_more s.sessions.now s.seen t.seen u.seen rs qs a.2
+        (b.2 ∙ ap (λ (names : _). t.seen ++ sightings_of names.now qs) a.3),
+    b.3 ∙ a.3,
   )
 
   pub watched_longer : ((s t : S) (xs ys more : List ℕ) (rs : List TimedRecord)
@@ -31,4 +45,4 @@ module _ {S : Type 0} (reads : S → List ℕ → List TimedRecord → S → Lis
       → (s t : WatchedFormat S) (xs ys more : List ℕ) (rs : List TimedRecord)
       → WatchedReads reads s xs rs t ys → WatchedReads reads s (xs ++ more) rs t (ys ++ more)
   watched_longer longer s t xs ys more rs a =
-      (longer s.format t.format xs ys more rs a.0, a.1, a.2)
+      (longer s.format t.format xs ys more rs a.0, a.1, a.2, a.3)

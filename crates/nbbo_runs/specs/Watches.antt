@@ -1,28 +1,20 @@
 -- What is watched of the datagrams of a capture, and what is said of it at the end.
-use Rattle.std.specs.Prelude.{◌≡◌, ℕ, zero, suc, ◌==◌, ◌&&◌, Bool, true, false, nat_lt, nat_le, List, [], ◌∷◌, ◌++◌, codes, decimal, length, replicate, take, slice_index_or, slice_set, Option, None, Some, Result, Ok, Err, if◌then◌else◌}
-use Rattle.std.specs.List.{list_all}
+use Rattle.std.specs.Prelude.{◌≡◌, ℕ, zero, suc, Bool, true, false, List, [], ◌∷◌, ◌++◌, codes, decimal, length, replicate, slice_index_or, slice_set, Result, Ok, Err}
 use Rattle.feed_types.specs.declared.line.LineId.{LineId}
 use Rattle.feed_types.specs.declared.line.LineId.TheVariants.{A, B}
 use Rattle.feed_text.specs.declared.record_format.Step.{Step}
 use Rattle.feed_text.specs.declared.record_format.Step.TheVariants.{Came}
 use Rattle.feed_text.specs.Capture.{CaptureRecord, datagram_record, record_of}
 use Rattle.feed_text.specs.Formats.{Parsing, TimedRecord}
+use Rattle.nbbo_runs.specs.declared.session_row.SessionSighting.{SessionSighting}
 use Rattle.nbbo_runs.specs.declared.venue_watch.VenueWatch.{VenueWatch}
 use Rattle.nbbo_runs.specs.declared.watched_format.WatchedFormat.{WatchedFormat}
+use Rattle.nbbo_runs.specs.Sessions.{session_rows, sessions_texts, sightings_of}
 
 -- ---- what is watched
 
--- the name of the session in a datagram that is long enough
-abbrev pub name_in : List ℕ → Option (List ℕ)
-name_in bytes = if nat_lt (length bytes) 10 then None else Some (take 10 bytes)
-
--- the first name that came
-abbrev pub first_name : Option (List ℕ) → Option (List ℕ) → Option (List ℕ)
-first_name None next = next
-first_name (Some name) next = Some name
-
 abbrev pub unwatched : VenueWatch
-unwatched = record { a = false; b = false; first = None }
+unwatched = record { a = false; b = false }
 
 -- a datagram of the venue came on a line
 abbrev pub heard_on : VenueWatch → LineId → VenueWatch
@@ -30,14 +22,10 @@ heard_on w A = record w { a = true }
 heard_on w B = record w { b = true }
 heard_on w line = w
 
-abbrev pub venue_watched : VenueWatch → LineId → List ℕ → VenueWatch
-venue_watched w line bytes =
-    record (heard_on w line) { first = first_name w.first (name_in bytes) }
-
 -- the watches of the venues after a record
 abbrev pub watched_with : List VenueWatch → CaptureRecord → List VenueWatch
 watched_with ws (datagram_record venue line bytes) =
-    slice_set ws venue (venue_watched (slice_index_or ws venue unwatched) line bytes)
+    slice_set ws venue (heard_on (slice_index_or ws venue unwatched) line)
 watched_with ws _ = ws
 
 abbrev pub watched_after : List VenueWatch → List TimedRecord → List VenueWatch
@@ -46,17 +34,17 @@ watched_after ws (r ∷ rs) = watched_after (watched_with ws r.what) rs
 
 -- after a step
 abbrev pub watched_by : {F : Type 0} → List VenueWatch → Step F → List VenueWatch
-watched_by ws (Came r time len) = watched_with ws (record_of r)
+watched_by ws (Came r len time) = watched_with ws (record_of r)
 watched_by ws _ = ws
 
 -- ---- a format that is watched
 
--- what is said at the end is of these sessions
+-- what is said at the end is of these lines and sessions
 abbrev pub WatchedReads : {S : Type 0} (reads : S → List ℕ → List TimedRecord → S → List ℕ → Type 0)
     → WatchedFormat S → List ℕ → List TimedRecord → WatchedFormat S → List ℕ → Type 0
 WatchedReads reads s xs rs t ys =
     reads s.format xs rs t.format ys × (t.venues ≡ watched_after s.venues rs)
-    × (t.sessions ≡ s.sessions)
+    × (t.seen ≡ s.seen ++ sightings_of s.sessions.now rs) × (t.sessions ≡ s.sessions)
 
 abbrev pub watching : {S F : Type 0} → Parsing S F → Parsing (WatchedFormat S) F
 watching parsing = record {
@@ -71,6 +59,7 @@ pub record IsWatched {S : Type 0} (format : S) (sessions : List (List ℕ)) (w :
     : Type 0 where
   pub format_is : w.format ≡ format
   pub venues_are : w.venues ≡ replicate 16 unwatched
+  pub seen_is : w.seen ≡ []
   pub sessions_are : w.sessions.now ≡ sessions
 
 -- ---- what is said
@@ -80,46 +69,27 @@ silent_texts venue line true = []
 silent_texts venue line false =
     codes "nbbo: venue " ∷ decimal venue ∷ codes " line " ∷ line ∷ codes " had no datagram\n" ∷ []
 
-abbrev pub same_bytes : List ℕ → List ℕ → Bool
-same_bytes [] [] = true
-same_bytes (x ∷ xs) (y ∷ ys) = x == y && same_bytes xs ys
-same_bytes xs ys = false
-
--- a byte that a terminal can show
-abbrev pub is_shown : ℕ → Bool
-is_shown b = nat_le 32 b && nat_lt b 127
-
-abbrev pub shown_name : List ℕ → List ℕ
-shown_name name = if list_all is_shown name then name else codes "bytes that can't be shown"
-
--- that a venue's first datagram is of another session than the first one that was named
-abbrev pub session_texts : ℕ → List ℕ → Option (List ℕ) → List (List ℕ)
-session_texts venue name None = []
-session_texts venue name (Some first) =
-    if same_bytes first name then []
-    else codes "nbbo: venue " ∷ decimal venue ∷ codes " begins with session "
-    ∷ shown_name first ∷ codes "\n" ∷ []
-
-abbrev pub venue_texts : ℕ → List ℕ → VenueWatch → List (List ℕ)
-venue_texts venue name w =
-    silent_texts venue (codes "A") w.a
-    ++ (silent_texts venue (codes "B") w.b ++ session_texts venue name w.first)
+abbrev pub venue_texts : ℕ → VenueWatch → List (List ℕ)
+venue_texts venue w = silent_texts venue (codes "A") w.a ++ silent_texts venue (codes "B") w.b
 
 -- of the first venues, this many
-abbrev pub first_venues_texts : List (List ℕ) → List VenueWatch → ℕ → List (List ℕ)
-first_venues_texts sessions ws zero = []
-first_venues_texts sessions ws (suc n) =
-    first_venues_texts sessions ws n
-    ++ venue_texts n (slice_index_or sessions n []) (slice_index_or ws n unwatched)
+abbrev pub first_venues_texts : List VenueWatch → ℕ → List (List ℕ)
+first_venues_texts ws zero = []
+first_venues_texts ws (suc n) =
+    first_venues_texts ws n ++ venue_texts n (slice_index_or ws n unwatched)
 
--- after a run that came to its end
-abbrev pub watch_texts : {F : Type 0} → Result (Unit {0}) F → List (List ℕ) → List VenueWatch
-    → List (List ℕ)
-watch_texts (Ok done) sessions ws = first_venues_texts sessions ws (length sessions)
-watch_texts (Err stop) sessions ws = []
+-- of this many venues' lines, and then of sessions
+abbrev pub seen_texts : ℕ → List VenueWatch → List SessionSighting → List (List ℕ)
+seen_texts venues ws seen = first_venues_texts ws venues ++ sessions_texts (session_rows seen)
+
+-- after a run over this many venues that came to its end
+abbrev pub watch_texts : {F : Type 0} → Result (Unit {0}) F → ℕ → List VenueWatch
+    → List SessionSighting → List (List ℕ)
+watch_texts (Ok done) venues ws seen = seen_texts venues ws seen
+watch_texts (Err stop) venues ws seen = []
 
 -- before what is said of the format
 abbrev pub watched_texts : {S F : Type 0} → (S → Result (Unit {0}) F → List (List ℕ))
     → WatchedFormat S → Result (Unit {0}) F → List (List ℕ)
 watched_texts texts s outcome =
-    watch_texts outcome s.sessions.now s.venues ++ texts s.format outcome
+    watch_texts outcome (length s.sessions.now) s.venues s.seen ++ texts s.format outcome

@@ -59,7 +59,7 @@ fn gzip_hint(start: u32) -> &'static str
     ensures { result.now ≡ gzip_hint start }
 {
     if start / 65_536 == GZIP {
-        "nbbo: the input is in gzip; to unpack it write 'zcat FILE | nbbo replay ..'\n"
+        "nbbo: the input is in gzip; to unpack it write 'zcat FILE | nbbo ..'\n"
     } else {
         ""
     }

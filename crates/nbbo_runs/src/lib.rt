@@ -2,10 +2,12 @@
 //!
 //! Contract: of any words, [`run`] says what is read, what is written where, and the status, or
 //! that the words ask to listen (`specs/Runs.antt`). A run is one over any format of captures, and
-//! prints lines, rows of best lines or statistics (`specs/Printing.antt`), or lists the lines of a
-//! packet capture (`specs/Discovery.antt`); at its end standard
-//! error says what venues lack (`specs/Lacks.antt`), and what is to be said of the capture and of
-//! the outcome (`specs/CaptureTexts.antt`, `specs/Ending.antt`).
+//! prints lines, rows of best lines, statistics or rows of gaps (`specs/Printing.antt`), or lists
+//! the lines of a packet capture (`specs/Discovery.antt`); at its end standard error says what
+//! venues lack (`specs/Lacks.antt`), which symbols never came (`specs/AbsentSymbols.antt`), which
+//! lines had no datagram and which sessions nothing names (`specs/Watches.antt`,
+//! `specs/Sessions.antt`), and what is to be said of the capture and of the outcome
+//! (`specs/CaptureTexts.antt`, `specs/Ending.antt`).
 //!
 //! Outside of it stand what a terminal is told beside it (`hints.rt`), and the program, which opens
 //! the streams and listens (`nbbo_main`).
@@ -14,6 +16,8 @@
 //! faults.
 #![tactic(auto)]
 
+mod absent_report;
+mod absent_symbols;
 mod capture_report;
 mod config;
 mod discovery;
@@ -25,10 +29,14 @@ mod noted_errors;
 mod printing;
 mod program_run;
 mod runs;
+mod session_report;
+mod session_row;
+mod session_table;
 mod terminals;
 mod told_format;
 mod venue_watch;
 mod watched_format;
+mod watched_sink;
 
 pub use hints::{hint_at_file, input_format_hint, journal_hint};
 pub use kept_start::KeptStart;

@@ -4,19 +4,25 @@ ghost use Rattle.feed_text.specs.declared.replay_stop.ReplayStop.TheVariants.{No
 ghost use Rattle.feed_text.specs.EventReplays.{venues_in};
 ghost use Rattle.feed_text.specs.Lacks.{AppendsLacks};
 ghost use Rattle.feed_text.specs.Replays.{CanReplay, text_told};
+ghost use Rattle.replay_reports.specs.gaps.GapTexts.{text_of_gaps};
+ghost use Rattle.replay_reports.specs.periods.PeriodSinks.{IsNewPeriods};
+ghost use Rattle.replay_reports.specs.periods.PeriodTexts.{text_of_periods};
 ghost use Rattle.replay_reports.specs.rows.RowSinks.{text_of_rows};
+ghost use Rattle.nbbo_runs.specs.AbsentSymbols.{LeavesAbsent, symbols_with};
 ghost use Rattle.nbbo_runs.specs.Printing.{IsTextOfSink, PrintsAsked, PrintsEvents, PrintsFigures, PrintsText};
 
 use crate::config::config_of;
 use crate::lacks::is_packet_input;
+use crate::watched_sink::{Missing, replay_watched};
 use feed_text::replay::ReplayConfig;
 use feed_text::{
-    CaptureIn, Lack, LineBuffer, RecordFormat, ReplayStop, Replayed, TextOut, TextPage, TextSink,
+    CaptureIn, LineBuffer, RecordFormat, ReplayStop, Replayed, TextOut, TextPage, TextSink,
     write_all,
 };
-use replay_reports::{BestRows, RowStyle, StatsSink, TimedStats};
-use replay_run::replay;
-use run_settings::{RunOutput, RunSettings, StatsFormat};
+use replay_reports::{
+    BestRows, GapRows, PeriodCounts, PeriodRows, RowStyle, StatsSink, TimedStats,
+};
+use run_settings::{PeriodStyle, RowFormat, RunOutput, RunSettings, StatsFormat};
 use std::alloc::{AllocError, Global};
 
 /// The outcome where memory was refused before anything was read.
@@ -42,15 +48,15 @@ fn page_before<W>(alloc: Global, output: W) -> Result<TextPage<W>, W>
     }
 }
 
-/// Replays a capture, and prints all lines. Returns the output beside the outcome. What venues lack
-/// at the end is appended to `lacks`.
+/// Replays a capture, and prints all lines. Returns the output beside the outcome. What is
+/// missing at the end is left in `missing`.
 fn print_lines<R: CaptureIn, F: RecordFormat, W: TextOut>(
     alloc: Global,
     config: &ReplayConfig<'_>,
     format: &mut F,
     input: &mut R,
     output: W,
-    lacks: &mut Vec<Lack>,
+    missing: &mut Missing,
 ) -> Replayed<W, F::Fault>
     requires can { CanReplay config.now }
     requires of_venues { F.venues format.old ≡ venues_in config.now }
@@ -63,13 +69,19 @@ fn print_lines<R: CaptureIn, F: RecordFormat, W: TextOut>(
     ensures lacks { OnOk result.outcome (AppendsLacks
         (record { gives = R.gives; ends = R.ends; failures = R.failures; fails = R.fails })
         (record { reads = F.reads; wants = F.wants; is_bad = F.is_bad; is_whole = F.is_whole })
-        config.now input.old input.new format.old format.new lacks.old.items lacks.new.items) }
+        config.now input.old input.new format.old format.new
+        missing.old.lacks.items missing.new.lacks.items) }
+    ensures absent { OnOk result.outcome (LeavesAbsent
+        (record { gives = R.gives; ends = R.ends; failures = R.failures; fails = R.fails })
+        (record { reads = F.reads; wants = F.wants; is_bad = F.is_bad; is_whole = F.is_whole })
+        config.now input.old input.new format.old format.new result.outcome
+        missing.old.is_watched (symbols_with missing.new.absent config.now.symbols.now)) }
 {
     let page = match page_before(alloc, output) {
         Ok(page) => page,
         Err(output) => return without_memory(output),
     };
-    let replayed = replay(alloc, config, format, input, TextSink::new(page), lacks);
+    let replayed = replay_watched(alloc, config, format, input, TextSink::new(page), missing);
     Replayed {
         sink: replayed.sink.into_writer(),
         outcome: replayed.outcome,
@@ -77,7 +89,7 @@ fn print_lines<R: CaptureIn, F: RecordFormat, W: TextOut>(
 }
 
 /// Replays a capture, and prints the rows of its best lines in a style. Returns the output beside
-/// the outcome. What venues lack at the end is appended to `lacks`.
+/// the outcome. What is missing at the end is left in `missing`.
 fn print_rows<R: CaptureIn, F: RecordFormat, W: TextOut>(
     alloc: Global,
     config: &ReplayConfig<'_>,
@@ -85,7 +97,7 @@ fn print_rows<R: CaptureIn, F: RecordFormat, W: TextOut>(
     format: &mut F,
     input: &mut R,
     output: W,
-    lacks: &mut Vec<Lack>,
+    missing: &mut Missing,
 ) -> Replayed<W, F::Fault>
     requires can { CanReplay config.now }
     requires of_venues { F.venues format.old ≡ venues_in config.now }
@@ -98,17 +110,127 @@ fn print_rows<R: CaptureIn, F: RecordFormat, W: TextOut>(
     ensures lacks { OnOk result.outcome (AppendsLacks
         (record { gives = R.gives; ends = R.ends; failures = R.failures; fails = R.fails })
         (record { reads = F.reads; wants = F.wants; is_bad = F.is_bad; is_whole = F.is_whole })
-        config.now input.old input.new format.old format.new lacks.old.items lacks.new.items) }
+        config.now input.old input.new format.old format.new
+        missing.old.lacks.items missing.new.lacks.items) }
+    ensures absent { OnOk result.outcome (LeavesAbsent
+        (record { gives = R.gives; ends = R.ends; failures = R.failures; fails = R.fails })
+        (record { reads = F.reads; wants = F.wants; is_bad = F.is_bad; is_whole = F.is_whole })
+        config.now input.old input.new format.old format.new result.outcome
+        missing.old.is_watched (symbols_with missing.new.absent config.now.symbols.now)) }
 {
     let page = match page_before(alloc, output) {
         Ok(page) => page,
         Err(output) => return without_memory(output),
     };
     let rows = BestRows::new(page, style);
-    let replayed = replay(alloc, config, format, input, rows, lacks);
+    let replayed = replay_watched(alloc, config, format, input, rows, missing);
     Replayed {
         sink: replayed.sink.into_writer(),
         outcome: replayed.outcome,
+    }
+}
+
+/// Replays a capture, and prints the rows of its gaps in a format. Returns the output beside the
+/// outcome. What is missing at the end is left in `missing`.
+fn print_gaps<R: CaptureIn, F: RecordFormat, W: TextOut>(
+    alloc: Global,
+    config: &ReplayConfig<'_>,
+    rows: RowFormat,
+    format: &mut F,
+    input: &mut R,
+    output: W,
+    missing: &mut Missing,
+) -> Replayed<W, F::Fault>
+    requires can { CanReplay config.now }
+    requires of_venues { F.venues format.old ≡ venues_in config.now }
+    ensures prints { PrintsEvents
+        (record { gives = R.gives; ends = R.ends; failures = R.failures; fails = R.fails })
+        (record { adds = W.adds; failures = W.failures })
+        (record { reads = F.reads; wants = F.wants; is_bad = F.is_bad; is_whole = F.is_whole })
+        config.now (text_of_gaps rows) input.old input.new format.old format.new
+        output result.sink result.outcome }
+    ensures lacks { OnOk result.outcome (AppendsLacks
+        (record { gives = R.gives; ends = R.ends; failures = R.failures; fails = R.fails })
+        (record { reads = F.reads; wants = F.wants; is_bad = F.is_bad; is_whole = F.is_whole })
+        config.now input.old input.new format.old format.new
+        missing.old.lacks.items missing.new.lacks.items) }
+    ensures absent { OnOk result.outcome (LeavesAbsent
+        (record { gives = R.gives; ends = R.ends; failures = R.failures; fails = R.fails })
+        (record { reads = F.reads; wants = F.wants; is_bad = F.is_bad; is_whole = F.is_whole })
+        config.now input.old input.new format.old format.new result.outcome
+        missing.old.is_watched (symbols_with missing.new.absent config.now.symbols.now)) }
+{
+    let page = match page_before(alloc, output) {
+        Ok(page) => page,
+        Err(output) => return without_memory(output),
+    };
+    let gaps = GapRows::new(page, rows);
+    let replayed = replay_watched(alloc, config, format, input, gaps, missing);
+    Replayed {
+        sink: replayed.sink.into_writer(),
+        outcome: replayed.outcome,
+    }
+}
+
+/// The rows of the periods of the venues, before the output. Where memory is refused the output is
+/// returned.
+fn rows_before<W>(
+    alloc: Global,
+    config: &ReplayConfig<'_>,
+    style: PeriodStyle,
+    output: W,
+) -> Result<PeriodRows<W>, W>
+    ensures rows { IfOk result (IsNewPeriods output style (venues_in config.now)) }
+    ensures refused { IfErr result (λ back. back ≡ output) }
+{
+    let Ok(counts) = PeriodCounts::new(alloc, config.sessions.len()) else {
+        return Err(output);
+    };
+    match page_before(alloc, output) {
+        Ok(page) => Ok(PeriodRows::new(page, style, counts)),
+        Err(output) => Err(output),
+    }
+}
+
+/// Replays a capture, and prints the rows of its periods in a style. Returns the output beside the
+/// outcome. What is missing at the end is left in `missing`.
+fn print_periods<R: CaptureIn, F: RecordFormat, W: TextOut>(
+    alloc: Global,
+    config: &ReplayConfig<'_>,
+    style: PeriodStyle,
+    format: &mut F,
+    input: &mut R,
+    output: W,
+    missing: &mut Missing,
+) -> Replayed<W, F::Fault>
+    requires can { CanReplay config.now }
+    requires of_venues { F.venues format.old ≡ venues_in config.now }
+    ensures prints { PrintsEvents
+        (record { gives = R.gives; ends = R.ends; failures = R.failures; fails = R.fails })
+        (record { adds = W.adds; failures = W.failures })
+        (record { reads = F.reads; wants = F.wants; is_bad = F.is_bad; is_whole = F.is_whole })
+        config.now (text_of_periods style (venues_in config.now)) input.old input.new
+        format.old format.new output result.sink result.outcome }
+    ensures lacks { OnOk result.outcome (AppendsLacks
+        (record { gives = R.gives; ends = R.ends; failures = R.failures; fails = R.fails })
+        (record { reads = F.reads; wants = F.wants; is_bad = F.is_bad; is_whole = F.is_whole })
+        config.now input.old input.new format.old format.new
+        missing.old.lacks.items missing.new.lacks.items) }
+    ensures absent { OnOk result.outcome (LeavesAbsent
+        (record { gives = R.gives; ends = R.ends; failures = R.failures; fails = R.fails })
+        (record { reads = F.reads; wants = F.wants; is_bad = F.is_bad; is_whole = F.is_whole })
+        config.now input.old input.new format.old format.new result.outcome
+        missing.old.is_watched (symbols_with missing.new.absent config.now.symbols.now)) }
+{
+    match rows_before(alloc, config, style, output) {
+        Ok(rows) => {
+            let replayed = replay_watched(alloc, config, format, input, rows, missing);
+            Replayed {
+                sink: replayed.sink.into_writer(),
+                outcome: replayed.outcome,
+            }
+        }
+        Err(output) => without_memory(output),
     }
 }
 
@@ -138,7 +260,7 @@ struct Statistics<K> {
 }
 
 /// Replays a capture, and then prints its statistics, also up to a fault. Returns the output beside
-/// the outcome. What venues lack at the end is appended to `lacks`.
+/// the outcome. What is missing at the end is left in `missing`.
 fn print_stats<R: CaptureIn, F: RecordFormat, W: TextOut, K: StatsSink + Drop>(
     alloc: Global,
     config: &ReplayConfig<'_>,
@@ -146,7 +268,7 @@ fn print_stats<R: CaptureIn, F: RecordFormat, W: TextOut, K: StatsSink + Drop>(
     format: &mut F,
     input: &mut R,
     mut output: W,
-    lacks: &mut Vec<Lack>,
+    missing: &mut Missing,
 ) -> Replayed<W, F::Fault>
     requires can { CanReplay config.now }
     requires of_venues { F.venues format.old ≡ venues_in config.now }
@@ -159,13 +281,19 @@ fn print_stats<R: CaptureIn, F: RecordFormat, W: TextOut, K: StatsSink + Drop>(
     ensures lacks { OnOk result.outcome (AppendsLacks
         (record { gives = R.gives; ends = R.ends; failures = R.failures; fails = R.fails })
         (record { reads = F.reads; wants = F.wants; is_bad = F.is_bad; is_whole = F.is_whole })
-        config.now input.old input.new format.old format.new lacks.old.items lacks.new.items) }
+        config.now input.old input.new format.old format.new
+        missing.old.lacks.items missing.new.lacks.items) }
+    ensures absent { OnOk result.outcome (LeavesAbsent
+        (record { gives = R.gives; ends = R.ends; failures = R.failures; fails = R.fails })
+        (record { reads = F.reads; wants = F.wants; is_bad = F.is_bad; is_whole = F.is_whole })
+        config.now input.old input.new format.old format.new result.outcome
+        missing.old.is_watched (symbols_with missing.new.absent config.now.symbols.now)) }
 {
     let Statistics { made, form } = stats;
     let Ok(sink) = made else {
         return without_memory(output);
     };
-    let replayed = replay(alloc, config, format, input, sink, lacks);
+    let replayed = replay_watched(alloc, config, format, input, sink, missing);
     let printed = write_text(replayed.sink.text(alloc, form), &mut output);
     Replayed {
         sink: output,
@@ -174,39 +302,44 @@ fn print_stats<R: CaptureIn, F: RecordFormat, W: TextOut, K: StatsSink + Drop>(
 }
 
 /// Replays a capture, and prints what is asked for.
-/// Returns the output beside the outcome. What venues lack at the end is appended to `lacks`.
+/// Returns the output beside the outcome. What is missing at the end is left in `missing`.
 pub fn print<R: CaptureIn, F: RecordFormat, W: TextOut>(
     alloc: Global,
     settings: &RunSettings,
     format: &mut F,
     input: &mut R,
     output: W,
-    lacks: &mut Vec<Lack>,
+    missing: &mut Missing,
 ) -> Replayed<W, F::Fault>
     requires { F.venues format.old ≡ vec_len settings.now.feed.sessions }
     ensures { PrintsAsked
         (record { gives = R.gives; ends = R.ends; failures = R.failures; fails = R.fails })
         (record { adds = W.adds; failures = W.failures })
         (record { reads = F.reads; wants = F.wants; is_bad = F.is_bad; is_whole = F.is_whole })
-        settings.now input.old input.new format.old format.new output result.sink
-        lacks.old.items lacks.new.items result.outcome }
+        settings.now missing.old.is_watched input.old input.new format.old format.new
+        output result.sink missing.old.lacks.items missing.new.lacks.items
+        (symbols_with missing.new.absent settings.now.feed.symbols.items) result.outcome }
 {
     let config = config_of(settings);
     let timed = is_packet_input(&settings.input);
     match settings.output {
-        RunOutput::Lines => print_lines(alloc, &config, format, input, output, lacks),
+        RunOutput::Lines => print_lines(alloc, &config, format, input, output, missing),
         RunOutput::Bests(rows) => {
             let style = RowStyle {
                 format: rows,
                 timed,
             };
-            print_rows(alloc, &config, style, format, input, output, lacks)
+            print_rows(alloc, &config, style, format, input, output, missing)
+        }
+        RunOutput::Periods(style) => {
+            print_periods(alloc, &config, style, format, input, output, missing)
         }
         RunOutput::Stats(form) => {
             let venues = config.sessions.len();
             let made = TimedStats::new(alloc, venues, config.window as usize, timed);
             let stats = Statistics { made, form };
-            print_stats(alloc, &config, stats, format, input, output, lacks)
+            print_stats(alloc, &config, stats, format, input, output, missing)
         }
+        RunOutput::Gaps(rows) => print_gaps(alloc, &config, rows, format, input, output, missing),
     }
 }

@@ -3,6 +3,7 @@ ghost use Rattle.std.specs.Prelude.{◌≡◌, vec_len};
 ghost use Rattle.run_settings.specs.Lists.{AreOfVenues};
 ghost use Rattle.nbbo_runs.specs.Runs.{RunsBy, RunsConversion, RunsOver};
 
+use crate::absent_report::tell_absent;
 use crate::config::MAX_TURNS;
 use crate::ending::status_of;
 use crate::hints::input_hint;
@@ -11,6 +12,7 @@ use crate::printing::print;
 use crate::terminals::Terminals;
 use crate::told_format::ToldFormat;
 use crate::watched_format::WatchedFormat;
+use crate::watched_sink::Missing;
 use feed_text::{CaptureIn, OwnFormat, TextOut, write_stderr};
 use line_captures::{PacketFormat, convert};
 use run_settings::{CapturedLine, RunInput, RunSettings};
@@ -48,10 +50,12 @@ fn run_over<R: CaptureIn, F: ToldFormat + Drop, W: TextOut, E: TextOut>(
         (record { input = input.new; output = result.1; errors = errors.new }) result.0 }
 {
     write_stderr(input_hint(terminals.input), errors);
-    let mut lacks = Vec::new(alloc);
-    let printed = print(alloc, settings, &mut format, input, output, &mut lacks);
     let is_told = tells_lacks(settings, terminals);
-    tell_lacks(&printed.outcome, is_told, lacks.as_slice(), errors);
+    let mut missing = Missing::new(alloc, is_told);
+    let printed = print(alloc, settings, &mut format, input, output, &mut missing);
+    tell_lacks(&printed.outcome, is_told, missing.lacks.as_slice(), errors);
+    let symbols = settings.feed.symbols.as_slice();
+    tell_absent(&printed.outcome, is_told, symbols, &missing.absent, errors);
     format.tell_end(&printed.outcome, errors);
     (status_of(&printed.outcome), printed.sink)
 }

@@ -1,25 +1,16 @@
-//! What is watched of a venue's datagrams.
+//! What is watched of a venue's lines.
 ghost use Rattle.std.specs.Prelude.{◌≡◌};
-ghost use Rattle.nbbo_runs.specs.Watches.{name_in, unwatched, venue_watched};
+ghost use Rattle.nbbo_runs.specs.Watches.{heard_on, unwatched};
 
 use feed_types::LineId;
 
-/// What is watched of a venue's datagrams.
+/// Which of a venue's lines had a datagram.
 #[derive(Clone, Copy, Debug, PartialEq, Eq)]
 pub struct VenueWatch {
     /// Whether line A had one.
     pub a: bool,
     /// Whether line B had one.
     pub b: bool,
-    /// The name of the session that the first one has, if any is long enough.
-    pub first: Option<[u8; 10]>,
-}
-
-/// Returns the name of the session in a datagram, if that is long enough.
-fn name_in(bytes: &[u8]) -> Option<[u8; 10]>
-    ensures { result ≡ name_in bytes.now }
-{
-    bytes.first_chunk::<10>().copied()
 }
 
 impl VenueWatch {
@@ -27,25 +18,18 @@ impl VenueWatch {
     pub(crate) fn new() -> VenueWatch
         ensures { result ≡ unwatched }
     {
-        VenueWatch {
-            a: false,
-            b: false,
-            first: None,
-        }
+        VenueWatch { a: false, b: false }
     }
 
     /// Notes a datagram that came on a line.
     #[inline(always)]
-    pub(crate) fn note(&mut self, line: LineId, bytes: &[u8])
-        ensures { self.new ≡ venue_watched self.old line bytes.now }
+    pub(crate) fn note(&mut self, line: LineId)
+        ensures { self.new ≡ heard_on self.old line }
     {
         match line {
             LineId::A => self.a = true,
             LineId::B => self.b = true,
             LineId::Recovery => {}
-        }
-        if self.first.is_none() {
-            self.first = name_in(bytes);
         }
     }
 }

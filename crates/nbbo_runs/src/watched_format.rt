@@ -1,25 +1,31 @@
 //! A format of captures whose datagrams are watched.
-ghost use Rattle.std.specs.Prelude.{◌≡◌, ◌++◌, length, slice_index_or};
-ghost use Rattle.std.specs.List.{list_all};
-ghost use Rattle.feed_text.specs.StandardError.{Says, SaysEach};
-ghost use Rattle.nbbo_runs.specs.Watches.{IsWatched, WatchedReads, first_venues_texts, is_shown, same_bytes, session_texts, shown_name, silent_texts, unwatched, venue_texts, watch_texts, watched_by, watched_texts};
+ghost use Rattle.std.specs.Prelude.{◌≡◌, ◌++◌, length, slice_get, slice_index_or};
+ghost use Rattle.feed_text.specs.StandardError.{SaysEach};
+ghost use Rattle.nbbo_runs.specs.Sessions.{datagram_sightings, is_first, name_in, sighted_by};
+ghost use Rattle.nbbo_runs.specs.Watches.{IsWatched, WatchedReads, first_venues_texts, seen_texts, silent_texts, unwatched, venue_texts, watch_texts, watched_by, watched_texts};
 ghost use Rattle.nbbo_runs.specs.WatchLaws.{watched_longer, watched_more, watched_none};
 
+use crate::session_report::write_sessions;
+use crate::session_row::{SessionSighting, VenueSession};
+use crate::session_table::SessionTable;
 use crate::told_format::ToldFormat;
 use crate::venue_watch::VenueWatch;
-use feed_text::{
-    Record, RecordFormat, ReplayStop, Step, TextOut, write_all, write_number, write_stderr,
-};
+use feed_text::{Record, RecordFormat, ReplayStop, Step, TextOut, write_number, write_stderr};
+use feed_types::VenueId;
 
 /// The most venues of a capture.
 const VENUES: usize = 16;
 
+/// The bytes of a packet's header.
+const HEADER: usize = 20;
+
 /// A format of captures, and what is watched of the datagrams that it reads: which lines have one,
-/// and which session each venue's first one is of.
+/// and which are of another session than their venue's first.
 #[derive(Drop)]
 pub struct WatchedFormat<'a, F> {
     format: F,
     venues: [VenueWatch; VENUES],
+    seen: SessionTable,
     sessions: &'a [[u8; 10]],
 }
 
@@ -30,14 +36,78 @@ fn watch<F>(venues: &mut [VenueWatch], step: &Step<'_, F>)
 {
     match step {
         Step::Came {
-            record: Record::Datagram { venue, line, bytes },
+            record: Record::Datagram { venue, line, .. },
             ..
         } => {
             let place = venue.index();
             if place < venues.len() {
-                venues[place].note(*line, bytes);
+                venues[place].note(*line);
             }
         }
+        _ => {}
+    }
+}
+
+/// Returns the name of the session in a datagram, if that is long enough for a packet's header.
+#[inline(always)]
+fn name_in(bytes: &[u8]) -> Option<[u8; 10]>
+    ensures { result ≡ name_in bytes.now }
+{
+    if bytes.len() < HEADER {
+        return None;
+    }
+    bytes.first_chunk::<10>().copied()
+}
+
+/// Returns whether the venue's first session has this name, where there is such a venue.
+#[inline(always)]
+fn is_first(sessions: &[[u8; 10]], venue: VenueId, name: &[u8; 10]) -> bool
+    ensures { result ≡ is_first (slice_get sessions.now venue) name.now }
+{
+    match sessions.get(venue.index()) {
+        Some(first) => first == name,
+        None => false,
+    }
+}
+
+/// Notes a datagram of another session than the venue's first.
+#[inline(always)]
+fn note_datagram(seen: &mut SessionTable, sessions: &[[u8; 10]], venue: VenueId, bytes: &[u8])
+    ensures { seen.new ≡ seen.old
+        ++ datagram_sightings venue (slice_get sessions.now venue) (name_in bytes.now) }
+{
+    let Some(name) = name_in(bytes) else {
+        return;
+    };
+    if is_first(sessions, venue, &name) {
+        return;
+    }
+    seen.count(&SessionSighting {
+        session: VenueSession { venue, name },
+        is_renewal: false,
+    });
+}
+
+/// Notes what a record shows of sessions that aren't their venue's first.
+#[inline(always)]
+fn note_session<F>(seen: &mut SessionTable, sessions: &[[u8; 10]], step: &Step<'_, F>)
+    ensures { seen.new ≡ sighted_by sessions.now seen.old step.now }
+{
+    match step {
+        Step::Came {
+            record: Record::Datagram { venue, bytes, .. },
+            ..
+        } => note_datagram(seen, sessions, *venue, bytes),
+        Step::Came {
+            record: Record::Renewal { venue, session },
+            ..
+        } => seen.count(&SessionSighting {
+            session: VenueSession {
+                venue: *venue,
+                name: *session,
+            },
+            is_renewal: true,
+        }),
         _ => {}
     }
 }
@@ -57,51 +127,6 @@ fn write_silent<E: TextOut>(venue: usize, line: &str, heard: bool, errors: &mut 
     write_stderr(" had no datagram\n", errors);
 }
 
-/// Returns whether two names are the same.
-fn is_same_name(name: &[u8; 10], other: &[u8; 10]) -> bool
-    ensures { result ≡ same_bytes name.now other.now }
-{
-    name == other
-}
-
-/// Returns whether a terminal can show all of a name.
-fn is_shown(name: &[u8]) -> bool
-    ensures { result ≡ list_all is_shown name.now }
-{
-    name.iter().all(|b| *b >= 32 && *b < 127)
-}
-
-/// Writes the name of a session.
-fn write_name<E: TextOut>(name: &[u8; 10], errors: &mut E)
-    ensures { Says (record { adds = E.adds; failures = E.failures })
-        (shown_name name.now) errors.old errors.new }
-{
-    if !is_shown(name) {
-        write_stderr("bytes that can't be shown", errors);
-        return;
-    }
-    let _ = write_all(name, errors);
-}
-
-/// Writes that a venue's first datagram is of another session than the one that was named, where it
-/// is.
-fn write_session<E: TextOut>(venue: usize, name: &[u8; 10], first: Option<[u8; 10]>, errors: &mut E)
-    ensures { SaysEach (record { adds = E.adds; failures = E.failures })
-        (session_texts venue name.now first) errors.old errors.new }
-{
-    let Some(first) = first else {
-        return;
-    };
-    if is_same_name(&first, name) {
-        return;
-    }
-    write_stderr("nbbo: venue ", errors);
-    write_number(venue as u64, errors);
-    write_stderr(" begins with session ", errors);
-    write_name(&first, errors);
-    write_stderr("\n", errors);
-}
-
 /// Returns what was watched of the venue at a place.
 fn watch_at(venues: &[VenueWatch], place: usize) -> VenueWatch
     ensures { result ≡ slice_index_or venues.now place unwatched }
@@ -112,38 +137,47 @@ fn watch_at(venues: &[VenueWatch], place: usize) -> VenueWatch
     VenueWatch::new()
 }
 
-/// Writes what was watched of a venue.
-fn write_venue<E: TextOut>(venue: usize, name: &[u8; 10], w: &VenueWatch, errors: &mut E)
+/// Writes what was watched of a venue's lines.
+fn write_venue<E: TextOut>(venue: usize, w: &VenueWatch, errors: &mut E)
     ensures { SaysEach (record { adds = E.adds; failures = E.failures })
-        (venue_texts venue name.now w.now) errors.old errors.new }
+        (venue_texts venue w.now) errors.old errors.new }
 {
     write_silent(venue, "A", w.a, errors);
     write_silent(venue, "B", w.b, errors);
-    write_session(venue, name, w.first, errors);
 }
 
-/// Writes what was watched of the venues whose first sessions have these names.
-fn write_venues<E: TextOut>(sessions: &[[u8; 10]], venues: &[VenueWatch], errors: &mut E)
+/// Writes what was watched of the lines of the first venues.
+fn write_venues<E: TextOut>(count: usize, venues: &[VenueWatch], errors: &mut E)
     ensures { SaysEach (record { adds = E.adds; failures = E.failures })
-        (first_venues_texts sessions.now venues.now (length sessions.now)) errors.old errors.new }
+        (first_venues_texts venues.now count) errors.old errors.new }
 {
-    for venue in 0..sessions.len() {
-        write_venue(venue, &sessions[venue], &watch_at(venues, venue), errors);
+    for venue in 0..count {
+        write_venue(venue, &watch_at(venues, venue), errors);
     }
 }
 
-/// Writes what was watched, after a run that came to its end.
+/// Writes what was watched of this many venues' lines, and of sessions.
+fn write_seen<E: TextOut>(count: usize, venues: &[VenueWatch], seen: &SessionTable, errors: &mut E)
+    ensures { SaysEach (record { adds = E.adds; failures = E.failures })
+        (seen_texts count venues.now seen.now) errors.old errors.new }
+{
+    write_venues(count, venues, errors);
+    write_sessions(seen.rows(), errors);
+}
+
+/// Writes what was watched of this many venues, after a run that came to its end.
 fn write_watch<F, E: TextOut>(
     outcome: &Result<(), F>,
-    sessions: &[[u8; 10]],
+    count: usize,
     venues: &[VenueWatch],
+    seen: &SessionTable,
     errors: &mut E,
 )
     ensures { SaysEach (record { adds = E.adds; failures = E.failures })
-        (watch_texts outcome.now sessions.now venues.now) errors.old errors.new }
+        (watch_texts outcome.now count venues.now seen.now) errors.old errors.new }
 {
     match outcome {
-        Ok(()) => write_venues(sessions, venues, errors),
+        Ok(()) => write_seen(count, venues, seen, errors),
         Err(_) => {}
     }
 }
@@ -156,6 +190,7 @@ impl<'a, F> WatchedFormat<'a, F> {
         WatchedFormat {
             format,
             venues: [VenueWatch::new(); VENUES],
+            seen: SessionTable::new(),
             sessions,
         }
     }
@@ -187,6 +222,7 @@ impl<F: RecordFormat> RecordFormat for WatchedFormat<'_, F> {
     fn next<'b>(&mut self, bytes: &'b [u8]) -> Step<'b, F::Fault> {
         let step = self.format.next(bytes);
         watch(&mut self.venues, &step);
+        note_session(&mut self.seen, self.sessions, &step);
         step
     }
 
@@ -199,7 +235,8 @@ impl<F: ToldFormat> ToldFormat for WatchedFormat<'_, F> {
     ghost end_texts = { watched_texts F.end_texts };
 
     fn tell_end<E: TextOut>(&self, outcome: &Result<(), ReplayStop<F::Fault>>, errors: &mut E) {
-        write_watch(outcome, self.sessions, &self.venues, errors);
+        let count = self.sessions.len();
+        write_watch(outcome, count, &self.venues, &self.seen, errors);
         self.format.tell_end(outcome, errors);
     }
 }

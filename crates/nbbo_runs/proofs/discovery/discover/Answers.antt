@@ -1,4 +1,4 @@
-use Rattle.std.proofs.Common.{◌≡◌, List, ℕ}
+use Rattle.std.proofs.Common.{◌≡◌}
 use Rattle.std.specs.Prelude.{IsOkAnd}
 use Rattle.feed_text.specs.Devices.{Writing}
 use Rattle.line_discovery.specs.SurveyTexts.{text_of_survey}

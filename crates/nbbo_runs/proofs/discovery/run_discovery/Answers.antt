@@ -1,4 +1,4 @@
-use Rattle.std.proofs.Common.{◌≡◌, List, ℕ, Err, length, refl, subst}
+use Rattle.std.proofs.Common.{List, ℕ, Err, length, refl, subst}
 use Rattle.feed_text.specs.declared.replay_stop.ReplayStop.TheVariants.{NoMemory}
 use Rattle.feed_text.specs.Devices.{Reading, Writing}
 use Rattle.feed_text.specs.StandardError.{Says, SaysEach}

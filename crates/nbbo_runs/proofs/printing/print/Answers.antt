@@ -9,6 +9,24 @@ use Rattle.nbbo_runs.proofs.PrintedTexts.{figures_as}
 use Rattle.nbbo_runs.proofs.StatsTexts.{times_of_sink}
 use Rattle.nbbo_runs.proofs.printing.print.Goals as goal
 
+pub returns-in-Lines : goal.returns-in-Lines
+returns-in-Lines g c = record {
+  config = c.config_of-config.result;
+  is = c.config_of-config.ensures;
+  prints = rw (c.in-Lines.is) c.print_lines.ensures.prints;
+  lacks = c.print_lines.ensures.lacks;
+  absent_are = rw (← c.config_of-config.ensures.symbols) c.print_lines.ensures.absent;
+}
+
+pub returns-in-Bests : goal.returns-in-Bests
+returns-in-Bests g c = record {
+  config = c.config_of-config.result;
+  is = c.config_of-config.ensures;
+  prints = rw (← c.is_packet_input-timed.ensures, c.in-Bests.is) c.print_rows.ensures.prints;
+  lacks = c.print_rows.ensures.lacks;
+  absent_are = rw (← c.config_of-config.ensures.symbols) c.print_rows.ensures.absent;
+}
+
 pub returns-in-Stats : goal.returns-in-Stats
 returns-in-Stats g c =
     let reading : Reading g.row.R.Denot = record {
@@ -44,4 +62,5 @@ returns-in-Stats g c =
           some c.new-made.ensures.count c.new-made.ensures.has_times c.new-made.ensures.timed is)
           c.print_stats.ensures.prints);
       lacks = c.print_stats.ensures.lacks;
+      absent_are = rw (← c.config_of-config.ensures.symbols) c.print_stats.ensures.absent;
     }

@@ -37,19 +37,19 @@ returns-clause-prints g c =
     } in
     let config = c.args.config.now in
     let form = c.args.stats.form in
-    let new = c.replay-replayed.result.sink in
+    let new = c.replay_watched-replayed.result.sink in
     let sure = g.met.K.StatsSink.never_fails in
     let kept = kept_of reading parsing config (facts_of_run config)
     (record { takes = g.K.EventSink.takes; fails = g.K.EventSink.fails }) g.K.EventSink.is_shown
     g.met.K.EventSink.takes_none (λ s t told failed. sure s t told failed) _ _ _ _ c.in-Ok.sink new
-    c.replay-replayed.result.outcome c.replay-replayed.ensures.headline in
+    c.replay_watched-replayed.result.outcome c.replay_watched-replayed.ensures.headline in
     let IsText : g.row.K.Denot → List ℕ → Type 0 =
     λ sink text. g.K.StatsSink.is_text sink form text in
     let Is : List ℕ → Type 0 =
     λ text. IsTextOfSink g.K.EventSink.takes IsText c.args.stats.made kept.told text in
     record {
       told = kept.told;
-      seen = c.replay-replayed.result.outcome;
+      seen = c.replay_watched-replayed.result.outcome;
       run = kept.run;
       printed = c.write_text-printed.result;
       prints = text_as writing (λ text. IsOkAnd c.text.result (λ bytes. bytes.items ≡ text)) Is

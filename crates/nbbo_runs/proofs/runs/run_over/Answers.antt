@@ -1,12 +1,14 @@
-use Rattle.std.proofs.Common.{ℕ, List, subst}
+use Rattle.std.proofs.Common.{ℕ, List, ◌++◌, ◌∙◌, subst}
+use Rattle.std.specs.Prelude.{Bool}
 use Rattle.feed_text.specs.declared.lack.Lack.{Lack}
 use Rattle.feed_text.specs.Devices.{Reading, Writing}
 use Rattle.feed_text.specs.Formats.{Parsing}
 use Rattle.feed_text.specs.StandardError.{Says}
 use Rattle.feed_text.specs.laws.SaidTexts.{says_each}
+use Rattle.nbbo_runs.specs.AbsentSymbols.{symbols_with, told_absent}
 use Rattle.nbbo_runs.specs.Lacks.{tells_lacks, told_lacks}
 use Rattle.nbbo_runs.specs.Printing.{PrintsAsked}
-use Rattle.nbbo_runs.proofs.SaidLacks.{tells_items}
+use Rattle.nbbo_runs.proofs.SaidLacks.{tells_absent, tells_items}
 use Rattle.nbbo_runs.proofs.runs.run_over.Goals as goal
 
 pub returns : goal.returns
@@ -29,29 +31,44 @@ returns g c =
     } in
     let settings = c.args.settings.now in
     let outcome = c.print-printed.result.outcome in
-    let lacks = c.print-printed.new.lacks.items in
+    let missing = c.print-printed.new.missing in
+    let lacks = missing.lacks.items in
+    let symbols = settings.feed.symbols.items in
+    let absent = symbols_with missing.absent symbols in
     let finish = c.print-printed.new.format in
     let silent = c.args.errors.now in
     let hinted = c.write_stderr.new.errors in
-    let said = c.tell_lacks.new.errors in
+    let lacking = c.tell_lacks.new.errors in
+    let said = c.tell_absent.new.errors in
+    let end = c.tell_end.new.errors in
     let due = tells_lacks settings c.args.terminals in
+    let end_texts = g.F.ToldFormat.end_texts finish outcome in
     record {
       finish = finish;
       outcome = outcome;
       lacks = lacks;
-      prints = subst (λ (old : List Lack). PrintsAsked reading writing parsing settings
+      absent = absent;
+      prints = subst (λ (old : List Lack). PrintsAsked reading writing parsing settings due
           c.args.input.now c.print-printed.new.input c.args.format finish c.args.output
-          c.print-printed.result.sink old lacks outcome)
-          c.new-lacks.ensures.items c.print-printed.ensures;
+          c.print-printed.result.sink old lacks absent outcome)
+          c.new-missing.ensures.lacks
+          (subst (λ (is_watched : Bool). PrintsAsked reading writing parsing settings is_watched
+          c.args.input.now c.print-printed.new.input c.args.format finish c.args.output
+          c.print-printed.result.sink c.new-missing.result.lacks.items lacks absent outcome)
+          (c.new-missing.ensures.watched ∙ c.tells_lacks-is_told.ensures)
+          c.print-printed.ensures);
       says = (
         hinted,
         subst (λ (text : List ℕ). Says telling text silent hinted) c.input_hint.ensures
             c.write_stderr.ensures,
         says_each telling (told_lacks outcome due lacks)
-            (g.F.ToldFormat.end_texts finish outcome) hinted said c.tell_end.new.errors
-            (tells_items telling outcome _ due _ lacks hinted said c.tells_lacks-is_told.ensures
-            c.as_slice.ensures.value c.tell_lacks.ensures)
-            c.tell_end.ensures,
+            (told_absent outcome due absent ++ end_texts) hinted lacking end
+            (tells_items telling outcome _ due _ lacks hinted lacking
+            c.tells_lacks-is_told.ensures c.as_slice.ensures.value c.tell_lacks.ensures)
+            (says_each telling (told_absent outcome due absent) end_texts lacking said end
+            (tells_absent telling outcome _ due _ symbols missing.absent lacking said
+            c.tells_lacks-is_told.ensures c.as_slice-symbols.ensures.value c.tell_absent.ensures)
+            c.tell_end.ensures),
       );
       ends = c.status_of.ensures;
     }

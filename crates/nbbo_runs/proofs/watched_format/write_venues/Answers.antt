@@ -1,27 +1,23 @@
-use Rattle.std.proofs.Common.{ℕ, List, [], add-one, slice_index_or, subst, sym}
+use Rattle.std.proofs.Common.{ℕ, add-one, slice_index_or, subst, sym}
 use Rattle.feed_text.specs.Devices.{Writing}
 use Rattle.feed_text.specs.StandardError.{SaysEach}
 use Rattle.feed_text.specs.laws.SaidTexts.{says_each}
 use Rattle.nbbo_runs.specs.declared.venue_watch.VenueWatch.{VenueWatch}
 use Rattle.nbbo_runs.specs.Watches.{first_venues_texts, unwatched, venue_texts}
-use Rattle.nbbo_runs.proofs.Watching.{index_any}
 use Rattle.nbbo_runs.proofs.watched_format.write_venues.Goals as goal
 
 pub loop-venue-preserved : goal.loop-venue-preserved
 loop-venue-preserved g c =
     let w : Writing g.row.E.Denot =
     record { adds = g.E.TextOut.adds; failures = g.E.TextOut.failures } in
-    let sessions = c.args.sessions.now in
     let ws = c.args.venues.now in
     let n = c.loop-venue.venue in
     let start = c.loop-venue.errors in
     let end = c.write_venue.new.errors in
-    subst (λ (k : ℕ). SaysEach w (first_venues_texts sessions ws k) c.args.errors.now end)
+    subst (λ (k : ℕ). SaysEach w (first_venues_texts ws k) c.args.errors.now end)
     (sym (add-one n))
-    (says_each w (first_venues_texts sessions ws n)
-    (venue_texts n (slice_index_or sessions n []) (slice_index_or ws n unwatched))
-    c.args.errors.now start end c.loop-venue.invariant
-    (subst (λ (v : VenueWatch). SaysEach w (venue_texts n (slice_index_or sessions n []) v)
-    start end) c.watch_at.ensures
-    (subst (λ (name : List ℕ). SaysEach w (venue_texts n name c.watch_at.result) start end)
-    (index_any sessions n _ [] c.loop-venue-test.true) c.write_venue.ensures)))
+    (says_each w (first_venues_texts ws n)
+    (venue_texts n (slice_index_or ws n unwatched)) c.args.errors.now start end
+    c.loop-venue.invariant
+    (subst (λ (v : VenueWatch). SaysEach w (venue_texts n v) start end) c.watch_at.ensures
+    c.write_venue.ensures))

@@ -1,0 +1,8 @@
+use Rattle.feed_text.specs.laws.SaidTexts.{SaysRest}
+use Rattle.nbbo_runs.specs.Sessions.{session_texts}
+use Rattle.nbbo_runs.proofs.session_report.write_rows.Given as goal
+
+abbrev pub invariant-loop-row : goal.invariant-loop-row
+invariant-loop-row g l =
+    SaysRest (record { adds = g.E.TextOut.adds; failures = g.E.TextOut.failures }) session_texts
+    l.rows l.row-index l.fn.errors l.errors

@@ -1,0 +1,14 @@
+use Rattle.std.proofs.Common.{flat_map, length}
+use Rattle.feed_text.specs.Devices.{Writing}
+use Rattle.feed_text.specs.laws.SaidTexts.{says_each}
+use Rattle.nbbo_runs.specs.Sessions.{full_texts, session_texts}
+use Rattle.nbbo_runs.proofs.session_report.write_sessions.Goals as goal
+
+pub returns : goal.returns
+returns g c =
+    let w : Writing g.row.E.Denot =
+    record { adds = g.E.TextOut.adds; failures = g.E.TextOut.failures } in
+    let rows = c.args.rows.now in
+    says_each w (flat_map session_texts rows) (full_texts (length rows)) c.args.errors.now
+    c.write_rows.new.errors c.write_full.new.errors c.write_rows.ensures
+    c.write_full.ensures

@@ -1,0 +1,102 @@
+//! The symbols of which no item came.
+ghost use Rattle.std.specs.Prelude.{◌≡◌, ℕ, [], ◌&&◌, not, nat_eq, IfOk};
+ghost use Rattle.feed_types.specs.Symbols.{key_of};
+ghost use Rattle.feed_text.specs.SinkEvents.{told_by};
+ghost use Rattle.nbbo_runs.specs.AbsentSymbols.{AreKeysOf, brings_item, has_key, is_item_of};
+
+use feed_text::Event;
+use feed_types::{Item, SymbolName};
+use indexmap::IndexSet;
+use std::alloc::{AllocError, Global};
+use std::marker::Model;
+
+/// The symbols, of some, of which no item has come. Contracts see their keys.
+#[derive(Drop)]
+pub struct AbsentSymbols {
+    keys: IndexSet<u64>,
+}
+
+impl Model for AbsentSymbols {
+    ghost use Rattle.std.specs.Prelude.{ℕ, List};
+
+    ghost Value = { List ℕ };
+
+    ghost view = { λ s. s.keys.keys };
+}
+
+impl AbsentSymbols {
+    /// Returns no symbols. They take no memory.
+    pub(crate) fn none(alloc: Global) -> AbsentSymbols
+        ensures { result ≡ [] }
+    {
+        AbsentSymbols {
+            keys: IndexSet::new(alloc),
+        }
+    }
+
+    /// Returns these symbols. Fails where memory is refused.
+    pub(crate) fn of(alloc: Global, symbols: &[SymbolName]) -> Result<AbsentSymbols, AllocError>
+        ensures { IfOk result (λ absent. AreKeysOf symbols.now absent) }
+    {
+        let mut keys = IndexSet::with_capacity(alloc, symbols.len())?;
+        for symbol in symbols {
+            match keys.insert(symbol.key()) {
+                Ok(_) => {}
+                Err(error) => return Err(error.into()),
+            }
+        }
+        Ok(AbsentSymbols { keys })
+    }
+
+    /// Returns whether the symbol is one of these.
+    pub(crate) fn has(&self, symbol: SymbolName) -> bool
+        ensures { result ≡ has_key self.now (key_of symbol) }
+    {
+        self.keys.contains(&symbol.key())
+    }
+
+    /// Takes out a symbol of which an item came.
+    fn remove(&mut self, symbol: SymbolName)
+        ensures { (key : ℕ) → has_key self.new key
+            ≡ (has_key self.old key && not (nat_eq (key_of symbol) key)) }
+    {
+        let _was = self.keys.swap_remove(&symbol.key());
+    }
+
+    /// Takes out the symbol of an item that came.
+    #[inline(never)]
+    fn note_item(&mut self, item: &Item)
+        ensures { (key : ℕ) → has_key self.new key
+            ≡ (has_key self.old key && not (is_item_of key item.now)) }
+    {
+        match item {
+            Item::Quote(quote) => self.remove(quote.symbol),
+            Item::Halt { symbol, .. } => self.remove(*symbol),
+            Item::Other | Item::End | Item::Skipped => {}
+        }
+    }
+
+    /// Takes out the symbol of an item that came, if any symbol is left.
+    #[inline(always)]
+    fn note_any(&mut self, item: &Item)
+        ensures { (key : ℕ) → has_key self.new key
+            ≡ (has_key self.old key && not (is_item_of key item.now)) }
+    {
+        if self.keys.is_empty() {
+            return;
+        }
+        self.note_item(item);
+    }
+
+    /// Takes out the symbol of an event, if that is an item.
+    #[inline(always)]
+    pub(crate) fn note_event(&mut self, event: &Event<'_>)
+        ensures { (key : ℕ) → has_key self.new key
+            ≡ (has_key self.old key && not (brings_item key (told_by event.now))) }
+    {
+        match event {
+            Event::Item { item, .. } => self.note_any(&item.item),
+            _ => {}
+        }
+    }
+}

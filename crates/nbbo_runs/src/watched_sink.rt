@@ -1,0 +1,132 @@
+//! A sink whose symbols are watched.
+ghost use Rattle.std.specs.Prelude.{◌≡◌, true, IfOk, OnOk};
+ghost use Rattle.feed_text.specs.EventReplays.{AnswersRun, venues_in};
+ghost use Rattle.feed_text.specs.Lacks.{AppendsLacks};
+ghost use Rattle.feed_text.specs.Replays.{CanReplay};
+ghost use Rattle.replay_run.specs.Printed.{facts_of_run};
+ghost use Rattle.nbbo_runs.specs.AbsentSymbols.{AreKeysOf, IsNewMissing, LeavesAbsent, symbols_with};
+
+use crate::absent_symbols::AbsentSymbols;
+use feed_text::replay::ReplayConfig;
+use feed_text::{CaptureIn, Event, EventSink, Lack, RecordFormat, ReplayStop, Replayed, SinkStop};
+use feed_types::SymbolName;
+use replay_run::replay;
+use std::alloc::{AllocError, Global};
+
+/// A sink, and the symbols of which no item came to it yet.
+#[derive(Drop)]
+pub struct WatchedSink<K> {
+    pub(crate) sink: K,
+    pub(crate) absent: AbsentSymbols,
+}
+
+impl<K: EventSink> EventSink for WatchedSink<K> {
+    ghost use Rattle.nbbo_runs.specs.AbsentSymbols.{TakesWatched};
+    ghost use Rattle.nbbo_runs.specs.AbsentLaws.{watched_sink_more, watched_sink_none};
+
+    ghost takes = { TakesWatched K.takes };
+
+    ghost fails = { λ s told t. K.fails s.sink told t.sink };
+
+    ghost is_shown = { λ s. K.is_shown s.sink };
+
+    ghost takes_none = { watched_sink_none K.takes K.takes_none };
+
+    ghost takes_more = { watched_sink_more K.takes K.takes_more };
+
+    ghost fails_after = { λ s t u xs ys a b. K.fails_after s.sink t.sink u.sink xs ys a.0 b };
+
+    ghost fails_longer = { λ s t xs ys a. K.fails_longer s.sink t.sink xs ys a };
+
+    #[inline(always)]
+    fn take(&mut self, time: Option<u64>, event: &Event<'_>) -> Result<(), SinkStop> {
+        self.absent.note_event(event);
+        self.sink.take(time, event)
+    }
+
+    fn show(&mut self) -> Result<(), SinkStop> {
+        self.sink.show()
+    }
+}
+
+/// What a replay may miss at its end.
+#[derive(Drop)]
+pub struct Missing {
+    /// Whether symbols are watched.
+    pub(crate) is_watched: bool,
+    /// The messages that venues lack.
+    pub(crate) lacks: Vec<Lack>,
+    /// The symbols of which no item came, where they are watched.
+    pub(crate) absent: AbsentSymbols,
+}
+
+impl Missing {
+    /// Returns what is missing before anything is read. Symbols are watched, or not.
+    pub(crate) fn new(alloc: Global, is_watched: bool) -> Missing
+        ensures { IsNewMissing is_watched result }
+    {
+        Missing {
+            is_watched,
+            lacks: Vec::new(alloc),
+            absent: AbsentSymbols::none(alloc),
+        }
+    }
+
+    /// Returns these symbols, where they are watched. Fails where memory is refused.
+    fn watched(&self, alloc: Global, symbols: &[SymbolName]) -> Result<AbsentSymbols, AllocError>
+        ensures { IfOk result (λ absent.
+            self.now.is_watched ≡ true → AreKeysOf symbols.now absent) }
+    {
+        if self.is_watched {
+            return AbsentSymbols::of(alloc, symbols);
+        }
+        Ok(AbsentSymbols::none(alloc))
+    }
+}
+
+/// Reads a capture of a format to its end, and gives a sink the events of its records
+/// ([`replay_run::replay`]). What each venue lacks at the end is appended to what is missing, and
+/// the symbols of which no item came are left in it, where symbols are watched.
+#[inline(always)]
+pub(crate) fn replay_watched<R: CaptureIn, F: RecordFormat, K: EventSink>(
+    alloc: Global,
+    config: &ReplayConfig<'_>,
+    format: &mut F,
+    reader: &mut R,
+    sink: K,
+    missing: &mut Missing,
+) -> Replayed<K, F::Fault>
+    requires can { CanReplay config.now }
+    requires of_venues { F.venues format.old ≡ venues_in config.now }
+    ensures headline { AnswersRun
+        (record { gives = R.gives; ends = R.ends; failures = R.failures; fails = R.fails })
+        (record { reads = F.reads; wants = F.wants; is_bad = F.is_bad; is_whole = F.is_whole })
+        (record { takes = K.takes; fails = K.fails }) K.is_shown
+        config.now (facts_of_run config.now) reader.old reader.new format.old format.new
+        sink result.sink result.outcome }
+    ensures lacks { OnOk result.outcome (AppendsLacks
+        (record { gives = R.gives; ends = R.ends; failures = R.failures; fails = R.fails })
+        (record { reads = F.reads; wants = F.wants; is_bad = F.is_bad; is_whole = F.is_whole })
+        config.now reader.old reader.new format.old format.new
+        missing.old.lacks.items missing.new.lacks.items) }
+    ensures absent { OnOk result.outcome (LeavesAbsent
+        (record { gives = R.gives; ends = R.ends; failures = R.failures; fails = R.fails })
+        (record { reads = F.reads; wants = F.wants; is_bad = F.is_bad; is_whole = F.is_whole })
+        config.now reader.old reader.new format.old format.new result.outcome
+        missing.old.is_watched (symbols_with missing.new.absent config.now.symbols.now)) }
+{
+    let Ok(absent) = missing.watched(alloc, config.symbols) else {
+        return Replayed {
+            sink,
+            outcome: Err(ReplayStop::NoMemory),
+        };
+    };
+    let watched = WatchedSink { sink, absent };
+    let replayed = replay(alloc, config, format, reader, watched, &mut missing.lacks);
+    let WatchedSink { sink, absent } = replayed.sink;
+    missing.absent = absent;
+    Replayed {
+        sink,
+        outcome: replayed.outcome,
+    }
+}
