@@ -1,0 +1,3 @@
+pub mod LineFigures
+pub mod Metrics
+pub mod Replies

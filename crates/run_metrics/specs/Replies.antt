@@ -1,0 +1,65 @@
+-- What a client of the metrics is answered. The grammar of a request's head is httparse's:
+-- ReadsRequest bytes head rest says that the bytes are this head and then the rest.
+use Rattle.std.specs.Prelude.{◌≡◌, ◌⊎◌, ℕ, ◌<◌, ◌≤◌, not, List, [], ◌∷◌, ◌++◌, length, Option, Some, None, codes, decimal, if◌then◌else◌}
+use Rattle.std.specs.Str.{bytes_eq}
+use Rattle.httparse.specs.Grammar.{HasNoRequest, ReadsRequest, RequestHead}
+use Rattle.httparse.specs.Spans.{RequestOverflows}
+use Rattle.run_metrics.specs.Metrics.{page_text, text_of_parts}
+use Rattle.run_metrics.specs.declared.figures.RunFigures.{RunFigures}
+use Rattle.run_metrics.specs.declared.reply.Reply.{Reply}
+use Rattle.run_metrics.specs.declared.reply.Reply.TheVariants.{Page, NotFound, NotAllowed, BadRequest}
+
+-- the reply to a request of this method for this target
+abbrev pub reply_for : (method target : List ℕ) → Reply
+reply_for method target =
+    if not (bytes_eq method (codes "GET")) then NotAllowed
+    else if bytes_eq target (codes "/metrics") then Page else NotFound
+
+-- The bytes begin with a request that is replied so.
+pub record IsReplyToRequest (bytes : List ℕ) (reply : Reply) : Type 0 where
+  pub head : RequestHead
+  pub rest : List ℕ
+  pub reads : ReadsRequest bytes head rest
+  pub is : reply ≡ reply_for head.method head.target
+
+-- The bytes are no request, and no bytes after them make them one of at most 64 fields; or they are
+-- none yet, and as many as are waited for.
+abbrev pub IsNoRequest : List ℕ → Type 0
+IsNoRequest bytes = RequestOverflows 64 bytes ⊎ (HasNoRequest bytes × (8192 ≤ length bytes))
+
+-- What is replied to the bytes that a client has sent, by cases on it: nothing yet, where they are
+-- no whole request and more may come.
+abbrev pub IsReplyTo : List ℕ → Option Reply → Type 0
+IsReplyTo bytes None = HasNoRequest bytes × (length bytes < 8192)
+IsReplyTo bytes (Some BadRequest) = IsNoRequest bytes
+IsReplyTo bytes (Some Page) = IsReplyToRequest bytes Page
+IsReplyTo bytes (Some NotFound) = IsReplyToRequest bytes NotFound
+IsReplyTo bytes (Some NotAllowed) = IsReplyToRequest bytes NotAllowed
+
+-- ---- the text of an answer
+
+-- the status, with the fields that an answer of it alone has
+abbrev pub status_text : Reply → List ℕ
+status_text Page = codes "200 OK\r\n"
+status_text NotFound = codes "404 Not Found\r\n"
+status_text NotAllowed = codes "405 Method Not Allowed\r\nAllow: GET\r\n"
+status_text BadRequest = codes "400 Bad Request\r\n"
+
+abbrev pub content_text : Reply → RunFigures → List ℕ
+content_text Page figures = page_text figures
+content_text NotFound figures = codes "the metrics are at /metrics\n"
+content_text NotAllowed figures = codes "the metrics are read by GET\n"
+content_text BadRequest figures = codes "this is no request\n"
+
+-- what stands before content of this length
+abbrev pub response_head : Reply → (length : ℕ) → List ℕ
+response_head reply count =
+    text_of_parts
+    (codes "HTTP/1.1 " ∷ status_text reply
+    ∷ codes "Content-Type: text/plain; " ∷ codes "version=0.0.4; charset=utf-8\r\n"
+    ∷ codes "Content-Length: " ∷ decimal count ∷ codes "\r\nConnection: close\r\n\r\n" ∷ [])
+
+-- the whole answer
+abbrev pub response_text : Reply → RunFigures → List ℕ
+response_text reply figures =
+    let content = content_text reply figures in response_head reply (length content) ++ content

@@ -1,0 +1,251 @@
+//! The page of a run's metrics.
+ghost use Rattle.std.specs.Prelude.{◌≡◌, ◌++◌, OnOk, flat_map};
+ghost use Rattle.run_metrics.specs.Metrics.{line_family, line_refusals, line_rows, page_text, refusal_family, refusal_row, run_family, venue_family, venue_refusals, venue_row_of};
+
+use crate::figures::{RunFigures, VenueFigures};
+use crate::line_metric::LineMetric;
+use crate::parts::{COUNTER, put_head, put_line_row, put_refusal_row, put_run_row, put_venue_row};
+use crate::run_metric::RunMetric;
+use crate::venue_metric::VenueMetric;
+use feed_types::VenueId;
+use std::alloc::AllocError;
+
+/// Appends a metric of the run.
+#[tactic(auto, unfolding(crate::specs::Metrics::run_family))]
+fn put_run_family(
+    text: &mut Vec<u8>,
+    metric: RunMetric,
+    figures: &RunFigures<'_>,
+) -> Result<(), AllocError>
+    ensures { OnOk result (text.new.items ≡ text.old.items ++ run_family figures.now metric) }
+{
+    put_head(text, metric.name(), metric.help(), metric.kind())?;
+    put_run_row(text, metric.name(), metric.value(figures))
+}
+
+/// Appends metrics of the run.
+fn put_run_families(
+    text: &mut Vec<u8>,
+    metrics: &[RunMetric],
+    figures: &RunFigures<'_>,
+) -> Result<(), AllocError>
+    ensures { OnOk result (text.new.items
+        ≡ text.old.items ++ flat_map (λ m. run_family figures.now m) metrics.now) }
+{
+    for metric in metrics {
+        put_run_family(text, *metric, figures)?;
+    }
+    Ok(())
+}
+
+/// Appends the rows of a venue's metric.
+fn put_venue_rows(
+    text: &mut Vec<u8>,
+    metric: VenueMetric,
+    venues: &[VenueFigures],
+) -> Result<(), AllocError>
+    ensures { OnOk result (text.new.items
+        ≡ text.old.items ++ flat_map (λ v. venue_row_of metric v) venues.now) }
+{
+    for venue in venues {
+        put_venue_row(
+            text,
+            metric.name(),
+            venue.venue,
+            metric.value(&venue.status),
+        )?;
+    }
+    Ok(())
+}
+
+/// Appends a venue's metric.
+#[tactic(auto, unfolding(crate::specs::Metrics::venue_family))]
+fn put_venue_family(
+    text: &mut Vec<u8>,
+    metric: VenueMetric,
+    venues: &[VenueFigures],
+) -> Result<(), AllocError>
+    ensures { OnOk result (text.new.items ≡ text.old.items ++ venue_family venues.now metric) }
+{
+    put_head(text, metric.name(), metric.help(), metric.kind())?;
+    put_venue_rows(text, metric, venues)
+}
+
+/// Appends metrics of venues.
+fn put_venue_families(
+    text: &mut Vec<u8>,
+    metrics: &[VenueMetric],
+    venues: &[VenueFigures],
+) -> Result<(), AllocError>
+    ensures { OnOk result (text.new.items
+        ≡ text.old.items ++ flat_map (λ m. venue_family venues.now m) metrics.now) }
+{
+    for metric in metrics {
+        put_venue_family(text, *metric, venues)?;
+    }
+    Ok(())
+}
+
+/// Appends a venue's rows of a metric of its lines.
+#[tactic(auto, unfolding(crate::specs::Metrics::line_rows))]
+fn put_rows_of_lines(
+    text: &mut Vec<u8>,
+    metric: LineMetric,
+    venue: &VenueFigures,
+) -> Result<(), AllocError>
+    ensures { OnOk result (text.new.items ≡ text.old.items ++ line_rows metric venue.now) }
+{
+    let name = metric.name();
+    put_line_row(text, name, venue.venue, "A", metric.value(&venue.status.a))?;
+    put_line_row(text, name, venue.venue, "B", metric.value(&venue.status.b))
+}
+
+/// Appends the rows of a metric of lines.
+fn put_line_rows(
+    text: &mut Vec<u8>,
+    metric: LineMetric,
+    venues: &[VenueFigures],
+) -> Result<(), AllocError>
+    ensures { OnOk result (text.new.items
+        ≡ text.old.items ++ flat_map (λ v. line_rows metric v) venues.now) }
+{
+    for venue in venues {
+        put_rows_of_lines(text, metric, venue)?;
+    }
+    Ok(())
+}
+
+/// Appends a metric of lines.
+#[tactic(auto, unfolding(crate::specs::Metrics::line_family))]
+fn put_line_family(
+    text: &mut Vec<u8>,
+    metric: LineMetric,
+    venues: &[VenueFigures],
+) -> Result<(), AllocError>
+    ensures { OnOk result (text.new.items ≡ text.old.items ++ line_family venues.now metric) }
+{
+    put_head(text, metric.name(), metric.help(), COUNTER)?;
+    put_line_rows(text, metric, venues)
+}
+
+/// Appends metrics of lines.
+fn put_line_families(
+    text: &mut Vec<u8>,
+    metrics: &[LineMetric],
+    venues: &[VenueFigures],
+) -> Result<(), AllocError>
+    ensures { OnOk result (text.new.items
+        ≡ text.old.items ++ flat_map (λ m. line_family venues.now m) metrics.now) }
+{
+    for metric in metrics {
+        put_line_family(text, *metric, venues)?;
+    }
+    Ok(())
+}
+
+/// Appends how many datagrams of a line were refused by each of these refusals.
+fn put_refusal_rows(
+    text: &mut Vec<u8>,
+    venue: VenueId,
+    line: &str,
+    counts: &[(&str, u64)],
+) -> Result<(), AllocError>
+    ensures { OnOk result (text.new.items ≡ text.old.items
+        ++ flat_map (λ c. refusal_row venue line.now c.0.now c.1) counts.now) }
+{
+    for count in counts {
+        put_refusal_row(text, venue, line, count.0, count.1)?;
+    }
+    Ok(())
+}
+
+/// Appends how many datagrams of a line were refused, by each refusal that a datagram can meet.
+#[tactic(auto, unfolding(crate::specs::Metrics::line_refusals))]
+fn put_line_refusals(
+    text: &mut Vec<u8>,
+    venue: VenueId,
+    line: &str,
+    refused: &[u64; 12],
+) -> Result<(), AllocError>
+    ensures { OnOk result (text.new.items
+        ≡ text.old.items ++ line_refusals venue line.now refused.now) }
+{
+    let counts = [
+        ("1", refused[1]),
+        ("2", refused[2]),
+        ("3", refused[3]),
+        ("4", refused[4]),
+        ("7", refused[7]),
+        ("8", refused[8]),
+        ("9", refused[9]),
+        ("10", refused[10]),
+        ("11", refused[11]),
+    ];
+    put_refusal_rows(text, venue, line, &counts)
+}
+
+/// Appends how many datagrams of a venue's lines were refused.
+#[tactic(auto, unfolding(crate::specs::Metrics::venue_refusals))]
+fn put_venue_refusals(text: &mut Vec<u8>, venue: &VenueFigures) -> Result<(), AllocError>
+    ensures { OnOk result (text.new.items ≡ text.old.items ++ venue_refusals venue.now) }
+{
+    put_line_refusals(text, venue.venue, "A", &venue.status.a.refused)?;
+    put_line_refusals(text, venue.venue, "B", &venue.status.b.refused)
+}
+
+/// Appends how many datagrams of each venue's lines were refused.
+fn put_all_refusals(text: &mut Vec<u8>, venues: &[VenueFigures]) -> Result<(), AllocError>
+    ensures { OnOk result (text.new.items
+        ≡ text.old.items ++ flat_map (λ v. venue_refusals v) venues.now) }
+{
+    for venue in venues {
+        put_venue_refusals(text, venue)?;
+    }
+    Ok(())
+}
+
+/// Appends the metric of refusals.
+fn put_refusal_family(text: &mut Vec<u8>, venues: &[VenueFigures]) -> Result<(), AllocError>
+    ensures { OnOk result (text.new.items ≡ text.old.items ++ refusal_family venues.now) }
+{
+    put_head(
+        text,
+        "nbbo_refused_packets_total",
+        "Datagrams of the line that were refused, by the number of the refusal.",
+        COUNTER,
+    )?;
+    put_all_refusals(text, venues)
+}
+
+/// Appends the page of a run's metrics: those of the run, of its venues, of their lines, and the
+/// refusals.
+pub fn put_page(text: &mut Vec<u8>, figures: &RunFigures<'_>) -> Result<(), AllocError>
+    ensures { OnOk result (text.new.items ≡ text.old.items ++ page_text figures.now) }
+{
+    put_run_families(text, &[RunMetric::Seconds, RunMetric::Changes], figures)?;
+    put_venue_families(
+        text,
+        &[
+            VenueMetric::Sent,
+            VenueMetric::Known,
+            VenueMetric::Lag,
+            VenueMetric::Lacking,
+            VenueMetric::Requests,
+        ],
+        figures.venues,
+    )?;
+    put_line_families(
+        text,
+        &[
+            LineMetric::Packets,
+            LineMetric::Messages,
+            LineMetric::NewMessages,
+            LineMetric::RepeatedMessages,
+            LineMetric::Heartbeats,
+            LineMetric::Ends,
+            LineMetric::AheadPackets,
+        ],
+        figures.venues,
+    )?;
+    put_refusal_family(text, figures.venues)
+}

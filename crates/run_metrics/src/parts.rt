@@ -1,0 +1,143 @@
+//! The texts of which a page of metrics is made: the head of a metric, and rows.
+ghost use Rattle.std.specs.Prelude.{◌≡◌, ◌++◌, OnOk, flat_map};
+ghost use Rattle.run_metrics.specs.Metrics.{head_text, line_row, refusal_row, run_row, venue_row};
+
+use feed_types::VenueId;
+use itoa::Buffer;
+use std::alloc::AllocError;
+
+/// The type of a metric that only grows.
+pub(crate) const COUNTER: &str = "counter";
+
+/// The type of a metric that also falls.
+pub(crate) const GAUGE: &str = "gauge";
+
+/// The name of the count of refusals.
+const REFUSED: &str = "nbbo_refused_packets_total{venue=\"";
+
+/// Appends texts, one after the other.
+pub(crate) fn put_texts(text: &mut Vec<u8>, parts: &[&str]) -> Result<(), AllocError>
+    ensures { OnOk result (text.new.items
+        ≡ text.old.items ++ flat_map (λ part. part.now) parts.now) }
+{
+    for part in parts {
+        text.extend_from_slice(part.as_bytes())?;
+    }
+    Ok(())
+}
+
+/// Appends what stands before the rows of a metric.
+#[tactic(auto, unfolding(crate::specs::Metrics::head_text))]
+pub(crate) fn put_head(
+    text: &mut Vec<u8>,
+    name: &str,
+    help: &str,
+    kind: &str,
+) -> Result<(), AllocError>
+    ensures { OnOk result (text.new.items
+        ≡ text.old.items ++ head_text name.now help.now kind.now) }
+{
+    put_texts(
+        text,
+        &[
+            "# HELP ",
+            name,
+            " ",
+            help,
+            "\n# TYPE ",
+            name,
+            " ",
+            kind,
+            "\n",
+        ],
+    )
+}
+
+/// Appends the row of a run's figure.
+#[tactic(auto, unfolding(crate::specs::Metrics::run_row))]
+pub(crate) fn put_run_row(text: &mut Vec<u8>, name: &str, value: u64) -> Result<(), AllocError>
+    ensures { OnOk result (text.new.items ≡ text.old.items ++ run_row name.now value) }
+{
+    let mut digits = Buffer::new();
+    put_texts(text, &[name, " ", digits.format(value), "\n"])
+}
+
+/// Appends the row of a venue's figure.
+#[tactic(auto, unfolding(crate::specs::Metrics::venue_row))]
+pub(crate) fn put_venue_row(
+    text: &mut Vec<u8>,
+    name: &str,
+    venue: VenueId,
+    value: u64,
+) -> Result<(), AllocError>
+    ensures { OnOk result (text.new.items ≡ text.old.items ++ venue_row name.now venue value) }
+{
+    let mut place = Buffer::new();
+    let mut digits = Buffer::new();
+    let place = place.format(venue.index() as u64);
+    let digits = digits.format(value);
+    put_texts(text, &[name, "{venue=\"", place, "\"} ", digits, "\n"])
+}
+
+/// Appends the row of a line's count. `line` is its letter.
+#[tactic(auto, unfolding(crate::specs::Metrics::line_row))]
+pub(crate) fn put_line_row(
+    text: &mut Vec<u8>,
+    name: &str,
+    venue: VenueId,
+    line: &str,
+    value: u64,
+) -> Result<(), AllocError>
+    ensures { OnOk result (text.new.items
+        ≡ text.old.items ++ line_row name.now venue line.now value) }
+{
+    let mut place = Buffer::new();
+    let mut digits = Buffer::new();
+    let place = place.format(venue.index() as u64);
+    let digits = digits.format(value);
+    put_texts(
+        text,
+        &[
+            name,
+            "{venue=\"",
+            place,
+            "\",line=\"",
+            line,
+            "\"} ",
+            digits,
+            "\n",
+        ],
+    )
+}
+
+/// Appends the row of how many datagrams of a line were refused by the refusal of a number.
+#[tactic(auto, unfolding(crate::specs::Metrics::refusal_row))]
+pub(crate) fn put_refusal_row(
+    text: &mut Vec<u8>,
+    venue: VenueId,
+    line: &str,
+    number: &str,
+    value: u64,
+) -> Result<(), AllocError>
+    ensures { OnOk result (text.new.items
+        ≡ text.old.items ++ refusal_row venue line.now number.now value) }
+{
+    let mut place = Buffer::new();
+    let mut digits = Buffer::new();
+    let place = place.format(venue.index() as u64);
+    let digits = digits.format(value);
+    put_texts(
+        text,
+        &[
+            REFUSED,
+            place,
+            "\",line=\"",
+            line,
+            "\",refusal=\"",
+            number,
+            "\"} ",
+            digits,
+            "\n",
+        ],
+    )
+}

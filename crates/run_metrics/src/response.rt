@@ -1,0 +1,67 @@
+//! The answer to a client of the metrics, as HTTP has it.
+ghost use Rattle.std.specs.Prelude.{◌≡◌, ◌++◌, IfOk, OnOk};
+ghost use Rattle.run_metrics.specs.Replies.{content_text, response_head, response_text, status_text};
+
+use crate::figures::RunFigures;
+use crate::page::put_page;
+use crate::parts::put_texts;
+use crate::reply::Reply;
+use itoa::Buffer;
+use std::alloc::{AllocError, Global};
+
+impl Reply {
+    /// The status of the answer, with the fields that it alone has.
+    fn status(self) -> &'static str
+        ensures { result.now ≡ status_text self }
+    {
+        match self {
+            Reply::Page => "200 OK\r\n",
+            Reply::NotFound => "404 Not Found\r\n",
+            Reply::NotAllowed => "405 Method Not Allowed\r\nAllow: GET\r\n",
+            Reply::BadRequest => "400 Bad Request\r\n",
+        }
+    }
+}
+
+/// Appends the content of an answer.
+fn put_content(text: &mut Vec<u8>, reply: Reply, figures: &RunFigures<'_>) -> Result<(), AllocError>
+    ensures { OnOk result (text.new.items ≡ text.old.items ++ content_text reply figures.now) }
+{
+    match reply {
+        Reply::Page => put_page(text, figures),
+        Reply::NotFound => text.extend_from_slice(b"the metrics are at /metrics\n"),
+        Reply::NotAllowed => text.extend_from_slice(b"the metrics are read by GET\n"),
+        Reply::BadRequest => text.extend_from_slice(b"this is no request\n"),
+    }
+}
+
+/// Appends what stands before content of this length.
+fn put_response_head(text: &mut Vec<u8>, reply: Reply, length: u64) -> Result<(), AllocError>
+    ensures { OnOk result (text.new.items ≡ text.old.items ++ response_head reply length) }
+{
+    let mut digits = Buffer::new();
+    put_texts(
+        text,
+        &[
+            "HTTP/1.1 ",
+            reply.status(),
+            "Content-Type: text/plain; ",
+            "version=0.0.4; charset=utf-8\r\n",
+            "Content-Length: ",
+            digits.format(length),
+            "\r\nConnection: close\r\n\r\n",
+        ],
+    )
+}
+
+/// Returns the whole answer of a reply, of a run that has come to these figures.
+pub fn answer(alloc: Global, reply: Reply, figures: &RunFigures<'_>) -> Result<Vec<u8>, AllocError>
+    ensures { IfOk result (λ text. text.items ≡ response_text reply figures.now) }
+{
+    let mut content = Vec::new(alloc);
+    put_content(&mut content, reply, figures)?;
+    let mut text = Vec::new(alloc);
+    put_response_head(&mut text, reply, content.len() as u64)?;
+    text.extend_from_slice(content.as_slice())?;
+    Ok(text)
+}

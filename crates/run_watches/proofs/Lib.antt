@@ -1,0 +1,3 @@
+pub mod Counts
+pub mod RunTelling
+pub mod Telling

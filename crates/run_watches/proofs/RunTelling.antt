@@ -1,0 +1,180 @@
+-- What is said of gaps and of a run, one thing after the other.
+use Rattle.std.proofs.Common.{List, [], ◌∷◌, ◌++◌, ◌≡◌, ◌∙◌, ◌<◌, ◌+◌, ℕ, zero, suc, Option, Some, None, All, ap, flat_map, length, map, refl, sym, subst, arith}
+use Rattle.std.specs.Prelude.{◌/◌, Bool, true, false, ◌&&◌, ◌||◌, MatchOption, is_some, nat_le, nat_lt, if◌then◌else◌}
+use Rattle.std.specs.List.{range_with_len}
+use Rattle.std.proofs.lemmas.List.{get_or-map, length-map, map-append}
+use Rattle.feed_text.specs.Devices.{Writing}
+use Rattle.feed_text.specs.StandardError.{SaysEach}
+use Rattle.line_arbiter.specs.declared.arbiter.ArbiterStatus.{ArbiterStatus}
+use Rattle.mold_packet.specs.declared.request.Request.{Request}
+use Rattle.run_watches.specs.GapNews.{gap_texts_if}
+use Rattle.run_watches.specs.Gaps.{LooksAt, SaysOfGap, TellsIfDone, TellsStanding, closed_run, due_of, gap_next, gives_up, has_stood, is_due, lacking_of, news_of, stands, stood_of, told_still, unanswered_of}
+use Rattle.run_watches.specs.RunLines.{WatchedRun, watched_venue}
+use Rattle.run_watches.specs.RunNews.{IsNewsOf, IsNewsOfGap, MayHappen, RunNews, SaysCounts, SaysNews, SaysOfRun, SaysRunNews, SaysTable, of_counts, of_gap, run_news_texts}
+use Rattle.run_watches.specs.declared.gap_news.GapChange.{GapChange}
+use Rattle.run_watches.specs.declared.gap_news.GapChange.TheVariants.{Closed, Lacking, Unanswered}
+use Rattle.run_watches.specs.declared.gap_news.MissingRun.{MissingRun}
+use Rattle.run_watches.specs.declared.gap_rule.GapRule.{GapRule}
+use Rattle.run_watches.specs.declared.gap_watch.DueGap.{DueGap}
+use Rattle.run_watches.specs.declared.gap_watch.GapWatch.{GapWatch}
+use Rattle.venue_lines.specs.declared.status.VenueStatus.{VenueStatus}
+use Rattle.run_watches.specs.RunNewsLaws.{more_news, no_news, no_totals}
+use Rattle.run_watches.proofs.Telling.{one_news}
+
+-- ---- a gap
+
+-- nothing was said
+unsaid : {E : Type 0} (w : Writing E) (P : RunNews → Type 0) (s t : E) → t ≡ s → SaysNews w P s t
+unsaid w P s t same = subst (λ last. SaysNews w P s last) (sym same) (no_news w P s)
+
+-- what was said of messages, if there were any
+said_if_any : {E : Type 0} (w : Writing E) (rule : GapRule) (second venue : ℕ) (change : GapChange)
+    (run : Option MissingRun) (s t : E)
+    → MayHappen rule change → SaysEach w (gap_texts_if second venue change run) s t
+    → SaysNews w (IsNewsOfGap rule venue) s t
+said_if_any w rule second venue change None s t may said =
+    unsaid w (IsNewsOfGap rule venue) s t said
+said_if_any w rule second venue change (Some run) s t may said =
+    one_news w (IsNewsOfGap rule venue)
+    (of_gap (record { second = second; venue = venue; change = change; run = run })) s t
+    (refl, may) said
+
+-- what was said where it was answered that the messages are given up
+said_if_done : {E : Type 0} (w : Writing E) (rule : GapRule) (second venue : ℕ) (due : DueGap)
+    (done : Bool) (s t : E)
+    → gives_up rule ≡ true
+    → SaysEach w (if done then run_news_texts (of_gap (news_of second venue due)) else []) s t
+    → SaysNews w (IsNewsOfGap rule venue) s t
+said_if_done w rule second venue due false s t may said = unsaid w (IsNewsOfGap rule venue) s t said
+said_if_done w rule second venue due true s t may said =
+    one_news w (IsNewsOfGap rule venue) (of_gap (news_of second venue due)) s t (refl, may) said
+
+-- what is chosen is chosen by a test
+test_of_some : {X : Type 0} (b : Bool) (x y : X)
+    → (if b then Some x else None) ≡ Some y → b ≡ true
+test_of_some true x y e = refl
+test_of_some false x y e = absurd cc
+
+-- where a gap is due some are given up
+rule_of_due : (join first again : Bool) (after : Option ℕ) (stood : ℕ)
+    → ((join && first && again) || has_stood after stood) ≡ true → (join || is_some after) ≡ true
+rule_of_due true first again after stood e = refl
+rule_of_due false first again None stood e = absurd cc
+rule_of_due false first again (Some ms) stood e = refl
+
+some_given_up : (rule : GapRule) (passed stood : ℕ) (cursors : ArbiterStatus)
+    (gap : Option Request) (due : DueGap)
+    → due_of rule passed stood cursors gap ≡ Some due → gives_up rule ≡ true
+some_given_up rule passed stood cursors None due e = absurd cc
+some_given_up rule passed stood cursors (Some gap) due e =
+    rule_of_due rule.join (nat_le cursors.front passed) (nat_lt 0 stood) rule.after_ms stood
+    (test_of_some (is_due rule passed cursors.front stood)
+    (record { number = gap.number; next = gap_next cursors gap }) due e)
+
+given_up_if_due : {E : Type 0} (w : Writing E) (answers : ℕ → Bool → Type 0) (rule : GapRule)
+    (second venue : ℕ) (due : Option DueGap) (s t : E)
+    → ((d : DueGap) → due ≡ Some d → gives_up rule ≡ true)
+    → MatchOption due (t ≡ s)
+    (λ d. TellsIfDone w (answers d.next) (news_of second venue d) s t)
+    → SaysNews w (IsNewsOfGap rule venue) s t
+given_up_if_due w answers rule second venue None s t may told =
+    unsaid w (IsNewsOfGap rule venue) s t told
+given_up_if_due w answers rule second venue (Some due) s t may told =
+    said_if_done w rule second venue due told.done s t (may due refl) told.tells
+
+module _ {E : Type 0} (w : Writing E) (answers : ℕ → Bool → Type 0) (rule : GapRule)
+    (watch : GapWatch) (now : ℕ) where
+  of_standing : (status : VenueStatus) (s t : E) → TellsStanding w watch now status s t
+      → SaysNews w (IsNewsOfGap rule watch.venue) s t
+  of_standing status s t told =
+      let P = IsNewsOfGap rule watch.venue in
+      more_news w P s told.closed t
+      (said_if_any w rule (now / 1000) watch.venue Closed
+      (closed_run watch.told status.cursors.front) s told.closed tt told.says_closed)
+      (more_news w P told.closed told.lacking t
+      (said_if_any w rule (now / 1000) watch.venue Lacking
+      (lacking_of (told_still watch.told status.cursors.front) (stood_of watch.standing now)
+      status.gap) told.closed told.lacking tt told.says_lacking)
+      (said_if_any w rule (now / 1000) watch.venue Unanswered
+      (unanswered_of watch.has_told_unanswered watch.standing now status.requests status.gap)
+      told.lacking t tt told.says_unanswered))
+
+  of_gap_seen : (status : VenueStatus) (s t : E) → SaysOfGap w answers rule watch now status s t
+      → SaysNews w (IsNewsOfGap rule watch.venue) s t
+  of_gap_seen status s t seen =
+      more_news w (IsNewsOfGap rule watch.venue) s seen.told t
+      (of_standing status s seen.told seen.tells)
+      (given_up_if_due w answers rule (now / 1000) watch.venue
+      (due_of rule watch.passed (stood_of watch.standing now) status.cursors status.gap)
+      seen.told t
+      (some_given_up rule watch.passed (stood_of watch.standing now) status.cursors status.gap)
+      seen.gives_up)
+
+of_shown : {E : Type 0} (w : Writing E) (answers : ℕ → Bool → Type 0) (rule : GapRule)
+    (watch : GapWatch) (now : ℕ) (status : Option VenueStatus) (s t : E)
+    → MatchOption status (t ≡ s)
+    (λ seen. SaysOfGap w answers rule (stands watch now seen) now seen s t)
+    → SaysNews w (IsNewsOfGap rule watch.venue) s t
+of_shown w answers rule watch now None s t said =
+    unsaid w (IsNewsOfGap rule watch.venue) s t said
+of_shown w answers rule watch now (Some status) s t said =
+    of_gap_seen w answers rule (stands watch now status) now status s t said
+
+-- what is said of a gap at a look is news of it
+pub news_of_look : {E : Type 0} (w : Writing E) (shows : Option VenueStatus → Type 0)
+    (answers : ℕ → Bool → Type 0) (rule : GapRule) (watch : GapWatch) (now : ℕ) (s t : E)
+    → LooksAt w shows answers rule watch now s t → SaysNews w (IsNewsOfGap rule watch.venue) s t
+news_of_look w shows answers rule watch now s t looked =
+    of_shown w answers rule watch now looked.status s t looked.says
+
+-- ---- counts
+
+-- the same texts, of things that are made of others
+texts_of_made : {X Y : Type 0} (f : Y → List (List ℕ)) (make : X → Y) (xs : List X)
+    → flat_map f (map make xs) ≡ flat_map (λ x. f (make x)) xs
+texts_of_made f make [] = refl
+texts_of_made f make (x ∷ xs) = ap (λ texts. f (make x) ++ texts) (texts_of_made f make xs)
+
+-- what is so of each thing is so of what is made of each
+all_made : {X Y : Type 0} (P : Y → Type 0) (make : X → Y) (xs : List X)
+    → All (λ x. P (make x)) xs → All P (map make xs)
+all_made P make [] each k d inside = absurd (omega (arith, inside))
+all_made P make (x ∷ xs) each k d inside =
+    let few : k < length (x ∷ xs) = subst (λ n. k < n) (length-map (x ∷ xs) make) inside in
+    subst (λ y. P y) (sym (get_or-map make (x ∷ xs) k x d few)) (each k x few)
+
+each_itself : (texts : List (List ℕ)) → flat_map (λ text. text ∷ []) texts ≡ texts
+each_itself [] = refl
+each_itself (text ∷ texts) = ap (λ more. text ∷ more) (each_itself texts)
+
+-- counts are news of a run whose counts are written
+pub run_news_of_counts : {E : Type 0} (w : Writing E) (run : WatchedRun) (s t : E)
+    → run.counted ≡ true → SaysCounts w s t → SaysRunNews w run s t
+run_news_of_counts w run s t counted a = record {
+  news = map of_counts a.texts;
+  named = all_made (λ n. IsNewsOf run n) of_counts a.texts (λ k d inside. counted);
+  says =
+      subst (λ texts. SaysEach w texts s t)
+      (sym (texts_of_made run_news_texts of_counts a.texts ∙ each_itself a.texts)) a.says;
+}
+
+-- ---- all of a run
+
+-- ---- the venues that are watched, by their numbers
+
+one_more : (a n j : ℕ) → a + n ≡ j → range_with_len a (suc n) ≡ range_with_len a n ++ j ∷ []
+one_more a zero j at = let same : a ≡ j = omega arith in ap (λ k. k ∷ []) same
+one_more a (suc n) j at = ap (λ rest. a ∷ rest) (one_more (a + 1) n j (omega arith))
+
+-- one venue more is watched
+pub more_venues : (watches pushed : List GapWatch) (watch : GapWatch) (n : ℕ)
+    → pushed ≡ watches ++ watch ∷ [] → map watched_venue watches ≡ range_with_len 0 n
+    → watched_venue watch ≡ n → map watched_venue pushed ≡ range_with_len 0 (n + 1)
+more_venues watches pushed watch n push before one =
+    let more : suc n ≡ n + 1 = omega arith in
+    let at : 0 + n ≡ n = omega arith in
+    ap (λ w. map watched_venue w) push ∙ map-append watched_venue watches (watch ∷ [])
+    ∙ ap (λ first. first ++ watched_venue watch ∷ []) before
+    ∙ ap (λ last. range_with_len 0 n ++ last ∷ []) one
+    ∙ sym (one_more 0 n n at)
+    ∙ ap (λ k. range_with_len 0 k) more

@@ -1,0 +1,33 @@
+use Rattle.std.proofs.Common.{◌∙◌, Contains, ap, subst, sym}
+use Rattle.std.proofs.Math.Seq.{map-set_same}
+use Rattle.feed_text.specs.Devices.{Writing}
+use Rattle.run_watches.specs.RunLines.{watched_gaps, watched_venue}
+use Rattle.run_watches.specs.RunNews.{IsNewsOfGap, IsNewsOfGaps}
+use Rattle.run_watches.proofs.RunTelling.{news_of_look}
+use Rattle.run_watches.proofs.Telling.{gap_within, made_within, news_within}
+use Rattle.run_watches.proofs.gap_watches.GapWatches.look_at.Goals as goal
+
+pub returns-in-Some-clause-gaps : goal.returns-in-Some-clause-gaps
+returns-in-Some-clause-gaps g c =
+    let old = c.in-Some.gap.now in
+    let rule = c.args.self.now.rule in
+    ap (λ venues. record { rule = rule; venues = venues })
+    (map-set_same watched_venue c.args.self.now.gaps.items c.args.place c.look.new.self old
+    (c.look.ensures.venue ∙ ap (λ gap. watched_venue gap) c.in-Some.ensures.item.1))
+
+pub returns-in-Some-clause-says : goal.returns-in-Some-clause-says
+returns-in-Some-clause-says g c =
+    let w : Writing g.row.E.Denot = record {
+      adds = g.E.TextOut.adds;
+      failures =
+          g.E.TextOut.failures;
+    } in
+    let gaps = watched_gaps c.args.self.now in
+    let old = c.in-Some.gap.now in
+    let there = subst (λ gap. Contains gaps.venues (watched_venue gap))
+    (sym c.in-Some.ensures.item.1)
+    (made_within watched_venue c.args.self.now.gaps.items c.args.place old
+    c.in-Some.ensures.item.3.0) in
+    news_within w (IsNewsOfGap gaps.rule (watched_venue old)) (IsNewsOfGaps gaps) c.args.errors.now
+    c.look.new.errors (gap_within gaps (watched_venue old) there)
+    (news_of_look w _ _ gaps.rule old _ _ _ c.look.ensures.looks)

@@ -1,0 +1,27 @@
+use Rattle.std.proofs.Common.{◌≡◌, ◌∙◌, subst}
+use Rattle.feed_text.specs.Devices.{Writing}
+use Rattle.run_watches.specs.RunLines.{watched}
+use Rattle.run_watches.specs.RunNews.{IsNewsOfLine, SaysNews}
+use Rattle.run_watches.specs.RunNewsLaws.{more_news}
+use Rattle.run_watches.proofs.line_watch.LineWatch.write_news.Goals as goal
+
+pub returns-clause-news : goal.returns-clause-news
+returns-clause-news g c =
+    let w : Writing g.row.E.Denot = record {
+      adds = g.E.TextOut.adds;
+      failures =
+          g.E.TextOut.failures;
+    } in
+    let now = c.new_foreign-foreign.new.self in
+    let same : watched now ≡ watched c.args.self.now =
+    c.new_foreign-foreign.ensures ∙ c.new_passed-passed.ensures ∙ c.new_unsent-unsent.ensures
+    ∙ c.new_end-end.ensures in
+    let first = c.args.errors.now in
+    let last = c.write_change-4.new.errors in
+    let P = IsNewsOfLine (watched now) in
+    subst (λ line. SaysNews w (IsNewsOfLine line) first last) same
+    (more_news w P first c.write_change.new.errors last c.write_change.ensures
+    (more_news w P c.write_change.new.errors c.write_change-2.new.errors last
+    c.write_change-2.ensures
+    (more_news w P c.write_change-2.new.errors c.write_change-3.new.errors last
+    c.write_change-3.ensures c.write_change-4.ensures)))

@@ -1,0 +1,202 @@
+-- Gaps of venues while a run goes on: what is told of them, and which are given up.
+use Rattle.std.specs.Prelude.{◌≡◌, ℕ, ◌+◌, ◌-◌, ◌/◌, ◌^◌, ◌==◌, min, nat_le, nat_lt, Bool, true, false, not, ◌&&◌, ◌||◌, [], Option, Some, None, MatchOption, is_some, if◌then◌else◌}
+use Rattle.run_settings.specs.declared.listen_settings.ListenSettings.{ListenSettings}
+use Rattle.feed_text.specs.Devices.{Writing}
+use Rattle.feed_text.specs.StandardError.{SaysEach}
+use Rattle.line_arbiter.specs.declared.arbiter.ArbiterStatus.{ArbiterStatus}
+use Rattle.mold_packet.specs.declared.request.Request.{Request}
+use Rattle.run_watches.specs.GapNews.{gap_news_texts, gap_texts_if}
+use Rattle.run_watches.specs.declared.gap_news.GapChange.TheVariants.{Lacking, Closed, Unanswered, GivenUp}
+use Rattle.run_watches.specs.declared.gap_news.GapNews.{GapNews}
+use Rattle.run_watches.specs.declared.gap_news.MissingRun.{MissingRun}
+use Rattle.run_watches.specs.declared.gap_rule.GapRule.{GapRule}
+use Rattle.venue_lines.specs.declared.status.VenueStatus.{VenueStatus}
+use Rattle.run_watches.specs.declared.gap_watch.DueGap.{DueGap}
+use Rattle.run_watches.specs.declared.gap_watch.GapWatch.{GapWatch}
+use Rattle.run_watches.specs.declared.gap_watch.StandingGap.{StandingGap}
+
+-- ---- which gap stands
+
+-- The gap that stands, at a look at this time that finds one: since the look that found it first,
+-- where the same message was the first missing one at each look since then. At the look before the
+-- venue's lines had sent `asked` requests.
+abbrev pub standing_at : Option StandingGap → (now asked : ℕ) → Request → StandingGap
+standing_at None now asked gap = record { number = gap.number; since_ms = now; asked = asked }
+standing_at (Some before) now asked gap =
+    if before.number == gap.number
+    then before else record { number = gap.number; since_ms = now; asked = asked }
+
+-- the same at a look that may find none
+abbrev pub standing_after : Option StandingGap → (now asked : ℕ) → Option Request
+    → Option StandingGap
+standing_after before now asked None = None
+standing_after before now asked (Some gap) = Some (standing_at before now asked gap)
+
+-- the watch once it has seen this status of its venue at this time
+abbrev pub stands : GapWatch → ℕ → VenueStatus → GapWatch
+stands watch now status = record watch {
+  standing = standing_after watch.standing now watch.requests status.gap;
+  requests = status.requests;
+}
+
+-- for how many milliseconds it has stood, 0 where none stands
+abbrev pub stood_of : Option StandingGap → ℕ → ℕ
+stood_of None now = 0
+stood_of (Some standing) now = now - standing.since_ms
+
+-- ---- what is told of it
+
+-- the messages that a request asks for
+abbrev pub run_of : Request → MissingRun
+run_of gap = record { number = gap.number; count = gap.count }
+
+-- they have come, where all up to `front` were taken in sequence or given up
+abbrev pub has_come : MissingRun → (front : ℕ) → Bool
+has_come run front = nat_le run.count (front - (run.number - 1))
+
+-- of what was told to be lacking, what has come
+abbrev pub closed_run : Option MissingRun → (front : ℕ) → Option MissingRun
+closed_run None front = None
+closed_run (Some run) front = if has_come run front then Some run else None
+
+-- and what hasn't
+abbrev pub told_still : Option MissingRun → (front : ℕ) → Option MissingRun
+told_still None front = None
+told_still (Some run) front = if has_come run front then None else Some run
+
+-- what is to be told to be lacking: the gap that stands, once it has stood for a second, where
+-- nothing that was told is still lacking
+abbrev pub lacking_of : (told : Option MissingRun) → (stood : ℕ) → Option Request
+    → Option MissingRun
+lacking_of told stood None = None
+lacking_of (Some run) stood (Some gap) = None
+lacking_of None stood (Some gap) = if nat_le 1000 stood then Some (run_of gap) else None
+
+-- what was told then
+abbrev pub told_then : Option MissingRun → Option MissingRun → Option MissingRun
+told_then told None = told
+told_then told (Some run) = Some run
+
+-- The messages were asked for since the look before the gap was found, and for two seconds it has
+-- stood.
+abbrev pub is_unanswered : StandingGap → (now requests : ℕ) → Bool
+is_unanswered standing now requests =
+    nat_lt standing.asked requests && nat_le 2000 (now - standing.since_ms)
+
+-- what is to be told to be asked for in vain, where nothing was before
+abbrev pub unanswered_of : (told : Bool) → Option StandingGap → (now requests : ℕ) → Option Request
+    → Option MissingRun
+unanswered_of told None now requests gap = None
+unanswered_of told (Some standing) now requests None = None
+unanswered_of told (Some standing) now requests (Some gap) =
+    if not told && is_unanswered standing now requests then Some (run_of gap) else None
+
+-- whether any was told then
+abbrev pub said_then : Bool → Option MissingRun → Bool
+said_then told None = told
+said_then told (Some run) = true
+
+-- A venue was looked at at this time, by a watch that has seen this status of it: it is said that
+-- what was told to be lacking has come, then that what is to be told is lacking, and then that it
+-- was asked for in vain; and nothing else.
+pub record TellsStanding {E : Type 0} (writing : Writing E) (watch : GapWatch) (now : ℕ)
+    (status : VenueStatus) (before after : E) : Type 0 where
+  pub closed : E
+  pub lacking : E
+  pub says_closed : SaysEach writing
+      (gap_texts_if (now / 1000) watch.venue Closed (closed_run watch.told status.cursors.front))
+      before closed
+  pub says_lacking : SaysEach writing
+      (gap_texts_if (now / 1000) watch.venue Lacking
+      (lacking_of (told_still watch.told status.cursors.front) (stood_of watch.standing now)
+      status.gap)) closed lacking
+  pub says_unanswered : SaysEach writing
+      (gap_texts_if (now / 1000) watch.venue Unanswered
+      (unanswered_of watch.has_told_unanswered watch.standing now status.requests status.gap))
+      lacking after
+
+-- ---- which gaps are given up
+
+abbrev pub rule_of : ListenSettings → GapRule
+rule_of settings = record { join = settings.join; after_ms = settings.skip_after }
+
+-- whether any is
+abbrev pub gives_up : GapRule → Bool
+gives_up rule = rule.join || is_some rule.after_ms
+
+-- for this many milliseconds, if for any number
+abbrev pub has_stood : Option ℕ → ℕ → Bool
+has_stood None stood = false
+has_stood (Some ms) stood = nat_le ms stood
+
+-- A gap that has stood for this long is to be given up: where that is asked for, one in front of
+-- which all was given up before, and nothing was taken in sequence, once it is seen again; and one
+-- that has stood for as long as is asked for.
+abbrev pub is_due : GapRule → (passed front stood : ℕ) → Bool
+is_due rule passed front stood =
+    (rule.join && nat_le front passed && nat_lt 0 stood) || has_stood rule.after_ms stood
+
+-- The message to go on from: where none is held the one after all that is known of, and else the
+-- first one that is held. No number is past the greatest one.
+abbrev pub gap_next : ArbiterStatus → Request → ℕ
+gap_next cursors gap =
+    if cursors.held == 0
+    then min (cursors.known + 1) (2 ^ 64 - 1) else min (gap.number + gap.count) (2 ^ 64 - 1)
+
+-- what is to be given up of a gap that has stood for this long, of a venue with these cursors
+abbrev pub due_of : GapRule → (passed stood : ℕ) → ArbiterStatus → Option Request → Option DueGap
+due_of rule passed stood cursors None = None
+due_of rule passed stood cursors (Some gap) =
+    if is_due rule passed cursors.front stood
+    then Some (record { number = gap.number; next = gap_next cursors gap }) else None
+
+-- up to which number all was given up, and nothing was taken in sequence, after these messages were
+abbrev pub passed_then : ℕ → DueGap → ℕ
+passed_then passed due = if nat_le (due.number - 1) passed then due.next - 1 else passed
+
+-- the news of these messages of a venue
+abbrev pub news_of : (second venue : ℕ) → DueGap → GapNews
+news_of second venue due = record {
+  second = second;
+  venue = venue;
+  change = GivenUp;
+  run = record { number = due.number; count = due.next - due.number };
+}
+
+-- Where it was answered that the messages are given up, the texts of these news, and nothing else;
+-- where not, nothing.
+pub record TellsIfDone {E : Type 0} (writing : Writing E) (answers : Bool → Type 0) (news : GapNews)
+    (before after : E) : Type 0 where
+  pub done : Bool
+  pub answered : answers done
+  pub tells : SaysEach writing (if done then gap_news_texts news else []) before after
+
+-- A venue was looked at at this time, by a watch that has seen this status of it: what is due is
+-- said where it was answered that it is given up; and nothing else.
+abbrev pub GivesUpDue : {E : Type 0} → Writing E → (answers : ℕ → Bool → Type 0) → GapRule
+    → GapWatch → (now : ℕ) → VenueStatus → (before after : E) → Type 0
+GivesUpDue writing answers rule watch now status before after =
+    MatchOption (due_of rule watch.passed (stood_of watch.standing now) status.cursors status.gap)
+    (after ≡ before)
+    (λ due. TellsIfDone writing (answers due.next) (news_of (now / 1000) watch.venue due) before
+    after)
+
+-- ---- a look
+
+-- what is new of the gap, and then what was given up of it
+pub record SaysOfGap {E : Type 0} (writing : Writing E) (answers : ℕ → Bool → Type 0)
+    (rule : GapRule) (watch : GapWatch) (now : ℕ) (status : VenueStatus) (before after : E)
+    : Type 0 where
+  pub told : E
+  pub tells : TellsStanding writing watch now status before told
+  pub gives_up : GivesUpDue writing answers rule watch now status told after
+
+-- A venue is looked at at this time: that is said of its gap by what is shown of the venue, and
+-- nothing where nothing is shown.
+pub record LooksAt {E : Type 0} (writing : Writing E) (shows : Option VenueStatus → Type 0)
+    (answers : ℕ → Bool → Type 0) (rule : GapRule) (watch : GapWatch) (now : ℕ) (before after : E)
+    : Type 0 where
+  pub status : Option VenueStatus
+  pub shown : shows status
+  pub says : MatchOption status (after ≡ before)
+      (λ seen. SaysOfGap writing answers rule (stands watch now seen) now seen before after)

@@ -1,0 +1,6 @@
+pub mod GapNews
+pub mod Gaps
+pub mod News
+pub mod RunLines
+pub mod RunNews
+pub mod RunNewsLaws

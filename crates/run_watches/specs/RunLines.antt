@@ -1,0 +1,83 @@
+-- What is watched of a run: its lines, each by its venue's number, the gaps of its venues, and
+-- whether its counts are written.
+use Rattle.std.specs.Prelude.{ℕ, ◌/◌, ◌%◌, ◌==◌, Bool, List, [], is_some, map, take, vec_len, if◌then◌else◌}
+use Rattle.std.specs.List.{range_with_len}
+use Rattle.feed_types.specs.declared.line.LineId.{LineId}
+use Rattle.feed_types.specs.declared.line.LineId.TheVariants.{A, B}
+use Rattle.run_settings.specs.declared.listen_settings.ListenSettings.{ListenSettings}
+use Rattle.run_settings.specs.FurtherOptions.{has_further_options}
+use Rattle.run_watches.specs.Gaps.{rule_of}
+use Rattle.run_watches.specs.declared.gap_rule.GapRule.{GapRule}
+use Rattle.run_watches.specs.declared.gap_watch.GapWatch.{GapWatch}
+use Rattle.run_watches.specs.declared.gap_watches.GapWatches.{GapWatches}
+use Rattle.run_watches.specs.declared.line_watch.LineWatch.{LineWatch}
+use Rattle.run_watches.specs.declared.line_watch.LineWatches.{LineWatches}
+use Rattle.run_watches.specs.declared.run_watches.RunWatches.{RunWatches}
+
+-- the venues whose gaps are watched, and which of these are given up
+pub record WatchedGaps : Type 0 where
+  pub rule : GapRule
+  pub venues : List ℕ
+
+-- the lines, the gaps, and whether counts are written
+pub record WatchedRun : Type 0 where
+  pub lines : List (ℕ × LineId)
+  pub gaps : WatchedGaps
+  pub counted : Bool
+
+-- the line of an address: line A's and then line B's, those of venue 0 first
+abbrev pub line_at : ℕ → LineId
+line_at place = if place % 2 == 0 then A else B
+
+-- the same with its venue
+abbrev pub listened_line : ℕ → ℕ × LineId
+listened_line place = (place / 2, line_at place)
+
+-- the lines of the settings, in their order
+abbrev pub listened_lines : ListenSettings → List (ℕ × LineId)
+listened_lines settings = map listened_line (range_with_len 0 (vec_len settings.lines))
+
+-- the line that is watched
+abbrev pub watched : LineWatch → ℕ × LineId
+watched watch = (watch.venue, watch.line)
+
+-- the lines that are watched, in their order
+abbrev pub watched_lines : LineWatches → List (ℕ × LineId)
+watched_lines watches = map watched watches.lines.items
+
+-- the gaps that are watched by the settings: of each venue where they have a further option, and
+-- else of none
+abbrev pub told_gaps : ListenSettings → WatchedGaps
+told_gaps settings = record {
+  rule = rule_of settings;
+  venues =
+      if has_further_options settings
+      then range_with_len 0 (vec_len settings.feed.sessions) else [];
+}
+
+-- the run of the settings over so many sockets, which receive the first lines
+abbrev pub listened_run : ListenSettings → ℕ → WatchedRun
+listened_run settings sockets = record {
+  lines = take sockets (listened_lines settings);
+  gaps = told_gaps settings;
+  counted = is_some settings.stats;
+}
+
+-- the venue that is watched
+abbrev pub watched_venue : GapWatch → ℕ
+watched_venue watch = watch.venue
+
+-- the gaps that are watched, their venues in order
+abbrev pub watched_gaps : GapWatches → WatchedGaps
+watched_gaps watches = record {
+  rule = watches.rule;
+  venues = map watched_venue watches.gaps.items;
+}
+
+-- the run that is watched
+abbrev pub watched_run : RunWatches → WatchedRun
+watched_run watches = record {
+  lines = watched_lines watches.lines;
+  gaps = watched_gaps watches.gaps;
+  counted = is_some watches.counts;
+}

@@ -1,0 +1,99 @@
+-- What standard error has of a run: of its lines, of gaps of its venues, and counts.
+use Rattle.std.specs.Prelude.{◌≡◌, ℕ, Bool, true, false, List, [], ◌∷◌, All, Contains, flat_map}
+use Rattle.feed_types.specs.declared.line.LineId.{LineId}
+use Rattle.feed_text.specs.Devices.{Writing}
+use Rattle.feed_text.specs.StandardError.{SaysEach}
+use Rattle.run_watches.specs.GapNews.{gap_news_texts}
+use Rattle.run_watches.specs.Gaps.{gives_up}
+use Rattle.run_watches.specs.News.{SaysTotals, news_texts}
+use Rattle.run_watches.specs.RunLines.{WatchedGaps, WatchedRun}
+use Rattle.run_watches.specs.declared.gap_news.GapChange.{GapChange}
+use Rattle.run_watches.specs.declared.gap_news.GapChange.TheVariants.{Lacking, Closed, Unanswered, GivenUp}
+use Rattle.run_watches.specs.declared.gap_news.GapNews.{GapNews}
+use Rattle.run_watches.specs.declared.gap_rule.GapRule.{GapRule}
+use Rattle.run_watches.specs.declared.line_news.LineNews.{LineNews}
+
+-- ---- news
+
+-- what is news of a run: what happened to a line or to a gap, or a text of counts
+pub data RunNews : Type 0 where
+  of_line : LineNews → RunNews
+  of_gap : GapNews → RunNews
+  of_counts : List ℕ → RunNews
+
+abbrev pub run_news_texts : RunNews → List (List ℕ)
+run_news_texts (of_line news) = news_texts news
+run_news_texts (of_gap news) = gap_news_texts news
+run_news_texts (of_counts text) = text ∷ []
+
+-- the texts of some news of this kind, one after the other, and nothing else
+pub record SaysNews {E : Type 0} (writing : Writing E) (IsNews : RunNews → Type 0)
+    (before after : E) : Type 0 where
+  pub news : List RunNews
+  pub named : All IsNews news
+  pub says : SaysEach writing (flat_map run_news_texts news) before after
+
+-- ---- of what they are
+
+abbrev pub IsNewsOfLine : ℕ × LineId → RunNews → Type 0
+IsNewsOfLine line (of_line news) = (news.venue, news.line) ≡ line
+IsNewsOfLine line (of_gap news) = ⊥
+IsNewsOfLine line (of_counts text) = ⊥
+
+abbrev pub IsNewsOfLines : List (ℕ × LineId) → RunNews → Type 0
+IsNewsOfLines lines (of_line news) = Contains lines (news.venue, news.line)
+IsNewsOfLines lines (of_gap news) = ⊥
+IsNewsOfLines lines (of_counts text) = ⊥
+
+-- by this rule that can happen to a gap: only where gaps are given up one is
+abbrev pub MayHappen : GapRule → GapChange → Type 0
+MayHappen rule GivenUp = gives_up rule ≡ true
+MayHappen rule Lacking = Unit {0}
+MayHappen rule Closed = Unit {0}
+MayHappen rule Unanswered = Unit {0}
+
+abbrev pub IsNewsOfGap : GapRule → (venue : ℕ) → RunNews → Type 0
+IsNewsOfGap rule venue (of_line news) = ⊥
+IsNewsOfGap rule venue (of_gap news) = (news.venue ≡ venue) × MayHappen rule news.change
+IsNewsOfGap rule venue (of_counts text) = ⊥
+
+abbrev pub IsNewsOfGaps : WatchedGaps → RunNews → Type 0
+IsNewsOfGaps gaps (of_line news) = ⊥
+IsNewsOfGaps gaps (of_gap news) = Contains gaps.venues news.venue × MayHappen gaps.rule news.change
+IsNewsOfGaps gaps (of_counts text) = ⊥
+
+-- the line is one of the run, or the venue one of those whose gaps are watched; or counts are asked
+-- for
+abbrev pub IsNewsOf : WatchedRun → RunNews → Type 0
+IsNewsOf run (of_line news) = IsNewsOfLines run.lines (of_line news)
+IsNewsOf run (of_gap news) = IsNewsOfGaps run.gaps (of_gap news)
+IsNewsOf run (of_counts text) = run.counted ≡ true
+
+-- ---- what is said
+
+abbrev pub SaysRunNews : {E : Type 0} → Writing E → WatchedRun → (before after : E) → Type 0
+SaysRunNews writing run before after = SaysNews writing (IsNewsOf run) before after
+
+-- some texts of counts, one after the other, and nothing else
+pub record SaysCounts {E : Type 0} (writing : Writing E) (before after : E) : Type 0 where
+  pub texts : List (List ℕ)
+  pub says : SaysEach writing texts before after
+
+-- the same where counts are asked for, else nothing
+abbrev pub SaysTable : {E : Type 0} → Writing E → Bool → (before after : E) → Type 0
+SaysTable writing true before after = SaysCounts writing before after
+SaysTable writing false before after = after ≡ before
+
+-- the totals of each of the run's lines, and then the table of all counts
+pub record SaysRunEnd {E : Type 0} (writing : Writing E) (run : WatchedRun) (before after : E)
+    : Type 0 where
+  pub mid : E
+  pub totals : SaysTotals writing run.lines before mid
+  pub table : SaysTable writing run.counted mid after
+
+-- all that is said of a run: news of it, and then its end
+pub record SaysOfRun {E : Type 0} (writing : Writing E) (run : WatchedRun) (before after : E)
+    : Type 0 where
+  pub last : E
+  pub news : SaysRunNews writing run before last
+  pub ended : SaysRunEnd writing run last after

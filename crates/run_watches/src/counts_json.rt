@@ -1,0 +1,104 @@
+//! The counts of venues and lines as JSON: an object for each venue, on a line of its own.
+
+use crate::line_figures::REFUSALS;
+use crate::moment::Moment;
+use crate::venue_statuses::VenueStatuses;
+use run_metrics::{datagram_count, lacking, lag, message_count};
+use std::alloc::{AllocError, Global};
+use venue_lines::{LineCounts, VenueStatus};
+
+/// The members of a time: in seconds and in nanoseconds, null where it isn't known.
+fn time_json(alloc: Global, moment: Moment) -> Result<String, AllocError> {
+    let Some(time) = moment.since_1970 else {
+        return String::from_str(alloc, "\"time\":null,\"time_ns\":null");
+    };
+    format!(in alloc;
+        "\"time\":{}.{:09},\"time_ns\":{}",
+        time.as_secs(),
+        time.subsec_nanos(),
+        time.as_nanos()
+    )
+}
+
+/// The refusals that there were, each by its number, with how many.
+fn refusals_json(alloc: Global, refused: &[u64; REFUSALS]) -> Result<String, AllocError> {
+    let mut text = String::new(alloc);
+    for (number, count) in refused.iter().enumerate() {
+        if *count > 0 {
+            let comma = if text.is_empty() { "" } else { "," };
+            text.push_str(format!(in alloc; "{comma}\"{number}\":{count}")?.as_str())?;
+        }
+    }
+    Ok(text)
+}
+
+/// The object of what a line has brought.
+fn line_json(alloc: Global, counts: &LineCounts) -> Result<String, AllocError> {
+    let refusals = refusals_json(alloc, &counts.refused)?;
+    format!(in alloc;
+        "{{\"packets\":{},\"messages\":{},\"new\":{},\"repeated\":{},\"heartbeats\":{},\"ends\":{},\"ahead\":{},\"refused\":{{{}}}}}",
+        datagram_count(counts),
+        message_count(counts),
+        counts.wins,
+        counts.repeated,
+        counts.heartbeats,
+        counts.ends,
+        counts.ahead,
+        refusals.as_str()
+    )
+}
+
+/// The members of a venue and its lines.
+fn venue_json(alloc: Global, place: usize, venue: &VenueStatus) -> Result<String, AllocError> {
+    let a = line_json(alloc, &venue.a)?;
+    let b = line_json(alloc, &venue.b)?;
+    format!(in alloc;
+        "\"venue\":{place},\"sent\":{},\"known\":{},\"lag\":{},\"lacks\":{},\"requests\":{},\"lines\":{{\"A\":{},\"B\":{}}}",
+        venue.cursors.sent,
+        venue.cursors.known,
+        lag(venue),
+        lacking(venue),
+        venue.requests,
+        a.as_str(),
+        b.as_str()
+    )
+}
+
+/// Returns the object of a venue at this moment, of what was counted in a period.
+pub fn period_json(
+    alloc: Global,
+    moment: Moment,
+    place: usize,
+    venue: &VenueStatus,
+) -> Result<String, AllocError> {
+    let time = time_json(alloc, moment)?;
+    let members = venue_json(alloc, place, venue)?;
+    format!(in alloc;
+        "{{{},\"second\":{},{}}}\n",
+        time.as_str(),
+        moment.second(),
+        members.as_str()
+    )
+}
+
+/// Returns the object of each venue, of what was counted in the whole run.
+pub fn totals_json(
+    alloc: Global,
+    moment: Moment,
+    venues: &VenueStatuses,
+) -> Result<String, AllocError> {
+    let time = time_json(alloc, moment)?;
+    let mut text = String::new(alloc);
+    for (place, venue) in venues.iter().enumerate() {
+        if let Some(venue) = venue {
+            let members = venue_json(alloc, place, venue)?;
+            let row = format!(in alloc;
+                "{{{},\"total\":true,{}}}\n",
+                time.as_str(),
+                members.as_str()
+            )?;
+            text.push_str(row.as_str())?;
+        }
+    }
+    Ok(text)
+}

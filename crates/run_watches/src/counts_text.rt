@@ -1,0 +1,113 @@
+//! The counts of venues and lines as text: a line for each venue and period, and a table at the
+//! end.
+
+use crate::line_figures::REFUSALS;
+use crate::venue_statuses::VenueStatuses;
+use run_metrics::{datagram_count, lacking, lag, message_count, refused_count};
+use std::alloc::{AllocError, Global};
+use venue_lines::{LineCounts, VenueStatus};
+
+/// The heads of the table's columns, of lines and of venues.
+const LINE_HEADS: &str =
+    "nbbo: venue line    packets   messages        new   repeated heartbeats      ahead    refused\n";
+
+const VENUE_HEADS: &str = "nbbo: venue         sent      known        lag      lacks   requests\n";
+
+/// The numbers of the refusals that there were, each with how many: ` 7:2 10:1`.
+fn refusals_text(alloc: Global, refused: &[u64; REFUSALS]) -> Result<String, AllocError> {
+    let mut text = String::new(alloc);
+    for (number, count) in refused.iter().enumerate() {
+        if *count > 0 {
+            text.push_str(format!(in alloc; " {number}:{count}")?.as_str())?;
+        }
+    }
+    Ok(text)
+}
+
+/// What a line has brought in a period.
+fn line_text(alloc: Global, counts: &LineCounts) -> Result<String, AllocError> {
+    let numbers = refusals_text(alloc, &counts.refused)?;
+    format!(in alloc;
+        "packets {} messages {} new {} repeated {} ahead {} refused {}{}",
+        datagram_count(counts),
+        message_count(counts),
+        counts.wins,
+        counts.repeated,
+        counts.ahead,
+        refused_count(counts),
+        numbers.as_str()
+    )
+}
+
+/// Returns the line of a venue after `seconds` seconds, of what was counted in a period.
+pub fn period_text(
+    alloc: Global,
+    seconds: u64,
+    place: usize,
+    venue: &VenueStatus,
+) -> Result<String, AllocError> {
+    let a = line_text(alloc, &venue.a)?;
+    let b = line_text(alloc, &venue.b)?;
+    format!(in alloc;
+        "nbbo: second {seconds} venue {place} sent {} known {} lag {} lacks {} requests {} A {} B {}\n",
+        venue.cursors.sent,
+        venue.cursors.known,
+        lag(venue),
+        lacking(venue),
+        venue.requests,
+        a.as_str(),
+        b.as_str()
+    )
+}
+
+/// The table's row of a line.
+fn line_row(
+    alloc: Global,
+    place: usize,
+    line: &str,
+    counts: &LineCounts,
+) -> Result<String, AllocError> {
+    let numbers = refusals_text(alloc, &counts.refused)?;
+    format!(in alloc;
+        "nbbo: {place:>5} {line:>4} {:>10} {:>10} {:>10} {:>10} {:>10} {:>10} {:>10}{}\n",
+        datagram_count(counts),
+        message_count(counts),
+        counts.wins,
+        counts.repeated,
+        counts.heartbeats,
+        counts.ahead,
+        refused_count(counts),
+        numbers.as_str()
+    )
+}
+
+/// The table's row of a venue.
+fn venue_row(alloc: Global, place: usize, venue: &VenueStatus) -> Result<String, AllocError> {
+    format!(in alloc;
+        "nbbo: {place:>5}   {:>10} {:>10} {:>10} {:>10} {:>10}\n",
+        venue.cursors.sent,
+        venue.cursors.known,
+        lag(venue),
+        lacking(venue),
+        venue.requests
+    )
+}
+
+/// Returns the table of all venues' counts: a row for each line, and then one for each venue.
+pub fn table_text(alloc: Global, venues: &VenueStatuses) -> Result<String, AllocError> {
+    let mut text = String::new(alloc);
+    text.push_str(LINE_HEADS)?;
+    for (place, venue) in venues.iter().enumerate() {
+        if let Some(venue) = venue {
+            text.push_str(line_row(alloc, place, "A", &venue.a)?.as_str())?;
+            text.push_str(line_row(alloc, place, "B", &venue.b)?.as_str())?;
+        }
+    }
+    text.push_str(VENUE_HEADS)?;
+    for (place, venue) in venues.iter().enumerate() {
+        if let Some(venue) = venue {
+            text.push_str(venue_row(alloc, place, venue)?.as_str())?;
+        }
+    }
+    Ok(text)
+}

@@ -1,0 +1,98 @@
+//! What is said of a venue's gap while a run goes on.
+ghost use Rattle.std.specs.Prelude.{◌≡◌, decimal};
+ghost use Rattle.feed_text.specs.Devices.{Writing};
+ghost use Rattle.feed_text.specs.StandardError.{Says, SaysEach};
+ghost use Rattle.run_watches.specs.GapNews.{gap_change_text, gap_news_texts, messages_from_text, missing_run_texts, venue_time_texts};
+
+use feed_text::{TextOut, write_number, write_stderr};
+use feed_types::VenueId;
+
+/// Messages in a row that are missing.
+#[derive(Clone, Copy, Debug, PartialEq, Eq)]
+pub struct MissingRun {
+    /// The first of them.
+    pub number: u64,
+    /// How many there are.
+    pub count: u64,
+}
+
+/// What has happened to a gap.
+#[derive(Clone, Copy, Debug, PartialEq, Eq)]
+pub enum GapChange {
+    /// It has stood for a second.
+    Lacking,
+    /// What was told to be lacking has come.
+    Closed,
+    /// Its messages were asked for, and nothing came of that for two seconds.
+    Unanswered,
+    /// It was given up.
+    GivenUp,
+}
+
+/// What has happened to a gap of a venue, and when.
+#[derive(Clone, Copy, Debug, PartialEq, Eq)]
+pub struct GapNews {
+    /// How many seconds of the run had passed.
+    pub second: u64,
+    /// The venue.
+    pub venue: VenueId,
+    /// What has happened.
+    pub change: GapChange,
+    /// The messages to which it has happened.
+    pub run: MissingRun,
+}
+
+/// What stands before the count of messages.
+fn change_text(change: GapChange) -> &'static str
+    ensures { result.now ≡ gap_change_text change }
+{
+    match change {
+        GapChange::Lacking => " lacks ",
+        GapChange::Closed => " no longer lacks ",
+        GapChange::Unanswered => " has no reply to requests for ",
+        GapChange::GivenUp => " gave up ",
+    }
+}
+
+/// What stands between a count of messages and the first of them.
+fn messages_from(count: u64) -> &'static str
+    ensures { result.now ≡ messages_from_text count }
+{
+    if count == 1 {
+        " message from "
+    } else {
+        " messages from "
+    }
+}
+
+/// Writes which venue it is, and when.
+fn write_venue<E: TextOut>(second: u64, venue: VenueId, errors: &mut E)
+    ensures { SaysEach (record { adds = E.adds; failures = E.failures })
+        (venue_time_texts second venue) errors.old errors.new }
+{
+    write_stderr("nbbo: second ", errors);
+    write_number(second, errors);
+    write_stderr(" venue ", errors);
+    write_number(venue.index() as u64, errors);
+}
+
+/// Writes how many messages there are, and the first of them.
+fn write_run<E: TextOut>(run: &MissingRun, errors: &mut E)
+    ensures { SaysEach (record { adds = E.adds; failures = E.failures })
+        (missing_run_texts run.now) errors.old errors.new }
+{
+    write_number(run.count, errors);
+    write_stderr(messages_from(run.count), errors);
+    write_number(run.number, errors);
+    write_stderr("\n", errors);
+}
+
+/// Writes what has happened to a gap.
+pub fn write_gap_news<E: TextOut>(news: &GapNews, errors: &mut E)
+    ensures { SaysEach (record { adds = E.adds; failures = E.failures })
+        (gap_news_texts news.now) errors.old errors.new }
+{
+    write_venue(news.second, news.venue, errors);
+    write_stderr(change_text(news.change), errors);
+    write_run(&news.run, errors);
+}

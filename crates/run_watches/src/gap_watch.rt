@@ -1,0 +1,385 @@
+//! The gap of a venue as the thread beside the run sees it: since when it stands, what was told of
+//! it, and when it is given up.
+ghost use Rattle.std.specs.Prelude.{◌≡◌, None, false};
+ghost use Rattle.feed_text.specs.Devices.{Writing};
+ghost use Rattle.feed_text.specs.StandardError.{SaysEach};
+ghost use Rattle.run_watches.specs.GapNews.{gap_texts_if};
+ghost use Rattle.run_watches.specs.Gaps.{GivesUpDue, LooksAt, TellsIfDone, TellsStanding, closed_run, due_of, gap_next, has_come, is_unanswered, lacking_of, news_of, passed_then, run_of, said_then, standing_at, stands, stood_of, told_still, told_then, unanswered_of};
+
+use crate::gap_news::{GapChange, GapNews, MissingRun, write_gap_news};
+use crate::gap_rule::GapRule;
+use feed_text::TextOut;
+use feed_types::VenueId;
+use line_arbiter::ArbiterStatus;
+use mold_packet::Request;
+use venue_lines::VenueStatus;
+
+/// How long a gap stands before it is told, in milliseconds.
+const TOLD_MS: u64 = 1_000;
+
+/// How long nothing comes of requests for a gap before that is told, in milliseconds.
+const UNANSWERED_MS: u64 = 2_000;
+
+/// A gap that stands.
+#[derive(Clone, Copy, Debug, PartialEq, Eq)]
+pub struct StandingGap {
+    /// The first message that is missing.
+    pub number: u64,
+    /// When it was seen first, in milliseconds of the run.
+    pub since_ms: u64,
+    /// How many requests the venue's lines had sent at the look before.
+    pub asked: u64,
+}
+
+/// Messages that are to be given up.
+#[derive(Clone, Copy, Debug, PartialEq, Eq)]
+pub struct DueGap {
+    /// The first of them.
+    pub number: u64,
+    /// The first message after them.
+    pub next: u64,
+}
+
+/// The gap that stands at a look that finds this one. At the look before the venue's lines had sent
+/// `asked` requests.
+fn standing_at(before: Option<StandingGap>, now_ms: u64, asked: u64, gap: &Request) -> StandingGap
+    ensures { result ≡ standing_at before now_ms asked gap.now }
+{
+    match before {
+        Some(standing) if standing.number == gap.number => standing,
+        _ => StandingGap {
+            number: gap.number,
+            since_ms: now_ms,
+            asked,
+        },
+    }
+}
+
+/// For how many milliseconds the gap has stood; 0 where none stands.
+fn stood_of(standing: Option<StandingGap>, now_ms: u64) -> u64
+    ensures { result ≡ stood_of standing now_ms }
+{
+    match standing {
+        Some(standing) => now_ms.saturating_sub(standing.since_ms),
+        None => 0,
+    }
+}
+
+/// Whether the gap's messages were asked for, and nothing came of that for long enough to be told.
+/// The venue's lines have sent `requests` requests.
+fn is_unanswered(standing: &StandingGap, now_ms: u64, requests: u64) -> bool
+    ensures { result ≡ is_unanswered standing.now now_ms requests }
+{
+    standing.asked < requests && UNANSWERED_MS <= now_ms.saturating_sub(standing.since_ms)
+}
+
+/// The messages that a request asks for.
+fn run_of(gap: &Request) -> MissingRun
+    ensures { result ≡ run_of gap.now }
+{
+    MissingRun {
+        number: gap.number,
+        count: u64::from(gap.count),
+    }
+}
+
+/// Whether the messages have come, where all up to `front` were taken in sequence or given up.
+fn has_come(run: &MissingRun, front: u64) -> bool
+    ensures { result ≡ has_come run.now front }
+{
+    run.count <= front.saturating_sub(run.number.saturating_sub(1))
+}
+
+/// Of what was told to be lacking, what has come.
+fn closed_run(told: Option<MissingRun>, front: u64) -> Option<MissingRun>
+    ensures { result ≡ closed_run told front }
+{
+    match told {
+        Some(run) if has_come(&run, front) => Some(run),
+        _ => None,
+    }
+}
+
+/// Of what was told to be lacking, what hasn't come yet.
+fn told_still(told: Option<MissingRun>, front: u64) -> Option<MissingRun>
+    ensures { result ≡ told_still told front }
+{
+    match told {
+        Some(run) if !has_come(&run, front) => Some(run),
+        _ => None,
+    }
+}
+
+/// What is to be told to be lacking, if anything is: a gap that has stood for a second, where
+/// nothing that was told is still lacking.
+fn lacking_of(told: Option<MissingRun>, stood_ms: u64, gap: &Option<Request>) -> Option<MissingRun>
+    ensures { result ≡ lacking_of told stood_ms gap.now }
+{
+    let Some(gap) = gap else {
+        return None;
+    };
+    match told {
+        None if stood_ms >= TOLD_MS => Some(run_of(gap)),
+        _ => None,
+    }
+}
+
+/// What is told and hasn't come yet, once this was told, if it was.
+fn told_then(told: Option<MissingRun>, lacking: Option<MissingRun>) -> Option<MissingRun>
+    ensures { result ≡ told_then told lacking }
+{
+    match lacking {
+        Some(run) => Some(run),
+        None => told,
+    }
+}
+
+/// What is to be told to be asked for in vain, if anything is, where nothing was before.
+fn unanswered_of(
+    has_told: bool,
+    standing: Option<StandingGap>,
+    now_ms: u64,
+    status: &VenueStatus,
+) -> Option<MissingRun>
+    ensures { result
+        ≡ unanswered_of has_told standing now_ms status.now.requests status.now.gap }
+{
+    let Some(standing) = standing else {
+        return None;
+    };
+    match &status.gap {
+        Some(gap) if !has_told && is_unanswered(&standing, now_ms, status.requests) => {
+            Some(run_of(gap))
+        }
+        _ => None,
+    }
+}
+
+/// Whether anything was told to be asked for in vain, once this was, if it was.
+fn said_then(has_told: bool, unanswered: Option<MissingRun>) -> bool
+    ensures { result ≡ said_then has_told unanswered }
+{
+    match unanswered {
+        Some(_) => true,
+        None => has_told,
+    }
+}
+
+/// The first message after those that are missing and to be given up: the first one that is held,
+/// or where none is the one after all that is known of.
+fn gap_next(cursors: &ArbiterStatus, gap: &Request) -> u64
+    ensures { result ≡ gap_next cursors.now gap.now }
+{
+    if cursors.held == 0 {
+        cursors.known.saturating_add(1)
+    } else {
+        gap.number.saturating_add(u64::from(gap.count))
+    }
+}
+
+/// A venue, and what was seen and told of its gap.
+#[derive(Drop)]
+pub struct GapWatch {
+    venue: VenueId,
+    standing: Option<StandingGap>,
+    /// How many requests the venue's lines had sent at the last look.
+    requests: u64,
+    /// What was told to be lacking and hasn't come yet.
+    told: Option<MissingRun>,
+    has_told_unanswered: bool,
+    /// Up to this number all messages were given up, and none was taken in sequence.
+    passed: u64,
+}
+
+impl GapWatch {
+    /// A venue that wasn't looked at yet.
+    pub fn new(venue: VenueId) -> GapWatch
+        ensures { result ≡ record {
+          venue = venue;
+          standing = None;
+          requests = 0;
+          told = None;
+          has_told_unanswered = false;
+          passed = 0;
+        } }
+    {
+        GapWatch {
+            venue,
+            standing: None,
+            requests: 0,
+            told: None,
+            has_told_unanswered: false,
+            passed: 0,
+        }
+    }
+
+    /// Notes which gap stands at a look, and since when.
+    fn stand(&mut self, now_ms: u64, status: &VenueStatus)
+        ensures { self.new ≡ stands self.old now_ms status.now }
+    {
+        self.standing = match &status.gap {
+            Some(gap) => Some(standing_at(self.standing, now_ms, self.requests, gap)),
+            None => None,
+        };
+        self.requests = status.requests;
+    }
+
+    /// Says that this has happened to these messages, if there are any.
+    fn say<E: TextOut>(
+        &self,
+        second: u64,
+        change: GapChange,
+        run: Option<MissingRun>,
+        errors: &mut E,
+    )
+        ensures { SaysEach (record { adds = E.adds; failures = E.failures })
+            (gap_texts_if second self.now.venue change run) errors.old errors.new }
+    {
+        let Some(run) = run else {
+            return;
+        };
+        let news = GapNews {
+            second,
+            venue: self.venue,
+            change,
+            run,
+        };
+        write_gap_news(&news, errors);
+    }
+
+    /// Says what is new of the gap that stands.
+    fn tell<E: TextOut>(&mut self, now_ms: u64, status: &VenueStatus, errors: &mut E)
+        ensures watch { self.new ≡ record (self.old) {
+          told = self.new.told;
+          has_told_unanswered = self.new.has_told_unanswered;
+        } }
+        ensures tells { TellsStanding (record { adds = E.adds; failures = E.failures }) self.old
+            now_ms status.now errors.old errors.new }
+        ensures told { self.new.told
+            ≡ told_then (told_still self.old.told status.now.cursors.front)
+            (lacking_of (told_still self.old.told status.now.cursors.front)
+            (stood_of self.old.standing now_ms) status.now.gap) }
+        ensures unanswered { self.new.has_told_unanswered
+            ≡ said_then self.old.has_told_unanswered
+            (unanswered_of self.old.has_told_unanswered self.old.standing now_ms
+            status.now.requests status.now.gap) }
+    {
+        let second = now_ms / 1_000;
+        let closed = closed_run(self.told, status.cursors.front);
+        let told = told_still(self.told, status.cursors.front);
+        let lacking = lacking_of(told, stood_of(self.standing, now_ms), &status.gap);
+        let has_told = self.has_told_unanswered;
+        let unanswered = unanswered_of(has_told, self.standing, now_ms, status);
+        self.say(second, GapChange::Closed, closed, errors);
+        self.say(second, GapChange::Lacking, lacking, errors);
+        self.say(second, GapChange::Unanswered, unanswered, errors);
+        self.told = told_then(told, lacking);
+        self.has_told_unanswered = said_then(has_told, unanswered);
+    }
+
+    /// What is to be given up now of the gap that stands, if anything is.
+    fn due(&self, rule: &GapRule, now_ms: u64, status: &VenueStatus) -> Option<DueGap>
+        ensures { result ≡ due_of rule.now self.now.passed (stood_of self.now.standing now_ms)
+            status.now.cursors status.now.gap }
+    {
+        let Some(gap) = &status.gap else {
+            return None;
+        };
+        let stood_ms = stood_of(self.standing, now_ms);
+        if !rule.is_due(self.passed, status.cursors.front, stood_ms) {
+            return None;
+        }
+        Some(DueGap {
+            number: gap.number,
+            next: gap_next(&status.cursors, gap),
+        })
+    }
+
+    /// Notes that these messages were given up, of which nothing more is to be told then: where
+    /// nothing was taken in sequence before them, nothing was before what comes next either.
+    fn pass(&mut self, due: &DueGap)
+        ensures { self.new ≡ record (self.old) {
+          told = None;
+          passed = passed_then self.old.passed due.now;
+        } }
+    {
+        self.told = None;
+        let last_before = due.number.saturating_sub(1);
+        if last_before <= self.passed {
+            self.passed = due.next.saturating_sub(1);
+        }
+    }
+
+    /// Gives up what is due, where `skip` does so, and says it then. `skip` goes on from a message
+    /// of a venue, and returns whether it did.
+    fn give_up_due<K, E>(&mut self, due: &DueGap, second: u64, skip: K, errors: &mut E)
+    where
+        K: Fn(VenueId, u64) -> bool,
+        E: TextOut,
+        requires { K.IsAlwaysCallable skip }
+        ensures venue { self.new.venue ≡ self.old.venue }
+        ensures tells { TellsIfDone (record { adds = E.adds; failures = E.failures })
+            (K.post skip self.old.venue due.now.next) (news_of second self.old.venue due.now)
+            errors.old errors.new }
+    {
+        if !skip(self.venue, due.next) {
+            return;
+        }
+        self.pass(due);
+        let news = GapNews {
+            second,
+            venue: self.venue,
+            change: GapChange::GivenUp,
+            run: MissingRun {
+                number: due.number,
+                count: due.next.saturating_sub(due.number),
+            },
+        };
+        write_gap_news(&news, errors);
+    }
+
+    /// Gives up what is due of the gap that stands, and says it.
+    fn give_up<K, E>(
+        &mut self,
+        rule: &GapRule,
+        now_ms: u64,
+        status: &VenueStatus,
+        skip: K,
+        errors: &mut E,
+    )
+    where
+        K: Fn(VenueId, u64) -> bool,
+        E: TextOut,
+        requires { K.IsAlwaysCallable skip }
+        ensures venue { self.new.venue ≡ self.old.venue }
+        ensures gives { GivesUpDue (record { adds = E.adds; failures = E.failures })
+            (K.post skip self.old.venue) rule.now self.old now_ms status.now errors.old errors.new }
+    {
+        let Some(due) = self.due(rule, now_ms, status) else {
+            return;
+        };
+        self.give_up_due(&due, now_ms / 1_000, skip, errors);
+    }
+
+    /// Looks at the venue, by the status that `status` returns: says what is new of its gap, and
+    /// gives up what is due of it, where `skip` does so.
+    pub fn look<S, K, E>(&mut self, rule: &GapRule, now_ms: u64, status: S, skip: K, errors: &mut E)
+    where
+        S: Fn(VenueId) -> Option<VenueStatus>,
+        K: Fn(VenueId, u64) -> bool,
+        E: TextOut,
+        requires status { S.IsAlwaysCallable status }
+        requires skip { K.IsAlwaysCallable skip }
+        ensures venue { self.new.venue ≡ self.old.venue }
+        ensures looks { LooksAt (record { adds = E.adds; failures = E.failures })
+            (S.post status self.old.venue) (K.post skip self.old.venue) rule.now self.old now_ms
+            errors.old errors.new }
+    {
+        let Some(status) = status(self.venue) else {
+            return;
+        };
+        self.stand(now_ms, &status);
+        self.tell(now_ms, &status, errors);
+        self.give_up(rule, now_ms, &status, skip, errors);
+    }
+}

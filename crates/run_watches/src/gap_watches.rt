@@ -1,0 +1,107 @@
+//! The gaps of a run's venues as the thread beside the run sees them.
+ghost use Rattle.std.specs.List.{range_with_len};
+ghost use Rattle.std.specs.Prelude.{◌≡◌, ◌≤◌, IfOk, map};
+ghost use Rattle.feed_text.specs.Devices.{Writing};
+ghost use Rattle.run_watches.specs.RunLines.{told_gaps, watched_gaps, watched_venue};
+ghost use Rattle.run_watches.specs.RunNews.{IsNewsOfGaps, SaysNews};
+
+use crate::gap_rule::GapRule;
+use crate::gap_watch::GapWatch;
+use feed_text::TextOut;
+use feed_types::VenueId;
+use run_settings::ListenSettings;
+use std::alloc::{AllocError, Global};
+use venue_lines::VenueStatus;
+
+/// How many milliseconds are between two looks at least: so long two lines may bring the same
+/// packets apart.
+const LOOK_MS: u64 = 20;
+
+/// The venues of a run whose gaps are told and may be given up.
+#[derive(Drop)]
+pub struct GapWatches {
+    rule: GapRule,
+    gaps: Vec<GapWatch>,
+    /// How many milliseconds after the beginning they are looked at next.
+    due_ms: u64,
+}
+
+impl GapWatches {
+    /// The venues of the settings; none where the settings have no further option.
+    pub fn of(alloc: Global, settings: &ListenSettings) -> Result<GapWatches, AllocError>
+        ensures { IfOk result (λ watches. watched_gaps watches ≡ told_gaps settings.now) }
+    {
+        let venues = if settings.has_further_options() {
+            settings.feed.sessions.len()
+        } else {
+            0
+        };
+        Ok(GapWatches {
+            rule: GapRule::of(settings),
+            gaps: first_venues(alloc, venues)?,
+            due_ms: 0,
+        })
+    }
+
+    /// Looks at the venue at a place, if there is one.
+    fn look_at<S, K, E>(
+        &mut self,
+        place: usize,
+        elapsed_ms: u64,
+        status: S,
+        skip: K,
+        errors: &mut E,
+    )
+    where
+        S: Fn(VenueId) -> Option<VenueStatus>,
+        K: Fn(VenueId, u64) -> bool,
+        E: TextOut,
+        requires status { S.IsAlwaysCallable status }
+        requires skip { K.IsAlwaysCallable skip }
+        ensures gaps { watched_gaps self.new ≡ watched_gaps self.old }
+        ensures says { SaysNews (record { adds = E.adds; failures = E.failures })
+            (IsNewsOfGaps (watched_gaps self.old)) errors.old errors.new }
+    {
+        let rule = self.rule;
+        match self.gaps.get_mut(place) {
+            Some(gap) => gap.look(&rule, elapsed_ms, status, skip, errors),
+            None => {}
+        }
+    }
+
+    /// Looks at the venues, `elapsed_ms` milliseconds after the beginning, unless it has done so
+    /// just before: says what is new of their gaps, and gives up what is due. `status` returns what
+    /// a venue has come to, or None where there is none; `skip` goes on from a message of a venue,
+    /// and returns whether it did. Where it didn't, a later look tries again.
+    pub fn look<S, K, E>(&mut self, elapsed_ms: u64, status: S, skip: K, errors: &mut E)
+    where
+        S: Fn(VenueId) -> Option<VenueStatus>,
+        K: Fn(VenueId, u64) -> bool,
+        E: TextOut,
+        requires status { S.IsAlwaysCallable status }
+        requires skip { K.IsAlwaysCallable skip }
+        ensures gaps { watched_gaps self.new ≡ watched_gaps self.old }
+        ensures says { SaysNews (record { adds = E.adds; failures = E.failures })
+            (IsNewsOfGaps (watched_gaps self.old)) errors.old errors.new }
+    {
+        if elapsed_ms < self.due_ms {
+            return;
+        }
+        self.due_ms = elapsed_ms.saturating_add(LOOK_MS);
+        for place in 0..self.gaps.len() {
+            self.look_at(place, elapsed_ms, &status, &skip, errors);
+        }
+    }
+}
+
+/// The first `count` venues, of 16 at most, none of which was looked at yet.
+fn first_venues(alloc: Global, count: usize) -> Result<Vec<GapWatch>, AllocError>
+    requires { count ≤ 16 }
+    ensures { IfOk result (λ gaps. map watched_venue gaps.items ≡ range_with_len 0 count) }
+{
+    let mut gaps = Vec::new(alloc);
+    for place in 0..count {
+        gaps.push(GapWatch::new(VenueId::at(place)))?;
+    }
+    Ok(gaps)
+}

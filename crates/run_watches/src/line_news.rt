@@ -1,0 +1,171 @@
+//! What is said of lines while a run goes on, and what was counted of them at its end.
+ghost use Rattle.std.specs.Prelude.{◌≡◌, decimal};
+ghost use Rattle.feed_text.specs.Devices.{Writing};
+ghost use Rattle.feed_text.specs.StandardError.{Says, SaysEach};
+ghost use Rattle.run_watches.specs.News.{change_text, counted_text, counted_texts, letter_text, line_end_texts, line_name_texts, news_texts, time_texts, total_texts, verb_text};
+
+use feed_text::{TextOut, write_number, write_stderr};
+use feed_types::{LineId, VenueId};
+
+/// What has happened to a line.
+#[derive(Clone, Copy, Debug, PartialEq, Eq)]
+pub enum LineChange {
+    /// An end of session has ended it.
+    Ended,
+    /// It has read as many datagrams as it may.
+    ReadOut,
+    /// Its socket has failed, or memory for a datagram was refused.
+    Failed,
+    /// Its first request couldn't be sent.
+    Unsent,
+    /// It went on after an end of session, for the first time.
+    Passed,
+    /// It passed over a datagram of a sender whose datagrams aren't taken, for the first time.
+    Foreign,
+}
+
+/// What has happened to a line, and when.
+#[derive(Clone, Copy, Debug, PartialEq, Eq)]
+pub struct LineNews {
+    /// How many seconds of the run had passed.
+    pub second: u64,
+    /// The line's venue.
+    pub venue: VenueId,
+    /// The line.
+    pub line: LineId,
+    /// What has happened.
+    pub change: LineChange,
+}
+
+/// What is counted of a line.
+#[derive(Clone, Copy, Debug, PartialEq, Eq)]
+pub enum LineCounted {
+    /// Requests that couldn't be sent.
+    Unsent,
+    /// Ends of session after which it went on.
+    Passed,
+    /// Datagrams of other senders that it passed over.
+    Foreign,
+}
+
+/// How much was counted of a line.
+#[derive(Clone, Copy, Debug, PartialEq, Eq)]
+pub struct LineTotal {
+    /// The line's venue.
+    pub venue: VenueId,
+    /// The line.
+    pub line: LineId,
+    /// What was counted.
+    pub counted: LineCounted,
+    /// How many there were.
+    pub count: u64,
+}
+
+/// The letter of a line, after a space.
+fn letter(line: LineId) -> &'static str
+    ensures { result.now ≡ letter_text line }
+{
+    match line {
+        LineId::A => " A",
+        LineId::B => " B",
+        LineId::Recovery => " R",
+    }
+}
+
+/// The end of the line about what has happened.
+fn change_end(change: LineChange) -> &'static str
+    ensures { result.now ≡ change_text change }
+{
+    match change {
+        LineChange::Ended => " ended by an end of session\n",
+        LineChange::ReadOut => " ended by --datagrams\n",
+        LineChange::Failed => " failed\n",
+        LineChange::Unsent => " can't send requests\n",
+        LineChange::Passed => " goes on after an end of session\n",
+        LineChange::Foreign => " passes over datagrams of senders not in --from\n",
+    }
+}
+
+/// What stands before a count.
+fn verb(counted: LineCounted) -> &'static str
+    ensures { result.now ≡ verb_text counted }
+{
+    match counted {
+        LineCounted::Unsent => " couldn't send ",
+        LineCounted::Passed => " went on after ",
+        LineCounted::Foreign => " passed over ",
+    }
+}
+
+/// What stands after a count.
+fn counted_end(counted: LineCounted, count: u64) -> &'static str
+    ensures { result.now ≡ counted_text counted count }
+{
+    match counted {
+        LineCounted::Unsent if count == 1 => " request\n",
+        LineCounted::Unsent => " requests\n",
+        LineCounted::Passed if count == 1 => " end of session\n",
+        LineCounted::Passed => " ends of session\n",
+        LineCounted::Foreign if count == 1 => " datagram of senders not in --from\n",
+        LineCounted::Foreign => " datagrams of senders not in --from\n",
+    }
+}
+
+/// Writes in which second something has happened.
+fn write_time<E: TextOut>(second: u64, errors: &mut E)
+    ensures { SaysEach (record { adds = E.adds; failures = E.failures })
+        (time_texts second) errors.old errors.new }
+{
+    write_stderr("nbbo: second ", errors);
+    write_number(second, errors);
+    write_stderr(" line ", errors);
+}
+
+/// Writes which line it is.
+fn write_line_name<E: TextOut>(venue: VenueId, line: LineId, errors: &mut E)
+    ensures { SaysEach (record { adds = E.adds; failures = E.failures })
+        (line_name_texts venue line) errors.old errors.new }
+{
+    write_number(venue.index() as u64, errors);
+    write_stderr(letter(line), errors);
+}
+
+/// Writes what has happened to a line.
+pub fn write_news<E: TextOut>(news: &LineNews, errors: &mut E)
+    ensures { SaysEach (record { adds = E.adds; failures = E.failures })
+        (news_texts news.now) errors.old errors.new }
+{
+    write_time(news.second, errors);
+    write_line_name(news.venue, news.line, errors);
+    write_stderr(change_end(news.change), errors);
+}
+
+/// Writes how a line has ended.
+pub fn write_line_end<E: TextOut>(venue: VenueId, line: LineId, change: LineChange, errors: &mut E)
+    ensures { SaysEach (record { adds = E.adds; failures = E.failures })
+        (line_end_texts (venue, line) change) errors.old errors.new }
+{
+    write_stderr("nbbo: line ", errors);
+    write_line_name(venue, line, errors);
+    write_stderr(change_end(change), errors);
+}
+
+/// Writes how many there were.
+fn write_counted<E: TextOut>(total: &LineTotal, errors: &mut E)
+    ensures { SaysEach (record { adds = E.adds; failures = E.failures })
+        (counted_texts total.now) errors.old errors.new }
+{
+    write_stderr(verb(total.counted), errors);
+    write_number(total.count, errors);
+    write_stderr(counted_end(total.counted, total.count), errors);
+}
+
+/// Writes how much was counted of a line.
+pub fn write_total<E: TextOut>(total: &LineTotal, errors: &mut E)
+    ensures { SaysEach (record { adds = E.adds; failures = E.failures })
+        (total_texts total.now) errors.old errors.new }
+{
+    write_stderr("nbbo: line ", errors);
+    write_line_name(total.venue, total.line, errors);
+    write_counted(total, errors);
+}

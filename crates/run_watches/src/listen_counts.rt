@@ -1,0 +1,129 @@
+//! The counts that are printed while a run goes on, and at its end.
+ghost use Rattle.std.specs.Prelude.{◌≡◌, is_some};
+ghost use Rattle.feed_text.specs.Devices.{Writing};
+ghost use Rattle.run_watches.specs.RunNews.{SaysCounts};
+
+use crate::counts_json::{period_json, totals_json};
+use crate::counts_text::{period_text, table_text};
+use crate::line_figures::status_since;
+use crate::moment::Moment;
+use crate::venue_statuses::{NO_STATUSES, VenueStatuses};
+use feed_text::{TextOut, write_stderr};
+use feed_types::{MAX_VENUES, VenueId};
+use run_settings::{ListenSettings, ListenStats, StatsFormat};
+use std::alloc::{AllocError, Global};
+use venue_lines::VenueStatus;
+
+/// When counts are printed, and what each venue had come to when its last line was.
+#[derive(Drop)]
+pub struct ListenCounts {
+    alloc: Global,
+    format: StatsFormat,
+    period_ms: u64,
+    due_ms: u64,
+    last_written: VenueStatuses,
+}
+
+impl ListenCounts {
+    /// The counts that the settings ask for, if they do.
+    pub fn of(alloc: Global, settings: &ListenSettings) -> Option<ListenCounts>
+        ensures { is_some result ≡ is_some settings.now.stats }
+    {
+        match settings.stats {
+            Some(stats) => Some(ListenCounts::each(alloc, stats)),
+            None => None,
+        }
+    }
+
+    /// Counts that are printed after each period of these.
+    fn each(alloc: Global, stats: ListenStats) -> ListenCounts {
+        let period_ms = u64::from(stats.seconds) * 1_000;
+        ListenCounts {
+            alloc,
+            format: stats.format,
+            period_ms,
+            due_ms: period_ms,
+            last_written: NO_STATUSES,
+        }
+    }
+
+    /// How many milliseconds after the beginning the next lines are due.
+    pub fn due_ms(&self) -> u64 {
+        self.due_ms
+    }
+
+    /// The line of the venue at this place, of what was counted in a period.
+    fn period_line(
+        &self,
+        moment: Moment,
+        place: usize,
+        since: &VenueStatus,
+    ) -> Result<String, AllocError> {
+        match self.format {
+            StatsFormat::Table => period_text(self.alloc, moment.second(), place, since),
+            StatsFormat::Json => period_json(self.alloc, moment, place, since),
+        }
+    }
+
+    /// What was counted of all venues.
+    fn totals(&self, moment: Moment, statuses: &VenueStatuses) -> Result<String, AllocError> {
+        match self.format {
+            StatsFormat::Table => table_text(self.alloc, statuses),
+            StatsFormat::Json => totals_json(self.alloc, moment, statuses),
+        }
+    }
+
+    /// Writes the line of each venue, of what was counted since its line before, and has the next
+    /// lines due at the next period's end. `status` returns what a venue has come to, or None where
+    /// there is none. A line is left out where memory for it is refused.
+    #[tactic(auto, using(crate::specs::RunNewsLaws::no_counts, crate::proofs::Counts::more_counts))]
+    pub fn write_period<S, E>(&mut self, moment: Moment, status: S, errors: &mut E)
+    where
+        S: Fn(VenueId) -> Option<VenueStatus>,
+        E: TextOut,
+        requires { S.IsAlwaysCallable status }
+        ensures { SaysCounts (record { adds = E.adds; failures = E.failures })
+            errors.old errors.new }
+    {
+        for place in 0..MAX_VENUES {
+            if let Some(status) = status(VenueId::at(place)) {
+                self.write_venue(moment, place, &status, errors);
+            }
+        }
+        let periods = moment.elapsed_ms / self.period_ms.max(1);
+        self.due_ms = periods.saturating_add(1).saturating_mul(self.period_ms);
+    }
+
+    /// Writes the line of the venue at this place, which has come to this.
+    #[tactic(auto, using(crate::specs::RunNewsLaws::no_counts))]
+    fn write_venue<E: TextOut>(
+        &mut self,
+        moment: Moment,
+        place: usize,
+        status: &VenueStatus,
+        errors: &mut E,
+    )
+        ensures { SaysCounts (record { adds = E.adds; failures = E.failures })
+            errors.old errors.new }
+    {
+        if let Some(written) = self.last_written.get_mut(place) {
+            let since = status_since(status, written.as_ref());
+            *written = Some(*status);
+            if let Ok(line) = self.period_line(moment, place, &since) {
+                write_stderr(line.as_str(), errors);
+            }
+        }
+    }
+
+    /// Writes what was counted of all venues, in the form of the counts. Where memory for it is
+    /// refused, it is left out.
+    #[tactic(auto, using(crate::specs::RunNewsLaws::no_counts))]
+    pub fn write_totals<E: TextOut>(&self, moment: Moment, statuses: &VenueStatuses, errors: &mut E)
+        ensures { SaysCounts (record { adds = E.adds; failures = E.failures })
+            errors.old errors.new }
+    {
+        if let Ok(totals) = self.totals(moment, statuses) {
+            write_stderr(totals.as_str(), errors);
+        }
+    }
+}

@@ -1,0 +1,131 @@
+//! The counts of a run, served to clients that ask for them by HTTP.
+
+use crate::metrics_client::MetricsClient;
+use feed_types::{MAX_VENUES, VenueId};
+use run_metrics::{Reply, RunFigures, VenueFigures, answer};
+use std::alloc::{AllocError, Global};
+use std::net::TcpListener;
+use venue_lines::VenueStatus;
+
+/// How many milliseconds are between two looks at the clients at least.
+const LOOK_MS: u64 = 20;
+
+/// The most clients at a time; others wait until one is gone.
+const MOST_CLIENTS: usize = 16;
+
+/// The server of a run's metrics. It waits for nobody: a look takes what has come, and gives each
+/// client what it takes.
+#[derive(Drop)]
+pub struct MetricsServer {
+    alloc: Global,
+    listener: TcpListener,
+    clients: Vec<MetricsClient>,
+    /// How many milliseconds after the beginning of the run the next look is due.
+    due_ms: u64,
+}
+
+/// The figures of the venues, of which `status` returns what one has come to, or None where there
+/// is none.
+fn venues_by<S: Fn(VenueId) -> Option<VenueStatus>>(
+    alloc: Global,
+    status: S,
+) -> Result<Vec<VenueFigures>, AllocError>
+    requires { S.IsAlwaysCallable status }
+{
+    let mut venues = Vec::new(alloc);
+    for place in 0..MAX_VENUES {
+        let venue = VenueId::at(place);
+        if let Some(status) = status(venue) {
+            venues.push(VenueFigures { venue, status })?;
+        }
+    }
+    Ok(venues)
+}
+
+/// How long a run has gone on, and how many changes of the national best were taken from it.
+#[derive(Clone, Copy, Debug)]
+pub struct RunProgress {
+    pub elapsed_ms: u64,
+    pub changes: u64,
+}
+
+/// The answer of a reply, of a run that has come so far.
+fn answer_by<S: Fn(VenueId) -> Option<VenueStatus>>(
+    alloc: Global,
+    reply: Reply,
+    progress: RunProgress,
+    status: S,
+) -> Result<Vec<u8>, AllocError>
+    requires { S.IsAlwaysCallable status }
+{
+    let venues = venues_by(alloc, status)?;
+    let figures = RunFigures {
+        seconds: progress.elapsed_ms / 1_000,
+        changes: progress.changes,
+        venues: venues.as_slice(),
+    };
+    answer(alloc, reply, &figures)
+}
+
+impl MetricsServer {
+    /// A server of the clients that connect to this listener, which never waits, if there is one.
+    pub fn of(alloc: Global, listener: Option<TcpListener>) -> Option<MetricsServer> {
+        match listener {
+            Some(listener) => Some(MetricsServer {
+                alloc,
+                listener,
+                clients: Vec::new(alloc),
+                due_ms: 0,
+            }),
+            None => None,
+        }
+    }
+
+    /// Takes the clients that have connected, as many as there is room for. One for which memory is
+    /// refused is gone.
+    fn accept(&mut self, elapsed_ms: u64) {
+        for _ in self.clients.len()..MOST_CLIENTS {
+            let Ok((stream, _)) = self.listener.accept() else {
+                return;
+            };
+            if let Some(client) = MetricsClient::new(self.alloc, stream, elapsed_ms) {
+                let _ = self.clients.push(client);
+            }
+        }
+    }
+
+    /// Goes on with the client at a place.
+    fn go_on_at<S>(&mut self, place: usize, progress: RunProgress, status: S)
+    where
+        S: Fn(VenueId) -> Option<VenueStatus>,
+        requires { S.IsAlwaysCallable status }
+    {
+        let alloc = self.alloc;
+        let Some(client) = self.clients.get_mut(place) else {
+            return;
+        };
+        if let Some(reply) = client.read_request() {
+            client.give(answer_by(alloc, reply, progress, status));
+        }
+        client.go_on(progress.elapsed_ms);
+    }
+
+    /// Looks at the clients, unless it has done so just before: takes new ones, reads what they
+    /// ask, writes what they take, and lets those go that have gone or whose time is over. `status`
+    /// returns what a venue has come to, or None where there is none.
+    pub fn serve<S>(&mut self, progress: RunProgress, status: S)
+    where
+        S: Fn(VenueId) -> Option<VenueStatus>,
+        requires { S.IsAlwaysCallable status }
+    {
+        if progress.elapsed_ms < self.due_ms {
+            return;
+        }
+        self.due_ms = progress.elapsed_ms.saturating_add(LOOK_MS);
+        self.accept(progress.elapsed_ms);
+        for place in 0..self.clients.len() {
+            self.go_on_at(place, progress, &status);
+        }
+        self.clients.retain(|client| !client.is_gone());
+    }
+}

@@ -1,0 +1,139 @@
+//! What the thread beside a run watches of it.
+ghost use Rattle.std.specs.Prelude.{◌≡◌, is_some};
+ghost use Rattle.feed_text.specs.Devices.{Writing};
+ghost use Rattle.run_watches.specs.RunLines.{watched_gaps, watched_lines, watched_run};
+ghost use Rattle.run_watches.specs.RunNews.{SaysRunEnd, SaysRunNews};
+
+use crate::gap_watches::GapWatches;
+use crate::line_watch::LineWatches;
+use crate::listen_counts::ListenCounts;
+use crate::metrics_server::{MetricsServer, RunProgress};
+use crate::moment::Moment;
+use crate::venue_statuses::{VenueStatuses, statuses_by};
+use feed_text::TextOut;
+use feed_types::VenueId;
+use venue_lines::VenueStatus;
+
+/// The lines of a run, the gaps of its venues, what is counted, if anything is, and to whom that is
+/// served, if to anyone.
+#[derive(Drop)]
+pub struct RunWatches {
+    lines: LineWatches,
+    gaps: GapWatches,
+    counts: Option<ListenCounts>,
+    metrics: Option<MetricsServer>,
+}
+
+impl RunWatches {
+    /// These lines, gaps and counts, and this server.
+    pub fn new(
+        lines: LineWatches,
+        gaps: GapWatches,
+        counts: Option<ListenCounts>,
+        metrics: Option<MetricsServer>,
+    ) -> RunWatches
+        ensures { watched_run result ≡ record {
+          lines = watched_lines lines;
+          gaps = watched_gaps gaps;
+          counted = is_some counts;
+        } }
+    {
+        RunWatches {
+            lines,
+            gaps,
+            counts,
+            metrics,
+        }
+    }
+
+    /// How many milliseconds after the beginning the next counts are due, if they ever are.
+    pub fn counts_due_ms(&self) -> Option<u64> {
+        match &self.counts {
+            Some(counts) => Some(counts.due_ms()),
+            None => None,
+        }
+    }
+
+    /// Writes what is new of the lines, `second` seconds after the beginning.
+    pub fn write_news<E: TextOut>(&mut self, second: u64, errors: &mut E)
+        ensures run { watched_run self.new ≡ watched_run self.old }
+        ensures news { SaysRunNews (record { adds = E.adds; failures = E.failures })
+            (watched_run self.old) errors.old errors.new }
+    {
+        self.lines.write_news(second, errors);
+    }
+
+    /// Writes the counts of each venue, where they are due. `status` returns what a venue has come
+    /// to, or None where there is none.
+    pub fn write_counts<S, E>(&mut self, moment: Moment, status: S, errors: &mut E)
+    where
+        S: Fn(VenueId) -> Option<VenueStatus>,
+        E: TextOut,
+        requires { S.IsAlwaysCallable status }
+        ensures run { watched_run self.new ≡ watched_run self.old }
+        ensures news { SaysRunNews (record { adds = E.adds; failures = E.failures })
+            (watched_run self.old) errors.old errors.new }
+    {
+        let lines = &self.lines;
+        let elapsed_ms = moment.elapsed_ms;
+        if let Some(counts) = &mut self.counts {
+            if counts.due_ms() <= elapsed_ms {
+                let sent = |venue| lines.with_sent(venue, status(venue));
+                counts.write_period(moment, sent, errors);
+            }
+        }
+    }
+
+    /// Serves the metrics of a run that has come so far to who asks for them, if to anyone.
+    /// `status` returns what a venue has come to, or None where there is none.
+    pub fn serve_metrics<S>(&mut self, progress: RunProgress, status: S)
+    where
+        S: Fn(VenueId) -> Option<VenueStatus>,
+        requires { S.IsAlwaysCallable status }
+        ensures { watched_run self.new ≡ watched_run self.old }
+    {
+        let lines = &self.lines;
+        if let Some(metrics) = &mut self.metrics {
+            metrics.serve(progress, |venue| lines.with_sent(venue, status(venue)));
+        }
+    }
+
+    /// Looks at the gaps of the venues, says what is new of them and gives up what is due, as
+    /// [`GapWatches::look`] does. `status` returns what a venue has come to, or None where there is
+    /// none.
+    pub fn look_at_gaps<S, K, E>(&mut self, elapsed_ms: u64, status: S, skip: K, errors: &mut E)
+    where
+        S: Fn(VenueId) -> Option<VenueStatus>,
+        K: Fn(VenueId, u64) -> bool,
+        E: TextOut,
+        requires status { S.IsAlwaysCallable status }
+        requires skip { K.IsAlwaysCallable skip }
+        ensures run { watched_run self.new ≡ watched_run self.old }
+        ensures news { SaysRunNews (record { adds = E.adds; failures = E.failures })
+            (watched_run self.old) errors.old errors.new }
+    {
+        let lines = &self.lines;
+        let sent = |venue| lines.with_sent(venue, status(venue));
+        self.gaps.look(elapsed_ms, sent, skip, errors);
+    }
+
+    /// Returns what each venue has come to, with those requests alone that its lines have sent.
+    /// `status` returns one's, or None where there is none.
+    pub fn statuses<S: Fn(VenueId) -> Option<VenueStatus>>(&self, status: S) -> VenueStatuses
+        requires { S.IsAlwaysCallable status }
+    {
+        statuses_by(|venue| self.lines.with_sent(venue, status(venue)))
+    }
+
+    /// Writes what was counted of the lines, and then the totals of all counts, where counts are
+    /// asked for. The venues have these statuses.
+    pub fn write_end<E: TextOut>(&self, moment: Moment, statuses: &VenueStatuses, errors: &mut E)
+        ensures { SaysRunEnd (record { adds = E.adds; failures = E.failures })
+            (watched_run self.now) errors.old errors.new }
+    {
+        self.lines.write_totals(errors);
+        if let Some(counts) = &self.counts {
+            counts.write_totals(moment, statuses, errors);
+        }
+    }
+}
