@@ -13,9 +13,10 @@
 //! At the end of a replay standard error says what venues lack (`nbbo_runs`).
 //!
 //! `nbbo listen --sessions LIST --lines LIST [--request ADDR] [--join] [--skip-after MS] [--window
-//! N] [--journal N] [--datagrams N] [--end WHICH] [--buffer BYTES] [--follow [--kept N]]
-//! [SYMBOL]...` receives the lines of live venues by UDP, runs them as a live feed (`live_feed`),
-//! and prints what they came to once all have ended, or as it comes.
+//! N] [--journal N] [--datagrams N] [--end WHICH] [--buffer BYTES] [--follow [--kept N]] [--stats
+//! SECONDS [--stats-format FORMAT]] [--metrics ADDR] [SYMBOL]...` receives the lines of live
+//! venues by UDP, runs them as a live feed (`live_feed`), and prints what they came to once all
+//! have ended, or as it comes.
 //!
 //! The contract is that of `nbbo_runs::run`: of any words, over any input, output and standard
 //! error, it says what is read, what is written where, and the status, or that the words ask to
@@ -39,15 +40,14 @@ use run_settings::ListenSettings;
 use std::alloc::{AllocError, Global};
 use std::io::{ErrorKind, IsTerminal, Stderr, Stdin, Stdout};
 use std::marker::Brand;
-use std::net::UdpSocket;
 use std::process::ExitCode;
 use std::sync::Wait;
 use std::sync::ledger::{Blank, Ledger};
 use std::thread::Threads;
 use std::{env, io};
 use udp_listening::{
-    NO_MEMORY, bind_sockets, enlarge, has_further_options, listen_with, listening_line,
-    write_bind_fault,
+    BindFault, ListenSockets, NO_MEMORY, bind_metrics, bind_sockets, enlarge, listen_with,
+    listening_line, metrics_line, write_bind_fault,
 };
 
 /// The words of the command line, the program's name first.
@@ -150,17 +150,33 @@ fn run_words<R: CaptureIn + Drop, W: TextOut, E: TextOut>(
     (ran.next, ran.output)
 }
 
-/// Says where the sockets listen, and how large their buffers are where a size was asked for.
+/// Opens the sockets of the settings. Where one is refused, all are closed.
+fn bind_all(rt: &HostRuntime, settings: &ListenSettings) -> Result<ListenSockets, BindFault> {
+    let lines = bind_sockets(rt, rt.alloc(), settings.lines.as_slice())?;
+    let metrics = match settings.metrics {
+        Some(address) => Some(bind_metrics(rt, address)?),
+        None => None,
+    };
+    Ok(ListenSockets { lines, metrics })
+}
+
+/// Says where the sockets listen, how large their buffers are where a size was asked for, and where
+/// metrics are served.
 fn tell_sockets<E: TextOut>(
     alloc: Global,
     settings: &ListenSettings,
-    sockets: &[UdpSocket],
+    sockets: &ListenSockets,
     errors: &mut E,
 ) -> Result<(), AllocError> {
-    let line = listening_line(alloc, sockets, settings.lines.as_slice())?;
+    let lines = sockets.lines.as_slice();
+    let line = listening_line(alloc, lines, settings.lines.as_slice())?;
     write_stderr(line.as_str(), errors);
     if let Some(bytes) = settings.buffer {
-        let line = enlarge(alloc, sockets, bytes)?;
+        let line = enlarge(alloc, lines, bytes)?;
+        write_stderr(line.as_str(), errors);
+    }
+    if let (Some(listener), Some(asked)) = (&sockets.metrics, settings.metrics) {
+        let line = metrics_line(alloc, listener, asked)?;
         write_stderr(line.as_str(), errors);
     }
     Ok(())
@@ -179,15 +195,15 @@ where
     W: TextOut + Drop,
     E: TextOut + Drop,
 {
-    let sockets = match bind_sockets(rt, rt.alloc(), settings.lines.as_slice()) {
+    let sockets = match bind_all(rt, settings) {
         Ok(sockets) => sockets,
         Err(fault) => {
-            let is_named = rt.stderr().is_terminal() || has_further_options(settings);
+            let is_named = rt.stderr().is_terminal() || settings.has_further_options();
             write_bind_fault(rt.alloc(), fault, is_named, &mut errors);
             return (1, errors);
         }
     };
-    if tell_sockets(rt.alloc(), settings, sockets.as_slice(), &mut errors).is_err() {
+    if tell_sockets(rt.alloc(), settings, &sockets, &mut errors).is_err() {
         write_stderr(NO_MEMORY, &mut errors);
         return (1, errors);
     }

@@ -1,9 +1,6 @@
-pub mod Counts
 pub mod Ends
 pub mod Following
 pub mod Monitored
-pub mod RunTelling
 pub mod Seeing
-pub mod Telling
 pub mod Watching
 pub mod Wholes

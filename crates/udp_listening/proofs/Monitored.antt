@@ -17,15 +17,15 @@ use Rattle.udp_listening.specs.Listening.{HasFollowed, HasListened, IsUnprinted,
 use Rattle.udp_listening.specs.Monitors.{HasMonitored}
 use Rattle.run_settings.specs.declared.listen_settings.ListenSettings.{ListenSettings}
 use Rattle.udp_listening.specs.Reports.{IsListened, IsReportOfFeed, IsReportOfRun, any_lines, reported_line, seat_line, task_line}
-use Rattle.udp_listening.specs.RunLines.{listened_lines, watched_run}
-use Rattle.udp_listening.specs.RunNews.{SaysOfRun}
+use Rattle.run_watches.specs.RunLines.{listened_lines, watched_run}
+use Rattle.run_watches.specs.RunNews.{SaysOfRun}
 use Rattle.udp_listening.specs.Settings.{feed_setting}
 use Rattle.udp_listening.specs.UdpLines.{UdpLineState}
 use Rattle.udp_listening.specs.declared.console.LiveOutput.{LiveOutput}
 use Rattle.udp_listening.specs.declared.listen_report.ListenReport.{ListenReport}
 use Rattle.udp_listening.specs.declared.listening.ListenFault.{ListenFault}
 use Rattle.udp_listening.specs.declared.run_monitor.RunMonitor.{RunMonitor}
-use Rattle.udp_listening.proofs.RunTelling.{nothing_of_run}
+use Rattle.run_watches.specs.RunNewsLaws.{nothing_of_run}
 use Rattle.udp_listening.proofs.Wholes.{settled_forgotten_of, settled_log_of}
 
 -- what the program has printed of a log

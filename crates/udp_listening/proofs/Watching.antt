@@ -4,7 +4,7 @@ use Rattle.std.specs.List.{enumerate_from, range_with_len}
 use Rattle.std.proofs.lemmas.List.{map-append, take_min}
 use Rattle.std.proofs.lemmas.List.FromFn.{get_or-enumerate_from, length-enumerate_from, length-map-range_with_len, map-range_with_len_more, take-map-range_with_len}
 use Rattle.feed_types.specs.declared.line.LineId.{LineId}
-use Rattle.udp_listening.specs.RunLines.{listened_line}
+use Rattle.run_watches.specs.RunLines.{listened_line}
 
 -- the place of an element that comes with its place
 pub place_of : {X : Type 0} (xs : List X) (k : ℕ) (d : ℕ × X)

@@ -1,10 +1,6 @@
-pub mod Gaps
 pub mod Listening
 pub mod Monitors
-pub mod News
 pub mod Reports
-pub mod RunLines
-pub mod RunNews
 pub mod Settings
 pub mod Sockets
 pub mod UdpLines

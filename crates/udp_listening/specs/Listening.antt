@@ -1,10 +1,11 @@
 -- `nbbo listen`: what it prints of what came, and how it ends. The texts are this project's own.
-use Rattle.std.specs.Prelude.{◌≡◌, ◌⊎◌, ℕ, ◌+◌, ◌≤◌, List, [], ◌∷◌, ◌++◌, length, drop, flat_map, take, IfOk, Option, Some, None, Result, Ok, Err, codes}
+use Rattle.std.specs.Prelude.{◌≡◌, ◌⊎◌, ℕ, ◌+◌, ◌≤◌, ◌==◌, ◌&&◌, Bool, true, false, List, [], ◌∷◌, ◌++◌, length, drop, flat_map, take, IfOk, Option, Some, None, Result, Ok, Err, codes, if◌then◌else◌}
 use Rattle.feed_types.specs.declared.journal.Entry.{Entry}
 use Rattle.feed_types.specs.declared.line.LineId.{LineId}
 use Rattle.feed_types.specs.PerLines.{on_line}
 use Rattle.feed_text.specs.Devices.{Writing, Wrote}
 use Rattle.feed_text.specs.LackTexts.{lack_texts}
+use Rattle.feed_text.specs.declared.lack.Lack.{Lack}
 use Rattle.feed_text.specs.Lines.{best_line, venue_line}
 use Rattle.live_feed.specs.declared.run.report.Stop.{Stop}
 use Rattle.live_feed.specs.declared.run.report.Stop.TheVariants as stops
@@ -13,15 +14,15 @@ use Rattle.journal_book.specs.ItemsIn.{items_in}
 use Rattle.live_feed.specs.subscriber.Logs.{SubscriberLogState}
 use Rattle.live_feed.specs.settle.Settlements.{SettlementState, VenueEndState, SubscriberEndState}
 use Rattle.feed_text.specs.StandardError.{Says, SaysEach}
-use Rattle.udp_listening.specs.News.{line_end_texts}
-use Rattle.udp_listening.specs.RunLines.{listened_run}
-use Rattle.udp_listening.specs.RunNews.{SaysOfRun}
+use Rattle.run_watches.specs.News.{line_end_texts}
+use Rattle.run_watches.specs.RunLines.{listened_run}
+use Rattle.run_watches.specs.RunNews.{SaysOfRun}
 use Rattle.udp_listening.specs.Reports.{IsListened}
 use Rattle.udp_listening.specs.declared.console.Console.{Console}
 use Rattle.udp_listening.specs.declared.console.LiveOutput.{LiveOutput}
 use Rattle.udp_listening.specs.declared.console.LiveOutput.TheVariants.{On, Off, Failed}
 use Rattle.run_settings.specs.declared.listen_settings.ListenSettings.{ListenSettings}
-use Rattle.udp_listening.specs.declared.line_news.LineChange.TheVariants as changes
+use Rattle.run_watches.specs.declared.line_news.LineChange.TheVariants as changes
 use Rattle.udp_listening.specs.declared.listening.ListenFault.{ListenFault}
 use Rattle.udp_listening.specs.declared.listening.ListenFault.TheVariants.{NoMemory, Unsettled}
 use Rattle.udp_listening.specs.declared.listen_report.ListenReport.{ListenReport}
@@ -243,6 +244,18 @@ ListensToEnd writing telling (Err fault) before after silent told status =
     PrintsSome writing before after
     × Says telling (listen_fault_text fault) silent told × (status ≡ 1)
 
+-- a venue lacks messages
+abbrev pub lacks_any : List Lack → Bool
+lacks_any [] = false
+lacks_any (lack ∷ more) = true
+
+-- The status after an end that has the status `ended`: 3 where that is 0, the run is to be complete
+-- and its report has a venue that lacks messages; else the same.
+abbrev pub complete_status : (complete : Bool) → Result ListenReport ListenFault → (ended : ℕ) → ℕ
+complete_status complete (Ok report) ended =
+    if (ended == 0) && (complete && lacks_any report.lacking.items) then 3 else ended
+complete_status complete (Err fault) ended = ended
+
 -- However it is asked to end and to print, listening over so many sockets ends in one of these
 -- ways. A report is that of the settings' feed. Before the end standard error has what is said of
 -- the run: news of its lines, gaps and, where the settings ask for them, counts, and then totals.
@@ -253,4 +266,6 @@ pub record Listens {W E : Type 0} (writing : Writing W) (telling : Writing E)
   pub listened : IfOk outcome (IsListened settings sockets)
   pub said : E
   pub says : SaysOfRun telling (listened_run settings sockets) silent said
-  pub ends : ListensToEnd writing telling outcome before after said told status
+  pub ended : ℕ
+  pub ends : ListensToEnd writing telling outcome before after said told ended
+  pub status_is : status ≡ complete_status settings.complete outcome ended

@@ -3,8 +3,8 @@ use Rattle.std.specs.Prelude.{◌≡◌, Option, Some, None}
 use Rattle.feed_text.specs.Devices.{Writing}
 use Rattle.live_feed.specs.subscriber.Logs.{SubscriberLogState}
 use Rattle.udp_listening.specs.Listening.{KeepsFollowing}
-use Rattle.udp_listening.specs.RunLines.{watched_run}
-use Rattle.udp_listening.specs.RunNews.{SaysOfRun}
+use Rattle.run_watches.specs.RunLines.{watched_run}
+use Rattle.run_watches.specs.RunNews.{SaysOfRun}
 use Rattle.udp_listening.specs.declared.run_monitor.RunMonitor.{RunMonitor}
 
 -- The monitor has attended a run, with a subscriber's log: it has printed what that has forgotten,

@@ -11,7 +11,7 @@ use Rattle.live_feed.specs.settle.Settlements.{IsSettlement}
 use Rattle.live_feed.specs.subscriber.Logs.{SubscriberLogState}
 use Rattle.live_feed.specs.venue.Seats.{SeatState}
 use Rattle.run_settings.specs.declared.listen_settings.ListenSettings.{ListenSettings}
-use Rattle.udp_listening.specs.RunLines.{listened_lines}
+use Rattle.run_watches.specs.RunLines.{listened_lines}
 use Rattle.udp_listening.specs.Settings.{feed_setting}
 use Rattle.udp_listening.specs.UdpLines.{UdpLineState, is_read_out}
 use Rattle.udp_listening.specs.declared.listen_report.ListenReport.{ListenReport}

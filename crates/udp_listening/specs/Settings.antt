@@ -2,6 +2,7 @@
 use Rattle.std.specs.Prelude.{◌≡◌, ℕ, false, Some, slice_get, if◌then◌else◌}
 use Rattle.feed_types.specs.declared.config.FeedConfig.{FeedConfig}
 use Rattle.live_feed.specs.Lanes.{FeedSetting}
+use Rattle.run_settings.specs.Senders.{senders_of}
 use Rattle.run_settings.specs.declared.listen_settings.ListenSettings.{ListenSettings}
 use Rattle.udp_listening.specs.UdpLines.{UdpLineState}
 
@@ -30,13 +31,13 @@ feed_setting settings = record {
   kept = settings.kept;
 }
 
--- the line reads datagrams for the venue, as many as the settings say, and ends with an end of
--- session
--- as they say
+-- the line reads datagrams for the venue, of the senders and as many as the settings say, and ends
+-- with an end of session as they say
 pub record IsSourceOf (settings : ListenSettings) (venue : ℕ) (line : UdpLineState) : Type 0 where
   pub venue_is : line.venue ≡ venue
   pub session : slice_get settings.feed.sessions.items venue ≡ Some line.session
   pub rule : line.rule ≡ settings.end
+  pub senders : line.senders ≡ senders_of settings.from
   pub left : line.left ≡ settings.datagrams
   pub whole : line.failed ≡ false
   pub unended : line.ended ≡ false

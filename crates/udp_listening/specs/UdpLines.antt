@@ -3,15 +3,17 @@ use Rattle.std.specs.Prelude.{◌≡◌, ◌⊎◌, ℕ, ◌==◌, ◌&&◌, not
 use Rattle.mold_packet.specs.Content.{Content, Spells}
 use Rattle.mold_packet.specs.declared.packet.Kind.TheVariants.{End}
 use Rattle.run_settings.specs.declared.end_rule.EndRule.{EndRule}
+use Rattle.run_settings.specs.declared.sender.Sender.{Sender}
 use Rattle.run_settings.specs.declared.end_rule.EndRule.TheVariants.{AnySession, OwnSession, NoSession}
 
--- the venue, its session, which ends of session end the line, how many datagrams it may still read,
--- if there is any limit, whether its socket has failed, and whether an end that was its last
--- datagram has ended it, or its time
+-- the venue, its session, which ends of session end the line, the senders whose datagrams it
+-- brings, where any are named, how many it may still read, if there is any limit, whether its
+-- socket has failed, and whether an end that was its last datagram has ended it, or its time
 pub record UdpLineState : Type 0 where
   pub venue : ℕ
   pub session : List ℕ
   pub rule : EndRule
+  pub senders : Option (List Sender)
   pub left : Option ℕ
   pub failed : Bool
   pub ended : Bool

@@ -30,6 +30,8 @@ pub struct Console<W, E> {
     pub output: W,
     pub errors: E,
     pub live_output: LiveOutput,
+    /// How many changes of the national best were taken of the log.
+    pub changes: u64,
 }
 
 /// Polls once, and returns whether a notice was taken. Where that is refused, a run isn't to wait
@@ -67,6 +69,14 @@ fn poll_some<N: FeedName, R: Wait>(rt: &R, log: &mut SubscriberLog<N>) -> bool
     has_taken
 }
 
+/// The number of the last change in the log that isn't forgotten, if there is one.
+fn last_number<N: FeedName>(log: &SubscriberLog<N>) -> Option<u64> {
+    match log.log().last() {
+        Some(last) => Some(last.notice.number),
+        None => None,
+    }
+}
+
 impl<W: TextOut, E> Console<W, E> {
     /// Where nothing was printed yet, and the output hasn't failed.
     pub fn new(output: W, errors: E, live_output: LiveOutput) -> Console<W, E>
@@ -75,6 +85,7 @@ impl<W: TextOut, E> Console<W, E> {
           output = output;
           errors = errors;
           live_output = live_output;
+          changes = 0;
         } }
         ensures unprinted { IsUnprinted (record { adds = W.adds; failures = W.failures })
             result.live_output result.output }
@@ -83,6 +94,7 @@ impl<W: TextOut, E> Console<W, E> {
             output,
             errors,
             live_output,
+            changes: 0,
         }
     }
 
@@ -103,6 +115,7 @@ impl<W: TextOut, E> Console<W, E> {
         ensures errors { self.new.errors ≡ self.old.errors }
     {
         let has_taken = poll_some(rt, log);
+        self.changes = last_number(log).unwrap_or(self.changes);
         if self.live_output == LiveOutput::On {
             self.print_rest(text, log);
         }

@@ -2,15 +2,18 @@
 //!
 //! What the network brings can't be known, so the trait speaks of a socket by relations between its
 //! states, with laws. Of a socket of the system they say nothing.
-ghost use Rattle.std.specs.Prelude.{◌≡◌, ◌≢◌, ◌≤◌, List, ℕ, IfErr, IfOk, IfSome, OnErr, Ok, None, Some, length, take};
+ghost use Rattle.std.specs.Prelude.{◌≡◌, ◌≢◌, ◌≤◌, List, ℕ, IfErr, IfOk, OnErr, length, take};
+ghost use Rattle.std.specs.declared.net.socket_addr.SocketAddr.{SocketAddr};
 ghost use Rattle.live_feed.specs.declared.run.source.SourceFault.TheVariants.{NoMemory};
 ghost use Rattle.live_feed.specs.venue.Datagrams.{bytes_of};
+ghost use Rattle.run_settings.specs.Senders.{senders_of};
 ghost use Rattle.udp_listening.specs.Sockets.{IsHandedOn, IsReceived};
 
 use live_feed::{Datagram, SourceFault};
+use run_settings::Senders;
 use std::alloc::{AllocError, Global};
 use std::io::ErrorKind;
-use std::net::UdpSocket;
+use std::net::{SocketAddr, UdpSocket};
 
 /// How many times one call asks the socket at most.
 const MAX_TURNS: u32 = 1_000_000;
@@ -28,17 +31,18 @@ pub enum ReceiveStop {
 
 /// A socket of datagrams.
 pub trait DatagramIn {
-    /// One call brought a datagram of these bytes.
-    ghost brings: { Self → List ℕ → Self → Type 0 };
+    /// One call brought a datagram of these bytes, which came from this address.
+    ghost brings: { Self → SocketAddr → List ℕ → Self → Type 0 };
 
     /// Calls brought none.
     ghost waits: { Self → Self → Type 0 };
 
     /// Waits a while for a datagram, puts it at the front of the buffer, and returns how many bytes
-    /// it has.
-    fn receive(&mut self, buffer: &mut [u8]) -> Result<usize, ReceiveStop>
-        ensures count { IfOk result (λ count. count ≤ length buffer.new) }
-        ensures brings { IfOk result (λ count. brings self.old (take count buffer.new) self.new) }
+    /// it has and from which address it came.
+    fn receive(&mut self, buffer: &mut [u8]) -> Result<(usize, SocketAddr), ReceiveStop>
+        ensures count { IfOk result (λ came. came.0 ≤ length buffer.new) }
+        ensures brings { IfOk result
+            (λ came. brings self.old came.1 (take came.0 buffer.new) self.new) }
         ensures waits { OnErr result (waits self.old self.new) };
 
     /// No calls bring none.
@@ -49,7 +53,7 @@ pub trait DatagramIn {
 }
 
 impl DatagramIn for UdpSocket {
-    ghost brings = { λ _ _ _. Unit {0} };
+    ghost brings = { λ _ _ _ _. Unit {0} };
 
     ghost waits = { λ _ _. Unit {0} };
 
@@ -57,9 +61,9 @@ impl DatagramIn for UdpSocket {
 
     ghost waits_more = { λ _ _ _ _ _. tt };
 
-    fn receive(&mut self, buffer: &mut [u8]) -> Result<usize, ReceiveStop> {
-        match self.recv(buffer) {
-            Ok(count) => Ok(count),
+    fn receive(&mut self, buffer: &mut [u8]) -> Result<(usize, SocketAddr), ReceiveStop> {
+        match self.recv_from(buffer) {
+            Ok((count, from)) => Ok((count, from)),
             Err(error) => Err(match error.kind() {
                 ErrorKind::Interrupted => ReceiveStop::Interrupted,
                 ErrorKind::WouldBlock => ReceiveStop::NoneYet,
@@ -69,17 +73,41 @@ impl DatagramIn for UdpSocket {
     }
 }
 
+/// A line's socket, and whose datagrams are taken from it.
+#[derive(Drop)]
+pub struct LineSocket<S> {
+    pub socket: S,
+    pub senders: Senders,
+}
+
+/// What a wait for a datagram came to.
+#[derive(Drop)]
+pub enum Received {
+    /// A datagram of a sender whose datagrams are taken.
+    Taken(Datagram),
+    /// A datagram of another sender, which is passed over.
+    Foreign,
+    /// Why there is none.
+    Failed(SourceFault),
+    /// None has come.
+    NoneYet,
+}
+
 /// Waits a while for a datagram, puts it at the front of the buffer, and returns how many bytes it
-/// has; None where none has come. A call that was interrupted is made again.
+/// has and from which address it came; None where none has come. A call that was interrupted is
+/// made again.
 ///
 /// Device where the socket failed, TooManyTurns where it was interrupted a million times.
-fn receive<S: DatagramIn>(socket: &mut S, buffer: &mut [u8]) -> Result<Option<usize>, SourceFault>
+fn receive<S: DatagramIn>(
+    socket: &mut S,
+    buffer: &mut [u8],
+) -> Result<Option<(usize, SocketAddr)>, SourceFault>
     ensures received { IsReceived S.brings S.waits buffer.new socket.old result socket.new }
     ensures fault { IfErr result (λ fault. fault ≢ NoMemory) }
 {
     for _ in 0..MAX_TURNS {
         match socket.receive(buffer) {
-            Ok(count) => return Ok(Some(count)),
+            Ok(came) => return Ok(Some(came)),
             Err(ReceiveStop::Interrupted) => {}
             Err(ReceiveStop::NoneYet) => return Ok(None),
             Err(ReceiveStop::Failed) => return Err(SourceFault::Device),
@@ -97,21 +125,26 @@ fn datagram_of(alloc: Global, bytes: &[u8]) -> Result<Datagram, AllocError>
     Ok(Datagram::new(held))
 }
 
-/// Waits a while for a datagram, and returns it, or why there is none; None where none has come.
-/// NoMemory where memory for it was refused: it is lost then.
-pub fn try_receive<S: DatagramIn>(
-    alloc: Global,
-    socket: &mut S,
-    buffer: &mut [u8],
-) -> Option<Result<Datagram, SourceFault>>
-    ensures { IsHandedOn S.brings S.waits socket.old result socket.new }
-{
-    match receive(socket, buffer) {
-        Ok(None) => None,
-        Ok(Some(count)) => match datagram_of(alloc, &buffer[..count]) {
-            Ok(datagram) => Some(Ok(datagram)),
-            Err(_) => Some(Err(SourceFault::NoMemory)),
-        },
-        Err(fault) => Some(Err(fault)),
+impl<S: DatagramIn> LineSocket<S> {
+    /// Waits a while for a datagram, and returns it where it is taken, or why there is none.
+    /// NoMemory where memory for it was refused: it is lost then.
+    pub fn try_receive(&mut self, alloc: Global, buffer: &mut [u8]) -> Received
+        ensures handed_on { IsHandedOn S.brings S.waits (senders_of self.old.senders)
+            self.old.socket result self.new.socket }
+        ensures senders { self.new.senders ≡ self.old.senders }
+    {
+        match receive(&mut self.socket, buffer) {
+            Ok(None) => Received::NoneYet,
+            Ok(Some((count, from))) => {
+                if !self.senders.takes_from(&from) {
+                    return Received::Foreign;
+                }
+                match datagram_of(alloc, &buffer[..count]) {
+                    Ok(datagram) => Received::Taken(datagram),
+                    Err(_) => Received::Failed(SourceFault::NoMemory),
+                }
+            }
+            Err(fault) => Received::Failed(fault),
+        }
     }
 }

@@ -2,27 +2,25 @@
 ghost use Rattle.std.specs.Prelude.{◌≡◌, ◌≢◌, length};
 ghost use Rattle.feed_text.specs.Devices.{Writing};
 ghost use Rattle.feed_text.specs.StandardError.{Says};
-ghost use Rattle.udp_listening.specs.Listening.{Listens, PrintsEnd, PrintsFailedReport, PrintsReport, listen_fault_text, report_status};
+ghost use Rattle.udp_listening.specs.Listening.{Listens, PrintsEnd, PrintsFailedReport, PrintsReport, complete_status, lacks_any, listen_fault_text, report_status};
 
 use crate::console::{Console, LiveOutput};
-use crate::gap_watches::GapWatches;
-use crate::listen_counts::ListenCounts;
 use crate::listen_lines::write_report_lines;
 use crate::listen_report::ListenReport;
+use crate::listen_sockets::ListenSockets;
 use crate::listening::{ListenFault, Listened, feed_of, run_feed};
 use crate::run_monitor::RunMonitor;
 use crate::run_time::RunTime;
-use crate::run_watches::RunWatches;
 use crate::sources::lines_over;
 use crate::summary::summary_of;
-use feed_text::{TextOut, write_all, write_stderr};
+use feed_text::{Lack, TextOut, write_all, write_stderr};
 use feed_types::{LineId, VenueId};
 use live_feed::Stop;
 use run_settings::ListenSettings;
+use run_watches::{GapWatches, ListenCounts, MetricsServer, RunWatches};
 use std::alloc::{AllocError, Global};
 use std::io::Stdin;
 use std::marker::Brand;
-use std::net::UdpSocket;
 use std::rt::Clock;
 use std::sync::Wait;
 use std::thread::Threads;
@@ -32,6 +30,9 @@ pub const NO_MEMORY: &str = "nbbo: no memory\n";
 
 /// The line on standard error where standard output can't be written.
 const WRITE_FAILED: &str = "nbbo: write failed\n";
+
+/// The status where a run that is to be complete isn't.
+const INCOMPLETE: u8 = 3;
 
 /// The status of the program after such a report: 0 where no line failed and nothing stopped the
 /// run early, else 1.
@@ -119,6 +120,24 @@ fn print_end<W: TextOut, E: TextOut>(
     }
 }
 
+/// Whether a venue lacks messages.
+fn lacks_any(lacking: &[Lack]) -> bool
+    ensures { result ≡ lacks_any lacking.now }
+{
+    !lacking.is_empty()
+}
+
+/// The status of the program after an end that has the status `ended`: 3 where that is 0, the run
+/// is to be complete and messages are missing; else the same.
+fn complete_status(complete: bool, outcome: &Result<ListenReport, ListenFault>, ended: u8) -> u8
+    ensures { result ≡ complete_status complete outcome.now ended }
+{
+    match outcome {
+        Ok(report) if ended == 0 && complete && lacks_any(report.lacking.as_slice()) => INCOMPLETE,
+        _ => ended,
+    }
+}
+
 /// Whether lines are printed while a run of these settings goes on.
 fn live_output_of(settings: &ListenSettings) -> LiveOutput
     ensures { result ≢ LiveOutput.Failed }
@@ -133,17 +152,19 @@ fn live_output_of(settings: &ListenSettings) -> LiveOutput
 /// Listens on these sockets, in the order of the settings' lines, until all have ended or the
 /// settings end the run; then prints the report for a subscriber that wants every change. Returns
 /// the status of the program: 0, or 1 where a line failed, the run stopped early, or not all was
-/// printed.
+/// printed; and 3 in place of 0 where the settings ask for a complete run and a venue lacks
+/// messages.
 ///
 /// Where the settings ask for it, best lines are printed as they come, and counts on standard
-/// error. That has also what is news of the lines, as it comes, and which gaps were given up, as
-/// the settings say, and at the end what was counted of the lines.
+/// error; and metrics are served where there is a socket for them. Standard error has also what is
+/// news of the lines, as it comes, and which gaps were given up, as the settings say, and at the
+/// end what was counted of the lines.
 pub fn listen_with<R, C, W, E>(
     rt: &R,
     clock: &C,
     alloc: Global,
     settings: &ListenSettings,
-    sockets: Vec<UdpSocket>,
+    sockets: ListenSockets,
     input: Stdin,
     output: W,
     errors: E,
@@ -156,26 +177,29 @@ where
     ensures { Listens
         (record { adds = W.adds; failures = W.failures })
         (record { adds = E.adds; failures = E.failures })
-        settings.now (length sockets.items) output result.1 errors result.2 result.0 }
+        settings.now (length sockets.lines.items) output result.1 errors result.2 result.0 }
 {
     let mut console = Console::new(output, errors, live_output_of(settings));
     let clock_copy: Result<C, AllocError> = clock.clone();
     let (Ok(feed), Ok(lines), Ok(gaps), Ok(clock)) = (
         feed_of(alloc, settings),
-        lines_over(alloc, settings, sockets, clock),
+        lines_over(alloc, settings, sockets.lines, clock),
         GapWatches::of(alloc, settings),
         clock_copy,
     ) else {
         let status = print_end(alloc, &Err(ListenFault::NoMemory), &mut console);
         return (status, console.output, console.errors);
     };
-    let watches = RunWatches::new(lines.watches, gaps, ListenCounts::of(alloc, settings));
+    let counts = ListenCounts::of(alloc, settings);
+    let metrics = MetricsServer::of(alloc, sockets.metrics);
+    let watches = RunWatches::new(lines.watches, gaps, counts, metrics);
     let time = RunTime::new(settings, input, clock);
     let monitor = RunMonitor::new(alloc, time, console, watches);
     let Listened {
         outcome,
         mut console,
     } = run_feed::<Brand, R, C, W, E>(rt, alloc, feed, lines.tasks, monitor);
-    let status = print_end(alloc, &outcome, &mut console);
+    let ended = print_end(alloc, &outcome, &mut console);
+    let status = complete_status(settings.complete, &outcome, ended);
     (status, console.output, console.errors)
 }

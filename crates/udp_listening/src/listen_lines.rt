@@ -5,11 +5,11 @@ ghost use Rattle.feed_text.specs.LackTexts.{lack_texts};
 ghost use Rattle.feed_text.specs.StandardError.{SaysEach};
 ghost use Rattle.udp_listening.specs.Listening.{failed_texts, read_out_texts, report_texts, stop_text, stop_texts};
 
-use crate::line_news::{LineChange, write_line_end};
 use crate::listen_report::ListenReport;
 use feed_text::{TextOut, write_lacks, write_number, write_stderr};
 use feed_types::{LineId, VenueId};
 use live_feed::Stop;
+use run_watches::{LineChange, write_line_end};
 
 /// Writes which lines failed.
 fn write_each_failed<E: TextOut>(failed: &[(VenueId, LineId)], errors: &mut E)

@@ -4,10 +4,10 @@ ghost use Rattle.udp_listening.specs.Reports.{IsReportOfFeed, failed_lines, line
 
 use crate::listening::ListenFault;
 use crate::udp_line::UdpLine;
-use crate::venue_statuses::{VenueStatuses, lacks_in};
 use feed_text::Lack;
 use feed_types::{LineId, VenueId};
 use live_feed::{FeedReport, LineReport, Settlement, Stop};
+use run_watches::{VenueStatuses, lacks_in};
 use std::alloc::{AllocError, Global};
 
 /// The report of listening.

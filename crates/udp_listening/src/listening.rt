@@ -3,8 +3,8 @@ ghost use Rattle.std.specs.Prelude.{◌≡◌, IfOk, length, map, vec_len};
 ghost use Rattle.feed_text.specs.Devices.{Writing};
 ghost use Rattle.udp_listening.specs.Listening.{HasListened, IsUnprinted};
 ghost use Rattle.udp_listening.specs.Reports.{IsReportOfRun, task_line};
-ghost use Rattle.udp_listening.specs.RunLines.{watched_run};
-ghost use Rattle.udp_listening.specs.RunNews.{SaysOfRun};
+ghost use Rattle.run_watches.specs.RunLines.{watched_run};
+ghost use Rattle.run_watches.specs.RunNews.{SaysOfRun};
 ghost use Rattle.udp_listening.specs.Settings.{IsFeedOf, feed_setting, most_logged};
 
 use crate::console::Console;

@@ -1,19 +1,19 @@
 //! The monitor of a run, in a thread beside its own: it takes what the run's subscriber is offered,
-//! prints it where that is asked for, says what is new of the lines and what was counted, gives up
-//! the gaps that are to be given up, and stops the run where it is to end.
+//! prints it where that is asked for, says what is new of the lines and of gaps and what was
+//! counted, gives up the gaps that are to be given up, serves metrics, and stops the run where it
+//! is to end.
 ghost use Rattle.std.specs.Prelude.{◌≡◌};
 ghost use Rattle.feed_text.specs.Devices.{Writing};
 ghost use Rattle.udp_listening.specs.Listening.{KeepsFollowing};
-ghost use Rattle.udp_listening.specs.RunLines.{watched_run};
-ghost use Rattle.udp_listening.specs.RunNews.{SaysOfRun, SaysRunEnd, SaysRunNews};
+ghost use Rattle.run_watches.specs.RunLines.{watched_run};
+ghost use Rattle.run_watches.specs.RunNews.{SaysOfRun, SaysRunEnd, SaysRunNews};
 
 use crate::console::{Console, LiveOutput};
 use crate::run_time::RunTime;
-use crate::run_watches::RunWatches;
-use crate::venue_statuses::{NO_STATUSES, VenueStatuses};
 use feed_text::{LineBuffer, TextOut};
 use feed_types::Anything;
 use live_feed::{Attendant, FeedName, OwnLog, RunView, SubscriberLog};
+use run_watches::{NO_STATUSES, RunProgress, RunWatches, VenueStatuses};
 use std::alloc::Global;
 use std::sync::Wait;
 use std::time::Clock;
@@ -86,9 +86,8 @@ impl<C: Clock + Drop, W: TextOut + Drop, E: TextOut + Drop> RunMonitor<C, W, E> 
         }
     }
 
-    /// Writes the counts and gives up the gaps that are due, unless the run is over: nothing is
-    /// printed of what comes then.
-    #[tactic(auto, using(crate::proofs::RunTelling::more_run_news))]
+    /// Writes the counts that are due, says what is new of gaps, gives up those that are due, and
+    /// serves metrics, unless the run is over: nothing is printed of what comes then.
     fn watch<N: FeedName, R: Wait>(&mut self, rt: &R, run: &RunView<'_, Anything, N>)
         ensures console { self.new.console
             ≡ record (self.old.console) { errors = self.new.console.errors } }
@@ -99,16 +98,23 @@ impl<C: Clock + Drop, W: TextOut + Drop, E: TextOut + Drop> RunMonitor<C, W, E> 
         if run.is_over() {
             return;
         }
-        let ms = self.time.passed_ms();
+        let moment = self.time.moment();
+        let ms = moment.elapsed_ms;
         let errors = &mut self.console.errors;
         self.watches
-            .write_counts(ms, |venue| run.status(rt, venue).ok(), errors);
-        self.watches.give_up_gaps(
+            .write_counts(moment, |venue| run.status(rt, venue).ok(), errors);
+        self.watches.look_at_gaps(
             ms,
             |venue| run.status(rt, venue).ok(),
             |venue, number| run.skip_to(rt, venue, number).is_ok(),
             errors,
         );
+        let progress = RunProgress {
+            elapsed_ms: ms,
+            changes: self.console.changes,
+        };
+        self.watches
+            .serve_metrics(progress, |venue| run.status(rt, venue).ok());
     }
 
     /// Says what is new of the lines.
@@ -172,8 +178,9 @@ impl<C: Clock + Drop, W: TextOut + Drop, E: TextOut + Drop> RunMonitor<C, W, E> 
             (watched_run self.old.watches) self.old.console.errors self.new.console.errors }
     {
         self.statuses = self.watches.statuses(|venue| run.status(rt, venue).ok());
+        let moment = self.time.moment();
         self.watches
-            .write_end(&self.statuses, &mut self.console.errors);
+            .write_end(moment, &self.statuses, &mut self.console.errors);
     }
 
     /// Attends the run until it is over and all that its subscriber is offered was taken.

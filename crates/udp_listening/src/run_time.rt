@@ -3,6 +3,7 @@
 use crate::input_end::InputEnd;
 use crate::udp_line::millis;
 use run_settings::ListenSettings;
+use run_watches::Moment;
 use std::io::Stdin;
 use std::time::{Clock, Duration};
 
@@ -54,6 +55,14 @@ impl<C: Clock> RunTime<C> {
     /// The milliseconds that have passed.
     pub fn passed_ms(&self) -> u64 {
         self.passed_ms
+    }
+
+    /// This moment of the run.
+    pub fn moment(&self) -> Moment {
+        Moment {
+            elapsed_ms: self.passed_ms,
+            since_1970: self.clock.since_1970().ok(),
+        }
     }
 
     /// Whether the run is to end now.

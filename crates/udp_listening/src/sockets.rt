@@ -6,7 +6,6 @@ ghost use Rattle.udp_listening.specs.Sockets.{bind_fault_text};
 
 use crate::listen::NO_MEMORY;
 use feed_text::{TextOut, write_stderr};
-use run_settings::{EndRule, ListenSettings};
 use std::alloc::{AllocError, Global};
 use std::net::{Net, SocketAddr, UdpSocket};
 
@@ -39,15 +38,6 @@ pub fn bind_sockets<R: Net>(
         }
     }
     Ok(sockets)
-}
-
-/// Whether the settings have an option beside those that say what is listened to and where requests
-/// go: who gives one is told more.
-pub fn has_further_options(settings: &ListenSettings) -> bool {
-    let ends = settings.seconds.is_some() || settings.until_input_ends;
-    let gives_up = settings.join || settings.skip_after.is_some();
-    let prints = settings.follow || settings.stats.is_some();
-    ends || gives_up || prints || settings.buffer.is_some() || settings.end != EndRule::AnySession
 }
 
 /// The line about the fault, without the address.

@@ -1,14 +1,14 @@
 //! The sources of a feed's lines.
 ghost use Rattle.std.specs.Prelude.{◌≡◌, ◌/◌, ◌<◌, IfOk, length, map, take, vec_len};
 ghost use Rattle.udp_listening.specs.Reports.{task_line};
-ghost use Rattle.udp_listening.specs.RunLines.{line_at, listened_lines, watched_lines};
+ghost use Rattle.run_watches.specs.RunLines.{line_at, listened_lines, watched_lines};
 ghost use Rattle.udp_listening.specs.Settings.{IsSourceOf};
 
-use crate::line_watch::{LineWatch, LineWatches};
 use crate::udp_line::{UdpLine, UdpLineSettings};
 use feed_types::{LineId, VenueId};
 use live_feed::{LineSource, LineTask};
 use run_settings::ListenSettings;
+use run_watches::{LineWatch, LineWatches};
 use std::alloc::{AllocError, Global};
 use std::net::UdpSocket;
 use std::rt::Clock;
@@ -38,6 +38,7 @@ fn source_at<C: Clock + Drop>(
         datagrams: settings.datagrams,
         seconds: settings.seconds,
         requests_to: settings.request,
+        senders: settings.from.copied(alloc)?,
     };
     UdpLine::new(alloc, of_line, socket, clock)
 }

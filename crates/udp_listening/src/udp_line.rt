@@ -3,14 +3,15 @@ ghost use Rattle.std.specs.Prelude.{◌≡◌, ◌+◌, ◌*◌, ◌/◌, ◌-�
 ghost use Rattle.std.specs.Duration.{as_nanos};
 ghost use Rattle.live_feed.specs.venue.Datagrams.{bytes_of};
 ghost use Rattle.live_feed.specs.run.Runs.{failures_after};
+ghost use Rattle.run_settings.specs.Senders.{senders_of};
 ghost use Rattle.udp_listening.specs.UdpLines.{EndsLine, IsLast, IsOver, SpellsEndOf, failures_of, is_none_left, is_read_out};
 
-use crate::datagram_in::try_receive;
-use crate::line_progress::LineProgress;
+use crate::datagram_in::{LineSocket, Received};
 use feed_types::{Anything, VenueId};
 use live_feed::{Datagram, LineSource, SourceFault};
 use mold_packet::{Kind, Request, one_reading, read_packet, write_request};
-use run_settings::EndRule;
+use run_settings::{EndRule, Senders};
+use run_watches::LineProgress;
 use std::alloc::{AllocError, Global};
 use std::io::ErrorKind;
 use std::marker::Model;
@@ -31,7 +32,7 @@ const MAX_TURNS: u32 = 1_000_000;
 const WAIT_MS: u64 = 100;
 
 /// What a line is made for.
-#[derive(Clone, Copy, Debug, PartialEq, Eq)]
+#[derive(Debug, Drop)]
 pub struct UdpLineSettings {
     /// The venue whose datagrams it brings.
     pub venue: VenueId,
@@ -45,6 +46,8 @@ pub struct UdpLineSettings {
     pub seconds: Option<u32>,
     /// Where its requests go. Where there is no such address they are dropped.
     pub requests_to: Option<SocketAddr>,
+    /// The senders whose datagrams it brings.
+    pub senders: Senders,
 }
 
 /// A line of a venue that is received by UDP. It ends after as many datagrams or seconds as it was
@@ -57,7 +60,7 @@ pub struct UdpLine<C> {
     line_venue: VenueId,
     own_session: [u8; 10],
     end_rule: EndRule,
-    socket: UdpSocket,
+    line_socket: LineSocket<UdpSocket>,
     requests_to: Option<SocketAddr>,
     progress: LineProgress,
     clock: C,
@@ -74,6 +77,7 @@ pub struct UdpLine<C> {
 }
 
 impl<C> Model for UdpLine<C> {
+    ghost use Rattle.run_settings.specs.Senders.{senders_of};
     ghost use Rattle.udp_listening.specs.UdpLines.{UdpLineState};
 
     ghost Value = { UdpLineState };
@@ -82,6 +86,7 @@ impl<C> Model for UdpLine<C> {
       venue = l.line_venue;
       session = l.own_session;
       rule = l.end_rule;
+      senders = senders_of l.line_socket.senders;
       left = l.to_read;
       failed = l.broken;
       ended = l.at_end;
@@ -131,8 +136,8 @@ fn is_last(rule: EndRule, session: [u8; 10], ended: Option<[u8; 10]>) -> bool
     }
 }
 
-/// The moment of the clock so many seconds from now; None where there is no such number, or where
-/// the clock can't be read.
+/// The moment of the clock `seconds` seconds from now, in milliseconds; None where there is no such
+/// number, or where the clock can't be read.
 fn deadline_of<C: Clock>(clock: &C, seconds: Option<u32>) -> Option<u64> {
     match (seconds, clock.monotonic()) {
         (Some(seconds), Ok(now)) => Some(millis(now).saturating_add(u64::from(seconds) * 1_000)),
@@ -183,6 +188,7 @@ impl<C: Clock + Drop> UdpLine<C> {
         ensures venue { IfOk result (λ line. line.venue ≡ settings.venue) }
         ensures session { IfOk result (λ line. line.session ≡ settings.session) }
         ensures rule { IfOk result (λ line. line.rule ≡ settings.end) }
+        ensures senders { IfOk result (λ line. line.senders ≡ senders_of settings.senders) }
         ensures left { IfOk result (λ line. line.left ≡ settings.datagrams) }
         ensures whole { IfOk result (λ line. line.failed ≡ false) }
         ensures unended { IfOk result (λ line. line.ended ≡ false) }
@@ -193,7 +199,10 @@ impl<C: Clock + Drop> UdpLine<C> {
             line_venue: settings.venue,
             own_session: settings.session,
             end_rule: settings.end,
-            socket,
+            line_socket: LineSocket {
+                socket,
+                senders: settings.senders,
+            },
             requests_to: settings.requests_to,
             progress: LineProgress::new(alloc)?,
             clock,
@@ -246,7 +255,15 @@ impl<C: Drop> UdpLine<C> {
             return true;
         }
         let buffer = self.buffer.as_mut_slice();
-        self.received = try_receive(self.alloc, &mut self.socket, buffer);
+        self.received = match self.line_socket.try_receive(self.alloc, buffer) {
+            Received::Taken(datagram) => Some(Ok(datagram)),
+            Received::Failed(fault) => Some(Err(fault)),
+            Received::Foreign => {
+                self.progress.count_foreign();
+                None
+            }
+            Received::NoneYet => None,
+        };
         self.received.is_some()
     }
 
@@ -324,6 +341,7 @@ impl<C: Drop> UdpLine<C> {
         ensures venue { self.new.venue ≡ self.old.venue }
         ensures session { self.new.session ≡ self.old.session }
         ensures rule { self.new.rule ≡ self.old.rule }
+        ensures senders { self.new.senders ≡ self.old.senders }
         ensures ended_by { OnErr result (self.new.ended ≡ self.old.ended) }
         ensures sound { IfOk result
             (λ _. failures_of self.new.failed ≡ failures_of self.old.failed) }
@@ -406,7 +424,7 @@ impl<C: Clock + Drop> LineSource<Anything> for UdpLine<C> {
         if self.broken || write_request(request, &mut bytes).is_err() {
             return Ok(());
         }
-        if has_sent(&self.socket, &bytes, to) {
+        if has_sent(&self.line_socket.socket, &bytes, to) {
             self.progress.count_sent();
         } else {
             self.progress.count_unsent();

@@ -1,14 +1,14 @@
-use Rattle.std.proofs.Common.{[], ◌≡◌, ◌∙◌, Err, ap, length, map, subst, sym, take}
+use Rattle.std.proofs.Common.{[], ◌≡◌, ◌∙◌, Err, ap, length, map, refl, subst, sym, take}
 use Rattle.std.specs.Prelude.{is_some}
 use Rattle.feed_text.specs.Devices.{Writing}
 use Rattle.udp_listening.specs.Listening.{IsUnprinted, ListensToEnd}
 use Rattle.udp_listening.specs.Reports.{task_line}
-use Rattle.udp_listening.specs.RunLines.{listened_lines, listened_run, skipping_venues, watched_run, watched_venues}
-use Rattle.udp_listening.specs.RunNews.{SaysOfRun}
+use Rattle.run_watches.specs.RunLines.{listened_lines, listened_run, told_gaps, watched_gaps, watched_run}
+use Rattle.run_watches.specs.RunNews.{SaysOfRun}
 use Rattle.udp_listening.specs.declared.console.Console.{Console}
 use Rattle.udp_listening.specs.declared.listening.ListenFault.TheVariants.{NoMemory}
 use Rattle.udp_listening.proofs.Monitored.{listened_if_run}
-use Rattle.udp_listening.proofs.RunTelling.{nothing_of_run}
+use Rattle.run_watches.specs.RunNewsLaws.{nothing_of_run}
 use Rattle.udp_listening.proofs.Wholes.{listened}
 use Rattle.udp_listening.proofs.listen.listen_with.Goals as goal
 
@@ -32,10 +32,10 @@ returns-in_default g c =
       failures = g.E.TextOut.failures;
     } in
     let console = c.new-console.result in
-    let ended = c.print_end-status in
+    let printed = c.print_end-status in
     let output : console.output ≡ c.args.output = ap (λ d. d.output) c.new-console.ensures.console
     in
-    let run = listened_run c.args.settings.now (length c.args.sockets.items) in
+    let run = listened_run c.args.settings.now (length c.args.sockets.lines.items) in
     record {
       outcome = Err NoMemory;
       listened = tt;
@@ -44,13 +44,16 @@ returns-in_default g c =
           subst (λ (said : g.row.E.Denot). SaysOfRun telling run c.args.errors said)
           (sym (ap (λ d. d.errors) c.new-console.ensures.console))
           (nothing_of_run telling run c.args.errors);
+      ended = printed.result;
       ends =
           subst (λ (first : g.row.W.Denot). ListensToEnd writing telling (Err NoMemory) first
-          ended.new.console.output console.errors ended.new.console.errors ended.result) output
+          printed.new.console.output console.errors printed.new.console.errors printed.result)
+          output
           (listened writing telling g.met.W.TextOut.adds_more (Err NoMemory) console.live_output
-          console.output console.output ended.new.console.output console.errors
-          ended.new.console.errors ended.result
-          ([], 0, c.new-console.ensures.unprinted []) ended.ensures);
+          console.output console.output printed.new.console.output console.errors
+          printed.new.console.errors printed.result
+          ([], 0, c.new-console.ensures.unprinted []) printed.ensures);
+      status_is = refl;
     }
 
 pub returns : goal.returns
@@ -64,29 +67,29 @@ returns g c =
       failures = g.E.TextOut.failures;
     } in
     let settings = c.args.settings.now in
-    let sockets = length c.args.sockets.items in
+    let sockets = length c.args.sockets.lines.items in
     let made = c.in-Ok-Ok-Ok-Ok in
     let monitor = c.new-monitor.result in
     let ran = c.run_feed-outcome in
     let outcome = ran.result.outcome in
     let console = ran.result.console in
-    let ended = c.print_end-status-2 in
+    let printed = c.print_end-ended in
     let new = c.new-monitor.ensures.console ∙ c.new-console.ensures.console in
     let lines = take sockets (listened_lines settings) in
     let run : watched_run monitor.watches ≡ listened_run settings sockets =
     ap (λ w. watched_run w) c.new-monitor.ensures.watches ∙ c.new-watches.ensures
     ∙ ap (λ first. record {
       lines = first;
-      venues = watched_venues made.gaps;
-      counted = is_some c.of-2.result;
+      gaps = watched_gaps made.gaps;
+      counted = is_some c.of-counts.result;
     }) made.ensures'.watches
-    ∙ ap (λ venues. record { lines = lines; venues = venues; counted = is_some c.of-2.result })
+    ∙ ap (λ gaps. record { lines = lines; gaps = gaps; counted = is_some c.of-counts.result })
     made.ensures''
     ∙ ap (λ counted. record {
       lines = lines;
-      venues = skipping_venues settings;
+      gaps = told_gaps settings;
       counted = counted;
-    }) c.of-2.ensures in
+    }) c.of-counts.ensures in
     record {
       outcome = outcome;
       listened =
@@ -98,11 +101,13 @@ returns g c =
           console.errors) (ap (λ k. k.errors) new)
           (subst (λ watched. SaysOfRun telling watched monitor.console.errors console.errors) run
           ran.ensures.says);
+      ended = printed.result;
       ends =
           subst (λ (first : g.row.W.Denot). ListensToEnd writing telling outcome first
-          ended.new.console.output console.errors ended.new.console.errors ended.result)
+          printed.new.console.output console.errors printed.new.console.errors printed.result)
           (ap (λ k. k.output) new)
           (listened writing telling g.met.W.TextOut.adds_more outcome console.live_output
-          monitor.console.output console.output ended.new.console.output console.errors
-          ended.new.console.errors ended.result ran.ensures.listened ended.ensures);
+          monitor.console.output console.output printed.new.console.output console.errors
+          printed.new.console.errors printed.result ran.ensures.listened printed.ensures);
+      status_is = c.complete_status-status.ensures;
     }

@@ -6,7 +6,7 @@ use Rattle.std.proofs.lemmas.List.{length-take, length_push}
 use Rattle.std.proofs.lemmas.List.FromFn.{length-enumerate_from}
 use Rattle.std.specs.Prelude.{take}
 use Rattle.udp_listening.specs.Reports.{task_line}
-use Rattle.udp_listening.specs.RunLines.{listened_line, watched, watched_lines}
+use Rattle.run_watches.specs.RunLines.{listened_line, watched, watched_lines}
 use Rattle.udp_listening.proofs.Watching.{first_lines, more_listened, place_of}
 use Rattle.udp_listening.proofs.sources.lines_over.Goals as goal
 

@@ -1,7 +1,7 @@
 use Rattle.std.proofs.Common.{◌≡◌, length, map}
 use Rattle.std.specs.List.{range_with_len}
 use Rattle.udp_listening.specs.Reports.{task_line}
-use Rattle.udp_listening.specs.RunLines.{listened_line, watched}
+use Rattle.run_watches.specs.RunLines.{listened_line, watched}
 use Rattle.udp_listening.proofs.sources.lines_over.Given as goal
 
 abbrev pub invariant-loop-place : goal.invariant-loop-place

@@ -1,9 +1,9 @@
 use Rattle.std.proofs.Common.{◌≡◌, ◌∙◌, refl, subst, sym}
 use Rattle.feed_text.specs.Devices.{Writing}
-use Rattle.udp_listening.specs.RunLines.{WatchedRun, watched_run}
-use Rattle.udp_listening.specs.RunNews.{SaysOfRun, SaysRunEnd, SaysRunNews}
+use Rattle.run_watches.specs.RunLines.{WatchedRun, watched_run}
+use Rattle.run_watches.specs.RunNews.{SaysOfRun, SaysRunEnd, SaysRunNews}
 use Rattle.udp_listening.specs.declared.run_monitor.RunMonitor.{RunMonitor}
-use Rattle.udp_listening.proofs.RunTelling.{more_run_news, no_run_news}
+use Rattle.run_watches.specs.RunNewsLaws.{more_run_news, no_run_news}
 use Rattle.udp_listening.proofs.run_monitor.RunMonitor.follow_run.Goals.{in-None, in-Some+then-turn}
 use Rattle.udp_listening.proofs.run_monitor.RunMonitor.follow_run.Goals as goal
 

@@ -1,7 +1,7 @@
 use Rattle.std.proofs.Common.{◌≡◌}
 use Rattle.udp_listening.specs.Listening.{KeepsFollowing}
-use Rattle.udp_listening.specs.RunLines.{watched_run}
-use Rattle.udp_listening.specs.RunNews.{SaysRunNews}
+use Rattle.run_watches.specs.RunLines.{watched_run}
+use Rattle.run_watches.specs.RunNews.{SaysRunNews}
 use Rattle.udp_listening.proofs.run_monitor.RunMonitor.follow_run.Given as goal
 
 abbrev pub invariant-loop : goal.invariant-loop

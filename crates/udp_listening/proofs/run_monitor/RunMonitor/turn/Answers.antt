@@ -1,8 +1,8 @@
 use Rattle.std.proofs.Common.{◌∙◌, ap, subst}
 use Rattle.feed_text.specs.Devices.{Writing}
-use Rattle.udp_listening.specs.RunLines.{watched_run}
-use Rattle.udp_listening.specs.RunNews.{SaysRunNews}
-use Rattle.udp_listening.proofs.RunTelling.{more_run_news}
+use Rattle.run_watches.specs.RunLines.{watched_run}
+use Rattle.run_watches.specs.RunNews.{SaysRunNews}
+use Rattle.run_watches.specs.RunNewsLaws.{more_run_news}
 use Rattle.udp_listening.proofs.run_monitor.RunMonitor.turn.Goals as goal
 
 pub returns-clause-news : goal.returns-clause-news

@@ -1,7 +1,0 @@
-use Rattle.std.proofs.Common.{◌≡◌, map}
-use Rattle.std.specs.List.{range_with_len}
-use Rattle.udp_listening.specs.RunLines.{watched_venue}
-use Rattle.udp_listening.proofs.gap_watches.first_venues.Given as goal
-
-abbrev pub invariant-loop-place : goal.invariant-loop-place
-invariant-loop-place l = map watched_venue l.gaps.items ≡ range_with_len 0 l.place

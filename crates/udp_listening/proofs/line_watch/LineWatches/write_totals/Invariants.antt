@@ -1,9 +1,0 @@
-use Rattle.std.proofs.Common.{map, take}
-use Rattle.udp_listening.specs.News.{SaysTotals}
-use Rattle.udp_listening.specs.RunLines.{watched}
-use Rattle.udp_listening.proofs.line_watch.LineWatches.write_totals.Given as goal
-
-abbrev pub invariant-loop-line : goal.invariant-loop-line
-invariant-loop-line g l =
-    SaysTotals (record { adds = g.E.TextOut.adds; failures = g.E.TextOut.failures })
-    (map watched (take l.line-index l.line-items)) l.fn.errors l.errors

@@ -1,7 +1,0 @@
-use Rattle.udp_listening.specs.RunNews.{SaysCounts}
-use Rattle.udp_listening.proofs.listen_counts.ListenCounts.write_period.Given as goal
-
-abbrev pub invariant-loop-place : goal.invariant-loop-place
-invariant-loop-place g l =
-    SaysCounts (record { adds = g.E.TextOut.adds; failures = g.E.TextOut.failures }) l.fn.errors
-    l.errors
