@@ -1,7 +1,7 @@
-/* Makes a call of the system fail, which a sound system seldom does: recv, sendto, clock_gettime or
+/* Makes a call of the system fail, which a sound system seldom does: recvfrom, sendto, clock_gettime or
    pthread_create, as FAIL_CALL names it. The calls are counted from 1, and where FAIL_PORT is set, those alone whose socket
    has this local port. All from FAIL_FROM to FAIL_TO fail, with the error number in FAIL_ERRNO; all
-   others are made. A call of recv that brings nothing in time, before any other has brought something,
+   others are made. A call of recvfrom that brings nothing in time, before any other has brought something,
    isn't counted where the first one isn't to fail. Where FAILED names a file, it is made at a failure.
    Loaded by LD_PRELOAD in tests/listen. */
 #define _GNU_SOURCE
@@ -63,18 +63,18 @@ static int fails(const char *call, int file)
     return 1;
 }
 
-ssize_t recv(int file, void *buffer, size_t size, int flags)
+ssize_t recvfrom(int file, void *buffer, size_t size, int flags, struct sockaddr *from, socklen_t *length)
 {
-    static ssize_t (*next)(int, void *, size_t, int);
+    static ssize_t (*next)(int, void *, size_t, int, struct sockaddr *, socklen_t *);
     if (next == NULL)
-        next = (ssize_t (*)(int, void *, size_t, int))dlsym(RTLD_NEXT, "recv");
-    if (is_counted("recv", file) && number_in("FAIL_FROM") > 1 && __atomic_load_n(&calls, __ATOMIC_SEQ_CST) == 0) {
-        ssize_t count = next(file, buffer, size, flags);
+        next = (ssize_t (*)(int, void *, size_t, int, struct sockaddr *, socklen_t *))dlsym(RTLD_NEXT, "recvfrom");
+    if (is_counted("recvfrom", file) && number_in("FAIL_FROM") > 1 && __atomic_load_n(&calls, __ATOMIC_SEQ_CST) == 0) {
+        ssize_t count = next(file, buffer, size, flags, from, length);
         if (count >= 0)
             __atomic_store_n(&calls, 1, __ATOMIC_SEQ_CST);
         return count;
     }
-    return fails("recv", file) ? -1 : next(file, buffer, size, flags);
+    return fails("recvfrom", file) ? -1 : next(file, buffer, size, flags, from, length);
 }
 
 ssize_t sendto(int file, const void *bytes, size_t size, int flags, const struct sockaddr *to, socklen_t length)
