@@ -137,13 +137,26 @@ impl<G: Genuine> Arbiter<G> {
         self.earlier_names.len() as u64 + 1
     }
 
+    /// Returns the item that is held at the number after the last one sent. Where all up to the
+    /// front was sent none is, and no place is looked at.
+    #[inline(always)]
+    fn first_held(&self) -> Option<Item>
+        ensures value { result ≡ held_at (held_of self.now) (self.now.sent + 1) }
+        ensures small { IsSome result → self.now.sent + 1 < 2 ^ 64 }
+    {
+        if self.run_to == self.held.base() {
+            return None;
+        }
+        self.held.first()
+    }
+
     /// Returns the item that is ready, if any.
     fn ready(&self) -> Option<Numbered>
         ensures value { result ≡ next_of self.now }
         ensures sound { IsSound self.now }
     {
         let sent = self.held.base();
-        if let Some(item) = self.held.first() {
+        if let Some(item) = self.first_held() {
             return Some(Numbered {
                 number: sent + 1,
                 item,

@@ -136,9 +136,31 @@ pub(crate) enum Intake {
     Holds(u16),
 }
 
+/// Holds the message at a number past all places. A quotation in the next place is written there
+/// field by field; anything else is rare.
+#[inline(never)]
+fn append(window: &mut Window, number: u64, message: &[u8])
+    requires past { window.old.base < number }
+    requires free { held_at window.old number ≡ None }
+    requires within { number ≤ window.old.base + window.old.width }
+    ensures after { (m : ℕ) → held_at window.new m
+        ≡ put_one window.old.base number (item_of message.now) (held_at window.old m) m }
+    ensures base { window.new.base ≡ window.old.base }
+    ensures width { window.new.width ≡ window.old.width }
+{
+    match read_item(message) {
+        Item::Quote(quote) if window.is_next_place(number) => {
+            window.hold(number, Item::Quote(quote));
+        }
+        _ => {
+            put(window, number, message);
+        }
+    }
+}
+
 /// Takes a packet of a single message: it is compared only where it can't be held.
-#[inline(always)]
-fn take_single(window: &mut Window, packet: &Packet<'_>) -> Intake
+#[inline(never)]
+fn take_among(window: &mut Window, packet: &Packet<'_>) -> Intake
     requires one { length packet.now.messages ≡ 1 }
     requires within { packet.now.number ≤ window.old.base + window.old.width }
     ensures { TakesAll window.old window.new packet.now result }
@@ -157,8 +179,25 @@ fn take_single(window: &mut Window, packet: &Packet<'_>) -> Intake
     }
 }
 
-/// Takes a packet of any number of messages: they are compared first.
+/// Takes a packet of a single message, which most often is past all places.
 #[inline(always)]
+fn take_single(window: &mut Window, packet: &Packet<'_>) -> Intake
+    requires one { length packet.now.messages ≡ 1 }
+    requires within { packet.now.number ≤ window.old.base + window.old.width }
+    ensures { TakesAll window.old window.new packet.now result }
+{
+    let number = packet.number();
+    if window.is_past_last(number)
+        && let Some(message) = packet.messages().next()
+    {
+        append(window, number, message);
+        return Intake::Holds(1);
+    }
+    take_among(window, packet)
+}
+
+/// Takes a packet of any number of messages: they are compared first.
+#[inline(never)]
 fn take_many(window: &mut Window, packet: &Packet<'_>) -> Intake
     requires { packet.now.number + length packet.now.messages
         ≤ window.old.base + window.old.width + 1 }

@@ -47,6 +47,18 @@ pub(crate) fn raised(known: u64, end: Option<u64>, to: u64) -> u64
     if end.is_some() { known } else { known.max(to) }
 }
 
+/// Returns the same answer. It comes from a call, through memory, which the answer to messages then
+/// doesn't go through.
+#[inline(always)]
+fn in_parts(answer: Result<Outcome, LineFault>) -> Result<Outcome, LineFault>
+    ensures { result ≡ answer }
+{
+    match answer {
+        Ok(outcome) => Ok(outcome),
+        Err(fault) => Err(fault),
+    }
+}
+
 impl<G: Genuine> Arbiter<G> {
     /// Returns the outcome of a packet of messages that were all sent or are held, as on the line
     /// that comes second. It changes nothing.
@@ -181,8 +193,8 @@ impl<G: Genuine> Arbiter<G> {
         }
         let answer = match packet.kind() {
             Kind::Messages => self.take_messages(line, packet),
-            Kind::Heartbeat => self.take_heartbeat(number),
-            Kind::End => self.take_end(number),
+            Kind::Heartbeat => in_parts(self.take_heartbeat(number)),
+            Kind::End => in_parts(self.take_end(number)),
         };
         // For the prover alone: what an arbiter keeps.
         let _held = &self.held;

@@ -1,7 +1,7 @@
 //! A window: the messages that were taken and not yet sent on, in a circular buffer of places by
 //! number, with a bitmap of the numbers that are held beside it.
 
-ghost use Rattle.std.specs.Prelude.{◌≡◌, ℕ, ◌+◌, ◌-◌, ◌^◌, ◌<◌, ◌≤◌, ◌++◌, ◌∷◌, [], ◌⊎◌, None, Some, length, min, replicate, slice_set, nat_eq, if◌then◌else◌, IfOk, IsSome, MatchBool, is_some};
+ghost use Rattle.std.specs.Prelude.{◌≡◌, ℕ, ◌+◌, ◌-◌, ◌^◌, ◌<◌, ◌≤◌, ◌++◌, ◌∷◌, [], ◌⊎◌, None, Some, length, min, replicate, slice_set, nat_eq, if◌then◌else◌, IfOk, IsSome, IsTrue, MatchBool, is_some};
 ghost use Rattle.std.specs.Option.{option_and_then, option_copied};
 ghost use Rattle.line_arbiter.specs.Holding.{held_at, IsEmpty};
 ghost use Rattle.line_arbiter.specs.Filling.{count_held, put_at, put_one, IsNextHeld};
@@ -211,6 +211,16 @@ impl Window {
         !self.places.is_empty() && number <= self.last()
     }
 
+    /// Returns whether the number is past all places, so that nothing is held at it.
+    #[inline(always)]
+    #[tactic(auto, using(crate::proofs::Windows::above_last))]
+    pub(crate) fn is_past_last(&self, number: u64) -> bool
+        ensures past { IsTrue result → self.now.base < number }
+        ensures free { IsTrue result → held_at self.now number ≡ None }
+    {
+        number > self.last()
+    }
+
     /// Returns whether an item is held below the number.
     pub(crate) fn holds_below(&self, number: u64) -> bool
         ensures { MatchBool result ((m : ℕ) × (m < number) × IsSome (held_at self.now m))
@@ -230,6 +240,16 @@ impl Window {
             ((number ≤ self.now.base) ⊎ IsSome (held_at self.now number)) }
     {
         number > self.base_number && !has_mark(self.marks.as_slice(), number)
+    }
+
+    /// Returns whether the number's place is the one after the last.
+    #[inline(always)]
+    pub(crate) fn is_next_place(&self, number: u64) -> bool
+        requires { self.now.base < number }
+        ensures { IsTrue result → number ≡ self.now.base + length self.now.places + 1 }
+    {
+        let place = (number - self.base_number - 1) as usize;
+        place == self.places.len()
     }
 
     /// Holds the item at a number that is free.
@@ -297,7 +317,9 @@ impl Window {
     }
 
     /// Returns the last number of the run of held numbers that goes on past `front`; `front` itself
-    /// where the next number isn't held.
+    /// where the next number isn't held. It is a call of its own, as `first_after` is, so that the
+    /// way of a packet that leaves a gap is short.
+    #[inline(never)]
     pub(crate) fn run_end(&self, front: u64) -> u64
         ensures from { front ≤ result }
         ensures run { (m : ℕ) → front < m → m ≤ result → IsSome (held_at self.now m) }
@@ -321,6 +343,7 @@ impl Window {
     }
 
     /// Returns the lowest number past `front` that is held, if any.
+    #[inline(never)]
     pub(crate) fn first_after(&self, front: u64) -> Option<u64>
         requires { self.now.base ≤ front }
         ensures { IsNextHeld self.now front result }

@@ -7,7 +7,9 @@ use Rattle.std.proofs.lemmas.Bool.{and_parts, false≢true}
 use Rattle.feed_types.specs.declared.item.Item.{Item}
 use Rattle.feed_types.specs.declared.item.Item.TheVariants as items
 use Rattle.feed_types.specs.Sequence.{MayCarry}
-use Rattle.line_arbiter.specs.Packets.{Input, Arrived, Skip, brings, carried, end_of, has_number, is_ended, is_ending, is_taken, item_at, item_brought, number_by}
+use Rattle.line_arbiter.specs.Packets.{Input, Arrived, Skip, brings, carried, end_of}
+use Rattle.line_arbiter.specs.Packets.{has_number, is_ended, is_ending, is_taken}
+use Rattle.line_arbiter.specs.Packets.{item_at, item_brought, number_by}
 use Rattle.line_arbiter.specs.Genuine.{AreGenuine}
 use Rattle.quote_payload.specs.ItemLaws.{item_of-never_end}
 

@@ -11,7 +11,8 @@ use Rattle.feed_types.specs.declared.item.Item.{Item}
 use Rattle.feed_types.specs.declared.item.Item.TheVariants as items
 use Rattle.feed_types.specs.declared.item.Numbered.{Numbered}
 use Rattle.feed_types.specs.Sessions.{Session, IsSessionAt, IsItemAt, Names, numbered_from}
-use Rattle.line_arbiter.specs.Packets.{Input, Arrived, Skip, brings, carried, end_of, first_by, first_of, item_at, item_brought}
+use Rattle.line_arbiter.specs.Packets.{Input, Arrived, Skip, brings, carried, end_of}
+use Rattle.line_arbiter.specs.Packets.{first_by, first_of, item_at, item_brought}
 use Rattle.line_arbiter.specs.Streams.{front_of, end_at, item_in, item_numbered, opens_of, part_of}
 use Rattle.line_arbiter.specs.Genuine.{AreGenuine}
 use Rattle.line_arbiter.specs.OfSession.{SkipsWithin, opening, session_stream}
