@@ -28,9 +28,9 @@ fn push_notice(notices: &mut Vec<Notice>, number: u64, change: &Change)
     });
 }
 
-/// Appends the changes under their numbers. There is room for them.
-#[inline(always)]
-pub(crate) fn push_notices(notices: &mut Vec<Notice>, latest: EntryChanges<'_>)
+/// Appends any changes under their numbers. There is room for them.
+#[inline(never)]
+fn push_each(notices: &mut Vec<Notice>, latest: EntryChanges<'_>)
     requires room { vec_len notices.old + length latest.changes.now ≤ vec_capacity notices.old }
     requires numbers { latest.first + length latest.changes.now ≤ 18446744073709551615 }
     ensures items { notices.new.items
@@ -41,5 +41,22 @@ pub(crate) fn push_notices(notices: &mut Vec<Notice>, latest: EntryChanges<'_>)
     for change in latest.changes {
         push_notice(notices, number, change);
         number += 1;
+    }
+}
+
+/// Appends the changes under their numbers. There is room for them. Most often there is one, or
+/// none.
+#[inline(always)]
+pub(crate) fn push_notices(notices: &mut Vec<Notice>, latest: EntryChanges<'_>)
+    requires room { vec_len notices.old + length latest.changes.now ≤ vec_capacity notices.old }
+    requires numbers { latest.first + length latest.changes.now ≤ 18446744073709551615 }
+    ensures items { notices.new.items
+        ≡ notices.old.items ++ notices_from latest.entry.first latest.entry.changes.now }
+    ensures capacity { vec_capacity notices.new ≡ vec_capacity notices.old }
+{
+    match latest.changes {
+        [change] => push_notice(notices, latest.first, change),
+        [] => {}
+        _ => push_each(notices, latest),
     }
 }

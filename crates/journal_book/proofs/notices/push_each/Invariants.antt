@@ -1,7 +1,7 @@
 use Rattle.std.proofs.Common.{◌≡◌, ◌++◌, ◌+◌, drop, vec_len}
 use Rattle.std.specs.Vec.{vec_capacity}
 use Rattle.journal_book.specs.Changes.{notices_from}
-use Rattle.journal_book.proofs.notices.push_notices.Given as goal
+use Rattle.journal_book.proofs.notices.push_each.Given as goal
 
 abbrev pub invariant-loop-change : goal.invariant-loop-change
 invariant-loop-change l = record {
