@@ -1,12 +1,12 @@
 //! How far a capture was read.
-ghost use Rattle.std.specs.Prelude.{◌≡◌};
+ghost use Rattle.std.specs.Prelude.{◌≡◌, Some, length};
 ghost use Rattle.packet_capture.specs.Captures.{piece_of};
-ghost use Rattle.packet_capture.specs.Frames.{frame_of};
-ghost use Rattle.line_captures.specs.Counts.{is_empty, new_progress, piece_after, timed_after};
+ghost use Rattle.packet_capture.specs.Frames.{FrameContent};
+ghost use Rattle.line_captures.specs.Counts.{new_progress, piece_after, second_after, timed_after};
 
 use crate::drop_counts::DropCounts;
 use crate::frame_counts::FrameCounts;
-use packet_capture::{Frame, Piece};
+use packet_capture::Piece;
 
 /// How far a capture was read.
 #[derive(Clone, Copy, Debug, PartialEq, Eq)]
@@ -20,14 +20,6 @@ pub(crate) struct Progress {
     pub(crate) last_time: u64,
     pub(crate) counts: FrameCounts,
     pub(crate) drops: DropCounts,
-}
-
-/// Whether the frame has no byte and had none on the wire.
-#[inline(always)]
-fn is_empty(frame: &Frame<'_>) -> bool
-    ensures { result ≡ is_empty (frame_of frame.now) }
-{
-    frame.bytes.len() == 0 && frame.wire_len == 0
 }
 
 impl Progress {
@@ -44,6 +36,22 @@ impl Progress {
         }
     }
 
+    /// Takes a frame without a byte, of this length on the wire: a second capture may begin there.
+    // A call of its own, so that a frame with bytes, as nearly all are, costs one comparison.
+    #[cold]
+    #[inline(never)]
+    fn add_empty(&mut self, wire_len: u32)
+        ensures { (frame : FrameContent) → length frame.bytes ≡ 0 → frame.wire_len ≡ wire_len
+            → self.new ≡ record self.old {
+              second_start =
+                  second_after self.old.second_start self.old.position (Some frame);
+            } }
+    {
+        if wire_len == 0 && self.second_start.is_none() {
+            self.second_start = Some(self.position);
+        }
+    }
+
     /// Counts the bytes of a piece, and takes what it says of dropped frames, and whether it seems
     /// to be where a second capture begins.
     #[inline(always)]
@@ -52,8 +60,8 @@ impl Progress {
     {
         self.drops.add(piece.dropped);
         if let Some(frame) = &piece.frame {
-            if is_empty(frame) && self.second_start.is_none() {
-                self.second_start = Some(self.position);
+            if frame.bytes.len() == 0 {
+                self.add_empty(frame.wire_len);
             }
         }
         self.position = self.position.saturating_add(piece.len as u64);

@@ -1,5 +1,5 @@
 -- The contents of blocks: draft-ietf-opsawg-pcapng, sections 4.1 to 4.4 and appendix A.
-use Rattle.std.specs.Prelude.{◌≡◌, ℕ, ◌+◌, ◌*◌, ◌<◌, ◌≤◌, ◌==◌, ◌⊎◌, List, length, min, Option, Some, None, slice_get, if◌then◌else◌}
+use Rattle.std.specs.Prelude.{◌≡◌, ℕ, ◌+◌, ◌*◌, ◌/◌, ◌<◌, ◌≤◌, ◌==◌, ◌⊎◌, List, length, min, Option, Some, None, slice_get, if◌then◌else◌}
 use Rattle.packet_capture.specs.declared.fields.ByteOrder.{ByteOrder}
 use Rattle.packet_capture.specs.declared.fault.CaptureFault.{CaptureFault}
 use Rattle.packet_capture.specs.declared.fault.CaptureFault.TheVariants.{UnknownVersion, ShortBlock, UnknownInterface, FramePastBlock, OptionPastBlock}
@@ -118,6 +118,11 @@ pub record HasFrame (interfaces : List Interface) (order : ByteOrder) (block : L
   pub interface_is : slice_get interfaces (interface_in kind order block) ≡ Some interface
   pub whole : fixed_len kind + captured_in kind order interface block ≤ length block
   pub is : frame ≡ frame_in kind order interface block
+
+-- an enhanced packet's block is as long as its fields and its frame, which is filled up to four
+-- bytes: it has no option. Only private clauses cite this.
+abbrev pub HasNoOption : ByteOrder → List ℕ → Type 0
+HasNoOption order block = length block ≡ 32 + (u32_in order block 20 + 3) / 4 * 4
 
 -- the meaning of a block
 pub data BlockEvent : Type 0 where

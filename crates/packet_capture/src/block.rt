@@ -1,10 +1,12 @@
 //! The blocks of a pcapng file, whatever their content.
-ghost use Rattle.std.specs.Prelude.{◌≡◌, ◌≤◌, IfOk, IfErr, ◌-◌, length, take};
+ghost use Rattle.std.specs.Prelude.{◌≡◌, ◌≤◌, IfSome, IfOk, IfErr, ◌-◌, length, take};
 ghost use Rattle.packet_capture.specs.Fields.{u32_in};
 ghost use Rattle.packet_capture.specs.declared.fields.ByteOrder.{ByteOrder};
 ghost use Rattle.packet_capture.specs.Blocks.{order_at, BeginsSection, IsBlockLen, IsBlock};
+ghost use Rattle.packet_capture.specs.Contents.{HasNoOption};
 ghost use Rattle.packet_capture.specs.Stops.{StopsInLen, StopsInBlock};
 
+use crate::content::ENHANCED_PACKET;
 use crate::fault::CaptureFault;
 use crate::fields::{ByteOrder, read_u32};
 use crate::savefile::LONGEST;
@@ -85,6 +87,37 @@ fn read_len(order: ByteOrder, bytes: &[u8]) -> Result<&[u8], Stop>
         return Err(Stop::Bad(CaptureFault::LengthsDiffer));
     }
     Ok(&bytes[..end])
+}
+
+/// The number of bytes of an enhanced packet's block beside its frame.
+const BESIDE_FRAME: usize = 32;
+
+/// Returns the block at the front where it is a whole one, of an enhanced packet with no room for
+/// an option, as nearly all blocks are.
+#[inline(always)]
+pub(crate) fn read_plain_block(section: ByteOrder, bytes: &[u8]) -> Option<Block<'_>>
+    ensures block { IfSome result (λ b. IsBlock section bytes.now b.order b.bytes.now) }
+    ensures room { IfSome result (λ b. HasNoOption b.order b.bytes.now) }
+{
+    // The type is looked at first: no section's header stands there then, so that the order of the
+    // block's numbers is known.
+    if bytes.len() < BLOCK_FRONT || read_u32(section, bytes, 0) != ENHANCED_PACKET {
+        return None;
+    }
+    let order = order_at(section, bytes)?;
+    let len = read_u32(order, bytes, 4) as usize;
+    if len < BESIDE_FRAME || len > LONGEST as usize || bytes.len() < len {
+        return None;
+    }
+    let block = &bytes[..len];
+    let frame = (read_u32(order, block, 20) as usize + 3) / 4 * 4;
+    if len != BESIDE_FRAME + frame || read_u32(order, bytes, len - 4) as usize != len {
+        return None;
+    }
+    Some(Block {
+        order,
+        bytes: block,
+    })
 }
 
 /// Returns the block at the front, in a section of this order.

@@ -4,7 +4,7 @@ ghost use Rattle.packet_capture.specs.declared.drop_report.DropReport.TheVariant
 ghost use Rattle.packet_capture.specs.Fields.{u32_in};
 ghost use Rattle.packet_capture.specs.Frames.{frame_of};
 ghost use Rattle.packet_capture.specs.DropReports.{report_of};
-ghost use Rattle.packet_capture.specs.Contents.{kind_of, block_kind, fixed_len, IsPacketKind, IsSectionVersion, interface_in, wire_len_in, up_to_limit, captured_in, frame_start, time_in, frame_in, HasFrame, BlockSays, block_event_of, HasBlockFault};
+ghost use Rattle.packet_capture.specs.Contents.{kind_of, block_kind, fixed_len, IsPacketKind, IsSectionVersion, interface_in, wire_len_in, up_to_limit, captured_in, frame_start, time_in, frame_in, HasFrame, HasNoOption, BlockSays, block_event_of, HasBlockFault};
 
 use crate::block::{Block, SECTION_HEADER};
 use crate::fault::CaptureFault;
@@ -226,32 +226,34 @@ pub(crate) fn read_content<'a>(
     }
 }
 
-/// The number of bytes of an enhanced packet's block beside its frame, and an option at least.
-const WITH_AN_OPTION: usize = 36;
-
-/// The frame of an enhanced packet's block, or `None` where it has a fault, or room for an option.
+/// The frame of an enhanced packet's block with no room for an option, or `None` where its
+/// interface isn't described.
 #[inline(always)]
 fn read_without_option<'a>(
     interfaces: &[Interface],
     order: ByteOrder,
     bytes: &'a [u8],
 ) -> Option<Frame<'a>>
-    requires least { 12 ≤ length bytes.now }
+    requires room { HasNoOption order bytes.now }
     requires kind { BlockKind.Enhanced ≡ block_kind order bytes.now }
     ensures frame { IfSome result (λ f. HasFrame interfaces.now order bytes.now (frame_of f)) }
     ensures silent { IfSome result (λ f. report_of order bytes.now ≡ Silent) }
 {
-    match read_frame(BlockKind::Enhanced, interfaces, order, bytes) {
-        Ok(frame) if bytes.len() < WITH_AN_OPTION + frame.bytes.len() => Some(frame),
-        _ => None,
-    }
+    let interface = interfaces.get(interface_in(BlockKind::Enhanced, order, bytes))?;
+    let captured = captured_in(BlockKind::Enhanced, order, interface, bytes) as usize;
+    Some(Frame {
+        time: time_in(BlockKind::Enhanced, order, interface, bytes),
+        link: interface.link,
+        wire_len: wire_len_in(BlockKind::Enhanced, order, bytes),
+        bytes: &bytes[28..28 + captured],
+    })
 }
 
 /// Returns the frame of an enhanced packet's block with no room for an option, or `None` where it
-/// is another, or has a fault.
+/// is another, or its interface isn't described.
 #[inline(always)]
 pub(crate) fn read_enhanced<'a>(interfaces: &[Interface], block: Block<'a>) -> Option<Frame<'a>>
-    requires { 12 ≤ length block.bytes.now }
+    requires { HasNoOption block.order block.bytes.now }
     ensures frame { IfSome result
         (λ f. HasFrame interfaces.now block.entry.order block.entry.bytes.now (frame_of f)) }
     ensures silent { IfSome result

@@ -4,8 +4,8 @@ ghost use Rattle.packet_capture.specs.Datagrams.{CarriesDatagram, datagram_conte
 ghost use Rattle.packet_capture.specs.FrameFaults.{HasFrameFault};
 
 use crate::fault::FrameFault;
-use crate::link::{IpVersion, LinkType, plain_packet, read_link};
-use crate::packet::read_packet;
+use crate::link::{LinkType, plain_packet, read_link};
+use crate::packet::{read_packet, read_plain_packet};
 
 /// An IP address, with its bytes in the order of a packet.
 #[derive(Clone, Copy, Debug, PartialEq, Eq, Hash)]
@@ -55,9 +55,6 @@ pub fn read_datagram(link: u16, frame: &[u8]) -> Result<Datagram<'_>, FrameFault
     }
 }
 
-/// The first byte of an IPv4 header without options: its version, and its length in words.
-const PLAIN_HEADER: u8 = 0x45;
-
 /// Returns the UDP datagram that an Ethernet frame carries in IPv4, with no tag and no option
 /// before it, as the frames of most feeds do; and `None` of any other frame, which
 /// [`read_datagram`] may read.
@@ -67,12 +64,5 @@ pub fn read_plain_datagram(link: u16, frame: &[u8]) -> Option<Datagram<'_>>
     ensures short { IfSome result (λ d. length d.bytes.now ≤ 65527) }
 {
     let link = LinkType::from_number(link)?;
-    let packet = plain_packet(link, frame)?;
-    if packet.first() != Some(&PLAIN_HEADER) {
-        return None;
-    }
-    match read_packet(IpVersion::V4, packet) {
-        Ok(datagram) => Some(datagram),
-        Err(_) => None,
-    }
+    read_plain_packet(plain_packet(link, frame)?)
 }

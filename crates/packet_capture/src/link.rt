@@ -10,6 +10,7 @@ ghost use Rattle.packet_capture.specs.Links.{number_of, is_tag, by_ether_type, b
 
 use crate::fault::FrameFault;
 use crate::fields::{ByteOrder, read_u16, read_u32};
+use crate::packet::PLAIN_HEADERS;
 
 /// The link type of a frame: what is before its IP packet.
 #[derive(Clone, Copy, Debug, PartialEq, Eq, Hash)]
@@ -217,16 +218,22 @@ fn read_tagged(bare: TypedHeader, frame: &[u8]) -> Result<(IpVersion, &[u8]), Fr
     }
 }
 
-/// Whether an Ethernet frame carries an IPv4 packet, with no tag before its EtherType.
+/// The number of bytes of an Ethernet frame without tags up to a UDP datagram's content, where no
+/// option stands before it.
+const PLAIN_FRAME: usize = ETHERNET.len + PLAIN_HEADERS;
+
+/// Whether an Ethernet frame carries an IPv4 packet, with no tag before its EtherType, and has the
+/// bytes of a UDP datagram's headers.
 #[inline(always)]
 fn is_plain(frame: &[u8]) -> bool
     ensures there { result ≡ true → 14 ≤ length frame.now }
     ensures kind { result ≡ true → u16_in Big frame.now 12 ≡ 2048 }
 {
-    frame.len() >= 14 && read_u16(ByteOrder::Big, frame, 12) == 0x0800
+    frame.len() >= PLAIN_FRAME && read_u16(ByteOrder::Big, frame, 12) == 0x0800
 }
 
-/// Returns the packet of an Ethernet frame that carries IPv4 with no tag before its EtherType.
+/// Returns the packet of an Ethernet frame that carries IPv4 with no tag before its EtherType, if
+/// it has the bytes of a UDP datagram's headers.
 #[inline(always)]
 pub(crate) fn plain_packet(link: LinkType, frame: &[u8]) -> Option<&[u8]>
     ensures found { IfSome result (λ _. HasPacket link frame.now V4) }

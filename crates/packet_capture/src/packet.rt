@@ -1,6 +1,7 @@
 //! IP packets and the UDP datagrams in them.
-ghost use Rattle.std.specs.Prelude.{◌≡◌, ◌≤◌, ◌<◌, IfSome, IfNone, IfOk, IfErr, IsTrue, ◌↔◌, length};
+ghost use Rattle.std.specs.Prelude.{◌≡◌, ◌≤◌, ◌<◌, ◌/◌, None, true, IfSome, IfNone, IfOk, IfErr, IsTrue, ◌↔◌, length, slice_index};
 ghost use Rattle.packet_capture.specs.declared.fields.ByteOrder.TheVariants.{Big};
+ghost use Rattle.packet_capture.specs.declared.link.IpVersion.TheVariants.{V4};
 ghost use Rattle.packet_capture.specs.Fields.{u16_in};
 ghost use Rattle.packet_capture.specs.Packets.{IsIp, IsUdp, version_number, least_len, header_len, packet_len, obstacle_in, destination_in, segment_in, is_extension};
 ghost use Rattle.packet_capture.specs.Datagrams.{HasUdp, datagram_content, datagram_in};
@@ -131,6 +132,50 @@ fn udp_len(segment: &[u8]) -> Option<usize>
         return None;
     }
     Some(len)
+}
+
+/// The first byte of an IPv4 header without options: its version, and its length in words.
+const PLAIN_HEADER: u8 = 0x45;
+
+/// The number of bytes of an IPv4 header without options and of a UDP header.
+pub(crate) const PLAIN_HEADERS: usize = 28;
+
+/// Whether a packet of IPv4 has no options, is of UDP and no fragment, with all its headers there.
+#[inline(always)]
+fn is_plain(packet: &[u8]) -> bool
+    ensures there { result ≡ true → 28 ≤ length packet.now }
+    ensures number { result ≡ true → slice_index packet.now 0 / 16 ≡ 4 }
+    ensures header { result ≡ true → header_len V4 packet.now ≡ 20 }
+    ensures clear { result ≡ true → obstacle_in V4 packet.now ≡ None }
+{
+    packet.len() >= PLAIN_HEADERS
+        && packet[0] == PLAIN_HEADER
+        && packet[9] == 17
+        && read_u16(ByteOrder::Big, packet, 6) % 16384 == 0
+}
+
+/// Returns the datagram of a packet of IPv4 without options, or `None` where it has some, or no
+/// whole datagram.
+#[inline(always)]
+pub(crate) fn read_plain_packet(packet: &[u8]) -> Option<Datagram<'_>>
+    ensures whole { IfSome result (λ _. HasUdp V4 packet.now) }
+    ensures value { IfSome result (λ d. datagram_content d ≡ datagram_in V4 packet.now) }
+    ensures short { IfSome result (λ d. length d.bytes.now ≤ 65527) }
+{
+    if !is_plain(packet) {
+        return None;
+    }
+    let end = packet_len(IpVersion::V4, packet);
+    if end < PLAIN_HEADERS || packet.len() < end {
+        return None;
+    }
+    let udp = &packet[header_len(IpVersion::V4, packet)..end];
+    let len = udp_len(udp)?;
+    Some(Datagram {
+        address: destination_in(IpVersion::V4, packet),
+        port: read_u16(ByteOrder::Big, udp, 2),
+        bytes: &udp[8..len],
+    })
 }
 
 /// Returns the datagram of a packet of this version, or the first fault that fits.

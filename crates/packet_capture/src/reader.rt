@@ -5,8 +5,8 @@ ghost use Rattle.packet_capture.specs.Savefiles.{magic_at};
 ghost use Rattle.packet_capture.specs.Captures.{new_context, frame_in_piece, frame_in_event, interfaces_after, IsOneTooMany, piece_of, IsPiece, IsRecordPiece, IsHeaderPiece, IsBlockPiece, StopsReading, StopsInSection};
 ghost use Rattle.packet_capture.specs.Stops.{StopsInHeader, StopsInRecord};
 
-use crate::block::{BLOCK_FRONT, SECTION_HEADER, read_block};
-use crate::content::{BlockContent, ENHANCED_PACKET, read_content, read_enhanced};
+use crate::block::{SECTION_HEADER, read_block, read_plain_block};
+use crate::content::{BlockContent, read_content, read_enhanced};
 use crate::drop_report::{DropReport, read_report};
 use crate::fault::CaptureFault;
 use crate::fields::{ByteOrder, read_u32};
@@ -254,12 +254,7 @@ impl CaptureReader {
             IsBlockPiece section self.old bytes.now (piece_of p) self.new) }
         ensures kept { IfNone result (self.new ≡ self.old) }
     {
-        // The type is looked at first: no section's header stands there then, so that the order of
-        // the block's numbers is known.
-        if bytes.len() < BLOCK_FRONT || read_u32(section, bytes, 0) != ENHANCED_PACKET {
-            return None;
-        }
-        let Ok(block) = read_block(section, bytes) else {
+        let Some(block) = read_plain_block(section, bytes) else {
             return None;
         };
         match read_enhanced(self.interfaces.as_slice(), block) {
