@@ -1,4 +1,4 @@
-//! The faults of making a lane, and why nothing was received.
+//! The faults of making a lane.
 
 ghost use Rattle.std.specs.Prelude.{◌≡◌};
 ghost use Rattle.fifo_lane.specs.Codes.{lane_fault_code};
@@ -26,13 +26,4 @@ impl LaneFault {
             LaneFault::BadCapacity => 22,
         }
     }
-}
-
-/// Why nothing was received by a call that waits for nobody.
-#[derive(Clone, Copy, Debug, PartialEq, Eq, Hash)]
-pub enum NoItem {
-    /// The lane is empty.
-    LaneEmpty,
-    /// The sender stood in the middle of its push.
-    SenderInTheWay,
 }

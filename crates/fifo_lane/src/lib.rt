@@ -11,7 +11,7 @@
 //!
 //! Calls that take a handle may spin while the other end is in the middle of its own call;
 //! [`Receiver::try_pop`] takes none. A lane that has carried 2^62 items carries no more: its calls
-//! wait for ever, and `try_pop` finds the sender in the way.
+//! wait for ever, and `try_pop` finds nothing.
 #![tactic(auto)]
 
 mod fault;
@@ -25,7 +25,7 @@ mod sender;
 mod settled;
 mod steps;
 
-pub use fault::{LaneFault, NoItem};
+pub use fault::LaneFault;
 pub use laws::{notice_numbers_rise, venue_items_are_in_sequence, venue_numbers_count_up};
 pub use making::lane;
 pub use receiver::Receiver;

@@ -1,12 +1,11 @@
 //! The receiving end of a lane.
 
-ghost use Rattle.std.specs.Prelude.{◌≡◌, ◌++◌, ◌∷◌, [], true, IfOk, MatchOption, MatchResult};
+ghost use Rattle.std.specs.Prelude.{◌≡◌, ◌++◌, ◌∷◌, [], true, IfSome, MatchOption};
 ghost use Rattle.std.specs.Arc.{arc_value};
 ghost use Rattle.crossbeam_queue.specs.Passes.{view, IsPassOf, ruled_capacity};
 ghost use Rattle.fifo_lane.specs.Lane.{lane_end, with_items};
 ghost use Rattle.fifo_lane.specs.Passes.{receiving};
 
-use crate::fault::NoItem;
 use crate::known::{LanePass, Queue};
 use crate::rule::LaneRule;
 use crate::steps::Popped;
@@ -86,22 +85,28 @@ impl<T, R: LaneRule<T>> Receiver<T, R> {
         self.queue.pop_as::<Popped<R>, W>(rt, &mut self.pass)
     }
 
-    /// Receives the front item if it is there, and waits for nobody: `LaneEmpty` where the lane is
-    /// empty, `SenderInTheWay` where the sender stands in the middle of its push, or has just ended
-    /// it. No clause says which of the two it is.
-    pub fn try_pop(&mut self) -> Result<T, NoItem>
-        ensures popped { MatchResult result
-            (λ item. self.new ≡ with_items self.old (self.old.items ++ item ∷ []))
-            (λ _. self.new ≡ self.old) }
-        ensures rule { IfOk result (λ _. R.may_send self.old.tag self.new.items) }
+    /// Receives the front item if its push has ended, and waits for nobody: `None` where the lane
+    /// is empty, and where the sender stands in the middle of its push. It looks at the front's
+    /// place alone, which the sender writes last, so that looks in vain don't keep the sender from
+    /// its own.
+    pub fn try_pop(&mut self) -> Option<T>
+        ensures popped { MatchOption result (self.new ≡ self.old)
+            (λ item. self.new ≡ with_items self.old (self.old.items ++ item ∷ [])) }
+        ensures rule { IfSome result (λ _. R.may_send self.old.tag self.new.items) }
     {
-        if let Some(item) = self.queue.try_pop_as::<Popped<R>>(&mut self.pass) {
-            return Ok(item);
-        }
-        if self.queue.is_empty_as::<Popped<R>>(&mut self.pass) {
-            Err(NoItem::LaneEmpty)
-        } else {
-            Err(NoItem::SenderInTheWay)
+        self.queue.try_pop_as::<Popped<R>>(&mut self.pass)
+    }
+
+    /// Receives the front item as `pop` does, or with no handle to wait by as `try_pop` does.
+    #[inline(always)]
+    pub fn pop_by<W: Wait>(&mut self, rt: Option<&W>) -> Option<T>
+        ensures popped { MatchOption result (self.new ≡ self.old)
+            (λ item. self.new ≡ with_items self.old (self.old.items ++ item ∷ [])) }
+        ensures rule { IfSome result (λ _. R.may_send self.old.tag self.new.items) }
+    {
+        match rt {
+            Some(rt) => self.pop(rt),
+            None => self.try_pop(),
         }
     }
 }

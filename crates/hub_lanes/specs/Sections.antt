@@ -11,7 +11,6 @@ use Rattle.journal_book.specs.Journals.{Declares, IsBehind, IsLate, JournalState
 use Rattle.journal_book.specs.Consolidators.{StaysButCursors}
 use Rattle.journal_book.specs.Cursors.{PassesUnwanted}
 use Rattle.journal_book.specs.Wanted.{wanted_of}
-use Rattle.fifo_lane.specs.declared.fault.NoItem.{NoItem}
 use Rattle.fifo_lane.specs.Lane.{LaneEnd, HasFilled, with_items}
 use Rattle.feed_steps.specs.declared.event.Done.{Done}
 use Rattle.feed_steps.specs.declared.event.Done.TheVariants as done
@@ -56,12 +55,6 @@ Consumes venue (Err UnknownVenue) old new = ⊥
 Consumes venue (Err AlreadySo) old new = ⊥
 Consumes venue (Err TooManySubscribers) old new = ⊥
 Consumes venue (Err TooLate) old new = ⊥
-
--- The answer to who waits for no sender: as that to `consume`.
-abbrev pub ConsumesAtOnce : ℕ → Result (Result ℕ NoItem) JournalFault → HubState → HubState → Type 0
-ConsumesAtOnce venue (Ok (Ok position)) old new = Consumes venue (Ok (Some position)) old new
-ConsumesAtOnce venue (Ok (Err none)) old new = Consumes venue (Ok None) old new
-ConsumesAtOnce venue (Err fault) old new = Consumes venue (Err fault) old new
 
 -- nothing else has changed, but for the room
 abbrev pub KeepsButIntake : HubState → HubState → Type 0

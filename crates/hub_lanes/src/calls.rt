@@ -8,7 +8,6 @@ ghost use Rattle.hub_lanes.specs.Offers.{LacksSubscriber, Offers, OffersAll, Off
 use crate::journal_and_lanes::JournalAndLanes;
 use feed_steps::{Bells, FeedName, Unsent};
 use feed_types::{Genuine, SubscriberId, VenueId};
-use fifo_lane::NoItem;
 use filter_terms::Filter;
 use journal_book::{JournalFault, Unfinished};
 use std::sync::Wait;
@@ -32,14 +31,15 @@ pub fn consume_next<G: Genuine, N: FeedName, W: Wait>(
     if venue.index() >= core.venue_count() {
         return Err(JournalFault::UnknownVenue);
     }
-    core.consume(rt, venue)
+    core.consume(Some(rt), venue)
 }
 
 /// Journals the items that are in the venue's lane, at most `most`, and returns how many there
 /// were. UnknownVenue, else a refusal where it comes before any of them, whether or not there is
-/// one; then nothing has changed. It waits for a sender that stands in the middle of its push.
+/// one; then nothing has changed. It waits for a sender that stands in the middle of its push, or
+/// with no handle for nobody.
 pub fn consume_some<G: Genuine, N: FeedName, W: Wait>(
-    rt: &W,
+    rt: Option<&W>,
     core: &mut JournalAndLanes<G, N>,
     venue: VenueId,
     most: u32,
@@ -56,34 +56,6 @@ pub fn consume_some<G: Genuine, N: FeedName, W: Wait>(
         match core.consume(rt, venue) {
             Ok(Some(_)) => {}
             Ok(None) => return Ok(count),
-            Err(fault) => return if count == 0 { Err(fault) } else { Ok(count) },
-        }
-    }
-    Ok(most)
-}
-
-/// Journals the items of the venue's lane that are there, at most `most`, and returns how many
-/// there were, and waits for no sender: `in_the_way` becomes true where one stands in the middle of
-/// its push. UnknownVenue, else a refusal where it comes before any item; then nothing has changed.
-pub fn consume_at_once<G: Genuine, N: FeedName>(
-    core: &mut JournalAndLanes<G, N>,
-    venue: VenueId,
-    most: u32,
-    in_the_way: &mut bool,
-) -> Result<u32, JournalFault>
-    ensures most { IfOk result (λ count. count ≤ most) }
-    ensures batch { ConsumesBatch N.lanes venue most result core.old core.new }
-{
-    if venue.index() >= core.venue_count() {
-        return Err(JournalFault::UnknownVenue);
-    }
-    for count in 0..most {
-        match core.try_consume(venue) {
-            Ok(Ok(_)) => {}
-            Ok(Err(none)) => {
-                *in_the_way |= none == NoItem::SenderInTheWay;
-                return Ok(count);
-            }
             Err(fault) => return if count == 0 { Err(fault) } else { Ok(count) },
         }
     }

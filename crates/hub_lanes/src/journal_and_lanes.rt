@@ -3,12 +3,12 @@
 ghost use Rattle.std.specs.Prelude.{◌≡◌, ◌≤◌, ◌<◌, ◌↔◌, length, IfOk, OnErr, IsTrue};
 ghost use Rattle.journal_book.specs.Journals.{IsLate, changes};
 ghost use Rattle.hub_lanes.specs.Hubs.{HubLockInvariant};
-ghost use Rattle.hub_lanes.specs.Sections.{Consumes, ConsumesAtOnce, DeclaresAt, KeepsButIntake, HubOffersOne, LooksOn, KeepsButOffers, HubSubscribes};
+ghost use Rattle.hub_lanes.specs.Sections.{Consumes, DeclaresAt, KeepsButIntake, HubOffersOne, LooksOn, KeepsButOffers, HubSubscribes};
 
 use crate::spare::SpareLane;
 use feed_steps::{FeedName, Unsent};
 use feed_types::{Genuine, Notice, Numbered, SubscriberId, VenueId};
-use fifo_lane::{NoItem, Receiver, RisingNotices, Sender, VenueItems};
+use fifo_lane::{Receiver, RisingNotices, Sender, VenueItems};
 use filter_terms::{Filter, Terms};
 use journal_book::{Journal, JournalFault, Unfinished};
 use std::collections::VecDeque;
@@ -171,8 +171,13 @@ impl<G: Genuine, N: FeedName> JournalAndLanes<G, N> {
         self.kept.has(id)
     }
 
-    /// Journals the next item of the venue's lane. All room is made before it is popped.
-    pub fn consume<W: Wait>(&mut self, rt: &W, venue: VenueId) -> Result<Option<u64>, JournalFault>
+    /// Journals the next item of the venue's lane. All room is made before it is popped. It waits
+    /// for a sender that stands in the middle of its push, or with no handle for nobody.
+    pub fn consume<W: Wait>(
+        &mut self,
+        rt: Option<&W>,
+        venue: VenueId,
+    ) -> Result<Option<u64>, JournalFault>
         requires { venue < self.old.journal.venues }
         ensures consume { Consumes venue result self.old self.new }
         ensures kept { KeepsButIntake self.old self.new }
@@ -183,30 +188,10 @@ impl<G: Genuine, N: FeedName> JournalAndLanes<G, N> {
             Err(fault) => return Err(fault),
         }
         let receiver = &mut self.from_venues[venue.index()];
-        let Some(numbered) = receiver.pop(rt) else {
+        let Some(numbered) = receiver.pop_by(rt) else {
             return Ok(None);
         };
         Ok(Some(self.kept.record(venue, numbered)))
-    }
-
-    /// Journals the next item of the venue's lane, as `consume` does, but waits for no sender that
-    /// stands in the middle of its push.
-    pub fn try_consume(&mut self, venue: VenueId) -> Result<Result<u64, NoItem>, JournalFault>
-        requires { venue < self.old.journal.venues }
-        ensures consume { ConsumesAtOnce venue result self.old self.new }
-        ensures kept { KeepsButIntake self.old self.new }
-        ensures refused { OnErr result (self.new ≡ self.old) }
-    {
-        match self.kept.reserve_one() {
-            Ok(()) => {}
-            Err(fault) => return Err(fault),
-        }
-        let receiver = &mut self.from_venues[venue.index()];
-        let numbered = match receiver.try_pop() {
-            Ok(numbered) => numbered,
-            Err(none) => return Ok(Err(none)),
-        };
-        Ok(Ok(self.kept.record(venue, numbered)))
     }
 
     /// Declares self-help on the venue, or withdraws it, and returns the entry's position.

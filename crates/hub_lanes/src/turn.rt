@@ -3,7 +3,7 @@
 ghost use Rattle.std.specs.Prelude.{◌≡◌, ◌⊎◌, ◌≤◌, ◌<◌, ◌+◌, None, length};
 ghost use Rattle.hub_lanes.specs.Turns.{ConsumesRound, TakesTurn};
 
-use crate::calls::{consume_at_once, offer_each};
+use crate::calls::{consume_some, offer_each};
 use crate::journal_and_lanes::JournalAndLanes;
 use feed_steps::{Bells, FeedName};
 use feed_types::{Genuine, VenueId};
@@ -22,9 +22,6 @@ pub struct Consolidated {
     pub consumed: u32,
     /// By the venue's number, whether an item of it was journaled.
     pub venues: [bool; 16],
-    /// Whether a sender stood in the middle of its push, so that its venue was passed over. It
-    /// rings once it is done.
-    pub passed_over: bool,
     /// The number of notices that were offered, to all subscribers.
     pub offered: u64,
     /// Whether changes are left that weren't looked at for a subscriber. The next turn goes on
@@ -43,7 +40,6 @@ impl Consolidated {
         Consolidated {
             consumed: 0,
             venues: [false; 16],
-            passed_over: false,
             offered: 0,
             unfinished: false,
             refused: None,
@@ -75,10 +71,18 @@ fn first_place<G: Genuine, N: FeedName>(core: &JournalAndLanes<G, N>, next: usiz
     if next < core.venue_count() { next } else { 0 }
 }
 
+/// Returns no handle to wait by, in place of this one: who is passed it waits for nobody.
+pub fn no_handle<W>(_rt: &W) -> Option<&W>
+    ensures { result ≡ None }
+{
+    None
+}
+
 /// Journals what is in the venues' lanes, at most 64 items, up to the first refusal. It begins with
 /// the venue at `next`, and stores there the one after the last that it asked, so that no venue
 /// waits for ever. It waits for no sender.
-fn consume_round<G: Genuine, N: FeedName>(
+fn consume_round<G: Genuine, N: FeedName, W: Wait>(
+    rt: &W,
     core: &mut JournalAndLanes<G, N>,
     next: &mut usize,
 ) -> Consolidated
@@ -96,7 +100,7 @@ fn consume_round<G: Genuine, N: FeedName>(
         }
         let venue = venue_after(first, step, venues);
         *next = venue.index() + 1;
-        match consume_at_once(core, venue, left, &mut done.passed_over) {
+        match consume_some(no_handle(rt), core, venue, left) {
             Ok(count) => {
                 done.consumed += count;
                 done.venues[venue.index()] = count > 0;
@@ -125,7 +129,7 @@ pub fn take_turn<G: Genuine, N: FeedName, W: Wait>(
     ensures turn { TakesTurn G.Genuine N.lanes result.consumed result.offered result.unfinished
         result.refused core.old core.new }
 {
-    let mut done = consume_round(core, next);
+    let mut done = consume_round(rt, core, next);
     let offers = offer_each(rt, core, filters, bells);
     done.offered = offers.pushed;
     done.unfinished = offers.unfinished;

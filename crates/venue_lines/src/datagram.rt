@@ -24,4 +24,12 @@ impl Datagram {
     {
         self.all.as_slice()
     }
+
+    /// The memory that has the datagram's bytes, for another one.
+    pub fn into_bytes(self) -> Vec<u8>
+        ensures { result.items ≡ bytes_of self }
+    {
+        let Datagram { all } = self;
+        all
+    }
 }

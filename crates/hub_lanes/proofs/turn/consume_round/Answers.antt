@@ -30,7 +30,7 @@ loop-step-preserved g c =
       i.1,
       one_call g.G.Genuine g.N.FeedName.lanes first.result first.ensures step consumed
           c.args.core.now c.loop-step.core i.2 venue.result (64 - consumed) c.in-Ok.count
-          c.consume_at_once.new.core (search (rules, arith)) (search (rules, arith)) place
+          c.consume_some.new.core (search (rules, arith)) (search (rules, arith)) place
           (search (rules, arith)) c.in-Ok.ensures.batch,
     )
 
@@ -40,7 +40,7 @@ returns-in-Err-clause-round g c =
     let consumed = c.loop-step.done.consumed in
     refused_call g.G.Genuine g.N.FeedName.lanes first.result first.ensures
     c.loop-step.step consumed c.args.core.now c.loop-step.core c.loop-step.invariant.2
-    c.venue_after-venue.result (64 - consumed) c.in-Err.fault c.consume_at_once.new.core
+    c.venue_after-venue.result (64 - consumed) c.in-Err.fault c.consume_some.new.core
     (search (rules, arith)) (search (rules, arith)) c.in-Err.ensures.batch
 
 pub returns-after-loop-step-clause-round : goal.returns-after-loop-step-clause-round

@@ -43,7 +43,7 @@ invariant_of-self-in_default g c =
     let at = receiver_at g (goal.at.invariant_of-self-in_default g c).After-index_mut-receiver in
     rw index (consume_none_kept c.args.venue _ c.index_mut-receiver.result.now
     at c.reserve_one.new.self
-    c.pop.new.self c.in-Ok.ensures.0 c.in-Ok.ensures.1
+    c.pop_by.new.self c.in-Ok.ensures.0 c.in-Ok.ensures.1
     g.G.Genuine g.N.FeedName.lanes c.self.invariant c.in_default.ensures.popped)
 
 pub returns-in_default-clause-consume : goal.returns-in_default-clause-consume
@@ -53,13 +53,13 @@ returns-in_default-clause-consume g c =
     in
     subst (λ (x : HubState × ℕ). ConsumesOne c.args.venue (Ok None) x.0 (record {
       journal = c.reserve_one.new.self;
-      receivers = slice_set c.self.inside.from_venues.items x.1 c.pop.new.self;
+      receivers = slice_set c.self.inside.from_venues.items x.1 c.pop_by.new.self;
       senders = c.self.inside.to_subscribers.items;
       spare = c.self.inside.spare_lanes.items;
     }))
     (λ i. (c.self.view_is i, sym index i))
     (consume_none c.args.venue _ c.index_mut-receiver.result.now at
-    c.reserve_one.new.self c.pop.new.self
+    c.reserve_one.new.self c.pop_by.new.self
     c.in-Ok.ensures.0 c.in-Ok.ensures.1 c.in_default.ensures.popped)
 
 pub invariant_of-self-2 : goal.invariant_of-self-2
@@ -68,7 +68,7 @@ invariant_of-self-2 g c =
     let at = receiver_at g (goal.at.invariant_of-self-2 g c).After-index_mut-receiver in
     rw index (consume_one_kept c.args.venue _ c.index_mut-receiver.result.now
     at c.reserve_one.new.self
-    c.pop.new.self c.in-Ok.ensures.0 c.in-Ok.ensures.1 c.in-Some.numbered
+    c.pop_by.new.self c.in-Ok.ensures.0 c.in-Ok.ensures.1 c.in-Some.numbered
     c.record.new.self c.record.result
     c.in-Some.ensures.popped c.record.ensures.journals
     g.G.Genuine g.N.FeedName.lanes c.self.invariant c.in-Some.ensures.rule)
@@ -80,13 +80,13 @@ returns-clause-consume g c =
     subst (λ (x : HubState × ℕ). ConsumesOne c.args.venue (Ok (Some c.record.result)) x.0
     (record {
       journal = c.record.new.self;
-      receivers = slice_set c.self.inside.from_venues.items x.1 c.pop.new.self;
+      receivers = slice_set c.self.inside.from_venues.items x.1 c.pop_by.new.self;
       senders = c.self.inside.to_subscribers.items;
       spare = c.self.inside.spare_lanes.items;
     }))
     (λ i. (c.self.view_is i, sym index i))
     (consume_one c.args.venue _ c.index_mut-receiver.result.now at
-    c.reserve_one.new.self c.pop.new.self
+    c.reserve_one.new.self c.pop_by.new.self
     c.in-Ok.ensures.0 c.in-Ok.ensures.1 c.in-Some.numbered c.record.new.self c.record.result
     c.in-Some.ensures.popped
     c.record.ensures.journals c.record.ensures.position)
