@@ -59,6 +59,6 @@ impl<N: FeedName> Subscriber<N> {
         ensures asks { AsksForAdvice result self.old.log self.new.log self.old.strategy
             self.new.strategy }
     {
-        self.log.poll(rt, &mut self.strategy)
+        self.log.poll(Some(rt), &mut self.strategy)
     }
 }

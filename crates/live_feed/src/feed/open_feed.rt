@@ -164,7 +164,7 @@ impl<G: Genuine, N: FeedName> OpenFeed<G, N> {
     {
         let mut hub = self.hub.lock(rt);
         hub.core.show_lock_invariant();
-        let consumed = consume_some(rt, &mut hub.core, venue, most);
+        let consumed = consume_some(Some(rt), &mut hub.core, venue, most);
         hub.core.show_lock_invariant();
         drop(hub);
         if let Ok(1..) = consumed {

@@ -43,8 +43,6 @@ enum Look {
     Worked,
     /// There was nothing to do.
     Idle,
-    /// There was nothing to do, but a sender stood in the middle of its push.
-    InTheWay,
     /// Nothing can be journaled until a subscriber goes on, whose notices a thread takes.
     Behind,
     /// The same, but no thread takes the notices of one that is behind.
@@ -137,8 +135,6 @@ fn work_once<G: Genuine, N: FeedName, W: Wait>(
     let is_more = done.unfinished || reason.is_some() || flushed;
     if done.consumed > 0 || done.offered > 0 || is_more {
         Look::Worked
-    } else if done.passed_over {
-        Look::InTheWay
     } else if done.refused.is_some() {
         look_behind(feed.venues.bells())
     } else {
@@ -188,7 +184,7 @@ fn run_consolidator<G: Genuine, N: FeedName, W: Wait>(
         match look {
             Look::Worked | Look::Unpolled => looks = 0,
             Look::Idle if last && !is_room_wanted(signals, bells) => break,
-            Look::Idle | Look::Behind | Look::InTheWay => looks = back_off(rt, looks, key),
+            Look::Idle | Look::Behind => looks = back_off(rt, looks, key),
         }
     }
     signals.end_offers();

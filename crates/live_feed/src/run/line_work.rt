@@ -103,6 +103,7 @@ pub(crate) fn work_line<G: Genuine, N: FeedName, S: LineSource<G>, W: Wait>(
             Ok(Some(datagram)) => {
                 datagrams = datagrams.saturating_add(1);
                 let _answer = venues.take_and_look(rt, &mut seat, &datagram, &mut gap);
+                source.recycle(datagram);
             }
             Ok(None) => break,
             Err(failed) => {

@@ -85,6 +85,16 @@ pub trait LineSource<G: Genuine>: Drop {
         ensures failed { IfErr result (λ fault. failures self.new
             ≡ failures_after (failures self.old) fault) };
 
+    /// Takes back a datagram that `next` returned, once it was read, so that its memory can be used
+    /// for a later one. A source that has no body of its own for it lets that go.
+    fn recycle(&mut self, datagram: Datagram)
+        ensures venue { venue_of self.new ≡ venue_of self.old }
+        ensures brings { brings self.old [] self.new }
+        ensures sound { failures self.new ≡ failures self.old }
+    {
+        drop(datagram);
+    }
+
     /// Returns the milliseconds of a clock that the source has, from any moment on. The clock
     /// needn't go on.
     fn now_ms(&mut self) -> u64

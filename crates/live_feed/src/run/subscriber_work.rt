@@ -7,6 +7,7 @@ use crate::run::signals::Signals;
 use crate::subscriber::log::SubscriberLog;
 use feed_steps::{Bells, FeedName};
 use filter_terms::Strategy;
+use hub_lanes::no_handle;
 use std::snapshot::Snapshot;
 use std::sync::{Mutex, Wait};
 use std::thread::Promise;
@@ -49,7 +50,7 @@ pub(crate) fn work_subscriber<N: FeedName, W: Wait>(
             None
         };
         let last = signals.have_offers_ended();
-        match log.poll(rt, &mut *strategy) {
+        match log.poll(no_handle(rt), &mut *strategy) {
             Ok(Some(_)) => looks = 0,
             Ok(None) => {
                 if last {

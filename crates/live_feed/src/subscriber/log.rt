@@ -163,10 +163,11 @@ impl<N: FeedName> SubscriberLog<N> {
     }
 
     /// Takes the next notice and logs the strategy's advice on it. Where another notice waits for
-    /// the room that this makes, the consolidators are woken.
+    /// the room that this makes, the consolidators are woken. It waits for a push that goes on, or
+    /// with no handle for nobody.
     pub(crate) fn poll<W: Wait>(
         &mut self,
-        rt: &W,
+        rt: Option<&W>,
         strategy: &mut Strategy,
     ) -> Result<Option<Advice>, PollFault>
         ensures polls { Polls result self.old self.new }
@@ -178,7 +179,7 @@ impl<N: FeedName> SubscriberLog<N> {
         if self.taken.reserve_one().is_err() {
             return Err(PollFault::NoMemory);
         }
-        let Some(notice) = self.notices.pop(rt) else {
+        let Some(notice) = self.notices.pop_by(rt) else {
             return Ok(None);
         };
         self.bells.ring_room(self.owner);
@@ -192,7 +193,7 @@ impl<N: FeedName> SubscriberLog<N> {
         ensures polls { Polls result self.old self.new }
         ensures holds { IfOk result (λ polled. IfSome polled (λ advice. advice ≡ Advice.Hold)) }
     {
-        self.poll(rt, &mut holding_within(self.bounds))
+        self.poll(Some(rt), &mut holding_within(self.bounds))
     }
 
     /// Says that a thread takes the notices from now on. While it does, a run whose journal keeps

@@ -30,7 +30,9 @@ loop-preserved g c =
     c.next-in-loop.new.self) c.in-Ok-Some.field-0-is c.in-Ok-Some.ensures.brings in
     let waits = still first c.loop.source waited so_far.0 so_far.2 c.is_next_there.ensures.brings in
     let read = laws.brings_more first waited c.next-in-loop.new.self so_far.0 (bytes ∷ []) waits one
-    in (
+    in
+    let back = still first c.next-in-loop.new.self c.recycle.new.self (so_far.0 ++ bytes ∷ []) read
+    c.recycle.ensures.brings in (
       tt,
       tt,
       search rules,
@@ -39,7 +41,7 @@ loop-preserved g c =
       (
         so_far.0 ++ bytes ∷ [],
         took,
-        still first c.next-in-loop.new.self c.request_due.new.source (so_far.0 ++ bytes ∷ []) read
+        still first c.recycle.new.self c.request_due.new.source (so_far.0 ++ bytes ∷ []) back
             c.request_due.ensures.brings,
         read_more so_far.0 bytes c.loop.datagrams _ so_far.3 c.saturating_add-datagrams.ensures,
       ),
@@ -104,14 +106,17 @@ returns g c =
           w.in-Ok-Some.field-0-is w.in-Ok-Some.ensures.brings in
           let read = laws.brings_more first waited w.next-in-loop.new.self so_far.0
           (bytes ∷ []) waits one in
+          let back = still first w.next-in-loop.new.self w.recycle.new.self
+          (so_far.0 ++ bytes ∷ []) read w.recycle.ensures.brings in
           let failed = w.in-Err-request_due in
           rw w.seat-is (rw w.source-is (rw w.datagrams-is (rw w.fault-is
-          (ended answer.new.seat first w.next-in-loop.new.self w.request_due.new.source
+          (ended answer.new.seat first w.recycle.new.self w.request_due.new.source
           (so_far.0 ++ bytes ∷ []) w.saturating_add-datagrams.result
           (Some failed.failed) (stays.0 ∙ i.3)
           (stays.1 ∙ i.4) (read_more so_far.0 bytes c.loop.datagrams _ so_far.3
           w.saturating_add-datagrams.ensures)
-          took read w.request_due.ensures.brings (failed.ensures.failed
+          took back w.request_due.ensures.brings (failed.ensures.failed
           ∙ ap (λ n. failures_after n failed.failed)
-          (w.in-Ok-Some.ensures.sound ∙ w.is_next_there.ensures.sound ∙ i.6))))))
+          (w.recycle.ensures.sound ∙ w.in-Ok-Some.ensures.sound ∙ w.is_next_there.ensures.sound
+          ∙ i.6))))))
     ]
