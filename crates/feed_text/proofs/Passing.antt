@@ -16,7 +16,7 @@ use Rattle.line_arbiter.specs.States.{State, KeepsItsSession}
 use Rattle.line_arbiter.specs.InOrder.{BringsNext, SendsPacket, outcome_of_next}
 use Rattle.line_arbiter.specs.Fits.{Fits}
 use Rattle.line_arbiter.specs.laws.Placing.{place_same}
-use Rattle.feed_text.specs.declared.report.PublishStop.{PublishStop}
+use Rattle.feed_text.specs.declared.replay_sink.PublishStop.{PublishStop}
 use Rattle.feed_text.specs.ReplayEvents.{ReplayEvent, packet_answered, item_taken}
 use Rattle.feed_text.specs.ReplayStates.{SinkTaking, ReplayState, GoesOn, EmitsInto}
 use Rattle.feed_text.specs.Following.{ReplayVenue, Follows, SendsReady, EmitsOutcome}

@@ -6,7 +6,7 @@ use Rattle.line_arbiter.specs.Histories.{History}
 use Rattle.feed_types.specs.declared.journal.Entry.{Entry}
 use Rattle.feed_text.specs.declared.replay.ReplayConfig.{ReplayConfig}
 use Rattle.feed_text.specs.declared.replay_stop.ReplayStop.TheVariants.{SinkFailed, JournalFull}
-use Rattle.feed_text.specs.declared.report.PublishStop.TheVariants as stops
+use Rattle.feed_text.specs.declared.replay_sink.PublishStop.TheVariants as stops
 use Rattle.feed_text.specs.Emitted.{EmitsRecord}
 use Rattle.feed_text.specs.EventReplays.{IsToldPart}
 use Rattle.feed_text.specs.Formats.{TimedRecord}

@@ -5,7 +5,7 @@ use Rattle.line_arbiter.specs.Histories.{History}
 use Rattle.feed_text.specs.declared.replay.ReplayConfig.{ReplayConfig}
 use Rattle.feed_text.specs.declared.replay_stop.ReplayStop.{ReplayStop}
 use Rattle.feed_text.specs.declared.replay_stop.ReplayStop.TheVariants.{SinkFailed, Bad, JournalFull, ReadFailed, Short, TooManyTurns, NoMemory}
-use Rattle.feed_text.specs.declared.report.PublishStop.TheVariants as stops
+use Rattle.feed_text.specs.declared.replay_sink.PublishStop.TheVariants as stops
 use Rattle.feed_text.specs.Capture.{IsRecord}
 use Rattle.feed_text.specs.Devices.{Reading}
 use Rattle.feed_text.specs.EventReplays.{ReadAndTold, IsToldPart, AnswersRun, TookAll, venues_in}

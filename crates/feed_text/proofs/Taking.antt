@@ -3,7 +3,7 @@ use Rattle.std.proofs.Common.{◌≡◌, inl, inr, ℕ, Bool, List, [], ◌∷�
 use Rattle.std.specs.Prelude.{Result, Ok, Err}
 use Rattle.line_arbiter.specs.Histories.{History}
 use Rattle.feed_text.specs.declared.replay.ReplayConfig.{ReplayConfig}
-use Rattle.feed_text.specs.declared.report.PublishStop.{PublishStop}
+use Rattle.feed_text.specs.declared.replay_sink.PublishStop.{PublishStop}
 use Rattle.run_settings.specs.declared.skip_rule.SkipRule.TheVariants.{Never}
 use Rattle.std.specs.Borrow.{Bor}
 use Rattle.feed_types.specs.declared.line.LineId.{LineId}

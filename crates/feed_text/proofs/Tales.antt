@@ -16,8 +16,8 @@ use Rattle.mold_packet.specs.declared.request.Request.{Request}
 use Rattle.feed_text.specs.ReplayEvents.{ReplayEvent, item_taken, gap_left, self_help_declared, entries_after, entries_of}
 use Rattle.feed_text.specs.Emitted.{gap_event}
 use Rattle.feed_text.specs.laws.Entries.{entries_more}
-use Rattle.feed_text.specs.declared.report.PublishStop.{PublishStop}
-use Rattle.feed_text.specs.declared.report.PublishStop.TheVariants.{JournalFull, SinkFailed}
+use Rattle.feed_text.specs.declared.replay_sink.PublishStop.{PublishStop}
+use Rattle.feed_text.specs.declared.replay_sink.PublishStop.TheVariants.{JournalFull, SinkFailed}
 use Rattle.feed_text.specs.SinkEvents.{SinkEvent, TimedEvent, at_time, timed_event, told_best, told_declaration}
 use Rattle.feed_text.specs.Tellings.{own_told, told_since, told_of}
 use Rattle.feed_text.specs.ReplayStates.{SinkTaking, ReplayState, told_from, GoesOn, GoesToFull, FailsWithin, EmitsInto}

@@ -2,9 +2,9 @@
 -- sink. Cited by private clauses alone.
 use Rattle.std.specs.Prelude.{◌≡◌, ℕ, ◌<◌, ◌≤◌, List, [], ◌∷◌, ◌++◌, length, Option, Result, Ok, Err}
 use Rattle.feed_types.specs.declared.journal.Entry.{Entry}
-use Rattle.feed_text.specs.declared.report.ReplaySink.{ReplaySink}
-use Rattle.feed_text.specs.declared.report.PublishStop.{PublishStop}
-use Rattle.feed_text.specs.declared.report.PublishStop.TheVariants.{JournalFull, SinkFailed}
+use Rattle.feed_text.specs.declared.replay_sink.ReplaySink.{ReplaySink}
+use Rattle.feed_text.specs.declared.replay_sink.PublishStop.{PublishStop}
+use Rattle.feed_text.specs.declared.replay_sink.PublishStop.TheVariants.{JournalFull, SinkFailed}
 use Rattle.feed_text.specs.ReplayEvents.{ReplayEvent, entries_after, entries_of}
 use Rattle.feed_text.specs.SinkEvents.{SinkEvent, TimedEvent, at_time}
 use Rattle.feed_text.specs.Tellings.{own_told, told_of}
@@ -26,13 +26,13 @@ pub record ReplayState (K : Type 0) : Type 0 where
   pub sink : K
 
 abbrev pub state_of_replay : {K : Type 0} → ReplaySink K → ReplayState K
-state_of_replay report = record {
-  symbols = report.journal.symbols;
-  venues = report.journal.venues;
-  journal = report.journal.journal;
-  entries = report.journal.entries;
-  time = report.time;
-  sink = report.sink;
+state_of_replay output = record {
+  symbols = output.journal.symbols;
+  venues = output.journal.venues;
+  journal = output.journal.journal;
+  entries = output.journal.entries;
+  time = output.time;
+  sink = output.sink;
 }
 
 -- what a sink is told of these events, from a state on

@@ -5,8 +5,8 @@ use Rattle.line_arbiter.specs.Histories.{History}
 use Rattle.feed_text.specs.declared.replay.ReplayConfig.{ReplayConfig}
 use Rattle.feed_text.specs.declared.replay_stop.ReplayStop.{ReplayStop}
 use Rattle.feed_text.specs.declared.replay_stop.ReplayStop.TheVariants.{JournalFull, SinkFailed}
-use Rattle.feed_text.specs.declared.report.PublishStop.{PublishStop}
-use Rattle.feed_text.specs.declared.report.PublishStop.TheVariants as stops
+use Rattle.feed_text.specs.declared.replay_sink.PublishStop.{PublishStop}
+use Rattle.feed_text.specs.declared.replay_sink.PublishStop.TheVariants as stops
 use Rattle.feed_text.specs.Devices.{Reading}
 use Rattle.feed_text.specs.Emitted.{EmitsRecord, Emits}
 use Rattle.feed_text.specs.EventReplays.{AnswersRun, venues_in}

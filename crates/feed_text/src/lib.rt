@@ -25,7 +25,7 @@
 //! `laws.rt` says that a capture has one reading, and that one list of events is told of it.
 //!
 //! Begin with `replay.rt`, then `specs/EventReplays.antt` and `specs/Told.antt`; `venue.rt` has a
-//! venue, `report.rt` the journal and the sink of all venues, `lines.rt` the lines.
+//! venue, `replay_sink.rt` the journal and the sink of all venues, `lines.rt` the lines.
 #![tactic(auto)]
 
 mod capture;
@@ -47,8 +47,8 @@ mod page;
 mod parts;
 mod record_format;
 pub mod replay;
+mod replay_sink;
 mod replay_stop;
-mod report;
 mod rule_skips;
 mod run;
 mod skipping;

@@ -105,12 +105,12 @@ fn place_taken(room: &mut [u8], at: usize, new: u16, repeated: u16) -> usize
 
 /// Places the tail of any datagram's line: the outcome of its packet.
 #[inline(never)]
-fn place_any_outcome(room: &mut [u8], at: usize, outcome: &Result<Outcome, LineFault>) -> usize
+fn place_any_outcome(room: &mut [u8], at: usize, outcome: Result<Outcome, LineFault>) -> usize
     requires { at + 25 ≤ length room.old }
-    ensures placed { Placed room.old room.new at (outcome_tail outcome.now) result }
+    ensures placed { Placed room.old room.new at (outcome_tail outcome) result }
     ensures short { result ≤ at + 25 }
 {
-    match *outcome {
+    match outcome {
         Ok(Outcome::Taken { new, repeated }) => place_counts(room, at, new, repeated),
         Ok(Outcome::Heartbeat) => place(room, at, *b" heartbeat\n"),
         Ok(Outcome::Ended) => place(room, at, *b" ended\n"),
@@ -128,7 +128,7 @@ fn place_outcome(room: &mut [u8], at: usize, outcome: &Result<Outcome, LineFault
 {
     match *outcome {
         Ok(Outcome::Taken { new, repeated }) => place_taken(room, at, new, repeated),
-        _ => place_any_outcome(room, at, outcome),
+        _ => place_any_outcome(room, at, *outcome),
     }
 }
 

@@ -16,8 +16,8 @@ use crate::lack::Lack;
 use crate::own_format::OwnFormat;
 use crate::page::LineBuffer;
 use crate::record_format::{CAPTURE_ROOM, RecordFormat};
+use crate::replay_sink::ReplaySink;
 use crate::replay_stop::{ReplayStop, Replayed};
-use crate::report::ReplaySink;
 use crate::run::run;
 use crate::text_page::TextPage;
 use crate::text_sink::TextSink;
@@ -136,7 +136,7 @@ fn replay_prepared<R: CaptureIn, F: RecordFormat, K: EventSink>(
         journal,
         mut unread,
     } = prepared;
-    let mut report = ReplaySink {
+    let mut output = ReplaySink {
         journal,
         time: None,
         sink,
@@ -147,12 +147,12 @@ fn replay_prepared<R: CaptureIn, F: RecordFormat, K: EventSink>(
         reader,
         &mut unread,
         &mut venues,
-        &mut report,
+        &mut output,
     ) {
-        Ok(()) => close(&venues, &mut report.sink, lacks),
+        Ok(()) => close(&venues, &mut output.sink, lacks),
         Err(stop) => Err(stop),
     };
-    let ReplaySink { sink, .. } = report;
+    let ReplaySink { sink, .. } = output;
     Replayed { sink, outcome }
 }
 

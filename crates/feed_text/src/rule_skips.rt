@@ -11,7 +11,7 @@ ghost use Rattle.feed_text.specs.Running.{FollowSome, KeepsVenues, TakesSkips};
 use crate::capture::Record;
 use crate::event_sink::EventSink;
 use crate::replay::ReplayConfig;
-use crate::report::{PublishStop, ReplaySink};
+use crate::replay_sink::{PublishStop, ReplaySink};
 use crate::venues::Venues;
 use feed_types::VenueId;
 use run_settings::SkipRule;
@@ -24,22 +24,22 @@ fn take_skips<K: EventSink>(
     venues: &mut Venues,
     venue: VenueId,
     bytes: &[u8],
-    report: &mut ReplaySink<K>,
+    output: &mut ReplaySink<K>,
 ) -> Result<(), PublishStop>
     requires venue { venue < length venues.old.items }
-    requires venues { report.old.journal.venues ≡ length venues.old.items }
+    requires venues { output.old.journal.venues ≡ length venues.old.items }
     requires gaps { venues.old.gaps ≡ config.now.gaps }
     requires follow { FollowSome config.now venues.old }
     ensures kept { OnOk result (KeepsVenues venues.old venues.new) }
-    ensures journal { OnOk result (report.new.journal.venues ≡ report.old.journal.venues) }
+    ensures journal { OnOk result (output.new.journal.venues ≡ output.old.journal.venues) }
     ensures taken { (line : LineId) (hs : List History)
         → FollowAll config.now.window venues.old.items hs
         → TakesSkips (record { takes = K.takes; fails = K.fails }) config.now
-        (timed_record (datagram_record venue line bytes.now) report.old.time) hs
-        (state_of_replay report.old) (state_of_replay report.new) venues.new.items result }
+        (timed_record (datagram_record venue line bytes.now) output.old.time) hs
+        (state_of_replay output.old) (state_of_replay output.new) venues.new.items result }
 {
     while let Some(number) = venues.skip_before(config, venue, bytes) {
-        venues.skip_to(venue, number, report)?;
+        venues.skip_to(venue, number, output)?;
     }
     Ok(())
 }
@@ -52,24 +52,24 @@ pub fn follow_rule<K: EventSink>(
     config: &ReplayConfig<'_>,
     venues: &mut Venues,
     next: &Record<'_>,
-    report: &mut ReplaySink<K>,
+    output: &mut ReplaySink<K>,
 ) -> Result<(), PublishStop>
     requires kind { IsRecord (length venues.old.items) (record_of next.now) }
-    requires venues { report.old.journal.venues ≡ length venues.old.items }
+    requires venues { output.old.journal.venues ≡ length venues.old.items }
     requires gaps { venues.old.gaps ≡ config.now.gaps }
     requires follow { FollowSome config.now venues.old }
     ensures kept { OnOk result (KeepsVenues venues.old venues.new) }
-    ensures journal { OnOk result (report.new.journal.venues ≡ report.old.journal.venues) }
+    ensures journal { OnOk result (output.new.journal.venues ≡ output.old.journal.venues) }
     ensures taken { (hs : List History) → FollowAll config.now.window venues.old.items hs
         → TakesSkips (record { takes = K.takes; fails = K.fails }) config.now
-        (timed_record (record_of next.now) report.old.time) hs
-        (state_of_replay report.old) (state_of_replay report.new) venues.new.items result }
+        (timed_record (record_of next.now) output.old.time) hs
+        (state_of_replay output.old) (state_of_replay output.new) venues.new.items result }
 {
     match config.skips {
         SkipRule::Never => Ok(()),
         _ => match next {
             Record::Datagram { venue, bytes, .. } => {
-                take_skips(config, venues, *venue, bytes, report)
+                take_skips(config, venues, *venue, bytes, output)
             }
             _ => Ok(()),
         },

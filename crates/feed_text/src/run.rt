@@ -7,8 +7,8 @@ use crate::devices::CaptureIn;
 use crate::event_sink::{EventSink, SinkStop};
 use crate::record_format::{CAPTURE_ROOM, RecordFormat, Step, is_complete};
 use crate::replay::ReplayConfig;
+use crate::replay_sink::{PublishStop, ReplaySink};
 use crate::replay_stop::ReplayStop;
-use crate::report::{PublishStop, ReplaySink};
 use crate::rule_skips::follow_rule;
 use crate::unread::{ReadBuffer, ReadStep};
 use crate::venues::Venues;
@@ -42,37 +42,37 @@ pub fn run<R: CaptureIn, F: RecordFormat, K: EventSink>(
     reader: &mut R,
     unread: &mut ReadBuffer<CAPTURE_ROOM>,
     venues: &mut Venues,
-    report: &mut ReplaySink<K>,
+    output: &mut ReplaySink<K>,
 ) -> Result<(), ReplayStop<F::Fault>>
     requires can { CanReplay config.now }
-    requires starts { IsReplayStart config.now unread.old venues.old report.old.journal }
+    requires starts { IsReplayStart config.now unread.old venues.old output.old.journal }
     requires of_venues { F.venues format.old ≡ length config.now.sessions.now }
     ensures { RunsToEnd
         (record { gives = R.gives; ends = R.ends; failures = R.failures; fails = R.fails })
         (record { reads = F.reads; wants = F.wants; is_bad = F.is_bad; is_whole = F.is_whole })
         (record { takes = K.takes; fails = K.fails }) K.is_shown
-        config.now reader.old reader.new format.old format.new report.old.sink report.new.sink
+        config.now reader.old reader.new format.old format.new output.old.sink output.new.sink
         venues.new.items result }
 {
     let mut turns = config.turns;
     'pieces: loop {
         match format.next(unread.bytes()) {
             Step::Came { record, time, len } => {
-                report.time = time;
-                if let Err(stop) = follow_rule(config, venues, &record, report) {
-                    return Err(stopped(stop, &mut report.sink));
+                output.time = time;
+                if let Err(stop) = follow_rule(config, venues, &record, output) {
+                    return Err(stopped(stop, &mut output.sink));
                 }
-                if let Err(stop) = venues.take(record, report) {
-                    return Err(stopped(stop, &mut report.sink));
+                if let Err(stop) = venues.take(record, output) {
+                    return Err(stopped(stop, &mut output.sink));
                 }
                 unread.advance(len);
             }
             Step::Passed(len) => unread.advance(len),
             Step::Bad(fault) => {
-                return Err(show_before(ReplayStop::Bad(fault), &mut report.sink));
+                return Err(show_before(ReplayStop::Bad(fault), &mut output.sink));
             }
             Step::Wants => {
-                report.sink.show()?;
+                output.sink.show()?;
                 if turns == 0 {
                     return Err(ReplayStop::TooManyTurns);
                 }

@@ -20,7 +20,7 @@ ghost use Rattle.feed_text.specs.Following.{Follows, SendsReady, TakesReady, Pub
 use crate::event::Event;
 use crate::event_sink::{EventSink, SinkStop};
 use crate::lack::Lack;
-use crate::report::{PublishStop, ReplaySink};
+use crate::replay_sink::{PublishStop, ReplaySink};
 use feed_types::{Anything, LineId, Numbered, VenueId};
 use line_arbiter::{Arbiter, LineFault, Outcome, RenewFault, SkipFault};
 use mold_packet::{Messages, Packet, read_packet};
@@ -59,15 +59,16 @@ impl Model for VenueReplay {
 fn publish_each<K: EventSink>(
     arbiter: &mut Arbiter<Anything>,
     venue: VenueId,
-    report: &mut ReplaySink<K>,
+    output: &mut ReplaySink<K>,
 ) -> Result<(), PublishStop>
-    requires { venue < report.old.journal.venues }
+    requires { venue < output.old.journal.venues }
     ensures { TakesReady (record { takes = K.takes; fails = K.fails }) venue
-        arbiter.old arbiter.new (state_of_replay report.old) (state_of_replay report.new) result }
+        arbiter.old arbiter.new (state_of_replay output.old) (state_of_replay output.new) result }
 {
+    // Its place is passed while the window's fields are at hand.
     while let Some(next) = arbiter.next_ready() {
-        report.take_item(venue, &next)?;
         arbiter.advance();
+        output.take_item(venue, &next)?;
     }
     Ok(())
 }
@@ -77,14 +78,14 @@ fn publish_each<K: EventSink>(
 fn publish_ready<K: EventSink>(
     arbiter: &mut Arbiter<Anything>,
     venue: VenueId,
-    report: &mut ReplaySink<K>,
+    output: &mut ReplaySink<K>,
 ) -> Result<(), PublishStop>
-    requires { venue < report.old.journal.venues }
+    requires { venue < output.old.journal.venues }
     ensures { TakesReady (record { takes = K.takes; fails = K.fails }) venue
-        arbiter.old arbiter.new (state_of_replay report.old) (state_of_replay report.new) result }
+        arbiter.old arbiter.new (state_of_replay output.old) (state_of_replay output.new) result }
 {
     match arbiter.next_ready() {
-        Some(_) => publish_each(arbiter, venue, report),
+        Some(_) => publish_each(arbiter, venue, output),
         None => Ok(()),
     }
 }
@@ -94,14 +95,14 @@ fn publish_ready<K: EventSink>(
 fn publish_messages<K: EventSink>(
     venue: VenueId,
     packet: &Packet<'_>,
-    report: &mut ReplaySink<K>,
+    output: &mut ReplaySink<K>,
 ) -> Result<(), PublishStop>
-    requires { venue < report.old.journal.venues }
+    requires { venue < output.old.journal.venues }
     ensures { EmitsInto (record { takes = K.takes; fails = K.fails })
-        (state_of_replay report.old)
+        (state_of_replay output.old)
         (map (item_taken venue)
         (numbered_from packet.now.number (map item_of packet.now.messages)))
-        (state_of_replay report.new) result }
+        (state_of_replay output.new) result }
 {
     let first = packet.number();
     let mut messages = packet.messages();
@@ -111,7 +112,7 @@ fn publish_messages<K: EventSink>(
             number: first + place,
             item: read_item(message),
         };
-        report.take_item(venue, &item)?;
+        output.take_item(venue, &item)?;
         place += 1;
     }
     Ok(())
@@ -120,15 +121,15 @@ fn publish_messages<K: EventSink>(
 /// Has the book prefetch what the quotations among the first of these messages will read of it,
 /// where that pays.
 #[inline(never)]
-fn prefetch<K: EventSink>(venue: VenueId, mut messages: Messages<'_>, report: &mut ReplaySink<K>)
-    ensures { report.new ≡ report.old }
+fn prefetch<K: EventSink>(venue: VenueId, mut messages: Messages<'_>, output: &mut ReplaySink<K>)
+    ensures { output.new ≡ output.old }
 {
     for _ in 0..MOST_AHEAD {
         let Some(message) = messages.next() else {
             break;
         };
         if let Some(field) = peek_symbol_bytes(message) {
-            if !report.journal.prefetch(venue, field) {
+            if !output.journal.prefetch(venue, field) {
                 break;
             }
         }
@@ -137,11 +138,11 @@ fn prefetch<K: EventSink>(venue: VenueId, mut messages: Messages<'_>, report: &m
 
 /// Has the book prefetch for a packet of several messages.
 #[inline(always)]
-fn look_ahead<K: EventSink>(venue: VenueId, packet: &Packet<'_>, report: &mut ReplaySink<K>)
-    ensures { report.new ≡ report.old }
+fn look_ahead<K: EventSink>(venue: VenueId, packet: &Packet<'_>, output: &mut ReplaySink<K>)
+    ensures { output.new ≡ output.old }
 {
     if packet.count() > 1 {
-        prefetch(venue, packet.messages(), report);
+        prefetch(venue, packet.messages(), output);
     }
 }
 
@@ -152,15 +153,15 @@ fn tell_answer<K: EventSink>(
     line: LineId,
     packet: &Packet<'_>,
     answer: &Result<Outcome, LineFault>,
-    report: &mut ReplaySink<K>,
+    output: &mut ReplaySink<K>,
 ) -> Result<(), PublishStop>
     ensures { EmitsInto (record { takes = K.takes; fails = K.fails })
-        (state_of_replay report.old)
+        (state_of_replay output.old)
         (packet_answered venue line packet.now.number (length packet.now.messages) answer.now
         ∷ [])
-        (state_of_replay report.new) result }
+        (state_of_replay output.new) result }
 {
-    report.tell(&Event::Packet {
+    output.tell(&Event::Packet {
         venue,
         line,
         number: packet.number(),
@@ -177,21 +178,21 @@ fn publish_next<K: EventSink>(
     line: LineId,
     packet: &Packet<'_>,
     outcome: Outcome,
-    report: &mut ReplaySink<K>,
+    output: &mut ReplaySink<K>,
 ) -> Result<(), PublishStop>
-    requires { venue < report.old.journal.venues }
+    requires { venue < output.old.journal.venues }
     ensures emits { (from : ℕ) (packets : List Input) → Fits arbiter.old packets
         → SendsPacket from arbiter.old.sent packet.now packets
         → EmitsInto (record { takes = K.takes; fails = K.fails })
-        (state_of_replay report.old)
+        (state_of_replay output.old)
         (packet_answered venue line packet.now.number (length packet.now.messages) (Ok outcome)
         ∷ map (item_taken venue) (drop (place_of packets from) (stream_of packets)))
-        (state_of_replay report.new) result }
+        (state_of_replay output.new) result }
     ensures sent { OnOk result (SendsReady arbiter.old arbiter.new) }
 {
-    tell_answer(venue, line, packet, &Ok(outcome), report)?;
-    publish_messages(venue, packet, report)?;
-    publish_ready(arbiter, venue, report)
+    tell_answer(venue, line, packet, &Ok(outcome), output)?;
+    publish_messages(venue, packet, output)?;
+    publish_ready(arbiter, venue, output)
 }
 
 /// Publishes the answer of a packet, and what is ready then.
@@ -202,19 +203,19 @@ fn publish_answer<K: EventSink>(
     line: LineId,
     packet: &Packet<'_>,
     answer: &Result<Outcome, LineFault>,
-    report: &mut ReplaySink<K>,
+    output: &mut ReplaySink<K>,
 ) -> Result<(), PublishStop>
-    requires { venue < report.old.journal.venues }
+    requires { venue < output.old.journal.venues }
     ensures emits { (packets : List Input) → Fits arbiter.old packets
         → EmitsInto (record { takes = K.takes; fails = K.fails })
-        (state_of_replay report.old)
+        (state_of_replay output.old)
         (packet_answered venue line packet.now.number (length packet.now.messages) answer.now
         ∷ map (item_taken venue) (drop (place_of packets arbiter.old.sent) (stream_of packets)))
-        (state_of_replay report.new) result }
+        (state_of_replay output.new) result }
     ensures sent { OnOk result (SendsReady arbiter.old arbiter.new) }
 {
-    tell_answer(venue, line, packet, answer, report)?;
-    publish_ready(arbiter, venue, report)
+    tell_answer(venue, line, packet, answer, output)?;
+    publish_ready(arbiter, venue, output)
 }
 
 impl VenueReplay {
@@ -255,15 +256,15 @@ impl VenueReplay {
         venue: VenueId,
         line: LineId,
         packet: &Packet<'_>,
-        report: &mut ReplaySink<K>,
+        output: &mut ReplaySink<K>,
     ) -> Result<(), PublishStop>
-        requires { venue < report.old.journal.venues }
+        requires { venue < output.old.journal.venues }
         ensures { PublishesPacket (record { takes = K.takes; fails = K.fails }) venue line
-            packet.now self.old (state_of_replay report.old) self.new
-            (state_of_replay report.new) result }
+            packet.now self.old (state_of_replay output.old) self.new
+            (state_of_replay output.new) result }
     {
         let answer = self.arbiter.take(line, packet);
-        publish_answer(&mut self.arbiter, venue, line, packet, &answer, report)
+        publish_answer(&mut self.arbiter, venue, line, packet, &answer, output)
     }
 
     /// Takes a packet, and publishes its outcome and each item that is ready then. Most go past the
@@ -274,24 +275,24 @@ impl VenueReplay {
         venue: VenueId,
         line: LineId,
         packet: &Packet<'_>,
-        report: &mut ReplaySink<K>,
+        output: &mut ReplaySink<K>,
     ) -> Result<(), PublishStop>
-        requires { venue < report.old.journal.venues }
+        requires { venue < output.old.journal.venues }
         ensures { PublishesPacket (record { takes = K.takes; fails = K.fails }) venue line
-            packet.now self.old (state_of_replay report.old) self.new
-            (state_of_replay report.new) result }
+            packet.now self.old (state_of_replay output.old) self.new
+            (state_of_replay output.new) result }
     {
         if !self.arbiter.is_next(packet) {
             return match self.arbiter.repeat(packet) {
                 Some(outcome) => {
-                    publish_answer(&mut self.arbiter, venue, line, packet, &Ok(outcome), report)
+                    publish_answer(&mut self.arbiter, venue, line, packet, &Ok(outcome), output)
                 }
-                None => self.take_any(venue, line, packet, report),
+                None => self.take_any(venue, line, packet, output),
             };
         }
         let outcome = self.arbiter.take_next(line, packet);
-        look_ahead(venue, packet, report);
-        publish_next(&mut self.arbiter, venue, line, packet, outcome, report)
+        look_ahead(venue, packet, output);
+        publish_next(&mut self.arbiter, venue, line, packet, outcome, output)
     }
 
     /// Takes a datagram of a line, and publishes its outcome and each item that is ready then.
@@ -300,17 +301,17 @@ impl VenueReplay {
         venue: VenueId,
         line: LineId,
         bytes: &[u8],
-        report: &mut ReplaySink<K>,
+        output: &mut ReplaySink<K>,
     ) -> Result<(), PublishStop>
-        requires { venue < report.old.journal.venues }
+        requires { venue < output.old.journal.venues }
         ensures { (width : ℕ) (h : History) → Follows width venue self.old h
             → EmitsOne (record { takes = K.takes; fails = K.fails })
             width false (datagram_record venue line bytes.now) h
-            (state_of_replay report.old) (state_of_replay report.new) self.new result }
+            (state_of_replay output.old) (state_of_replay output.new) self.new result }
     {
         match read_packet(bytes) {
-            Ok(packet) => self.take_packet(venue, line, &packet, report),
-            Err(fault) => report.tell(&Event::Refusal { venue, line, fault }),
+            Ok(packet) => self.take_packet(venue, line, &packet, output),
+            Err(fault) => output.tell(&Event::Refusal { venue, line, fault }),
         }
     }
 
@@ -320,17 +321,17 @@ impl VenueReplay {
     fn publish_gap<K: EventSink>(
         &self,
         venue: VenueId,
-        report: &mut ReplaySink<K>,
+        output: &mut ReplaySink<K>,
     ) -> Result<(), PublishStop>
         ensures { (P : List Input) → Fits self.now.arbiter P
             → EmitsInto (record { takes = K.takes; fails = K.fails })
-            (state_of_replay report.old)
+            (state_of_replay output.old)
             (gap_event venue
             (gap_of self.now.arbiter.session self.now.arbiter.window self.now.arbiter.sent P))
-            (state_of_replay report.new) result }
+            (state_of_replay output.new) result }
     {
         match self.arbiter.gap() {
-            Some(request) => report.tell(&Event::Gap {
+            Some(request) => output.tell(&Event::Gap {
                 venue,
                 request: &request,
             }),
@@ -347,20 +348,20 @@ impl VenueReplay {
         line: LineId,
         bytes: &[u8],
         gaps: bool,
-        report: &mut ReplaySink<K>,
+        output: &mut ReplaySink<K>,
     ) -> Result<(), PublishStop>
-        requires { venue < report.old.journal.venues }
+        requires { venue < output.old.journal.venues }
         ensures { (width : ℕ) (h : History) → Follows width venue self.old h
             → EmitsOne (record { takes = K.takes; fails = K.fails })
             width gaps (datagram_record venue line bytes.now) h
-            (state_of_replay report.old) (state_of_replay report.new) self.new result }
+            (state_of_replay output.old) (state_of_replay output.new) self.new result }
     {
-        let emitted = self.take_datagram(venue, line, bytes, report);
+        let emitted = self.take_datagram(venue, line, bytes, output);
         if !gaps {
             return emitted;
         }
         emitted?;
-        self.publish_gap(venue, report)
+        self.publish_gap(venue, output)
     }
 
     /// Begins the next session, where it may begin. Returns its ordinal.
@@ -381,15 +382,15 @@ impl VenueReplay {
         &mut self,
         venue: VenueId,
         session: [u8; 10],
-        report: &mut ReplaySink<K>,
+        output: &mut ReplaySink<K>,
     ) -> Result<(), PublishStop>
         ensures { (width : ℕ) (gaps : Bool) (h : History) → Follows width venue self.old h
             → EmitsOne (record { takes = K.takes; fails = K.fails })
             width gaps (renewal_record venue session) h
-            (state_of_replay report.old) (state_of_replay report.new) self.new result }
+            (state_of_replay output.old) (state_of_replay output.new) self.new result }
     {
         let answer = self.next_session(session);
-        report.tell(&Event::Renewal {
+        output.tell(&Event::Renewal {
             venue,
             answer: &answer,
         })
@@ -415,21 +416,21 @@ impl VenueReplay {
         &mut self,
         venue: VenueId,
         number: u64,
-        report: &mut ReplaySink<K>,
+        output: &mut ReplaySink<K>,
     ) -> Result<(), PublishStop>
-        requires { venue < report.old.journal.venues }
+        requires { venue < output.old.journal.venues }
         ensures { (width : ℕ) (gaps : Bool) (h : History) → Follows width venue self.old h
             → EmitsOne (record { takes = K.takes; fails = K.fails })
             width gaps (skip_record venue number) h
-            (state_of_replay report.old) (state_of_replay report.new) self.new result }
+            (state_of_replay output.old) (state_of_replay output.new) self.new result }
     {
         let answer = self.give_up(number);
-        report.tell(&Event::Skip {
+        output.tell(&Event::Skip {
             venue,
             number,
             answer: &answer,
         })?;
-        publish_each(&mut self.arbiter, venue, report)
+        publish_each(&mut self.arbiter, venue, output)
     }
 
     /// Appends what the venue lacks, if it lacks anything. There is memory for it.

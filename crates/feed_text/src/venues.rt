@@ -13,7 +13,7 @@ use crate::capture::Record;
 use crate::event_sink::{EventSink, SinkStop};
 use crate::lack::Lack;
 use crate::replay::ReplayConfig;
-use crate::report::{PublishStop, ReplaySink};
+use crate::replay_sink::{PublishStop, ReplaySink};
 use crate::venue::VenueReplay;
 use feed_types::VenueId;
 use std::alloc::{AllocError, Global};
@@ -64,16 +64,16 @@ impl Venues {
         &mut self,
         venue: VenueId,
         number: u64,
-        report: &mut ReplaySink<K>,
+        output: &mut ReplaySink<K>,
     ) -> Result<(), PublishStop>
         requires venue { venue < length self.old.items }
-        requires venues { report.old.journal.venues ≡ length self.old.items }
+        requires venues { output.old.journal.venues ≡ length self.old.items }
         ensures { TakesRecord (record { takes = K.takes; fails = K.fails }) self.old
             (skip_record venue number)
-            (state_of_replay report.old) (state_of_replay report.new) self.new result }
+            (state_of_replay output.old) (state_of_replay output.new) self.new result }
     {
         let replay = &mut self.venues[venue.index()];
-        replay.skip_to(venue, number, report)
+        replay.skip_to(venue, number, output)
     }
 
     /// Takes a record, and publishes its events. After a stop no other record can be taken: for a
@@ -84,25 +84,25 @@ impl Venues {
     pub fn take<K: EventSink>(
         &mut self,
         next: Record<'_>,
-        report: &mut ReplaySink<K>,
+        output: &mut ReplaySink<K>,
     ) -> Result<(), PublishStop>
         requires kind { IsRecord (length self.old.items) (record_of next) }
-        requires venues { report.old.journal.venues ≡ length self.old.items }
+        requires venues { output.old.journal.venues ≡ length self.old.items }
         ensures { TakesRecord (record { takes = K.takes; fails = K.fails }) self.old
             (record_of next.entry)
-            (state_of_replay report.old) (state_of_replay report.new) self.new result }
+            (state_of_replay output.old) (state_of_replay output.new) self.new result }
     {
         match next {
             Record::Datagram { venue, line, bytes } => {
                 let replay = &mut self.venues[venue.index()];
-                replay.take(venue, line, bytes, self.gaps, report)
+                replay.take(venue, line, bytes, self.gaps, output)
             }
             Record::Renewal { venue, session } => {
                 let replay = &mut self.venues[venue.index()];
-                replay.renew(venue, session, report)
+                replay.renew(venue, session, output)
             }
-            Record::Skip { venue, number } => self.skip_to(venue, number, report),
-            Record::SelfHelp { venue, on } => report.declare(venue, on),
+            Record::Skip { venue, number } => self.skip_to(venue, number, output),
+            Record::SelfHelp { venue, on } => output.declare(venue, on),
         }
     }
 

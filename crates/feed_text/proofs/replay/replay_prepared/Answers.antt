@@ -20,9 +20,9 @@ close-outcome-requires g c = omega (
 
 pub returns-clause-replays : goal.returns-clause-replays
 returns-clause-replays g c = elim c.match-run.branch [
-  | in-Ok w ↦ rw (w.report-is, w.outcome-is)
+  | in-Ok w ↦ rw (w.output-is, w.outcome-is)
       (closed_by (laws_of g) c.args.config.now c.run.new.venues w.close-outcome.new.sink
       g.K.EventSink.is_shown w.close-outcome.result w.in-Ok.ensures
       w.close-outcome.ensures.closes)
-  | in-Err w ↦ rw (w.report-is, w.outcome-is) w.in-Err.ensures
+  | in-Err w ↦ rw (w.output-is, w.outcome-is) w.in-Err.ensures
 ]

@@ -34,8 +34,8 @@ returns-in-Datagram g c =
             takes = g.K.EventSink.takes;
             fails =
                 g.K.EventSink.fails;
-          }) c.args.config.now (timed_record e c.args.report.now.time) hs
-          (state_of_replay c.args.report.now) (state_of_replay c.take_skips.new.report)
+          }) c.args.config.now (timed_record e c.args.output.now.time) hs
+          (state_of_replay c.args.output.now) (state_of_replay c.take_skips.new.output)
           c.take_skips.new.venues.items c.take_skips.result)
           is (c.take_skips.ensures.taken c.in-Datagram.line hs f);
     }

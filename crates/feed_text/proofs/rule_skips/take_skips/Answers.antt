@@ -3,7 +3,7 @@ use Rattle.std.proofs.lemmas.Result.{err_from_is_err_and}
 use Rattle.feed_types.specs.declared.line.LineId.{LineId}
 use Rattle.feed_types.specs.declared.line.LineId.TheVariants.{A}
 use Rattle.line_arbiter.specs.Histories.{History}
-use Rattle.feed_text.specs.declared.report.PublishStop.{PublishStop}
+use Rattle.feed_text.specs.declared.replay_sink.PublishStop.{PublishStop}
 use Rattle.feed_text.specs.Capture.{CaptureRecord, datagram_record}
 use Rattle.feed_text.specs.Formats.{TimedRecord, timed_record}
 use Rattle.feed_text.specs.ReplayStates.{state_of_replay}
@@ -34,20 +34,20 @@ loop-number-smaller g c =
     let r : CaptureRecord = datagram_record c.args.venue A c.args.bytes.now in
     let puts = c.in-Some.ensures A s.after s.follow in
     let e = skip_emits _ c.args.config.now r c.args.venue c.in-Some.number s.after
-    c.loop-number.venues c.skip_to.new.self (state_of_replay c.loop-number.report)
-    (state_of_replay c.skip_to.new.report) (Ok tt) refl (c.loop-number.invariant.kept.gaps
+    c.loop-number.venues c.skip_to.new.self (state_of_replay c.loop-number.output)
+    (state_of_replay c.skip_to.new.output) (Ok tt) refl (c.loop-number.invariant.kept.gaps
     ∙ c.requires.gaps) s.follow c.in_ok-skip_to.ensures in
     let on = skip_progress _ c.args.config.now r c.in-Some.number s.after c.loop-number.venues.items
-    c.skip_to.new.self.items (state_of_replay c.loop-number.report)
-    (state_of_replay c.skip_to.new.report) s.follow puts e in
+    c.skip_to.new.self.items (state_of_replay c.loop-number.output)
+    (state_of_replay c.skip_to.new.output) s.follow puts e in
     omega (arith, on.0, on.1, on.2)
 
 pub loop-number-preserved : goal.loop-number-preserved
 loop-number-preserved g c =
     let at : LineId → CaptureRecord = λ line. datagram_record c.args.venue line c.args.bytes.now in
-    let timed : LineId → TimedRecord = λ line. timed_record (at line) c.args.report.now.time in
-    let old = state_of_replay c.loop-number.report in
-    let new = state_of_replay c.skip_to.new.report in
+    let timed : LineId → TimedRecord = λ line. timed_record (at line) c.args.output.now.time in
+    let old = state_of_replay c.loop-number.output in
+    let new = state_of_replay c.skip_to.new.output in
     let gaps = c.loop-number.invariant.kept.gaps ∙ c.requires.gaps in
     let one : (line : LineId) (hs : List History)
     → FollowAll c.args.config.now.window c.loop-number.venues.items hs
@@ -71,8 +71,8 @@ loop-number-preserved g c =
           record {
             after = e.after;
             took = skip_taken (laws_of g) c.args.config.now (timed line)
-                (timed_record (skip_at (at line) c.in-Some.number) c.args.report.now.time) hs
-                k.after (state_of_replay c.args.report.now) old new c.skip_to.new.self.items k.took
+                (timed_record (skip_at (at line) c.in-Some.number) c.args.output.now.time) hs
+                k.after (state_of_replay c.args.output.now) old new c.skip_to.new.self.items k.took
                 (c.in-Some.number, c.in-Some.ensures line k.after k.follow, refl) e;
             follow = e.follow;
           };
@@ -81,9 +81,9 @@ loop-number-preserved g c =
 pub returns-in_err-skip_to-clause-taken : goal.returns-in_err-skip_to-clause-taken
 returns-in_err-skip_to-clause-taken g c = λ line hs f.
     let at : CaptureRecord = datagram_record c.args.venue line c.args.bytes.now in
-    let r : TimedRecord = timed_record at c.args.report.now.time in
-    let old = state_of_replay c.loop-number.report in
-    let new = state_of_replay c.skip_to.new.report in
+    let r : TimedRecord = timed_record at c.args.output.now.time in
+    let old = state_of_replay c.loop-number.output in
+    let new = state_of_replay c.skip_to.new.output in
     let p = err_from_is_err_and c.from_residual.result c.from_residual.ensures.1 in
     let k = c.loop-number.invariant.taken line hs f in
     let stop : PublishStop = c.in_err-skip_to.field-0.0 in
@@ -92,7 +92,7 @@ returns-in_err-skip_to-clause-taken g c = λ line hs f.
     (c.loop-number.invariant.kept.gaps ∙ c.requires.gaps) k.follow c.in_err-skip_to.ensures in
     rw (p.1, p.2)
     (skip_stopped (laws_of g) c.args.config.now r (timed_record (skip_at at c.in-Some.number)
-    c.args.report.now.time) hs k.after (state_of_replay c.args.report.now) old new
+    c.args.output.now.time) hs k.after (state_of_replay c.args.output.now) old new
     c.skip_to.new.self.items stop k.took (
       c.in-Some.number,
       c.in-Some.ensures line

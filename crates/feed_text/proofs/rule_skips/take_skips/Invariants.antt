@@ -13,11 +13,11 @@ use Rattle.feed_text.proofs.rule_skips.take_skips.Given as goal
 abbrev pub invariant-loop-number : goal.invariant-loop-number
 invariant-loop-number g l = record {
   kept : KeepsVenues l.fn.venues l.venues;
-  journal : l.report.journal.venues ≡ l.fn.report.journal.venues;
+  journal : l.output.journal.venues ≡ l.fn.output.journal.venues;
   taken : (line : LineId) (hs : List History) → FollowAll l.config.window l.fn.venues.items hs
       → TookSoFar (record { takes = g.K.EventSink.takes; fails = g.K.EventSink.fails }) l.config
-      (timed_record (datagram_record l.venue line l.bytes) l.fn.report.time) hs
-      (state_of_replay l.fn.report) (state_of_replay l.report) l.venues.items;
+      (timed_record (datagram_record l.venue line l.bytes) l.fn.output.time) hs
+      (state_of_replay l.fn.output) (state_of_replay l.output) l.venues.items;
 }
 
 abbrev pub decreases-loop-number : goal.decreases-loop-number

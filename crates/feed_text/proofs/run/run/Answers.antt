@@ -42,7 +42,7 @@ laws_of g = laws_by g.met.K.EventSink.takes_none g.met.K.EventSink.takes_more
 
 pub pieces-init : goal.pieces-init
 pieces-init g c = record {
-  ran = ran_none (in_laws g) (laws_of g) c.args.config.now c.args.report.now.time _ _ _ _
+  ran = ran_none (in_laws g) (laws_of g) c.args.config.now c.args.output.now.time _ _ _ _
       (omega arith) c.requires.starts;
   turns = omega arith;
   room = rw c.requires.starts.unread (omega arith);
@@ -67,7 +67,7 @@ returns-in-Err-take g c =
     (rw (← c.pieces.invariant.of_venues) c.in-Came.ensures.came) c.bytes.ensures
     c.in-Came.ensures.steps
     (λ hs f. next_taken (laws_of g) c.args.config.now r hs c.follow_rule.new.venues c.take.new.self
-    _ (state_of_replay c.follow_rule.new.report) (state_of_replay c.take.new.report)
+    _ (state_of_replay c.follow_rule.new.output) (state_of_replay c.take.new.output)
     (Err c.in-Err-take.stop) gaps (c.in_default.ensures.taken hs f) c.in-Err-take.ensures)
     c.stopped-in-Err-take.ensures c.pieces.invariant.ran
 
@@ -86,8 +86,8 @@ pieces-preserved-in-Came g c =
                 c.in_default-take.ensures.count ∙ c.in_default.ensures.kept.count;
           })
           (λ hs f. next_taken (laws_of g) c.args.config.now r hs c.follow_rule.new.venues
-          c.take.new.self _ (state_of_replay c.follow_rule.new.report)
-          (state_of_replay c.take.new.report) (Ok tt) gaps (c.in_default.ensures.taken hs f)
+          c.take.new.self _ (state_of_replay c.follow_rule.new.output)
+          (state_of_replay c.take.new.output) (Ok tt) gaps (c.in_default.ensures.taken hs f)
           c.in_default-take.ensures)
           c.pieces.invariant.ran;
       turns = c.pieces.invariant.turns;

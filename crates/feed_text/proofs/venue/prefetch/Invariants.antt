@@ -2,4 +2,4 @@ use Rattle.std.proofs.Common.{◌≡◌}
 use Rattle.feed_text.proofs.venue.prefetch.Given as goal
 
 abbrev pub invariant-loop : goal.invariant-loop
-invariant-loop g l = l.report ≡ l.fn.report
+invariant-loop g l = l.output ≡ l.fn.output

@@ -17,7 +17,7 @@ pub returns-clause-emits : goal.returns-clause-emits
 returns-clause-emits g c = λ packets f.
     let answered : ReplayEvent = packet_answered c.args.venue c.args.line c.args.packet.now.number
     (length c.args.packet.now.messages) c.args.answer.now in
-    tells_more (laws_of g) (state_of_replay c.publish_ready.new.report) (answered ∷ [])
+    tells_more (laws_of g) (state_of_replay c.publish_ready.new.output) (answered ∷ [])
     (map (item_taken c.args.venue) (drop (place_of packets c.args.arbiter.now.sent)
     (stream_of packets))) c.publish_ready.result
     c.in_ok-tell_answer.ensures
@@ -33,7 +33,7 @@ returns-in_err-tell_answer-clause-emits g c = λ packets f.
     let p = err_from_is_err_and c.from_residual.result c.from_residual.ensures.1 in
     rw (p.1, p.2)
     (tells_stop (record { takes = g.K.EventSink.takes; fails = g.K.EventSink.fails })
-    (state_of_replay c.args.report.now) (state_of_replay c.tell_answer.new.report) (answered
+    (state_of_replay c.args.output.now) (state_of_replay c.tell_answer.new.output) (answered
     ∷ [])
     (map (item_taken c.args.venue) (drop (place_of packets c.args.arbiter.now.sent)
     (stream_of packets))) c.in_err-tell_answer.field-0.0

@@ -21,7 +21,7 @@ loop-next-init g c = record {
   fits = λ P f. f;
   kept = keeping_all_but_sent_is_reflexive;
   venues = refl;
-  emitted = λ P f. took_none (laws_of g) _ (state_of_replay c.args.report.now);
+  emitted = λ P f. took_none (laws_of g) _ (state_of_replay c.args.output.now);
 }
 
 pub loop-next-preserved : goal.loop-next-preserved

@@ -13,12 +13,12 @@ abbrev pub invariant-loop-next : goal.invariant-loop-next
 invariant-loop-next g l = record {
   fits : (P : List Input) → Fits l.fn.arbiter P → Fits l.arbiter P;
   kept : KeepsAllButSent l.fn.arbiter l.arbiter;
-  venues : l.report.journal.venues ≡ l.fn.report.journal.venues;
+  venues : l.output.journal.venues ≡ l.fn.output.journal.venues;
   emitted : (P : List Input) → Fits l.fn.arbiter P
       → Took (record { takes = g.K.EventSink.takes; fails = g.K.EventSink.fails })
       (map (item_taken l.venue) (drop (place_of P l.fn.arbiter.sent) (stream_of P)))
       (map (item_taken l.venue) (drop (place_of P l.arbiter.sent) (stream_of P)))
-      (state_of_replay l.fn.report) (state_of_replay l.report);
+      (state_of_replay l.fn.output) (state_of_replay l.output);
 }
 
 abbrev pub decreases-loop-next : goal.decreases-loop-next

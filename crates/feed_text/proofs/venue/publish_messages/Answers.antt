@@ -27,7 +27,7 @@ loop-message-init g c =
       count = omega arith;
       venues = refl;
       emitted = rw (e, c.messages-messages.ensures.value)
-          (took_none (laws_of g) _ (state_of_replay c.args.report.now));
+          (took_none (laws_of g) _ (state_of_replay c.args.output.now));
     }
 
 pub overflow_add-item : goal.overflow_add-item
@@ -76,7 +76,7 @@ returns-in_err-take_item g c =
       takes = g.K.EventSink.takes;
       fails =
           g.K.EventSink.fails;
-    }) (state_of_replay c.loop-message.report)
+    }) (state_of_replay c.loop-message.output)
     (item_taken c.args.venue (record {
       number = c.number-first.result + c.loop-message.place;
       item = i;

@@ -11,11 +11,11 @@ abbrev pub invariant-loop-message : goal.invariant-loop-message
 invariant-loop-message g l = record {
   room : l.first + l.place + length l.messages ≤ 2 ^ 64;
   count : l.place + length l.messages ≡ length l.packet.messages;
-  venues : l.report.journal.venues ≡ l.fn.report.journal.venues;
+  venues : l.output.journal.venues ≡ l.fn.output.journal.venues;
   emitted : Took (record { takes = g.K.EventSink.takes; fails = g.K.EventSink.fails })
       (map (item_taken l.venue) (numbered_from l.packet.number (map item_of l.packet.messages)))
       (map (item_taken l.venue) (numbered_from (l.first + l.place) (map item_of l.messages)))
-      (state_of_replay l.fn.report) (state_of_replay l.report);
+      (state_of_replay l.fn.output) (state_of_replay l.output);
 }
 
 abbrev pub decreases-loop-message : goal.decreases-loop-message

@@ -23,8 +23,8 @@ returns-clause-emits g c = λ from packets f sends.
     passed_all (laws_of g) c.args.venue (place_of packets from)
     (place_of packets c.args.arbiter.now.sent) (numbered_from c.args.packet.now.number
     (map item_of c.args.packet.now.messages)) (stream_of packets) answered
-    (state_of_replay c.args.report.now) (state_of_replay c.tell_answer.new.report)
-    (state_of_replay c.publish_messages.new.report) (state_of_replay c.publish_ready.new.report)
+    (state_of_replay c.args.output.now) (state_of_replay c.tell_answer.new.output)
+    (state_of_replay c.publish_messages.new.output) (state_of_replay c.publish_ready.new.output)
     c.publish_ready.result
     sends
     c.in_ok-tell_answer.ensures
@@ -40,8 +40,8 @@ returns-in_err-publish_messages-clause-emits g c = λ from packets f sends.
     (passed_part (laws_of g) c.args.venue (place_of packets from)
     (place_of packets c.args.arbiter.now.sent) (numbered_from c.args.packet.now.number
     (map item_of c.args.packet.now.messages)) (stream_of packets) answered
-    (state_of_replay c.args.report.now) (state_of_replay c.tell_answer.new.report)
-    (state_of_replay c.publish_messages.new.report) c.in_err-publish_messages.field-0.0
+    (state_of_replay c.args.output.now) (state_of_replay c.tell_answer.new.output)
+    (state_of_replay c.publish_messages.new.output) c.in_err-publish_messages.field-0.0
     sends
     c.in_ok-tell_answer.ensures
     c.in_err-publish_messages.ensures)
@@ -60,7 +60,7 @@ returns-in_err-tell_answer-clause-emits g c = λ from packets f sends.
     let p = err_from_is_err_and c.from_residual.result c.from_residual.ensures.1 in
     rw (p.1, p.2)
     (tells_stop (record { takes = g.K.EventSink.takes; fails = g.K.EventSink.fails })
-    (state_of_replay c.args.report.now) (state_of_replay c.tell_answer.new.report) (answered
+    (state_of_replay c.args.output.now) (state_of_replay c.tell_answer.new.output) (answered
     ∷ [])
     (map (item_taken c.args.venue) (drop (place_of packets from) (stream_of packets)))
     c.in_err-tell_answer.field-0.0

@@ -21,7 +21,7 @@ returns-in-None g c = record {
       let here = c.next_ready.ensures.stream P f in
       took_all (ap (map (item_taken c.args.venue))
       (rest_end (stream_of P) (place_of P c.args.arbiter.now.sent) (sym c.in-None.is ∙ here)))
-      (took_none (laws_of g) _ (state_of_replay c.args.report.now));
+      (took_none (laws_of g) _ (state_of_replay c.args.output.now));
   sent = record {
     fits = λ P f.
         let here = c.next_ready.ensures.stream P f in

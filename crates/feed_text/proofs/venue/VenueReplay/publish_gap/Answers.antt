@@ -17,7 +17,7 @@ laws_of g = laws_by g.met.K.EventSink.takes_none g.met.K.EventSink.takes_more
 pub returns-in-Some : goal.returns-in-Some
 returns-in-Some g c = λ P f.
     gap_goes (record { takes = g.K.EventSink.takes; fails = g.K.EventSink.fails })
-    (state_of_replay c.args.report.now) (state_of_replay c.tell.new.self) c.args.venue _
+    (state_of_replay c.args.output.now) (state_of_replay c.tell.new.self) c.args.venue _
     c.in-Some.request c.tell.result
     (sym (subst (λ (v : ReplayVenue). (P : List Input) → Fits v.arbiter P → c.gap.result ≡ gap_of
     v.arbiter.session v.arbiter.window v.arbiter.sent P) c.self.view_is c.gap.ensures P f)
@@ -25,7 +25,7 @@ returns-in-Some g c = λ P f.
     (c.tell.ensures (gap_left c.args.venue c.in-Some.request) refl refl)
 
 pub returns-in-None : goal.returns-in-None
-returns-in-None g c = λ P f. no_gap_goes (laws_of g) (state_of_replay c.args.report.now)
+returns-in-None g c = λ P f. no_gap_goes (laws_of g) (state_of_replay c.args.output.now)
     c.args.venue _
     (sym (subst (λ (v : ReplayVenue). (P : List Input) → Fits v.arbiter P → c.gap.result ≡ gap_of
     v.arbiter.session v.arbiter.window v.arbiter.sent P) c.self.view_is c.gap.ensures P f)

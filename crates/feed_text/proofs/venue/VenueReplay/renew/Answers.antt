@@ -8,6 +8,6 @@ pub returns : goal.returns
 returns g c = λ width gaps h f.
     renewal_told width c.args.venue gaps h c.next_session-answer.new.self c.args.session
     c.next_session-answer.result
-    (state_of_replay c.args.report.now) (state_of_replay c.tell.new.self) c.tell.result
+    (state_of_replay c.args.output.now) (state_of_replay c.tell.new.self) c.tell.result
     (c.next_session-answer.ensures width c.args.venue h f)
     (c.tell.ensures (renewal_answered c.args.venue c.next_session-answer.result) refl refl)

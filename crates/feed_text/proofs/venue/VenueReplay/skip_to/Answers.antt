@@ -25,13 +25,13 @@ returns g c = λ width gaps h f.
     } in
     skip_told width c.args.venue gaps h c.args.number v c.publish_each.new.arbiter
     c.give_up-answer.result
-    (state_of_replay c.args.report.now) (state_of_replay c.publish_each.new.report)
+    (state_of_replay c.args.output.now) (state_of_replay c.publish_each.new.output)
     c.publish_each.result
     (subst (λ (w : ReplayVenue). GivesUp width c.args.venue c.args.number h w
     c.give_up-answer.result) (sym c.self.view_is) (c.give_up-answer.ensures
     width c.args.venue h f))
     (λ packets fits.
-    tells_more (laws_of g) (state_of_replay c.publish_each.new.report) (skip_answered c.args.venue
+    tells_more (laws_of g) (state_of_replay c.publish_each.new.output) (skip_answered c.args.venue
     c.args.number c.give_up-answer.result ∷ [])
     (map (item_taken c.args.venue) (drop (place_of packets c.self.inside.arbiter.sent)
     (stream_of packets))) c.publish_each.result
@@ -46,12 +46,12 @@ returns-in_err-tell g c = λ width gaps h f.
     rw (p.1, p.2)
     (skip_told width c.args.venue gaps h c.args.number c.give_up-answer.new.self
     c.give_up-answer.new.self.arbiter c.give_up-answer.result
-    (state_of_replay c.args.report.now) (state_of_replay c.tell.new.self)
+    (state_of_replay c.args.output.now) (state_of_replay c.tell.new.self)
     (Err c.in_err-tell.field-0.0)
     (c.give_up-answer.ensures width c.args.venue h f)
     (λ packets fits.
     tells_stop (record { takes = g.K.EventSink.takes; fails = g.K.EventSink.fails })
-    (state_of_replay c.args.report.now) (state_of_replay c.tell.new.self)
+    (state_of_replay c.args.output.now) (state_of_replay c.tell.new.self)
     (skip_answered c.args.venue c.args.number c.give_up-answer.result ∷ [])
     (map (item_taken c.args.venue) (drop (place_of packets c.give_up-answer.new.self.arbiter.sent)
     (stream_of packets))) c.in_err-tell.field-0.0

@@ -15,8 +15,8 @@ returns g c = λ width h f.
     rw c.if-not-gaps.false
     (gap_added (laws_of g) width c.args.venue h c.take_datagram-emitted.new.self
     c.args.line c.args.bytes.now
-    (state_of_replay c.args.report.now) (state_of_replay c.take_datagram-emitted.new.report)
-    (state_of_replay c.publish_gap.new.report) c.publish_gap.result
+    (state_of_replay c.args.output.now) (state_of_replay c.take_datagram-emitted.new.output)
+    (state_of_replay c.publish_gap.new.output) c.publish_gap.result
     (c.in_ok-emitted.ensures width h f) c.publish_gap.ensures)
 
 pub returns-in_err-emitted : goal.returns-in_err-emitted
@@ -24,6 +24,6 @@ returns-in_err-emitted g c = λ width h f.
     let p = err_from_is_err_and c.from_residual.result c.from_residual.ensures.1 in
     rw (p.1, p.2)
     (gap_never width c.args.venue c.args.gaps h c.take_datagram-emitted.new.self c.args.line
-    c.args.bytes.now (state_of_replay c.args.report.now)
-    (state_of_replay c.take_datagram-emitted.new.report) c.in_err-emitted.field-0.0
+    c.args.bytes.now (state_of_replay c.args.output.now)
+    (state_of_replay c.take_datagram-emitted.new.output) c.in_err-emitted.field-0.0
     (c.in_err-emitted.ensures width h f))

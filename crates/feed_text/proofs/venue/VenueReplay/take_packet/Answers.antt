@@ -1,7 +1,7 @@
 use Rattle.std.proofs.Common.{rules, sym, subst}
 use Rattle.std.specs.Prelude.{Ok}
 use Rattle.feed_text.specs.ReplayStates.{state_of_replay}
-use Rattle.feed_text.specs.declared.report.ReplaySink.{ReplaySink}
+use Rattle.feed_text.specs.declared.replay_sink.ReplaySink.{ReplaySink}
 use Rattle.feed_text.specs.Following.{ReplayVenue, Follows, EmitsOutcome}
 use Rattle.feed_text.proofs.Passing.{passed_told}
 use Rattle.feed_text.proofs.VenueSteps.{answered_told}
@@ -13,7 +13,7 @@ returns g c = λ width h f.
       takes = g.K.EventSink.takes;
       fails = g.K.EventSink.fails;
     }) width c.args.venue c.args.line c.args.packet.now h
-    (state_of_replay r) (state_of_replay c.publish_next.new.report)
+    (state_of_replay r) (state_of_replay c.publish_next.new.output)
     (record {
       arbiter = c.publish_next.new.arbiter;
       sent_before = c.self.inside.sent_before;
@@ -27,7 +27,7 @@ returns g c = λ width h f.
     })
     c.take_next-outcome.new.self c.publish_next.new.arbiter c.args.line c.args.packet.now
     c.take_next-outcome.result
-    (state_of_replay c.look_ahead.new.report) (state_of_replay c.publish_next.new.report)
+    (state_of_replay c.look_ahead.new.output) (state_of_replay c.publish_next.new.output)
     c.publish_next.result
     (subst (λ (v : ReplayVenue). Follows width c.args.venue v h) (sym c.self.view_is) f)
     (λ packets fits. c.is_next.ensures.brings packets c.args.line fits c.if-not-is_next.false)
@@ -46,7 +46,7 @@ returns-in-Some g c = λ width h f.
     })
     c.self.inside.arbiter c.publish_answer.new.arbiter c.args.line
     c.args.packet.now (Ok c.in-Some.outcome)
-    (state_of_replay c.args.report.now) (state_of_replay c.publish_answer.new.report)
+    (state_of_replay c.args.output.now) (state_of_replay c.publish_answer.new.output)
     c.publish_answer.result
     (subst (λ (v : ReplayVenue). Follows width c.args.venue v h) (sym c.self.view_is) f)
     c.in-Some.ensures.answer (λ packets fits. c.in-Some.ensures.fits packets c.args.line fits)

@@ -22,9 +22,9 @@ returns g c =
       takes = g.K.EventSink.takes;
       fails =
           g.K.EventSink.fails;
-    }) s r (state_of_replay c.args.report.now)
-    (state_of_replay c.skip_to.new.report) to c.skip_to.result) c.self.view_is
-    (takes_one from to r (state_of_replay c.args.report.now) (state_of_replay c.skip_to.new.report)
+    }) s r (state_of_replay c.args.output.now)
+    (state_of_replay c.skip_to.new.output) to c.skip_to.result) c.self.view_is
+    (takes_one from to r (state_of_replay c.args.output.now) (state_of_replay c.skip_to.new.output)
     c.skip_to.result c.index_mut-replay.result.now c.skip_to.new.self
     (slice_get_read items (length items) (record_venue r) _ refl there (rw (← c.index.ensures.value)
     c.index_mut-replay.ensures.value))

@@ -24,9 +24,9 @@ returns-in-Datagram g c =
       takes = g.K.EventSink.takes;
       fails =
           g.K.EventSink.fails;
-    }) s r (state_of_replay c.args.report.now)
-    (state_of_replay c.take.new.report) to c.take.result) c.self.view_is
-    (takes_one from to r (state_of_replay c.args.report.now) (state_of_replay c.take.new.report)
+    }) s r (state_of_replay c.args.output.now)
+    (state_of_replay c.take.new.output) to c.take.result) c.self.view_is
+    (takes_one from to r (state_of_replay c.args.output.now) (state_of_replay c.take.new.output)
     c.take.result c.index_mut-replay.result.now c.take.new.self
     (slice_get_read items (length items) (record_venue r) _ refl there (rw (← c.index.ensures.value)
     c.index_mut-replay.ensures.value))
@@ -51,9 +51,9 @@ returns-in-Renewal g c =
       takes = g.K.EventSink.takes;
       fails =
           g.K.EventSink.fails;
-    }) s r (state_of_replay c.args.report.now)
-    (state_of_replay c.renew.new.report) to c.renew.result) c.self-in-Renewal.view_is
-    (takes_one from to r (state_of_replay c.args.report.now) (state_of_replay c.renew.new.report)
+    }) s r (state_of_replay c.args.output.now)
+    (state_of_replay c.renew.new.output) to c.renew.result) c.self-in-Renewal.view_is
+    (takes_one from to r (state_of_replay c.args.output.now) (state_of_replay c.renew.new.output)
     c.renew.result c.index_mut-replay-in-Renewal.result.now c.renew.new.self
     (slice_get_read items (length items) (record_venue r) _ refl there
     (rw (← c.index-in-Renewal.ensures.value) c.index_mut-replay-in-Renewal.ensures.value))
@@ -68,5 +68,5 @@ pub returns-in-SelfHelp : goal.returns-in-SelfHelp
 returns-in-SelfHelp g c =
     rw c.in-SelfHelp.is
     (takes_self_help c.args.self.now c.in-SelfHelp.venue c.in-SelfHelp.on
-    (state_of_replay c.args.report.now) (state_of_replay c.declare.new.self) c.declare.result
+    (state_of_replay c.args.output.now) (state_of_replay c.declare.new.self) c.declare.result
     (search rules) c.declare.ensures)

@@ -7,8 +7,8 @@ use Rattle.feed_text.specs.ReplayEvents.{self_help_declared}
 use Rattle.feed_text.specs.SinkEvents.{told_declaration}
 use Rattle.feed_text.specs.ReplayStates.{GoesToFull, FailsWithin, state_of_replay}
 use Rattle.feed_text.proofs.Tales.{SinkLaws, laws_by, tale_from, entry_goes, entry_fails_first, entry_fails_later, declared_own, already_own, declared_full, plain_fails}
-use Rattle.feed_text.proofs.report.ReplaySink.declare.Given.{Over}
-use Rattle.feed_text.proofs.report.ReplaySink.declare.Goals as goal
+use Rattle.feed_text.proofs.replay_sink.ReplaySink.declare.Given.{Over}
+use Rattle.feed_text.proofs.replay_sink.ReplaySink.declare.Goals as goal
 
 laws_of : (g : Over)
     → SinkLaws (record { takes = g.K.EventSink.takes; fails = g.K.EventSink.fails })

@@ -6,8 +6,8 @@ use Rattle.journal_book.specs.Changes.{notices_from}
 use Rattle.feed_text.specs.ReplayEvents.{item_taken}
 use Rattle.feed_text.specs.SinkEvents.{told_item}
 use Rattle.feed_text.proofs.Tales.{SinkLaws, laws_by, item_full, entry_goes, entry_fails_first, entry_fails_later}
-use Rattle.feed_text.proofs.report.ReplaySink.take_item.Given.{Over}
-use Rattle.feed_text.proofs.report.ReplaySink.take_item.Goals as goal
+use Rattle.feed_text.proofs.replay_sink.ReplaySink.take_item.Given.{Over}
+use Rattle.feed_text.proofs.replay_sink.ReplaySink.take_item.Goals as goal
 
 laws_of : (g : Over)
     → SinkLaws (record { takes = g.K.EventSink.takes; fails = g.K.EventSink.fails })

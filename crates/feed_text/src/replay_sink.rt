@@ -4,7 +4,7 @@ ghost use Rattle.journal_book.specs.Changes.{notices_from};
 ghost use Rattle.feed_text.specs.ReplayEvents.{item_taken, self_help_declared};
 ghost use Rattle.feed_text.specs.SinkEvents.{at_time, timed_event, told_best, told_by};
 ghost use Rattle.feed_text.specs.ReplayStates.{EmitsInto, EmitsPlain, state_of_replay};
-ghost use Rattle.feed_text.specs.declared.report.PublishStop.TheVariants.{SinkFailed};
+ghost use Rattle.feed_text.specs.declared.replay_sink.PublishStop.TheVariants.{SinkFailed};
 
 use crate::event::Event;
 use crate::event_sink::{EventSink, SinkStop};

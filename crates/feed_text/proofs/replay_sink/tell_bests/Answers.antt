@@ -6,7 +6,7 @@ use Rattle.nbbo_book.specs.declared.change.Change.{Change}
 use Rattle.journal_book.specs.Changes.{notices_from}
 use Rattle.feed_text.specs.SinkEvents.{TimedEvent, at_time, told_best}
 use Rattle.feed_text.proofs.Tales.{bests_rest}
-use Rattle.feed_text.proofs.report.tell_bests.Goals as goal
+use Rattle.feed_text.proofs.replay_sink.tell_bests.Goals as goal
 
 pub loop-change-init : goal.loop-change-init
 loop-change-init g c = record { took = λ end t. t; failed = λ end t. t; number = omega arith }
