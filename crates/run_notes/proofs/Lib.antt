@@ -1,0 +1,3 @@
+pub mod EntriesNoted
+pub mod FirstAbsent
+pub mod SymbolKeys

@@ -1,0 +1,3 @@
+pub mod AbsentLaws
+pub mod AbsentSymbols
+pub mod SessionNames

@@ -1,0 +1,19 @@
+//! What standard error has at the end of a run of any command: which symbols never came
+//! ([`AbsentList`], [`write_absent`]), and names of sessions ([`write_session_name`]).
+//!
+//! Contract: the symbols that are left are those of which no item came
+//! (`specs/AbsentSymbols.antt`); what is said of them, and of a session's name, is exactly a text
+//! of them (`specs/SessionNames.antt`).
+//!
+//! Begin with `absent_symbols.rt`.
+#![tactic(auto)]
+
+mod absent_list;
+mod absent_report;
+mod absent_symbols;
+mod session_name;
+
+pub use absent_list::AbsentList;
+pub use absent_report::write_absent;
+pub use absent_symbols::AbsentSymbols;
+pub use session_name::write_session_name;
