@@ -7,14 +7,17 @@ use Rattle.clap.specs.Walk.{Row, Text, first_of, one_of}
 use Rattle.clap.specs.Faults.{fault_of}
 use Rattle.clap.specs.declared.error.kind.ErrorKind.{ErrorKind}
 use Rattle.clap.specs.declared.error.kind.ErrorKind.TheVariants.{DisplayHelp, DisplayVersion, OutOfMemory}
-use Rattle.command_words.specs.CapturedLines.{HasInputFault}
-use Rattle.command_words.specs.CommandLine.{GivesNoConversion, GivesNoDiscovery, IsAccepted, IsCommand, IsRefused, RefusesBy, lines_refusal_by, senders_refusal_by, stats_refusal_by, values_of}
+use Rattle.command_words.specs.CapturedLines.{HasInputFault, NamesInput}
+use Rattle.command_words.specs.CommandLine.{GivesNoConversion, GivesNoDiscovery, IsAccepted, IsCommand, IsRefused, RefusesBy, lines_refusal_by, senders_refusal_by, span_refusal_by, stats_refusal_by, values_of}
 use Rattle.command_words.specs.FeedRequests.{GivesFeed}
 use Rattle.command_words.specs.ListenRequests.{GivesBadListenStats, GivesListenStats, GivesNoListening, ListensToNoSenders}
 use Rattle.command_words.specs.StatsFormats.{HasListenStatsFault, NamesListenStats}
 use Rattle.run_settings.specs.declared.listen_stats.ListenStats.{ListenStats}
 use Rattle.command_words.specs.OptionValues.{IsCount, IsFlag, IsGivenCount, IsWindowOf}
-use Rattle.command_words.specs.RunRequests.{GivesBadFormat, GivesNoRun, GivesNoStats, GivesNoStatsOutput, GivesOutput, GivesStatsOutput}
+use Rattle.command_words.specs.RunRequests.{GivesBadFormat, GivesBestsAlone, GivesCounted, GivesNoRun, GivesNoSpan, GivesNoStats, GivesNoStatsOutput, GivesNone, GivesOutput, GivesSpan, GivesStatsOutput, bests_by}
+use Rattle.command_words.specs.SpanWords.{HasSpanFault, NamesSpan}
+use Rattle.command_words.specs.declared.span_words.SpanFault.{SpanFault}
+use Rattle.command_words.specs.declared.span_words.SpanFault.TheVariants as spans
 use Rattle.command_words.specs.BestFormats.{HasFormatFault, NamesFormat}
 use Rattle.command_words.specs.StatsOutputs.{HasStatsFault, NamesStatsOutput}
 use Rattle.command_words.specs.declared.best_format.FormatFault.{FormatFault}
@@ -24,12 +27,15 @@ use Rattle.command_words.specs.declared.addresses.LinesFault.TheVariants as line
 use Rattle.command_words.specs.SenderLists.{HasSendersFault}
 use Rattle.command_words.specs.declared.sender_list.SendersFault.{SendersFault}
 use Rattle.command_words.specs.declared.sender_list.SendersFault.TheVariants as senders
+use Rattle.command_words.specs.declared.stats_output.BestsFault.{BestsFault}
 use Rattle.command_words.specs.declared.stats_output.StatsFault.{StatsFault}
 use Rattle.command_words.specs.declared.stats_output.StatsFault.TheVariants as stats
 use Rattle.run_settings.specs.declared.feed_settings.FeedSettings.{FeedSettings}
+use Rattle.run_settings.specs.declared.run_input.RunInput.{RunInput}
+use Rattle.run_settings.specs.declared.time_span.TimeSpan.{TimeSpan}
 use Rattle.run_settings.specs.declared.run_output.RunOutput.{RunOutput}
 use Rattle.command_words.specs.declared.refusal.Refusal.{Refusal}
-use Rattle.command_words.specs.declared.refusal.Refusal.TheVariants.{Shown, Usage, NotText, BadFormat, BadLines, NoMemory}
+use Rattle.command_words.specs.declared.refusal.Refusal.TheVariants.{Shown, Usage, NotText, BadFormat, BadLines, BestsWithoutEvery, NoMemory}
 
 not_some : {A : Type 0} (x : A) → Some x ≡ None → ⊥
 not_some x e = let bad : true ≡ false = ap is_some e in absurd (cc)
@@ -155,7 +161,7 @@ pub gives_stats_output : (rows : List Row) (gaps : Bool) (every format list : Op
     (r : Result RunOutput StatsFault) → IsFlag (one_of (codes "gaps") rows) gaps
     → every ≡ first_of (codes "every") rows
     → format ≡ first_of (codes "format") rows → list ≡ first_of (codes "lines") rows
-    → IfOk r (NamesStatsOutput gaps every format list) → IfOk r (GivesStatsOutput rows)
+    → IfOk r (NamesStatsOutput gaps every format list) → IfOk r (GivesCounted rows)
 gives_stats_output rows gaps every format list (Ok output) given e f l told =
     record { gaps = gaps; flag = given; names = rw (← e, ← f, ← l) told }
 gives_stats_output rows gaps every format list (Err fault) given e f l told = tt
@@ -190,6 +196,113 @@ GivesNoStats-lines rows feed output lines.BadLines given prints fault =
     GivesNoRun-lines rows (GivesStatsOutput rows) (GivesNoStatsOutput rows stats.BadFormat)
     feed output lines.BadLines given prints fault
 GivesNoStats-lines rows feed output lines.NoMemory given prints fault = tt
+
+-- what it prints with --bests or without
+pub gives_bests : (rows : List Row) (bests : Bool) (counted : RunOutput)
+    (r : Result RunOutput BestsFault) → IsFlag (one_of (codes "bests") rows) bests
+    → IfOk r (λ output. bests_by bests counted ≡ Some output)
+    → IfOk r (λ output. GivesCounted rows counted → GivesStatsOutput rows output)
+gives_bests rows bests counted (Ok output) flag is = λ given. record {
+  counted = counted;
+  given = given;
+  bests = bests;
+  bests_flag = flag;
+  is = is;
+}
+gives_bests rows bests counted (Err fault) flag is = tt
+
+pub gives_bests_alone : (rows : List Row) (bests : Bool) (counted : RunOutput)
+    (r : Result RunOutput BestsFault) → IsFlag (one_of (codes "bests") rows) bests
+    → IfErr r (λ fault. bests_by bests counted ≡ None)
+    → IfErr r (λ fault. GivesCounted rows counted → GivesBestsAlone rows)
+gives_bests_alone rows bests counted (Ok output) flag none = tt
+gives_bests_alone rows bests counted (Err fault) flag none = λ given. record {
+  counted = counted;
+  given = given;
+  bests = bests;
+  bests_flag = flag;
+  none = none;
+}
+
+pub GivesNoStats-bests : (rows : List Row) (feed : FeedSettings) → GivesFeed rows feed
+    → GivesBestsAlone rows → GivesNoStats rows BestsWithoutEvery
+GivesNoStats-bests rows feed given alone =
+    (feed.sessions.items, given.sessions, (feed.symbols.items, given.symbols, alone))
+
+-- the span by its options
+pub gives_span : (rows : List Row) (output : RunOutput) (from to list : Option Text)
+    (r : Result TimeSpan SpanFault) → from ≡ first_of (codes "from") rows
+    → to ≡ first_of (codes "to") rows → list ≡ first_of (codes "lines") rows
+    → IfOk r (NamesSpan output from to list) → IfOk r (GivesSpan rows output)
+gives_span rows output from to list (Ok span) f t l named =
+    subst (λ (x : Option Text). NamesSpan output x (first_of (codes "to") rows)
+    (first_of (codes "lines") rows) span) f
+    (subst (λ (x : Option Text). NamesSpan output from x (first_of (codes "lines") rows) span) t
+    (subst (λ (x : Option Text). NamesSpan output from to x span) l named))
+gives_span rows output from to list (Err fault) f t l named = tt
+
+pub gives_span_fault : (rows : List Row) (output : RunOutput) (from to list : Option Text)
+    (r : Result TimeSpan SpanFault) → from ≡ first_of (codes "from") rows
+    → to ≡ first_of (codes "to") rows → list ≡ first_of (codes "lines") rows
+    → IfErr r (HasSpanFault output from to list)
+    → IfErr r (HasSpanFault output (first_of (codes "from") rows) (first_of (codes "to") rows)
+    (first_of (codes "lines") rows))
+gives_span_fault rows output from to list (Ok span) f t l has = tt
+gives_span_fault rows output from to list (Err fault) f t l has =
+    subst (λ (x : Option Text). HasSpanFault output x (first_of (codes "to") rows)
+    (first_of (codes "lines") rows) fault) f
+    (subst (λ (x : Option Text). HasSpanFault output from x (first_of (codes "lines") rows) fault) t
+    (subst (λ (x : Option Text). HasSpanFault output from to x fault) l has))
+
+-- a fault of the span is the refusal, where all else is right
+has_no_span : (rows : List Row) (IsOutput : RunOutput → Type 0) (feed : FeedSettings)
+    (output : RunOutput) (input : RunInput) (fault : SpanFault) → GivesFeed rows feed
+    → IsOutput output
+    → NamesInput (first_of (codes "lines") rows) (length feed.sessions.items) input
+    → HasSpanFault output (first_of (codes "from") rows) (first_of (codes "to") rows)
+    (first_of (codes "lines") rows) fault → GivesNoSpan rows IsOutput fault
+has_no_span rows IsOutput feed output input fault given prints named has = (
+  feed.sessions.items,
+  given.sessions,
+  (
+    feed.symbols.items,
+    given.symbols,
+    (output, prints, input, named, has),
+  ),
+)
+
+pub GivesNoRun-span : (rows : List Row) (IsOutput : RunOutput → Type 0) (IsFault : Type 0)
+    (feed : FeedSettings) (output : RunOutput) (input : RunInput) (fault : SpanFault)
+    → GivesFeed rows feed → IsOutput output
+    → NamesInput (first_of (codes "lines") rows) (length feed.sessions.items) input
+    → HasSpanFault output (first_of (codes "from") rows) (first_of (codes "to") rows)
+    (first_of (codes "lines") rows) fault
+    → GivesNoRun rows IsOutput IsFault (span_refusal_by fault)
+GivesNoRun-span rows IsOutput IsFault feed output input spans.BadTime given prints named has =
+    has_no_span rows IsOutput feed output input spans.BadTime given prints named has
+GivesNoRun-span rows IsOutput IsFault feed output input spans.ToBeforeFrom given prints named has =
+    has_no_span rows IsOutput feed output input spans.ToBeforeFrom given prints named has
+GivesNoRun-span rows IsOutput IsFault feed output input spans.SpanOfLines given prints named has =
+    has_no_span rows IsOutput feed output input spans.SpanOfLines given prints named has
+GivesNoRun-span rows IsOutput IsFault feed output input spans.SpanWithoutLines given prints named
+    has = has_no_span rows IsOutput feed output input spans.SpanWithoutLines given prints named has
+
+pub GivesNoStats-span : (rows : List Row) (feed : FeedSettings) (output : RunOutput)
+    (input : RunInput) (fault : SpanFault) → GivesFeed rows feed → GivesStatsOutput rows output
+    → NamesInput (first_of (codes "lines") rows) (length feed.sessions.items) input
+    → HasSpanFault output (first_of (codes "from") rows) (first_of (codes "to") rows)
+    (first_of (codes "lines") rows) fault → GivesNoStats rows (span_refusal_by fault)
+GivesNoStats-span rows feed output input spans.BadTime given prints named has =
+    has_no_span rows (GivesStatsOutput rows) feed output input spans.BadTime given prints named has
+GivesNoStats-span rows feed output input spans.ToBeforeFrom given prints named has =
+    has_no_span rows (GivesStatsOutput rows) feed output input spans.ToBeforeFrom given prints named
+    has
+GivesNoStats-span rows feed output input spans.SpanOfLines given prints named has =
+    has_no_span rows (GivesStatsOutput rows) feed output input spans.SpanOfLines given prints named
+    has
+GivesNoStats-span rows feed output input spans.SpanWithoutLines given prints named has =
+    has_no_span rows (GivesStatsOutput rows) feed output input spans.SpanWithoutLines given prints
+    named has
 
 -- a fault of the list of senders is the refusal, where all that is looked at before is right
 pub GivesNoListening-senders : (rows : List Row) (fault : SendersFault)
@@ -299,6 +412,33 @@ IsRefused-discovering words BadFormat taken finds none = record {
       absurd (not_discovering finds);
 }
 IsRefused-discovering words _ taken finds none = absurd none
+
+-- a command whose name begins otherwise isn't replay
+not_replaying : (words : List Text) (name : Text) → (get_or name 0 0 ≡ 114 → ⊥)
+    → IsCommand name words → IsCommand (codes "replay") words → ⊥
+not_replaying words name other one replays =
+    other (ap (λ (n : Option Text). get_or (unwrap_or n []) 0 0) (sym one ∙ replays))
+
+-- the values of the options of replay are refused
+pub IsRefused-replaying : (words : List Text) (refusal : Refusal) → IsAccepted words
+    → IsCommand (codes "replay") words → GivesNone (values_of (codes "replay") words) refusal
+    → IsRefused words refusal
+IsRefused-replaying words (Shown text) taken replays none = absurd none
+IsRefused-replaying words (Usage text) taken replays none = absurd none
+IsRefused-replaying words NotText taken replays none = absurd none
+IsRefused-replaying words NoMemory taken replays none = tt
+IsRefused-replaying words refusal taken replays none = record {
+  taken = taken;
+  listening = λ listens. absurd (not_replaying words (codes "listen")
+      (λ e. let heads : ◌≡◌ {A = ℕ} 108 114 = e in absurd (omega (arith, heads))) listens replays);
+  converting = λ converts. absurd (not_replaying words (codes "convert")
+      (λ e. let heads : ◌≡◌ {A = ℕ} 99 114 = e in absurd (omega (arith, heads))) converts replays);
+  counting = λ counts. absurd (not_replaying words (codes "stats")
+      (λ e. let heads : ◌≡◌ {A = ℕ} 115 114 = e in absurd (omega (arith, heads))) counts replays);
+  discovering = λ finds. absurd (not_replaying words (codes "lines")
+      (λ e. let heads : ◌≡◌ {A = ℕ} 108 114 = e in absurd (omega (arith, heads))) finds replays);
+  replaying = λ not_listening not_converting not_counting not_discovering. none;
+}
 
 -- an error of clap by one of its kinds is the refusal
 pub IsRefused-by : (words : List Text) (kind : ErrorKind) (refusal : Refusal)

@@ -4,3 +4,4 @@ mod Naming
 mod Spelling
 pub mod CapturedLists
 pub mod PeriodReading
+pub mod TimeReading

@@ -18,6 +18,8 @@ use Rattle.command_words.specs.declared.sender_list.SendersFault.{SendersFault}
 use Rattle.command_words.specs.declared.sender_list.SendersFault.TheVariants as senders
 use Rattle.command_words.specs.declared.sessions.SessionsFault.{SessionsFault}
 use Rattle.command_words.specs.declared.sessions.SessionsFault.TheVariants as sessions
+use Rattle.command_words.specs.declared.span_words.SpanFault.{SpanFault}
+use Rattle.command_words.specs.declared.span_words.SpanFault.TheVariants as spans
 use Rattle.command_words.specs.declared.stats_output.StatsFault.{StatsFault}
 use Rattle.command_words.specs.declared.stats_output.StatsFault.TheVariants as stats
 use Rattle.command_words.specs.declared.symbols.SymbolsFault.{SymbolsFault}
@@ -28,7 +30,7 @@ use Rattle.run_settings.specs.declared.run_settings.RunSettings.{RunSettings}
 use Rattle.command_words.specs.declared.task.Task.{Task}
 use Rattle.command_words.specs.declared.task.Task.TheVariants.{Run, Convert, Discover, Listen}
 use Rattle.command_words.specs.declared.refusal.Refusal.{Refusal}
-use Rattle.command_words.specs.declared.refusal.Refusal.TheVariants.{Shown, Usage, NotText, BadSession, TooManySessions, BadLines, BadRequest, BadFormat, BadPeriod, EveryWithoutLines, GapsWithEvery, BadEnd, KeptUnfollowed, BadSender, BadMetrics, BadSymbol, TooManySymbols, DuplicateSymbol, NoMemory}
+use Rattle.command_words.specs.declared.refusal.Refusal.TheVariants.{Shown, Usage, NotText, BadSession, TooManySessions, BadLines, BadRequest, BadFormat, BadPeriod, EveryWithoutLines, GapsWithEvery, BestsWithoutEvery, BadTime, ToBeforeFrom, SpanOfLines, SpanWithoutLines, BadEnd, KeptUnfollowed, BadSender, BadMetrics, BadSymbol, TooManySymbols, DuplicateSymbol, NoMemory}
 use Rattle.run_settings.specs.declared.captured_line.CapturedLine.{CapturedLine}
 use Rattle.command_words.specs.OptionValues.{lines_in, rows_of_command}
 use Rattle.command_words.specs.RunRequests.{Gives, GivesNoStats, GivesNone, GivesStats}
@@ -64,6 +66,12 @@ stats_refusal_by stats.BadPeriod = BadPeriod
 stats_refusal_by stats.BadFormat = BadFormat
 stats_refusal_by stats.EveryWithoutLines = EveryWithoutLines
 stats_refusal_by stats.GapsWithEvery = GapsWithEvery
+
+abbrev pub span_refusal_by : SpanFault → Refusal
+span_refusal_by spans.BadTime = BadTime
+span_refusal_by spans.ToBeforeFrom = ToBeforeFrom
+span_refusal_by spans.SpanOfLines = SpanOfLines
+span_refusal_by spans.SpanWithoutLines = SpanWithoutLines
 
 abbrev pub symbols_refusal_by : SymbolsFault → Refusal
 symbols_refusal_by symbols.BadSymbol = BadSymbol
@@ -186,6 +194,11 @@ refusal_text BadFormat = codes "nbbo: bad format\n"
 refusal_text BadPeriod = codes "nbbo: bad period\n"
 refusal_text EveryWithoutLines = codes "nbbo: --every without --lines\n"
 refusal_text GapsWithEvery = codes "nbbo: --gaps with --every\n"
+refusal_text BestsWithoutEvery = codes "nbbo: --bests without --every\n"
+refusal_text BadTime = codes "nbbo: bad time\n"
+refusal_text ToBeforeFrom = codes "nbbo: --to before --from\n"
+refusal_text SpanOfLines = codes "nbbo: --from or --to without --best-only\n"
+refusal_text SpanWithoutLines = codes "nbbo: --from or --to without --lines\n"
 refusal_text BadEnd = codes "nbbo: bad end\n"
 refusal_text KeptUnfollowed = codes "nbbo: --kept without --follow\n"
 refusal_text BadSender = codes "nbbo: bad sender\n"

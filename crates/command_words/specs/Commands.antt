@@ -2,7 +2,7 @@
 use Rattle.std.specs.Prelude.{codes, true}
 use Rattle.clap.specs.Simple.{App, new_app, on_top, with_rule, with_subcommand}
 use Rattle.command_words.specs.ListenOptions.{buffer_rule, complete_rule, datagrams_rule, follow_rule, from_rule, kept_rule, listen_stats_format_rule, live_journal_rule, metrics_rule, request_rule, seconds_rule, skip_after_rule, stats_rule, until_input_ends_rule, which_end_rule}
-use Rattle.command_words.specs.Options.{captured_lines_rule, every_rule, format_rule, gaps_rule, join_rule, journal_rule, lines_rule, sessions_rule, skip_gaps_rule, symbols_rule, window_rule}
+use Rattle.command_words.specs.Options.{bests_rule, captured_lines_rule, every_rule, format_rule, from_time_rule, gaps_rule, join_rule, journal_rule, lines_rule, sessions_rule, skip_gaps_rule, symbols_rule, to_time_rule, window_rule}
 use Rattle.command_words.specs.ReplayOptions.{best_only_rule}
 
 -- replay with its options that have a value
@@ -20,8 +20,12 @@ abbrev pub choices_app : App
 choices_app =
     with_rule (with_rule (with_rule skipping_app captured_lines_rule) gaps_rule) best_only_rule
 
+-- and with those that say of which time
+abbrev pub choices_span_app : App
+choices_span_app = with_rule (with_rule choices_app from_time_rule) to_time_rule
+
 abbrev pub replay_app : App
-replay_app = with_rule (with_rule choices_app format_rule) symbols_rule
+replay_app = with_rule (with_rule choices_span_app format_rule) symbols_rule
 
 -- listen with its options that say where
 abbrev pub lines_app : App
@@ -95,10 +99,14 @@ stats_skips_app = with_rule (with_rule counting_app join_rule) skip_gaps_rule
 
 -- and with those that ask for rows in place of counts
 abbrev pub stats_rows_app : App
-stats_rows_app = with_rule (with_rule stats_skips_app gaps_rule) every_rule
+stats_rows_app = with_rule (with_rule (with_rule stats_skips_app gaps_rule) every_rule) bests_rule
+
+-- and with those that say of which time
+abbrev pub stats_span_app : App
+stats_span_app = with_rule (with_rule stats_rows_app from_time_rule) to_time_rule
 
 abbrev pub stats_app : App
-stats_app = with_rule (with_rule stats_rows_app format_rule) symbols_rule
+stats_app = with_rule (with_rule stats_span_app format_rule) symbols_rule
 
 abbrev pub reporting_app : App
 reporting_app = with_subcommand converting_app stats_app.top

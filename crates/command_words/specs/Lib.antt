@@ -17,4 +17,6 @@ pub mod SkipRules
 pub mod StatsFormats
 pub mod PeriodWords
 pub mod StatsOutputs
+pub mod TimeWords
+pub mod SpanWords
 pub mod Symbols

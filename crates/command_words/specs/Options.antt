@@ -73,6 +73,21 @@ format_rule = record (new_rule (codes "format")) {
 abbrev pub every_rule : Rule
 every_rule = record (new_rule (codes "every")) { long = Some (codes "every"); value_names = 1 }
 
+-- --from TIME
+abbrev pub from_time_rule : Rule
+from_time_rule = record (new_rule (codes "from")) { long = Some (codes "from"); value_names = 1 }
+
+-- --to TIME
+abbrev pub to_time_rule : Rule
+to_time_rule = record (new_rule (codes "to")) { long = Some (codes "to"); value_names = 1 }
+
+-- --bests
+abbrev pub bests_rule : Rule
+bests_rule = record (new_rule (codes "bests")) {
+  long = Some (codes "bests");
+  action = Some SetTrue;
+}
+
 -- SYMBOL.., any number of words that belong to no option
 abbrev pub symbols_rule : Rule
 symbols_rule = record (new_rule (codes "symbols")) {

@@ -1,5 +1,5 @@
 -- The runs that the values of the options of replay and of stats give.
-use Rattle.std.specs.Prelude.{◌≡◌, List, Bool, false, codes, length}
+use Rattle.std.specs.Prelude.{◌≡◌, List, Bool, true, false, codes, length, Option, Some, None}
 use Rattle.clap.specs.Walk.{Row, first_of, one_of}
 use Rattle.command_words.specs.CapturedLines.{HasInputFault, NamesInput}
 use Rattle.run_settings.specs.declared.skip_rule.SkipRule.{SkipRule}
@@ -9,10 +9,16 @@ use Rattle.command_words.specs.declared.addresses.LinesFault.TheVariants as line
 use Rattle.command_words.specs.StatsOutputs.{HasStatsFault, NamesStatsOutput}
 use Rattle.command_words.specs.declared.stats_output.StatsFault.{StatsFault}
 use Rattle.command_words.specs.declared.stats_output.StatsFault.TheVariants as stats
+use Rattle.run_settings.specs.declared.run_input.RunInput.{RunInput}
 use Rattle.run_settings.specs.declared.run_output.RunOutput.{RunOutput}
+use Rattle.run_settings.specs.declared.run_output.RunOutput.TheVariants.{Periods, BestTimes}
 use Rattle.run_settings.specs.declared.run_settings.RunSettings.{RunSettings}
+use Rattle.run_settings.specs.declared.time_span.TimeSpan.{TimeSpan}
+use Rattle.command_words.specs.SpanWords.{HasSpanFault, NamesSpan}
+use Rattle.command_words.specs.declared.span_words.SpanFault.{SpanFault}
+use Rattle.command_words.specs.declared.span_words.SpanFault.TheVariants as spans
 use Rattle.command_words.specs.declared.refusal.Refusal.{Refusal}
-use Rattle.command_words.specs.declared.refusal.Refusal.TheVariants.{BadLines, BadFormat, BadPeriod, EveryWithoutLines, GapsWithEvery}
+use Rattle.command_words.specs.declared.refusal.Refusal.TheVariants.{BadLines, BadFormat, BadPeriod, EveryWithoutLines, GapsWithEvery, BestsWithoutEvery, BadTime, ToBeforeFrom, SpanOfLines, SpanWithoutLines}
 use Rattle.command_words.specs.OptionValues.{IsCount, IsFlag}
 use Rattle.command_words.specs.FeedRequests.{GivesFeed, GivesFeedOf, GivesNoFeed}
 
@@ -30,7 +36,7 @@ pub record GivesBadFormat (rows : List Row) : Type 0 where
 
 -- The values of the options of stats ask for counts, or for the rows of gaps or of periods, in a
 -- format.
-pub record GivesStatsOutput (rows : List Row) (output : RunOutput) : Type 0 where
+pub record GivesCounted (rows : List Row) (output : RunOutput) : Type 0 where
   pub gaps : Bool
   pub flag : IsFlag (one_of (codes "gaps") rows) gaps
   pub names : NamesStatsOutput gaps (first_of (codes "every") rows) (first_of (codes "format") rows)
@@ -42,6 +48,43 @@ pub record GivesNoStatsOutput (rows : List Row) (fault : StatsFault) : Type 0 wh
   pub flag : IsFlag (one_of (codes "gaps") rows) gaps
   pub has : HasStatsFault gaps (first_of (codes "every") rows) (first_of (codes "format") rows)
       (first_of (codes "lines") rows) fault
+
+-- With the flag --bests the rows of periods are those of how long national bests stood. Nothing
+-- else has such rows.
+abbrev pub bests_by : Bool → RunOutput → Option RunOutput
+bests_by false output = Some output
+bests_by true (Periods style) = Some (BestTimes style)
+bests_by true _ = None
+
+-- They ask for what they count, or with --bests for the rows of national bests in its place.
+pub record GivesStatsOutput (rows : List Row) (output : RunOutput) : Type 0 where
+  pub counted : RunOutput
+  pub given : GivesCounted rows counted
+  pub bests : Bool
+  pub bests_flag : IsFlag (one_of (codes "bests") rows) bests
+  pub is : bests_by bests counted ≡ Some output
+
+-- They ask for rows of national bests where there are no periods.
+pub record GivesBestsAlone (rows : List Row) : Type 0 where
+  pub counted : RunOutput
+  pub given : GivesCounted rows counted
+  pub bests : Bool
+  pub bests_flag : IsFlag (one_of (codes "bests") rows) bests
+  pub none : bests_by bests counted ≡ None
+
+-- The values of the options of replay, or of stats, give the span of this output.
+abbrev pub GivesSpan : List Row → RunOutput → TimeSpan → Type 0
+GivesSpan rows output span =
+    NamesSpan output (first_of (codes "from") rows) (first_of (codes "to") rows)
+    (first_of (codes "lines") rows) span
+
+-- They give an output and an input, and no span of the output.
+abbrev pub GivesNoSpan : List Row → (IsOutput : RunOutput → Type 0) → SpanFault → Type 0
+GivesNoSpan rows IsOutput fault =
+    GivesFeedOf rows (λ venues. (output : RunOutput) × IsOutput output
+    × (input : RunInput) × NamesInput (first_of (codes "lines") rows) venues input
+    × HasSpanFault output (first_of (codes "from") rows) (first_of (codes "to") rows)
+    (first_of (codes "lines") rows) fault)
 
 -- The values of the options of replay, or of stats, give up gaps by this rule.
 pub record GivesSkips (rows : List Row) (skips : SkipRule) : Type 0 where
@@ -64,6 +107,7 @@ pub record Gives (rows : List Row) (settings : RunSettings) : Type 0 where
   pub journal : IsCount 1000000 (one_of (codes "journal") rows) settings.feed.journal
   pub gaps : IsFlag (one_of (codes "gaps") rows) settings.gaps
   pub output : GivesOutput rows settings.output
+  pub span : GivesSpan rows settings.output settings.span
 
 -- The values of the options of stats give these settings: no gap lines are printed, and the journal
 -- has the most room.
@@ -72,16 +116,22 @@ pub record GivesStats (rows : List Row) (settings : RunSettings) : Type 0 where
   pub journal : settings.feed.journal ≡ 4294967295
   pub gaps : settings.gaps ≡ false
   pub output : GivesStatsOutput rows settings.output
+  pub span : GivesSpan rows settings.output settings.span
 
 -- The values of the options of replay, or of stats, give no settings: the sessions are looked at
 -- first, then the symbols, the format, for which IsOutput says what it may ask for and IsFault that
--- it is wrong, and last the list of lines; or memory was refused.
+-- it is wrong, then the list of lines, and last the span of time; or memory was refused.
 abbrev pub GivesNoRun : List Row → (IsOutput : RunOutput → Type 0) → (IsFault : Type 0) → Refusal
     → Type 0
 GivesNoRun rows IsOutput IsFault BadFormat = GivesFeedOf rows (λ _. IsFault)
 GivesNoRun rows IsOutput IsFault BadLines =
     GivesFeedOf rows (λ venues. (output : RunOutput) × IsOutput output
     × HasInputFault (first_of (codes "lines") rows) venues lines.BadLines)
+GivesNoRun rows IsOutput IsFault BadTime = GivesNoSpan rows IsOutput spans.BadTime
+GivesNoRun rows IsOutput IsFault ToBeforeFrom = GivesNoSpan rows IsOutput spans.ToBeforeFrom
+GivesNoRun rows IsOutput IsFault SpanOfLines = GivesNoSpan rows IsOutput spans.SpanOfLines
+GivesNoRun rows IsOutput IsFault SpanWithoutLines =
+    GivesNoSpan rows IsOutput spans.SpanWithoutLines
 GivesNoRun rows IsOutput IsFault refusal = GivesNoFeed rows refusal
 
 abbrev pub GivesNone : List Row → Refusal → Type 0
@@ -93,5 +143,6 @@ GivesNoStats rows EveryWithoutLines =
     GivesFeedOf rows (λ _. GivesNoStatsOutput rows stats.EveryWithoutLines)
 GivesNoStats rows GapsWithEvery =
     GivesFeedOf rows (λ _. GivesNoStatsOutput rows stats.GapsWithEvery)
+GivesNoStats rows BestsWithoutEvery = GivesFeedOf rows (λ _. GivesBestsAlone rows)
 GivesNoStats rows refusal =
     GivesNoRun rows (GivesStatsOutput rows) (GivesNoStatsOutput rows stats.BadFormat) refusal

@@ -37,11 +37,13 @@ mod run_words;
 mod sender_list;
 mod sessions;
 mod skip_words;
+mod span_words;
 mod stats_command;
 mod stats_format;
 mod stats_output;
 mod symbols;
 mod task;
+mod time_words;
 
 pub use command_line::settings;
 pub use refusal::Refusal;

@@ -90,6 +90,14 @@ Status:
                         they never came, though later ones did: the first that are missing, as far
                         as the window goes. Nothing past them was printed; with --complete the
                         status is 3
+     and with an option other than --sessions, --lines, --request, --window, --journal and
+     --datagrams:
+       line V L lost N datagrams that the system dropped
+                        at the line's socket, for want of room mostly: see --buffer
+       line V L ended with session NAME
+                        with an end of that session, of the venue's or of another: see --end
+       symbol S never came, N more symbols never came
+                        no item in sequence was of it; with --follow that isn't told
   1  standard error says what went wrong:
        line V L failed  the line's socket gave a fault, and that line ended there; the others
                         went on, and what they brought was printed
@@ -119,9 +127,10 @@ isn't in --from:
   nbbo: second N line V L ended by an end of session
 .. ended by --datagrams, failed, can't send requests, goes on after an end of session, passes over
 datagrams of senders not in --from. With an option other than --sessions, --lines, --request,
---window, --journal and --datagrams it also says when a gap has stood for a second, and when its
-messages have come, and at the first gap for whose messages nothing came in two seconds after
-they were asked for:
+--window, --journal and --datagrams it also says with which session a line ended, when a gap has
+stood for a second, and when its messages have come, and at the first gap for whose messages
+nothing came in two seconds after they were asked for:
+  nbbo: second N line V L ended with session NAME
   nbbo: second N venue V lacks COUNT messages from NUMBER
 .. no longer lacks COUNT .., has no reply to requests for COUNT ..";
 

@@ -286,7 +286,9 @@ S is the number of the last item in sequence, K how far the session is known to 
 many messages are between, and L how many of the first gap are missing. Since the line
 before, R requests were due, and P packets came on line A, or B. Those that were taken had
 M messages: W that came first, and X that had come before. Y packets went past the window
-and Z were refused, COUNT of them by the refusal of this NUMBER in 'nbbo replay --help'");
+and Z were refused, COUNT of them by the refusal of this NUMBER in 'nbbo replay --help'.
+Where the system dropped datagrams at the line's socket, 'dropped N' stands after these, and
+in the table, too: how many, as Linux tells it in /proc/net/udp");
 
 /// `--stats SECONDS`.
 pub fn stats_option<'a>(alloc: Global) -> Arg<'a>
@@ -308,7 +310,8 @@ The form of what --stats prints: 'table', as without this option, or 'json', an 
 line of its own for each venue and period, with the same names; \"time\" is when it was
 printed, in seconds since 1970 in UTC, \"time_ns\" the same in nanoseconds, and both are null
 where the system has no time. At the end there is one for each venue of the whole run, which
-has \"total\":true in place of \"second\"";
+has \"total\":true in place of \"second\". A line has a member \"dropped\" where the system
+dropped datagrams";
 
 /// `--stats-format FORMAT`.
 pub fn stats_format_option<'a>(alloc: Global) -> Arg<'a>

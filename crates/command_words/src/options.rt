@@ -2,7 +2,7 @@
 //! Its rule stands in `specs/Options.antt`.
 ghost use Rattle.std.specs.Prelude.{◌≡◌, false};
 ghost use Rattle.clap.specs.Walk.{rule_of};
-ghost use Rattle.command_words.specs.Options.{captured_lines_rule, join_rule, journal_rule, sessions_rule, skip_gaps_rule, symbols_rule, window_rule};
+ghost use Rattle.command_words.specs.Options.{captured_lines_rule, from_time_rule, join_rule, journal_rule, sessions_rule, skip_gaps_rule, symbols_rule, to_time_rule, window_rule};
 
 use crate::limits::text;
 use clap::{Arg, ArgAction, value_parser};
@@ -119,6 +119,40 @@ pub fn skip_gaps_flag<'a>(alloc: Global) -> Arg<'a>
         .action(ArgAction::SetTrue)
         .help("Gives up messages that are missing where a packet lies past the window")
         .long_help(SKIP_GAPS_HELP)
+}
+
+const FROM_HELP: &str = "\
+The rows or statistics are of what came at this time or later, in UTC as
+2026-11-28T14:30:00Z or with up to nine decimals of a second. All of the capture is
+replayed; only with --lines, by the times of the frames. Statistics know nothing of what
+came before: its messages count as left out, and a best stands from its first change on";
+
+/// `--from TIME`.
+pub fn from_time_option<'a>(alloc: Global) -> Arg<'a>
+    ensures rule { rule_of result ≡ from_time_rule }
+    ensures local { result.global ≡ false }
+{
+    Arg::new(alloc, "from")
+        .long("from")
+        .value_name("TIME")
+        .help("Prints of what came at this time or later, as 2026-11-28T14:30:00Z")
+        .long_help(FROM_HELP)
+}
+
+const TO_HELP: &str = "\
+The rows or statistics are of what came before this time, which is written as that of
+--from and isn't before it";
+
+/// `--to TIME`.
+pub fn to_time_option<'a>(alloc: Global) -> Arg<'a>
+    ensures rule { rule_of result ≡ to_time_rule }
+    ensures local { result.global ≡ false }
+{
+    Arg::new(alloc, "to")
+        .long("to")
+        .value_name("TIME")
+        .help("Prints of what came before this time")
+        .long_help(TO_HELP)
 }
 
 const SYMBOLS_HELP: &str = text!("\

@@ -1,7 +1,7 @@
 //! The reasons why the program has no settings.
 ghost use Rattle.std.specs.Prelude.{◌≡◌};
-ghost use Rattle.command_words.specs.CommandLine.{lines_refusal_by, refusal_by, refusal_status, refusal_text, senders_refusal_by, stats_refusal_by, symbols_refusal_by};
-ghost use Rattle.command_words.specs.declared.refusal.Refusal.TheVariants.{BadEnd, BadFormat, BadMetrics, BadRequest, KeptUnfollowed, NoMemory};
+ghost use Rattle.command_words.specs.CommandLine.{lines_refusal_by, refusal_by, refusal_status, refusal_text, senders_refusal_by, span_refusal_by, stats_refusal_by, symbols_refusal_by};
+ghost use Rattle.command_words.specs.declared.refusal.Refusal.TheVariants.{BadEnd, BadFormat, BestsWithoutEvery, BadMetrics, BadRequest, KeptUnfollowed, NoMemory};
 
 use crate::addresses::{LinesFault, MetricsFault, RequestFault};
 use crate::best_format::FormatFault;
@@ -9,7 +9,8 @@ use crate::end_rule::EndRuleFault;
 use crate::listen_counts::KeptFault;
 use crate::sender_list::SendersFault;
 use crate::sessions::SessionsFault;
-use crate::stats_output::StatsFault;
+use crate::span_words::SpanFault;
+use crate::stats_output::{BestsFault, StatsFault};
 use crate::symbols::SymbolsFault;
 use std::alloc::AllocError;
 
@@ -39,6 +40,16 @@ pub enum Refusal {
     EveryWithoutLines,
     /// Rows of gaps are asked for, and rows of periods, too.
     GapsWithEvery,
+    /// Rows of national bests are asked for, and there are no periods.
+    BestsWithoutEvery,
+    /// The text for a time is none.
+    BadTime,
+    /// The end of a span of time is before its beginning.
+    ToBeforeFrom,
+    /// A span of time is asked for where all lines are printed.
+    SpanOfLines,
+    /// A span of time is asked for, and the input has no times.
+    SpanWithoutLines,
     /// The rule by which an end of session ends a line is none of those that there are.
     BadEnd,
     /// How many changes are kept is said where all are, since best lines aren't printed as they
@@ -70,6 +81,8 @@ impl Refusal {
             Refusal::BadSession | Refusal::TooManySessions => 2,
             Refusal::BadLines | Refusal::BadRequest => 2,
             Refusal::BadFormat | Refusal::BadPeriod | Refusal::EveryWithoutLines => 2,
+            Refusal::BestsWithoutEvery | Refusal::BadTime | Refusal::ToBeforeFrom => 2,
+            Refusal::SpanOfLines | Refusal::SpanWithoutLines => 2,
             Refusal::GapsWithEvery | Refusal::BadEnd | Refusal::KeptUnfollowed => 2,
             Refusal::BadSender | Refusal::BadMetrics => 2,
             Refusal::BadSymbol | Refusal::TooManySymbols | Refusal::DuplicateSymbol => 2,
@@ -92,6 +105,11 @@ impl Refusal {
             Refusal::BadPeriod => "nbbo: bad period\n",
             Refusal::EveryWithoutLines => "nbbo: --every without --lines\n",
             Refusal::GapsWithEvery => "nbbo: --gaps with --every\n",
+            Refusal::BestsWithoutEvery => "nbbo: --bests without --every\n",
+            Refusal::BadTime => "nbbo: bad time\n",
+            Refusal::ToBeforeFrom => "nbbo: --to before --from\n",
+            Refusal::SpanOfLines => "nbbo: --from or --to without --best-only\n",
+            Refusal::SpanWithoutLines => "nbbo: --from or --to without --lines\n",
             Refusal::BadEnd => "nbbo: bad end\n",
             Refusal::KeptUnfollowed => "nbbo: --kept without --follow\n",
             Refusal::BadSender => "nbbo: bad sender\n",
@@ -160,6 +178,27 @@ impl From<StatsFault> for Refusal {
             StatsFault::BadFormat => Refusal::BadFormat,
             StatsFault::EveryWithoutLines => Refusal::EveryWithoutLines,
             StatsFault::GapsWithEvery => Refusal::GapsWithEvery,
+        }
+    }
+}
+
+impl From<BestsFault> for Refusal {
+    ghost from_gives = { λ _ refusal. refusal ≡ BestsWithoutEvery };
+
+    fn from(_fault: BestsFault) -> Refusal {
+        Refusal::BestsWithoutEvery
+    }
+}
+
+impl From<SpanFault> for Refusal {
+    ghost from_gives = { λ fault refusal. refusal ≡ span_refusal_by fault };
+
+    fn from(fault: SpanFault) -> Refusal {
+        match fault {
+            SpanFault::BadTime => Refusal::BadTime,
+            SpanFault::ToBeforeFrom => Refusal::ToBeforeFrom,
+            SpanFault::SpanOfLines => Refusal::SpanOfLines,
+            SpanFault::SpanWithoutLines => Refusal::SpanWithoutLines,
         }
     }
 }

@@ -2,12 +2,12 @@
 ghost use Rattle.std.specs.Prelude.{◌≡◌, IfOk, false, codes};
 ghost use Rattle.clap.specs.Simple.{app_of, new_app};
 ghost use Rattle.clap.specs.declared.builder.command.Command.TheViews.{out-Command as fields_of};
-ghost use Rattle.command_words.specs.Commands.{choices_app, options_app, replay_app, skipping_app};
+ghost use Rattle.command_words.specs.Commands.{choices_app, choices_span_app, options_app, replay_app, skipping_app};
 
 use crate::limits::text;
 use crate::options::{
-    captured_lines_option, join_flag, journal_option, sessions_option, skip_gaps_flag,
-    symbols_argument, window_option,
+    captured_lines_option, from_time_option, join_flag, journal_option, sessions_option,
+    skip_gaps_flag, symbols_argument, to_time_option, window_option,
 };
 use crate::replay_options::{best_only_flag, format_option, gaps_flag};
 use clap::Command;
@@ -137,7 +137,9 @@ Status:
      'bad symbol': a symbol is empty, has more than eight characters, or a space or one that isn't
      printable ASCII; 'too many symbols': more than " MAX_SYMBOLS "; 'duplicate symbol': one is named twice;
      'bad format': --format isn't text, csv or json, or --best-only isn't given;
-     'bad lines': --lines isn't two addresses for each session, or names one twice");
+     'bad lines': --lines isn't two addresses for each session, or names one twice; 'bad time': the
+     text of --from or --to is none; '--to before --from'; '--from or --to without --best-only';
+     '--from or --to without --lines'");
 
 /// The texts of `replay`, without its options.
 fn replay_texts<'a>(alloc: Global) -> Command<'a>
@@ -184,12 +186,22 @@ fn choices_command<'a>(alloc: Global) -> Result<Command<'a>, AllocError>
         .arg(best_only_flag(alloc))
 }
 
+/// `replay` with its options that say of which time it prints, too.
+fn choices_span_command<'a>(alloc: Global) -> Result<Command<'a>, AllocError>
+    ensures app { IfOk result (λ c. app_of c ≡ choices_span_app) }
+    ensures local { IfOk result (λ c. (fields_of c).has_globals ≡ false) }
+{
+    choices_command(alloc)?
+        .arg(from_time_option(alloc))?
+        .arg(to_time_option(alloc))
+}
+
 /// The whole of `replay`.
 pub fn replay_command<'a>(alloc: Global) -> Result<Command<'a>, AllocError>
     ensures app { IfOk result (λ c. app_of c ≡ replay_app) }
     ensures local { IfOk result (λ c. (fields_of c).has_globals ≡ false) }
 {
-    choices_command(alloc)?
+    choices_span_command(alloc)?
         .arg(format_option(alloc))?
         .arg(symbols_argument(alloc))
 }

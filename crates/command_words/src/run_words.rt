@@ -5,7 +5,8 @@ ghost use Rattle.clap.specs.Walk.{first_of, rows_of};
 ghost use Rattle.run_settings.specs.Lists.{AreOfVenues};
 ghost use Rattle.command_words.specs.CapturedLines.{HasInputFault, NamesInput};
 ghost use Rattle.run_settings.specs.RunInputs.{captured_lines_in};
-ghost use Rattle.command_words.specs.RunRequests.{Gives, GivesBadFormat, GivesNone, GivesNoStats, GivesNoStatsOutput, GivesOutput, GivesStats, GivesStatsOutput};
+ghost use Rattle.command_words.specs.RunRequests.{Gives, GivesBadFormat, GivesBestsAlone, GivesCounted, GivesNone, GivesNoStats, GivesNoStatsOutput, GivesOutput, GivesSpan, GivesStats, GivesStatsOutput};
+ghost use Rattle.command_words.specs.SpanWords.{HasSpanFault};
 ghost use Rattle.command_words.specs.StatsFormats.{NamesNoStatsFormat, NamesStatsFormat};
 
 use crate::addresses::LinesFault;
@@ -15,10 +16,11 @@ use crate::command_line::{count_of, feed_of, flag_of};
 use crate::limits::DEFAULT_COUNT;
 use crate::refusal::Refusal;
 use crate::skip_words::skips_of;
+use crate::span_words::{SpanFault, read_span};
 use crate::stats_format::read_stats_format;
-use crate::stats_output::{StatsFault, read_stats_output};
+use crate::stats_output::{BestsFault, StatsFault, bests_by, read_stats_output};
 use clap::ArgMatches;
-use run_settings::{RunInput, RunOutput, RunSettings, StatsFormat};
+use run_settings::{RunInput, RunOutput, RunSettings, StatsFormat, TimeSpan};
 use std::alloc::Global;
 
 /// The input for `venues` venues that the options give: with `--lines` a packet capture.
@@ -51,9 +53,9 @@ pub fn stats_format_of(lines: &ArgMatches<'_>) -> Result<StatsFormat, FormatFaul
     read_stats_format(lines.get_str("format"))
 }
 
-/// What `stats` prints: counts, or the rows of gaps or of periods, in a form.
+/// What `stats` counts: all, or the rows of gaps or of periods, in a form.
 fn stats_output_of(stats: &ArgMatches<'_>) -> Result<RunOutput, StatsFault>
-    ensures ok { IfOk result (GivesStatsOutput (rows_of (found_of stats.now))) }
+    ensures ok { IfOk result (GivesCounted (rows_of (found_of stats.now))) }
     ensures err { IfErr result (GivesNoStatsOutput (rows_of (found_of stats.now))) }
 {
     read_stats_output(
@@ -61,6 +63,32 @@ fn stats_output_of(stats: &ArgMatches<'_>) -> Result<RunOutput, StatsFault>
         stats.get_str("every"),
         stats.get_str("format"),
         stats.get_str("lines"),
+    )
+}
+
+/// What `stats` prints where it counts this.
+fn bests_of(stats: &ArgMatches<'_>, counted: RunOutput) -> Result<RunOutput, BestsFault>
+    ensures ok { IfOk result (λ output. GivesCounted (rows_of (found_of stats.now)) counted
+        → GivesStatsOutput (rows_of (found_of stats.now)) output) }
+    ensures err { IfErr result (λ _. GivesCounted (rows_of (found_of stats.now)) counted
+        → GivesBestsAlone (rows_of (found_of stats.now))) }
+{
+    bests_by(flag_of(stats, "bests"), counted)
+}
+
+/// The span of time in which events lie that this output is of.
+fn span_of(run: &ArgMatches<'_>, output: &RunOutput) -> Result<TimeSpan, SpanFault>
+    ensures ok { IfOk result (GivesSpan (rows_of (found_of run.now)) output.now) }
+    ensures err { IfErr result (HasSpanFault output.now
+        (first_of (codes "from") (rows_of (found_of run.now)))
+        (first_of (codes "to") (rows_of (found_of run.now)))
+        (first_of (codes "lines") (rows_of (found_of run.now)))) }
+{
+    read_span(
+        output,
+        run.get_str("from"),
+        run.get_str("to"),
+        run.get_str("lines"),
     )
 }
 
@@ -72,12 +100,14 @@ pub fn replay_of(alloc: Global, replay: &ArgMatches<'_>) -> Result<RunSettings, 
     let feed = feed_of(alloc, replay, count_of(replay, "journal", DEFAULT_COUNT))?;
     let output = output_of(replay)?;
     let input = input_of(alloc, replay, feed.sessions.len())?;
+    let span = span_of(replay, &output)?;
     Ok(RunSettings {
         feed,
         gaps: flag_of(replay, "gaps"),
         skips: skips_of(replay),
         input,
         output,
+        span,
     })
 }
 
@@ -88,13 +118,16 @@ pub fn stats_of(alloc: Global, stats: &ArgMatches<'_>) -> Result<RunSettings, Re
     ensures err { IfErr result (GivesNoStats (rows_of (found_of stats.now))) }
 {
     let feed = feed_of(alloc, stats, u32::MAX)?;
-    let output = stats_output_of(stats)?;
+    let counted = stats_output_of(stats)?;
+    let output = bests_of(stats, counted)?;
     let input = input_of(alloc, stats, feed.sessions.len())?;
+    let span = span_of(stats, &output)?;
     Ok(RunSettings {
         feed,
         gaps: false,
         skips: skips_of(stats),
         input,
         output,
+        span,
     })
 }

@@ -3,12 +3,13 @@ ghost use Rattle.std.specs.Prelude.{◌≡◌, IfOk, false, codes};
 ghost use Rattle.clap.specs.Simple.{app_of, new_app};
 ghost use Rattle.clap.specs.Walk.{rule_of};
 ghost use Rattle.clap.specs.declared.builder.command.Command.TheViews.{out-Command as fields_of};
-ghost use Rattle.command_words.specs.Commands.{counting_app, stats_app, stats_rows_app, stats_skips_app};
-ghost use Rattle.command_words.specs.Options.{every_rule, format_rule, gaps_rule, symbols_rule};
+ghost use Rattle.command_words.specs.Commands.{counting_app, stats_app, stats_rows_app, stats_skips_app, stats_span_app};
+ghost use Rattle.command_words.specs.Options.{bests_rule, every_rule, format_rule, gaps_rule, symbols_rule};
 
 use crate::limits::text;
 use crate::options::{
-    captured_lines_option, join_flag, sessions_option, skip_gaps_flag, window_option,
+    captured_lines_option, from_time_option, join_flag, sessions_option, skip_gaps_flag,
+    to_time_option, window_option,
 };
 use clap::{Arg, ArgAction, Command};
 use std::alloc::{AllocError, Global};
@@ -73,6 +74,14 @@ its packets passed over. A period without a frame has no row. A frame without a 
 those before it; and where times go back, as in captures that were joined, a period can come again.
 The rows of the last period are printed at the end of a whole capture alone.
 
+With --every and --bests a row has the time at which the period began, the symbol and the venue; in
+which share of the period's time the best bid was the venue's, and in which the best offer; in which
+share the symbol's bid was below its offer ('normal'), in which both were equal ('locked'), and in
+which the bid was above ('crossed'); and the mean spread in dollars over the time in which it was
+normal, empty or null where there was none. The best that stands when a period begins stands in it
+from then on; the last period's time ends with the capture's last frame, its share is of a whole
+period all the same.
+
 In JSON a venue's 'lines' have 'A', 'B' and 'recovery', 'missing' is null where nothing is,
 'best_bids' and 'best_offers' are those changes, 'losses' has what lines lost, and 'in_time' is
 there with --lines, where times that there aren't are null. The words and numbers of refusals are
@@ -92,14 +101,16 @@ Examples:
   nbbo stats --sessions NORTH --lines 239.1.1.1:26400,239.1.1.2:26400 < day.pcap
   nbbo stats --sessions NORTH --lines 239.1.1.1:26400,239.1.1.2:26400 --gaps < day.pcap
   nbbo stats --sessions NORTH --lines 239.1.1.1:26400,239.1.1.2:26400 --every 1s < day.pcap
+  nbbo stats --sessions NORTH --lines 239.1.1.1:26400,239.1.1.2:26400 --every 1s --bests \\
+    --from 2026-11-28T14:30:00Z --to 2026-11-28T14:31:00Z ACME < day.pcap
 
 Status:
   0  the capture was replayed to its end and the counts were printed, or help was shown
   1  the input or the run was refused; standard error says why, as of 'nbbo replay', and the counts
      of the records before were printed, unless it is 'write failed' or 'no memory'
   2  the command line was refused: 'bad format' where the format is none of those; 'bad period'
-     where that of --every is none; '--every without --lines'; '--gaps with --every'; else as of
-     'nbbo replay'
+     where that of --every is none; '--every without --lines'; '--gaps with --every'; '--bests
+     without --every'; else as of 'nbbo replay'
 
 At the end of a whole capture standard error says what each venue still lacks, as of 'nbbo replay',
 and with --lines it counts what was passed over, as of 'nbbo replay --lines'.";
@@ -138,6 +149,24 @@ fn every_option<'a>(alloc: Global) -> Arg<'a>
         .value_name("PERIOD")
         .help("Prints rows of each period of this length in place of counts, as 100ms or 1s")
         .long_help(EVERY_HELP)
+}
+
+const BESTS_HELP: &str = "\
+Prints in place of the rows of --every a row for each venue of each symbol in each period:
+in which share of the period's time the best bid was the venue's, and the best offer, the
+first of those that were tied; in which share the symbol's bid was below its offer, in
+which it was locked, and in which crossed; and the mean spread meanwhile";
+
+/// `--bests` of `stats`.
+fn bests_flag<'a>(alloc: Global) -> Arg<'a>
+    ensures rule { rule_of result ≡ bests_rule }
+    ensures local { result.global ≡ false }
+{
+    Arg::new(alloc, "bests")
+        .long("bests")
+        .action(ArgAction::SetTrue)
+        .help("Prints with --every how long venues had the national bests, and the spread")
+        .long_help(BESTS_HELP)
 }
 
 const FORMAT_HELP: &str = "\
@@ -217,7 +246,18 @@ fn stats_rows_command<'a>(alloc: Global) -> Result<Command<'a>, AllocError>
 {
     stats_skips_command(alloc)?
         .arg(stats_gaps_flag(alloc))?
-        .arg(every_option(alloc))
+        .arg(every_option(alloc))?
+        .arg(bests_flag(alloc))
+}
+
+/// `stats` with its options that say of which time it prints, too.
+fn stats_span_command<'a>(alloc: Global) -> Result<Command<'a>, AllocError>
+    ensures app { IfOk result (λ c. app_of c ≡ stats_span_app) }
+    ensures local { IfOk result (λ c. (fields_of c).has_globals ≡ false) }
+{
+    stats_rows_command(alloc)?
+        .arg(from_time_option(alloc))?
+        .arg(to_time_option(alloc))
 }
 
 /// The whole of `stats`.
@@ -225,7 +265,7 @@ pub fn stats_command<'a>(alloc: Global) -> Result<Command<'a>, AllocError>
     ensures app { IfOk result (λ c. app_of c ≡ stats_app) }
     ensures local { IfOk result (λ c. (fields_of c).has_globals ≡ false) }
 {
-    stats_rows_command(alloc)?
+    stats_span_command(alloc)?
         .arg(stats_format_option(alloc))?
         .arg(counted_symbols_argument(alloc))
 }

@@ -1,5 +1,6 @@
 //! What `nbbo stats` prints: counts, or the rows of gaps or of periods.
-ghost use Rattle.std.specs.Prelude.{◌≡◌, IfErr, IfOk, false, option_map};
+ghost use Rattle.std.specs.Prelude.{◌≡◌, IfErr, IfOk, None, Some, false, option_map};
+ghost use Rattle.command_words.specs.RunRequests.{bests_by};
 ghost use Rattle.command_words.specs.StatsOutputs.{HasStatsFault, NamesNoRowFormat, NamesRowFormat, NamesStatsOutput, row_format_named};
 ghost use Rattle.command_words.specs.declared.stats_output.StatsFault.TheVariants.{BadFormat};
 
@@ -100,5 +101,23 @@ pub fn read_stats_output(
         Some(every) => read_periods(every, format, lines),
         None if gaps => Ok(RunOutput::Gaps(read_row_format(format)?)),
         None => Ok(RunOutput::Stats(read_stats_format(format)?)),
+    }
+}
+
+/// Rows of national bests are asked for where there are no periods.
+#[derive(Clone, Copy, Debug, PartialEq, Eq)]
+pub struct BestsFault;
+
+/// What is printed where `--bests` is given, or isn't: rows of how long national bests stood in
+/// place of those of periods.
+pub fn bests_by(bests: bool, output: RunOutput) -> Result<RunOutput, BestsFault>
+    ensures ok { IfOk result (λ printed. bests_by bests output ≡ Some printed) }
+    ensures err { IfErr result (λ _. bests_by bests output ≡ None) }
+{
+    match output {
+        output if !bests => Ok(output),
+        RunOutput::Periods(style) => Ok(RunOutput::BestTimes(style)),
+        RunOutput::Lines | RunOutput::Bests(_) => Err(BestsFault),
+        RunOutput::Stats(_) | RunOutput::Gaps(_) | RunOutput::BestTimes(_) => Err(BestsFault),
     }
 }

@@ -3,3 +3,4 @@ pub mod ListLaws
 pub mod Lists
 pub mod RunInputs
 pub mod Senders
+pub mod TimeSpans

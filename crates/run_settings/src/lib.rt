@@ -7,7 +7,8 @@
 //! 1 to 16 sessions, each symbol once, two lines for each venue, the lines of a packet capture
 //! those of the feed's venues. [`lines_at`] makes the lines of a list of addresses, and
 //! [`are_apart`] says whether no two are of one address and port (`specs/Lists.antt`).
-//! [`Senders::takes_from`] says whether a datagram is of one of them (`specs/Senders.antt`).
+//! [`Senders::takes_from`] says whether a datagram is of one of them (`specs/Senders.antt`), and
+//! [`TimeSpan::has`] whether a time lies in a span (`specs/TimeSpans.antt`).
 //!
 //! `command_words` reads settings from words, and the runs take them: neither waits for the other.
 //!
@@ -29,6 +30,7 @@ mod run_output;
 mod run_settings;
 mod sender;
 mod skip_rule;
+mod time_span;
 
 pub use captured_line::CapturedLine;
 pub use end_rule::EndRule;
@@ -44,3 +46,4 @@ pub use run_output::RunOutput;
 pub use run_settings::RunSettings;
 pub use sender::{Sender, Senders};
 pub use skip_rule::SkipRule;
+pub use time_span::TimeSpan;

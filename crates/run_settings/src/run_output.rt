@@ -16,4 +16,6 @@ pub enum RunOutput {
     Gaps(RowFormat),
     /// Rows of what each line brought in each period.
     Periods(PeriodStyle),
+    /// Rows of how long each symbol's national bests stood in each period.
+    BestTimes(PeriodStyle),
 }

@@ -7,6 +7,7 @@ use crate::feed_settings::FeedSettings;
 use crate::run_input::RunInput;
 use crate::run_output::RunOutput;
 use crate::skip_rule::SkipRule;
+use crate::time_span::TimeSpan;
 
 /// What is replayed, and what is printed of it.
 #[derive(Debug, Drop)]
@@ -21,5 +22,7 @@ pub struct RunSettings {
     pub input: RunInput,
     /// The output.
     pub output: RunOutput,
+    /// The span in which the events lie of which rows or statistics are printed.
+    pub span: TimeSpan,
     ghost of_venues: { AreOfVenues (vec_len feed.sessions) (captured_lines_in input) },
 }
