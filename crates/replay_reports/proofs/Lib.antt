@@ -6,9 +6,12 @@ pub mod Leading
 pub mod Noting
 pub mod Sharing
 pub mod Places
+pub mod Holding
 pub mod Losing
 pub mod Timed
 pub mod Putting
 pub mod TakingGaps
 pub mod PeriodCounting
 pub mod PeriodWriting
+pub mod HoldingBests
+pub mod BestWriting

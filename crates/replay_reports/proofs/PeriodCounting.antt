@@ -6,7 +6,8 @@ use Rattle.run_settings.specs.declared.period_style.PeriodStyle.{PeriodStyle}
 use Rattle.replay_reports.specs.declared.counts.venue_stats.VenueStats.{VenueStats}
 use Rattle.replay_reports.specs.declared.periods.period_counts.PeriodCounts.{PeriodCounts}
 use Rattle.replay_reports.specs.counts.Stats.{Counted, counted_after}
-use Rattle.replay_reports.specs.periods.PeriodTexts.{ended_text, rows_told, rows_with}
+use Rattle.replay_reports.specs.periods.PeriodTexts.{ended_text, rows_with}
+use Rattle.replay_reports.specs.periods.RowHistories.{rows_told}
 use Rattle.replay_reports.specs.periods.Periods.{ArePeriodCounts, before_period, begin_after, begin_told, counts_told, period_ended, period_ended_by}
 use Rattle.replay_reports.proofs.Timed.{counted_length, counts_more}
 
@@ -51,7 +52,7 @@ pub rows_are : (style : PeriodStyle) (venues : ℕ) (e : TimedEvent) (earlier : 
     (counts : PeriodCounts) (ended : Option ℕ) → ArePeriodCounts style.length venues earlier counts
     → ended ≡ period_ended style.length e earlier
     → ended_text style.format ended counts.before.items counts.stats.venues
-    ≡ rows_told style venues earlier (e ∷ [])
+    ≡ rows_told (rows_with style venues) earlier (e ∷ [])
 rows_are style venues e earlier counts ended are is =
     ap (λ (o : Option ℕ). ended_text style.format o counts.before.items counts.stats.venues) is
     ∙ ap (λ (vs : List VenueStats). ended_text style.format (period_ended style.length e earlier)

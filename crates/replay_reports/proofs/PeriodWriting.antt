@@ -5,13 +5,10 @@ use Rattle.std.proofs.lemmas.Bool.{cases_eq}
 use Rattle.feed_text.specs.Devices.{Moved}
 use Rattle.feed_text.specs.declared.text_page.TextPage.{TextPage}
 use Rattle.feed_text.specs.TextPages.{FailsPage}
-use Rattle.replay_reports.specs.declared.periods.period_counts.PeriodCounts.{PeriodCounts}
-use Rattle.replay_reports.specs.declared.periods.period_rows.PeriodRows.{PeriodRows}
-use Rattle.run_settings.specs.declared.period_style.PeriodStyle.{PeriodStyle}
+use Rattle.feed_text.specs.SinkEvents.{TimedEvent}
 use Rattle.replay_reports.specs.counts.Pieces.{first_texts}
 use Rattle.replay_reports.specs.periods.PageTexts.{TakesPage, fails_after_page, fails_before_page}
-use Rattle.replay_reports.specs.periods.PeriodSinks.{ArePeriodsOf, FailsPeriods, TakesPeriods}
-use Rattle.replay_reports.specs.periods.Periods.{ArePeriodCounts}
+use Rattle.replay_reports.specs.periods.RowHistories.{FailsHistory, TakesHistory}
 
 -- the texts of the first of some are a front of those of more of them
 pub record FrontTexts {X : Type 0} (text : ℕ → X → List ℕ) (none : X) (xs : List X) (n most : ℕ)
@@ -88,30 +85,30 @@ module _ {W : Type 0} (adds : W → List ℕ → W → Type 0) (failures : W →
       (fails_after_page adds failures more s p q xs rest a
       (fails_before_page adds failures p q rest failed))
 
-  -- a sink that is shown
-  pub shows_periods : {T E : Type 0} (r : Result T E) (s t : PeriodRows W) → t.style ≡ s.style
-      → t.counts ≡ s.counts
-      → OnOk r (Moved adds s.page.writer t.page.writer s.page.text.items t.page.text.items)
-      → OnOk r (failures t.page.writer ≡ failures s.page.writer)
-      → OnOk r (TakesPeriods adds failures s [] t)
-  shows_periods (Ok x) s t style counts moved kept = record {
-    same_style = style;
-    counts = λ venues earlier are.
-        subst (λ (st : PeriodStyle). ArePeriodCounts st.length venues earlier t.counts) (sym style)
-        (subst (λ (c : PeriodCounts). ArePeriodCounts s.style.length venues earlier c)
-        (sym counts) are);
-    takes = λ venues earlier are. record {
-      shown = moved.shown;
-      wrote = moved.taken;
-      all = append-nil s.page.text.items ∙ moved.left;
-      kept = kept;
-    };
-  }
-  shows_periods (Err e) s t style counts moved kept = tt
+  module _ {S C : Type 0} (page : S → TextPage W) (Are : C → List TimedEvent → S → Type 0)
+      (rows : C → TimedEvent → List TimedEvent → List ℕ) where
+    -- a sink that is shown
+    pub shows_history : {T E : Type 0} (r : Result T E) (s t : S)
+        → ((setting : C) (earlier : List TimedEvent) → Are setting earlier s
+        → Are setting earlier t)
+        → OnOk r (Moved adds (page s).writer (page t).writer (page s).text.items
+        (page t).text.items)
+        → OnOk r (failures (page t).writer ≡ failures (page s).writer)
+        → OnOk r (TakesHistory page Are rows adds failures s [] t)
+    shows_history (Ok x) s t same moved kept = record {
+      are = λ setting earlier are. same setting earlier are;
+      takes = λ setting earlier are. record {
+        shown = moved.shown;
+        wrote = moved.taken;
+        all = append-nil (page s).text.items ∙ moved.left;
+        kept = kept;
+      };
+    }
+    shows_history (Err e) s t same moved kept = tt
 
-  pub fails_shown : {T E : Type 0} (r : Result T E) (s t : PeriodRows W)
-      → OnErr r (FailsPage adds failures s.page s.page.text.items t.page)
-      → OnErr r (FailsPeriods adds failures s [] t)
-  fails_shown (Ok x) s t failed = tt
-  fails_shown (Err e) s t failed = λ venues earlier are.
-      fails_before_page adds failures s.page t.page [] failed
+    pub fails_shown : {T E : Type 0} (r : Result T E) (s t : S)
+        → OnErr r (FailsPage adds failures (page s) (page s).text.items (page t))
+        → OnErr r (FailsHistory page Are rows adds failures s [] t)
+    fails_shown (Ok x) s t failed = tt
+    fails_shown (Err e) s t failed = λ setting earlier are.
+        fails_before_page adds failures (page s) (page t) [] failed

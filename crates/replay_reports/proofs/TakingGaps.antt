@@ -3,12 +3,13 @@ use Rattle.std.proofs.Common.{◌≡◌, ℕ, List, [], ◌∷◌, ◌++◌, Opt
 use Rattle.std.specs.Prelude.{slice_index_or}
 use Rattle.feed_text.specs.Devices.{Moved}
 use Rattle.feed_text.specs.declared.text_page.TextPage.{TextPage}
+use Rattle.feed_text.specs.TextPages.{TakesPage}
+use Rattle.feed_text.specs.TextPageLaws.{takes_no_page}
 use Rattle.feed_text.specs.SinkEvents.{SinkEvent, timed_event}
 use Rattle.replay_reports.specs.declared.gaps.gap_rows.GapRows.{GapRows}
 use Rattle.replay_reports.specs.declared.gaps.venue_gaps.EndedGaps.{EndedGaps}
 use Rattle.replay_reports.specs.gaps.Gaps.{gap_venue, gaps_after_at, gaps_after_event, gaps_over, no_gaps_yet}
-use Rattle.replay_reports.specs.gaps.GapLaws.{no_bytes}
-use Rattle.replay_reports.specs.gaps.GapSinks.{TakesBytes, TakesGaps}
+use Rattle.replay_reports.specs.gaps.GapSinks.{TakesGaps}
 use Rattle.replay_reports.specs.gaps.GapTexts.{gap_rows_by, gap_rows_of}
 
 module _ {W : Type 0} (adds : W → List ℕ → W → Type 0) (failures : W → ℕ) (time : Option ℕ)
@@ -19,9 +20,9 @@ module _ {W : Type 0} (adds : W → List ℕ → W → Type 0) (failures : W →
   took_none none is = record {
     same_format = refl;
     venues = subst (λ (at : Option ℕ). s.venues ≡ gaps_after_event s.venues time e at) is refl;
-    takes = subst (λ (at : Option ℕ). TakesBytes adds failures s.page
+    takes = subst (λ (at : Option ℕ). TakesPage adds failures s.page
         (gap_rows_by s.format s.venues time e at ++ []) s.page) is
-        (no_bytes adds failures none s.page);
+        (takes_no_page adds failures none s.page);
   }
 
   -- an event of a venue, before whose rows a part of the page was written

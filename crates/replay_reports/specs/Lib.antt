@@ -3,5 +3,7 @@ pub mod counts
 pub mod times
 pub mod gaps
 pub mod periods
+pub mod best_times
+pub mod spans
 pub mod Texts
 pub mod TextLaws

@@ -3,5 +3,6 @@ pub mod Periods
 pub mod PeriodFigures
 pub mod PeriodTexts
 pub mod PageTexts
+pub mod RowHistories
+pub mod RowHistoryLaws
 pub mod PeriodSinks
-pub mod PeriodLaws

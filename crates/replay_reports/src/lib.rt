@@ -5,22 +5,31 @@
 //! format's header: text, comma-separated values or JSON lines. A row's time is that of its own
 //! event (`specs/rows/RowSinks.antt`). A [`GapRows`] writes the rows of the gaps in the numbers of
 //! packets, as they end (`specs/gaps/Gaps.antt`), and a [`PeriodRows`] what each line brought in
-//! each period of the clock (`specs/periods/PeriodTexts.antt`). A [`Stats`] writes nothing: it
-//! counts events for each venue, each of its lines and the national bests
+//! each period of the clock (`specs/periods/PeriodTexts.antt`). A [`BestTimeRows`] writes how long
+//! national bests stood in each period (`specs/best_times/Standing.antt`). A [`Stats`] writes
+//! nothing: it counts events for each venue, each of its lines and the national bests
 //! (`specs/counts/Counts.antt`: a filter, then a count or a sum). A [`TimedStats`] also holds how a
 //! packet capture's lines run in time (`specs/times/Timing.antt`). Each is a [`StatsSink`], which
-//! has its statistics as a text: a table or JSON (`specs/Texts.antt`).
+//! has its statistics as a text: a table or JSON (`specs/Texts.antt`). A [`SpanSink`] tells another
+//! sink the events in a span of time (`specs/spans/SpanEvents.antt`).
 //!
 //! Begin at `rows/row_sink.rt`, `gaps/gap_rows.rt`, `periods/period_rows.rt` or `counts/stats.rt`.
 #![tactic(auto)]
 
+mod best_times;
 mod counts;
 mod gaps;
 mod periods;
 mod rows;
+mod spans;
 mod text;
 mod times;
 
+pub use best_times::best_figures::BestFigures;
+pub use best_times::best_time_row::BestTimeRow;
+pub use best_times::best_time_rows::{BestTimeRows, new_times};
+pub use best_times::period_step::PeriodStep;
+pub use best_times::symbol_times::SymbolTimes;
 pub use counts::gap_stats::{GapStats, SequenceStats};
 pub use counts::line_stats::{LineStats, Refusals};
 pub use counts::stats::{StateStats, Stats};
@@ -37,6 +46,7 @@ pub use periods::period_rows::PeriodRows;
 pub use rows::read_back::csv_reads_back;
 pub use rows::row_sink::BestRows;
 pub use rows::style::{RowStyle, has_times};
+pub use spans::span_sink::SpanSink;
 pub use text::StatsSink;
 pub use times::durations::Durations;
 pub use times::extent::Extent;

@@ -8,7 +8,7 @@ ghost use Rattle.replay_reports.specs.rows.Times.{row_time};
 
 mod csv_rows;
 pub(crate) mod json_rows;
-mod quoting;
+pub(crate) mod quoting;
 pub(crate) mod read_back;
 pub(crate) mod row_sink;
 mod row_time;

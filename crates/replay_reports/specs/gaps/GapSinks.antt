@@ -2,19 +2,11 @@
 use Rattle.std.specs.Prelude.{◌≡◌, ℕ, List, ◌++◌, replicate}
 use Rattle.run_settings.specs.declared.formats.RowFormat.{RowFormat}
 use Rattle.feed_text.specs.SinkEvents.{TimedEvent}
-use Rattle.feed_text.specs.TextPages.{FailsPage}
+use Rattle.feed_text.specs.TextPages.{FailsPage, TakesPage}
 use Rattle.feed_text.specs.declared.text_page.TextPage.{TextPage}
 use Rattle.replay_reports.specs.declared.gaps.gap_rows.GapRows.{GapRows}
 use Rattle.replay_reports.specs.gaps.Gaps.{gaps_after_all, no_gaps_yet}
 use Rattle.replay_reports.specs.gaps.GapTexts.{gap_header, gap_rows}
-
--- What the writer took, then what waits, is what waited, then these bytes.
-pub record TakesBytes {W : Type 0} (adds : W → List ℕ → W → Type 0) (failures : W → ℕ)
-    (before : TextPage W) (bytes : List ℕ) (after : TextPage W) : Type 0 where
-  pub shown : List ℕ
-  pub wrote : adds before.writer shown after.writer
-  pub all : before.text.items ++ bytes ≡ shown ++ after.text.items
-  pub kept : failures after.writer ≡ failures before.writer
 
 -- A sink of rows of gaps that took no event: its header waits.
 pub record IsNewGapRows {W : Type 0} (writer : W) (format : RowFormat) (sink : GapRows W) : Type 0
@@ -29,7 +21,7 @@ pub record TakesGaps {W : Type 0} (adds : W → List ℕ → W → Type 0) (fail
     (before : GapRows W) (events : List TimedEvent) (after : GapRows W) : Type 0 where
   pub same_format : after.format ≡ before.format
   pub venues : after.venues ≡ gaps_after_all before.venues events
-  pub takes : TakesBytes adds failures before.page
+  pub takes : TakesPage adds failures before.page
       (gap_rows before.format before.venues events) after.page
 
 -- The writer took a front of what waited and the rows of the gaps that the events end, and failed.

@@ -1,7 +1,7 @@
 -- The gaps of a venue, by its events. A gap of a line begins with a packet of it whose number is
 -- past the next one; what further packets leave out while it is open goes with it. It is over once
 -- the venue's items are past its last number.
-use Rattle.std.specs.Prelude.{ℕ, ◌-◌, true, false, Bool, nat_lt, nat_le, List, [], ◌∷◌, slice_index_or, slice_set, Option, None, Some, Ok, if◌then◌else◌}
+use Rattle.std.specs.Prelude.{◌≡◌, ℕ, ◌-◌, true, false, Bool, ◌||◌, nat_lt, nat_le, is_some, List, [], ◌∷◌, slice_index_or, slice_set, Option, None, Some, Ok, if◌then◌else◌}
 use Rattle.feed_types.specs.declared.line.LineId.{LineId}
 use Rattle.feed_types.specs.declared.line.LineId.TheVariants as lines
 use Rattle.line_arbiter.specs.declared.outcome.Outcome.{Outcome}
@@ -169,6 +169,10 @@ left_at_pass v pass = record v {
   all = line_passed pass v.all;
 }
 
+-- whether a gap is open, of a line or of all lines
+abbrev pub has_open_gap : VenueGaps → Bool
+has_open_gap v = is_some v.a.standing || (is_some v.b.standing || is_some v.all.standing)
+
 -- the gaps that an event of the venue ends
 abbrev pub gaps_over : VenueGaps → Option ℕ → SinkEvent → EndedGaps
 gaps_over v time event =
@@ -177,6 +181,11 @@ gaps_over v time event =
 abbrev pub venue_gaps_after : VenueGaps → Option ℕ → SinkEvent → VenueGaps
 venue_gaps_after v time event =
     left_at_pass (gaps_noted v time event) (pass_after (gaps_noted v time event) time event)
+
+-- these gaps are over, or none where there is no list of them. Only private clauses cite this.
+abbrev pub AreGapsOver : Option EndedGaps → EndedGaps → Type 0
+AreGapsOver None over = over ≡ record { a = None; b = None; all = None }
+AreGapsOver (Some ended) over = ended ≡ over
 
 -- ---- the gaps of venues
 

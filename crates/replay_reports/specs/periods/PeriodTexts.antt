@@ -11,6 +11,7 @@ use Rattle.replay_reports.specs.counts.Pieces.{first_texts}
 use Rattle.replay_reports.specs.counts.Stats.{nothing_at}
 use Rattle.replay_reports.specs.periods.PeriodFigures.{row_of_a, row_of_b}
 use Rattle.replay_reports.specs.periods.Periods.{before_period, counts_told, period_ended}
+use Rattle.replay_reports.specs.periods.RowHistories.{rows_told}
 use Rattle.replay_reports.specs.rows.Times.{json_known_time, seconds_text}
 
 -- ---- a row
@@ -71,13 +72,7 @@ rows_with style venues e earlier =
     (counts_told venues (before_period style.length earlier)).venues
     (counts_told venues earlier).venues
 
--- those of events in order, after these
-abbrev pub rows_told : PeriodStyle → ℕ → List TimedEvent → List TimedEvent → List ℕ
-rows_told style venues earlier [] = []
-rows_told style venues earlier (e ∷ es) =
-    rows_with style venues e earlier ++ rows_told style venues (e ∷ earlier) es
-
 -- the header, and the rows of all events of a replay of this many venues
 abbrev pub text_of_periods : PeriodStyle → ℕ → List TimedEvent → List ℕ
 text_of_periods style venues events =
-    period_header style.format ++ rows_told style venues [] events
+    period_header style.format ++ rows_told (rows_with style venues) [] events

@@ -2,7 +2,7 @@
 use Rattle.std.proofs.Common.{◌≡◌, ℕ, List, [], ◌++◌, append-nil, refl, sym, ap, subst, ◌∙◌}
 use Rattle.std.specs.Prelude.{flat_map}
 use Rattle.feed_text.specs.TextPageLaws.{takes_no_text, takes_more_text, fails_after_text, fails_longer_text}
-use Rattle.feed_text.specs.TextPages.{TakesText, FailsText}
+use Rattle.feed_text.specs.TextPages.{FailsPage, FailsText, TakesText}
 use Rattle.feed_text.specs.SinkEvents.{TimedEvent}
 use Rattle.replay_reports.specs.declared.rows.row_sink.BestRows.{BestRows}
 use Rattle.replay_reports.specs.declared.rows.style.RowStyle.{RowStyle}
@@ -62,3 +62,13 @@ module _ {W : Type 0} (adds : W → List ℕ → W → Type 0) (failures : W →
       ∙ append-nil took.takes.shown in
       subst (λ (l : List ℕ). adds writer l t.page.writer) (sym all)
       (subst (λ (w : W). adds w took.takes.shown t.page.writer) is.writer_is took.takes.wrote)
+
+  -- Where it failed since then, it took a front of them.
+  pub rows_failed : (writer : W) (style : RowStyle) (s t : BestRows W) (events : List TimedEvent)
+      → IsNewRows writer style s → FailsRows adds failures s events t
+      → FailsPage adds failures s.page (text_of_rows style events) t.page
+  rows_failed writer style s t events is failed =
+      subst (λ (st : RowStyle). FailsPage adds failures s.page
+      (header_of style.format style.timed ++ flat_map (event_row st) events) t.page) is.style_is
+      (subst (λ (h : List ℕ). FailsPage adds failures s.page
+      (h ++ flat_map (event_row s.style) events) t.page) is.header failed)

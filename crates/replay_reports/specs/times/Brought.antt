@@ -1,6 +1,6 @@
 -- The messages that a line brings, by their numbers. Of a list of numbers the last one that came
 -- stands first.
-use Rattle.std.specs.Prelude.{◌≡◌, ℕ, ◌+◌, ◌%◌, ◌<◌, ◌==◌, zero, suc, Bool, true, false, nat_lt, List, [], ◌∷◌, length, max, slice_get, Some, if◌then◌else◌}
+use Rattle.std.specs.Prelude.{◌≡◌, ℕ, ◌+◌, ◌-◌, ◌%◌, ◌<◌, ◌≤◌, ◌==◌, zero, suc, Bool, true, false, nat_lt, List, [], ◌∷◌, length, max, slice_get, Some, if◌then◌else◌}
 use Rattle.replay_reports.specs.declared.times.line_numbers.LineNumbers.{LineNumbers}
 use Rattle.replay_reports.specs.times.Figures.{capped}
 
@@ -29,14 +29,26 @@ new_after window number (suc count) came brought =
     new_with window (numbers_from number count came) (number + count)
     + new_after window number count came brought
 
--- What is held of a line: the numbers that came in the present session, and how many messages came
+-- Of each remainder by the window the greatest number that came is held.
+pub record AreHeld (window : ℕ) (came : List ℕ) (held : List ℕ) : Type 0 where
+  pub some : 0 < window
+  pub size : length held ≡ window
+  pub each : (place number : ℕ) → slice_get held place ≡ Some number
+      → number ≡ greatest_at window place came
+
+-- What came is held, but for the numbers that came last, one after the other and after all others.
+pub record HoldsRun (window : ℕ) (came : List ℕ) (n : LineNumbers) : Type 0 where
+  pub earlier : List ℕ
+  pub held : AreHeld window earlier n.held.items
+  pub below : (place : ℕ) → greatest_at window place earlier ≤ n.before
+  pub ordered : n.before ≤ n.last
+  pub run : came ≡ numbers_from (n.before + 1) (n.last - n.before) earlier
+
+-- What is known of a line: the numbers that came in the present session, and how many messages came
 -- in all sessions, and how many of them for the first time.
 pub record AreNumbersOf (window : ℕ) (came : List ℕ) (messages brought : ℕ) (n : LineNumbers)
     : Type 0 where
-  pub some : 0 < window
-  pub size : length n.held.items ≡ window
-  pub each : (place held : ℕ) → slice_get n.held.items place ≡ Some held
-      → held ≡ greatest_at window place came
+  pub holds : HoldsRun window came n
   pub messages_are : n.messages ≡ capped messages
   pub brought_are : n.brought ≡ capped brought
 

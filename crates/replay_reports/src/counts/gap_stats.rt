@@ -1,5 +1,6 @@
 //! The gaps of a venue: the messages that packets' numbers pass over.
-ghost use Rattle.std.specs.Prelude.{◌≡◌, ℕ, ◌+◌, ◌-◌, ◌∷◌, [], Ok, false, min};
+ghost use Rattle.std.specs.Prelude.{◌≡◌, ℕ, ◌+◌, ◌-◌, ◌<◌, ◌∷◌, [], Ok, false, max, min};
+ghost use Rattle.line_captures.specs.FullCounts.{count_after};
 ghost use Rattle.feed_text.specs.SinkEvents.{told_packet, told_renewal, told_skip};
 ghost use Rattle.replay_reports.specs.counts.Counts.{gaps_after, highest_after, sequence_after, sequence_heard};
 
@@ -51,18 +52,31 @@ fn highest_after(outcome: &Outcome, highest: u64, last: u64) -> u64
 }
 
 impl SequenceStats {
+    /// Counts a gap that lacks this many messages.
+    #[inline(never)]
+    fn leave_out(&mut self, messages: u64)
+        requires { 0 < messages }
+        ensures { self.new ≡ record self.old {
+          found = count_after self.old.found 1;
+          left_out = count_after self.old.left_out messages;
+          longest = max self.old.longest messages;
+        } }
+    {
+        self.found = raised(self.found, 1);
+        self.left_out = raised(self.left_out, messages);
+        self.longest = self.longest.max(messages);
+    }
+
     /// Counts a packet that wasn't refused, with this many messages from a number on.
     #[inline(always)]
     pub(crate) fn hear(&mut self, number: u64, count: u16, outcome: &Outcome)
         ensures { self.new ≡ sequence_heard self.old number count outcome.now }
     {
-        let left_out = number.saturating_sub(self.highest).saturating_sub(1);
-        if left_out > 0 {
-            self.found = raised(self.found, 1);
+        if number <= self.highest {
+            self.again = raised(self.again, brought_again(self.highest, number, count));
+        } else if number - self.highest > 1 {
+            self.leave_out(number - self.highest - 1);
         }
-        self.left_out = raised(self.left_out, left_out);
-        self.longest = self.longest.max(left_out);
-        self.again = raised(self.again, brought_again(self.highest, number, count));
         let last = raised(number.saturating_sub(1), u64::from(count));
         self.highest = highest_after(outcome, self.highest, last);
         self.begun = true;

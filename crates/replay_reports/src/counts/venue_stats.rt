@@ -84,8 +84,10 @@ impl SessionStats {
         ensures { (venue : ℕ) → self.new ≡ session_after self.old (told_item venue numbered.now) }
     {
         let count = given_up(self.last, numbered);
-        self.come = raised(self.come, count);
-        self.given_up = raised(self.given_up, count);
+        if count > 0 {
+            self.come = raised(self.come, count);
+            self.given_up = raised(self.given_up, count);
+        }
         self.last = numbered.number;
     }
 

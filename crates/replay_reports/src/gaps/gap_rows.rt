@@ -1,17 +1,14 @@
 //! A sink of the rows of gaps.
 ghost use Rattle.std.specs.Prelude.{◌≡◌, [], length, slice_index_or};
 ghost use Rattle.feed_text.specs.SinkEvents.{told_by};
-ghost use Rattle.replay_reports.specs.gaps.Gaps.{gap_venue, gaps_after_at, gaps_over, no_gaps_yet};
+ghost use Rattle.replay_reports.specs.gaps.Gaps.{AreGapsOver, gap_venue, gaps_after_at, gaps_over, no_gaps_yet};
 ghost use Rattle.replay_reports.specs.gaps.GapSinks.{IsNewGapRows};
 
 use crate::gaps::gap_texts::{put_gap_header, put_gaps};
 use crate::gaps::venue_gaps::{EndedGaps, VenueGaps};
 use feed_text::{Event, EventSink, SinkStop, TextOut, TextPage};
-use feed_types::VenueId;
+use feed_types::{MAX_VENUES, VenueId};
 use run_settings::RowFormat;
-
-/// The most venues of a capture.
-const VENUES: usize = 16;
 
 /// The rows of the gaps of venues, written to a writer by the page as the gaps end, and at the end
 /// of the capture those of the gaps that are open.
@@ -21,7 +18,7 @@ const VENUES: usize = 16;
 pub struct GapRows<W> {
     page: TextPage<W>,
     format: RowFormat,
-    venues: [VenueGaps; VENUES],
+    venues: [VenueGaps; MAX_VENUES],
 }
 
 /// Returns the venue that an event is of, if gaps have a part in it.
@@ -41,16 +38,17 @@ fn venue_of(event: &Event<'_>) -> Option<VenueId>
     }
 }
 
-/// Takes an event of a venue, and returns the venue's gaps that it ends.
+/// Takes an event of a venue, and returns the venue's gaps that it ends, if one may be over.
+#[inline(always)]
 fn take_at(
     venues: &mut [VenueGaps],
     venue: VenueId,
     time: Option<u64>,
     event: &Event<'_>,
-) -> EndedGaps
+) -> Option<EndedGaps>
     requires { length venues.old ≡ 16 }
-    ensures over { result
-        ≡ gaps_over (slice_index_or venues.old venue no_gaps_yet) time (told_by event.now) }
+    ensures over { AreGapsOver result
+        (gaps_over (slice_index_or venues.old venue no_gaps_yet) time (told_by event.now)) }
     ensures venues { venues.new ≡ gaps_after_at venues.old venue time (told_by event.now) }
 {
     venues[venue.index()].take(time, event)
@@ -67,7 +65,7 @@ impl<W> GapRows<W> {
         GapRows {
             page,
             format,
-            venues: [VenueGaps::new(); VENUES],
+            venues: [VenueGaps::new(); MAX_VENUES],
         }
     }
 
@@ -102,12 +100,15 @@ impl<W: TextOut> EventSink for GapRows<W> {
 
     ghost fails_longer = { fails_longer_gaps W.adds W.failures };
 
+    #[inline(always)]
     fn take(&mut self, time: Option<u64>, event: &Event<'_>) -> Result<(), SinkStop> {
         let Some(venue) = venue_of(event) else {
             return Ok(());
         };
+        let Some(over) = take_at(&mut self.venues, venue, time, event) else {
+            return Ok(());
+        };
         self.page.write_full()?;
-        let over = take_at(&mut self.venues, venue, time, event);
         put_gaps(&mut self.page.text, self.format, venue, &over);
         Ok(())
     }

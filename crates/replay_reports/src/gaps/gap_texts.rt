@@ -47,7 +47,7 @@ fn put_end(text: &mut LineBuffer, by: GapEnd)
 }
 
 /// Appends a time as seconds, or nothing where it isn't known.
-fn put_csv_seconds(text: &mut LineBuffer, time: Option<u64>)
+pub(crate) fn put_csv_seconds(text: &mut LineBuffer, time: Option<u64>)
     requires { 30 ≤ text.old.room }
     ensures { Appends text.old (seconds_or [] time) 30 text.new }
 {
@@ -58,7 +58,7 @@ fn put_csv_seconds(text: &mut LineBuffer, time: Option<u64>)
 }
 
 /// Appends a time as seconds, or null where it isn't known.
-fn put_json_seconds(text: &mut LineBuffer, time: Option<u64>)
+pub(crate) fn put_json_seconds(text: &mut LineBuffer, time: Option<u64>)
     requires { 30 ≤ text.old.room }
     ensures { Appends text.old (seconds_or (codes "null") time) 30 text.new }
 {
@@ -167,6 +167,7 @@ fn put_gap(
 }
 
 /// Appends the rows of the gaps of a venue that are over.
+#[inline(never)]
 pub(crate) fn put_gaps(text: &mut LineBuffer, format: RowFormat, venue: VenueId, over: &EndedGaps)
     requires { 1024 ≤ text.old.room }
     ensures { Appends text.old (gap_rows_of format venue over.now) 891 text.new }

@@ -1,6 +1,6 @@
 //! The gap of a line.
-ghost use Rattle.std.specs.Prelude.{◌≡◌};
-ghost use Rattle.replay_reports.specs.gaps.Gaps.{gap_if_over, gap_unless_over, line_heard, line_renewed, line_skipped, no_line_gaps, open_gap_after};
+ghost use Rattle.std.specs.Prelude.{◌≡◌, Some};
+ghost use Rattle.replay_reports.specs.gaps.Gaps.{gap_after, gap_if_over, gap_unless_over, line_heard, line_renewed, line_skipped, no_line_gaps};
 
 use crate::counts::gap_stats::SequenceStats;
 use crate::gaps::open_gap::{EndedGap, GapPass, OpenGap, gap_after};
@@ -33,25 +33,27 @@ impl LineGaps {
         }
     }
 
-    /// Returns the gap that is open after a packet: what it leaves out is between the next number
-    /// and its own.
-    fn open_gap_after(&self, packet: HeardPacket) -> Option<OpenGap>
-        ensures { result ≡ open_gap_after self.now packet.time packet.number }
+    /// Notes that a packet leaves out this many messages: what is between the next number and its
+    /// own.
+    #[inline(never)]
+    fn leave_out(&mut self, messages: u64, number: u64, time: Option<u64>)
+        ensures { self.new ≡ record self.old {
+          standing = Some (gap_after self.old.standing number messages time);
+        } }
     {
-        let highest = self.sequence.highest;
-        let left_out = packet.number.saturating_sub(highest).saturating_sub(1);
-        if left_out == 0 {
-            return self.standing;
-        }
-        Some(gap_after(self.standing, packet.number, left_out, packet.time))
+        self.standing = Some(gap_after(self.standing, number, messages, time));
     }
 
     /// Notes a packet that was answered so.
+    #[inline(always)]
     pub(crate) fn hear(&mut self, packet: HeardPacket, outcome: &Outcome)
         ensures { self.new
             ≡ line_heard self.old packet.time packet.number packet.count outcome.now }
     {
-        self.standing = self.open_gap_after(packet);
+        let highest = self.sequence.highest;
+        if packet.number > highest && packet.number - highest > 1 {
+            self.leave_out(packet.number - highest - 1, packet.number, packet.time);
+        }
         self.sequence.hear(packet.number, packet.count, outcome);
     }
 

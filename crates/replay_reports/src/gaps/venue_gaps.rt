@@ -1,7 +1,7 @@
 //! The gaps of a venue.
 ghost use Rattle.std.specs.Prelude.{◌≡◌};
 ghost use Rattle.feed_text.specs.SinkEvents.{told_by};
-ghost use Rattle.replay_reports.specs.gaps.Gaps.{end_by_line, gaps_heard, gaps_noted, gaps_over, gaps_renewed, gaps_skipped, no_gaps_yet, pass_after, pass_by, venue_gaps_after};
+ghost use Rattle.replay_reports.specs.gaps.Gaps.{AreGapsOver, end_by_line, ended_at_pass, gaps_heard, gaps_noted, gaps_over, gaps_renewed, gaps_skipped, has_open_gap, left_at_pass, no_gaps_yet, pass_after, pass_by, venue_gaps_after};
 
 use crate::gaps::line_gaps::LineGaps;
 use crate::gaps::open_gap::{EndedGap, GapEnd, GapPass};
@@ -56,6 +56,7 @@ impl VenueGaps {
     }
 
     /// Notes a packet that was answered so.
+    #[inline(always)]
     fn hear(&mut self, packet: HeardPacket, outcome: &Outcome)
         ensures { self.new ≡ gaps_heard self.old packet.time packet.line packet.number packet.count
             outcome.now }
@@ -90,6 +91,7 @@ impl VenueGaps {
     }
 
     /// Notes an event of the venue.
+    #[inline(always)]
     fn note(&mut self, time: Option<u64>, event: &Event<'_>)
         ensures { self.new ≡ gaps_noted self.old time (told_by event.now) }
     {
@@ -156,17 +158,41 @@ impl VenueGaps {
         }
     }
 
-    /// Takes an event of the venue, and returns the gaps that it ends.
-    pub(crate) fn take(&mut self, time: Option<u64>, event: &Event<'_>) -> EndedGaps
-        ensures over { result ≡ gaps_over self.old time (told_by event.now) }
-        ensures gaps { self.new ≡ venue_gaps_after self.old time (told_by event.now) }
+    /// Returns whether a gap is open, of a line or of all lines.
+    #[inline(always)]
+    fn has_open(&self) -> bool
+        ensures { result ≡ has_open_gap self.now }
     {
-        self.note(time, event);
+        self.a.standing.is_some() || self.b.standing.is_some() || self.all.standing.is_some()
+    }
+
+    /// Ends the gaps that the items are past after an event that was noted, and returns them.
+    #[inline(never)]
+    fn end(&mut self, time: Option<u64>, event: &Event<'_>) -> EndedGaps
+        ensures over { result
+            ≡ ended_at_pass self.old (pass_after self.old time (told_by event.now)) }
+        ensures left { self.new
+            ≡ left_at_pass self.old (pass_after self.old time (told_by event.now)) }
+    {
         let pass = self.pass_after(time, event);
         EndedGaps {
             a: self.a.take_ended(pass),
             b: self.b.take_ended(pass),
             all: self.all.take_ended(pass),
         }
+    }
+
+    /// Takes an event of the venue, and returns the gaps that it ends. There is none of them where
+    /// no gap is open after it, as most often.
+    #[inline(always)]
+    pub(crate) fn take(&mut self, time: Option<u64>, event: &Event<'_>) -> Option<EndedGaps>
+        ensures over { AreGapsOver result (gaps_over self.old time (told_by event.now)) }
+        ensures gaps { self.new ≡ venue_gaps_after self.old time (told_by event.now) }
+    {
+        self.note(time, event);
+        if !self.has_open() {
+            return None;
+        }
+        Some(self.end(time, event))
     }
 }

@@ -31,7 +31,7 @@ fn period_begin(length: PeriodLength, time: u64) -> u64
 }
 
 /// Returns whether the capture is over.
-fn ends_all(event: &Event<'_>) -> bool
+pub(crate) fn ends_all(event: &Event<'_>) -> bool
     ensures { result ≡ ends_all (told_by event.now) }
 {
     match event {
@@ -58,7 +58,7 @@ fn begin_by(length: PeriodLength, time: Option<u64>, begin: Option<u64>) -> Opti
 }
 
 /// Returns when the period at hand began, once this event came.
-fn begin_after(
+pub(crate) fn begin_after(
     length: PeriodLength,
     time: Option<u64>,
     event: &Event<'_>,
@@ -73,7 +73,7 @@ fn begin_after(
 }
 
 /// Returns the begin of the period that is over, if one is.
-fn period_ended_by(old: Option<u64>, new: Option<u64>) -> Option<u64>
+pub(crate) fn period_ended_by(old: Option<u64>, new: Option<u64>) -> Option<u64>
     ensures { result ≡ period_ended_by old new }
 {
     match (old, new) {

@@ -30,7 +30,7 @@ impl<W> PeriodRows<W> {
     pub fn new(page: TextPage<W>, style: PeriodStyle, counts: PeriodCounts) -> PeriodRows<W>
         requires { page.text.items ≡ [] }
         ensures { (venues : ℕ) → ArePeriodCounts style.length venues [] counts
-            → IsNewPeriods page.writer style venues result }
+            → IsNewPeriods page.writer (record { style = style; venues = venues }) result }
     {
         let mut page = page;
         put_period_header(&mut page.text, style.format);
@@ -111,8 +111,8 @@ fn write_ended<W: TextOut>(
 }
 
 impl<W: TextOut> EventSink for PeriodRows<W> {
-    ghost use Rattle.replay_reports.specs.periods.PeriodSinks.{FailsPeriods, TakesPeriods};
-    ghost use Rattle.replay_reports.specs.periods.PeriodLaws.{fails_after_periods, fails_longer_periods, takes_more_periods, takes_no_periods};
+    ghost use Rattle.replay_reports.specs.periods.PeriodSinks.{ArePeriodsOf, FailsPeriods, TakesPeriods, page_of, rows_in};
+    ghost use Rattle.replay_reports.specs.periods.RowHistoryLaws.{fails_after_history, fails_longer_history, takes_more_history, takes_no_history};
 
     ghost takes = { TakesPeriods W.adds W.failures };
 
@@ -120,13 +120,16 @@ impl<W: TextOut> EventSink for PeriodRows<W> {
 
     ghost is_shown = { λ s. s.page.text.items ≡ [] };
 
-    ghost takes_none = { takes_no_periods W.adds W.failures W.adds_none };
+    ghost takes_none = { takes_no_history page_of ArePeriodsOf rows_in W.adds W.failures
+        W.adds_none };
 
-    ghost takes_more = { takes_more_periods W.adds W.failures W.adds_more };
+    ghost takes_more = { takes_more_history page_of ArePeriodsOf rows_in W.adds W.failures
+        W.adds_more };
 
-    ghost fails_after = { fails_after_periods W.adds W.failures W.adds_more };
+    ghost fails_after = { fails_after_history page_of ArePeriodsOf rows_in W.adds W.failures
+        W.adds_more };
 
-    ghost fails_longer = { fails_longer_periods W.adds W.failures };
+    ghost fails_longer = { fails_longer_history page_of ArePeriodsOf rows_in W.adds W.failures };
 
     fn take(&mut self, time: Option<u64>, event: &Event<'_>) -> Result<(), SinkStop> {
         let ended = self.counts.ended(self.style.length, time, event);

@@ -16,6 +16,7 @@ pub struct Extent {
 }
 
 /// Returns the lowest number once messages came, this many from a number on.
+#[inline(always)]
 fn lowest_after(lowest: u64, number: u64, count: u16) -> u64
     ensures { result ≡ lowest_after lowest number count }
 {
@@ -41,6 +42,7 @@ impl Extent {
     }
 
     /// Takes a packet that has this many messages from a number on.
+    #[inline(always)]
     pub(crate) fn widen(&mut self, number: u64, count: u16)
         ensures { self.new ≡ extent_heard self.old number count }
     {

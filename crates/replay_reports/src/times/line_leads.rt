@@ -84,7 +84,7 @@ const NONE: FirstArrival = FirstArrival {
 
 /// Returns the place of the next number, of this many places, where a number has this one.
 #[inline(always)]
-fn place_after(place: u64, size: u64) -> u64
+pub(crate) fn place_after(place: u64, size: u64) -> u64
     requires { 0 < size }
     ensures { (number : ℕ) → place ≡ number % size → result ≡ (number + 1) % size }
 {
@@ -195,6 +195,7 @@ impl LineLeads {
 
     /// Notes that messages from a number on came on a line at a time in nanoseconds. What comes on
     /// Recovery doesn't count.
+    #[inline(never)]
     fn note_all(&mut self, line: LineId, number: u64, count: u16, time: u64)
         requires number { 0 < number }
         requires last { number + count ≤ 2 ^ 64 }

@@ -43,6 +43,7 @@ fn new_venues(alloc: Global, count: usize, window: usize) -> Result<Vec<VenueTim
 }
 
 /// Takes a packet of a venue that was answered so, after which messages are missing or not.
+#[inline(always)]
 fn hear_at(
     venues: &mut Vec<VenueTiming>,
     venue: VenueId,

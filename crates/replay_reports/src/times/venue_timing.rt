@@ -55,6 +55,7 @@ impl VenueTiming {
     }
 
     /// Takes a packet at a time.
+    #[inline(always)]
     fn note(&mut self, time: u64, packet: HeardPacket, outcome: &Outcome, is_missing: bool)
         ensures leads { (window : ℕ) (came : List MessageOn) (before_a before_b : List ℕ)
             → AreLeadsOf window came before_a before_b self.old.leads
@@ -74,6 +75,7 @@ impl VenueTiming {
     }
 
     /// Takes a packet that was answered so, after which messages are missing or not.
+    #[inline(always)]
     pub(crate) fn hear(&mut self, packet: HeardPacket, outcome: &Outcome, is_missing: bool)
         ensures leads { (window : ℕ) (came : List MessageOn) (before_a before_b : List ℕ)
             → AreLeadsOf window came before_a before_b self.old.leads

@@ -7,10 +7,15 @@ use Rattle.replay_reports.proofs.times.line_numbers.LineNumbers.note_all.Goals a
 pub returns : goal.returns
 returns c = λ window messages brought came are.
     let noted = c.note_each.ensures window messages brought came are in
+    let holds = noted.holds in
     record {
-      some = noted.some;
-      size = noted.size;
-      each = noted.each;
+      holds = record {
+        earlier = holds.earlier;
+        held = holds.held;
+        below = holds.below;
+        ordered = holds.ordered;
+        run = holds.run;
+      };
       messages_are = c.raised-self.ensures
           ∙ ap (λ (n : ℕ). count_after n c.from.result) noted.messages_are
           ∙ ap (count_after (capped messages)) c.from.ensures

@@ -1,0 +1,3 @@
+-- Events in a span of time.
+pub mod SpanEvents
+pub mod SpanLaws

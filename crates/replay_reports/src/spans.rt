@@ -1,0 +1,3 @@
+//! Events in a span of time.
+
+pub(crate) mod span_sink;
