@@ -1,15 +1,17 @@
 -- The rows after one more datagram.
-use Rattle.std.proofs.Common.{◌≡◌, ℕ, ◌+◌, List, [], ◌∷◌, ◌++◌, Option, Some, None, length, map, refl, sym, ap, ◌∙◌, arith, length-append}
-use Rattle.std.specs.Prelude.{min, max}
+use Rattle.std.proofs.Common.{◌≡◌, ℕ, ◌+◌, ◌<◌, ◌≤◌, cond, List, [], ◌∷◌, ◌++◌, Option, Some, None, true, false, length, map, set, refl, sym, ap, ◌∙◌, arith, length-append}
+use Rattle.std.specs.Prelude.{Bool, ◌||◌, min, max, nat_le, slice_get}
 use Rattle.std.specs.List.{sum_by}
+use Rattle.std.proofs.lemmas.Bool.{leb-false, leb-true, or_left, or_right}
 use Rattle.std.proofs.lemmas.List.{map-append}
 use Rattle.std.proofs.lemmas.List.Sums.{sum_by-append}
 use Rattle.line_discovery.specs.declared.line_key.LineKey.{LineKey}
 use Rattle.line_discovery.specs.declared.line_row.LineRow.{LineRow}
 use Rattle.line_discovery.specs.declared.sighting.Sighting.{Sighting}
 use Rattle.line_discovery.specs.declared.span.Span.{Span}
-use Rattle.line_discovery.specs.KeyedRowLaws.{IsKeying, table_more}
-use Rattle.line_discovery.specs.KeyedRows.{rows_grown}
+use Rattle.line_discovery.specs.KeyedRowLaws.{IsKeying, grows_at, has_at, none_grows, table_more}
+use Rattle.line_discovery.specs.KeyedRows.{AreApart, grown_by, has_row, rows_grown}
+use Rattle.line_discovery.specs.Keys.{same_key}
 use Rattle.line_discovery.specs.Spans.{span_of, wider}
 use Rattle.line_discovery.specs.Tables.{IsLineTable, by_line, row_over, row_with, up_to_most}
 use Rattle.line_discovery.proofs.SameKeys.{key_is, key_same}
@@ -77,6 +79,51 @@ keyed_by_line = record {
   kept = λ s r. refl;
   one_more = over_one;
 }
+
+-- what a row of one datagram more makes of the rows: it stands among them, or is new, or isn't kept
+
+abbrev grown : Sighting → LineRow → LineRow
+grown s = grown_by by_line row_with s
+
+by_test : (rows : List LineRow) (s : Sighting) (b : Bool)
+    → (has_row by_line rows s.key || nat_le 4096 (length rows)) ≡ b
+    → cond b (map (grown s) rows) (map (grown s) rows ++ row_with s (row_over s.key []) ∷ [])
+    ≡ rows_grown by_line row_with rows s
+by_test rows s b test =
+    ap (λ (x : Bool). cond x (map (grown s) rows)
+    (map (grown s) rows ++ row_with s (row_over s.key []) ∷ [])) (sym test)
+
+pub line_grows : (rows : List LineRow) (s : Sighting) (i : ℕ) (r : LineRow) → AreApart by_line rows
+    → slice_get rows i ≡ Some r → same_key r.key s.key ≡ true
+    → set rows i (row_with s r) ≡ rows_grown by_line row_with rows s
+line_grows rows s i r apart is same =
+    grows_at by_line row_with keyed_by_line s rows i r apart is same
+    ∙ by_test rows s true (or_left (has_row by_line rows s.key) (nat_le 4096 (length rows))
+    (has_at by_line row_with keyed_by_line s.key rows i r is same))
+
+few_rows : (b : Bool) (n : ℕ) → nat_le 4096 n ≡ b → n < 4096 → b ≡ false
+few_rows true n e less = let most = leb-true 4096 n e in absurd (omega (arith, most, less))
+few_rows false n e less = refl
+
+all_rows : (b : Bool) (n : ℕ) → nat_le 4096 n ≡ b → 4096 ≤ n → b ≡ true
+all_rows true n e most = refl
+all_rows false n e most = let less = leb-false 4096 n e in absurd (omega (arith, most, less))
+
+pub line_added : (rows : List LineRow) (s : Sighting) → has_row by_line rows s.key ≡ false
+    → length rows < 4096
+    → rows ++ row_with s (row_over s.key []) ∷ [] ≡ rows_grown by_line row_with rows s
+line_added rows s none less =
+    ap (λ (rs : List LineRow). rs ++ row_with s (row_over s.key []) ∷ [])
+    (sym (none_grows by_line row_with keyed_by_line s rows none))
+    ∙ by_test rows s false (ap (λ (b : Bool). b || nat_le 4096 (length rows)) none
+    ∙ few_rows (nat_le 4096 (length rows)) (length rows) refl less)
+
+pub line_left_out : (rows : List LineRow) (s : Sighting) → has_row by_line rows s.key ≡ false
+    → 4096 ≤ length rows → rows ≡ rows_grown by_line row_with rows s
+line_left_out rows s none most =
+    sym (none_grows by_line row_with keyed_by_line s rows none)
+    ∙ by_test rows s true (or_right (has_row by_line rows s.key) (nat_le 4096 (length rows))
+    (all_rows (nat_le 4096 (length rows)) (length rows) refl most))
 
 pub line_table_more : (rows : List LineRow) (count : ℕ) (seen : List Sighting) (s : Sighting)
     → IsLineTable rows count seen

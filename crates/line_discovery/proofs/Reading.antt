@@ -1,12 +1,11 @@
 -- One piece of a packet capture: what it counts, and the step that it is.
 use Rattle.std.proofs.Common.{◌≡◌, ℕ, List, [], ◌∷◌, ◌++◌, Option, Some, None, drop, refl, sym, ap, subst, ◌∙◌, append-nil, arith}
-use Rattle.std.specs.Prelude.{flat_map, map}
 use Rattle.std.proofs.lemmas.List.{drop-append-le}
 use Rattle.std.specs.List.{AllZip}
 use Rattle.packet_capture.specs.declared.fault.CaptureFault.{CaptureFault}
 use Rattle.packet_capture.specs.declared.stop.Stop.{Stop}
 use Rattle.packet_capture.specs.declared.stop.Stop.TheVariants as stops
-use Rattle.packet_capture.specs.Captures.{Context, PieceContent, IsPiece, StopsReading, frames_in, frames_of, list_of}
+use Rattle.packet_capture.specs.Captures.{Context, PieceContent, IsPiece, StopsReading, frames_of, list_of}
 use Rattle.packet_capture.specs.Frames.{FrameContent}
 use Rattle.feed_text.specs.declared.record_format.Step.{Step}
 use Rattle.feed_text.specs.declared.record_format.Step.TheVariants.{Came, Passed, Wants, Bad}
@@ -17,7 +16,7 @@ use Rattle.line_discovery.specs.declared.sighting.Sighting.{Sighting}
 use Rattle.line_discovery.specs.declared.survey.LineSurvey.{LineSurvey}
 use Rattle.line_discovery.specs.Sightings.{HasFate, blanks_in, others_in, packets_in}
 use Rattle.line_discovery.specs.Surveys.{CountsFate, CountsSightings, StopsSurvey, ReadsSurvey, is_bad_piece, wants_piece}
-use Rattle.line_discovery.proofs.Fronts.{piece_len, few_unread}
+use Rattle.packet_capture.specs.laws.Fronts.{piece_len, few_unread}
 
 -- ---- counts
 

@@ -1,13 +1,13 @@
 -- The law of rows by keys: one thing more makes the row of its key grow.
-use Rattle.std.proofs.Common.{◌≡◌, ℕ, ◌+◌, ◌<◌, ◌≤◌, cond, List, [], ◌∷◌, ◌++◌, true, false, length, map, refl, sym, ap, subst, ◌∙◌, append-nil, arith, length-append}
-use Rattle.std.specs.Prelude.{Bool, ◌||◌, nat_le}
+use Rattle.std.proofs.Common.{◌≡◌, ℕ, ◌+◌, ◌<◌, cond, List, [], ◌∷◌, ◌++◌, true, false, length, map, set, refl, sym, ap, subst, ◌∙◌, append-nil, arith, length-append}
+use Rattle.std.specs.Prelude.{Bool, ◌||◌, Some, nat_le, slice_get, zero, suc}
 use Rattle.std.specs.List.{filter, fold, list_any}
 use Rattle.std.proofs.lemmas.Bool.{both_ways, false_from_ne_true, leb-false, leb-true, or_left, or_parts, or_right}
 use Rattle.std.proofs.lemmas.List.{length-map, map-append}
 use Rattle.std.proofs.lemmas.List.Folds.{list_any-append}
 use Rattle.std.proofs.lemmas.List.Sums.{fold-append}
 use Rattle.std.proofs.lemmas.List.Elements.{filter-append}
-use Rattle.line_discovery.specs.KeyedRows.{Keying, IsKeyedTable, first_keys, grown_by, has_row, keyed_rows, row_with_key, rows_grown, seen_of, with_key}
+use Rattle.line_discovery.specs.KeyedRows.{Keying, AreApart, IsKeyedTable, first_keys, grown_by, has_row, keyed_rows, row_with_key, rows_grown, seen_of, with_key}
 
 -- The keys that are the same are equal, a row has its key, and grows as what it is over.
 pub record IsKeying {S K R : Type 0} (by : Keying S K R) (grow : S → R → R) : Type 0 where
@@ -71,6 +71,78 @@ module _ {S K R : Type 0} (by : Keying S K R) (grow : S → R → R) (law : IsKe
       ap (λ (k : K). by.same k key || has_row by (map (grown s) rows) key) (grown_key s r)
       ∙ ap (λ (b : Bool). by.same (by.key_in r) key || b) (has_grown s key rows)
 
+  -- ---- no key has two rows
+
+  other_way : (a b : K) → by.same a b ≡ false → by.same b a ≡ false
+  other_way a b none = false_from_ne_true (by.same b a) (λ h. both_ways (by.same a b) none
+      (subst (λ (k : K). by.same k b ≡ true) (law.is_key b a h) (law.same_key b)))
+
+  apart_grown : (s : S) (rows : List R) → AreApart by rows → AreApart by (map (grown s) rows)
+  apart_grown s [] h = tt
+  apart_grown s (r ∷ rows) h = (
+    ap (λ (k : K). has_row by (map (grown s) rows) k) (grown_key s r)
+        ∙ has_grown s (by.key_in r) rows ∙ h.0,
+    apart_grown s rows h.1,
+  )
+
+  apart_more : (rows : List R) (r : R) → AreApart by rows → has_row by rows (by.key_in r) ≡ false
+      → AreApart by (rows ++ r ∷ [])
+  apart_more [] r h none = (refl, tt)
+  apart_more (x ∷ rows) r h none =
+      let key = by.key_in x in
+      let has : R → Bool = λ y. by.same (by.key_in y) key in
+      let parts = or_parts (by.same key (by.key_in r)) (has_row by rows (by.key_in r)) none in (
+        list_any-append has rows (r ∷ [])
+            ∙ ap (λ (b : Bool). b || list_any has (r ∷ [])) h.0
+            ∙ ap (λ (b : Bool). b || false) (other_way key (by.key_in r) parts.0),
+        apart_more rows r h.1 parts.1,
+      )
+
+  -- ---- the row that grows
+
+  pub none_grows : (s : S) (rows : List R) → has_row by rows (by.key_of s) ≡ false
+      → map (grown s) rows ≡ rows
+  none_grows s [] h = refl
+  none_grows s (r ∷ rows) h =
+      let parts =
+      or_parts (by.same (by.key_in r) (by.key_of s)) (has_row by rows (by.key_of s)) h in
+      ap (λ (b : Bool). cond b (grow s r) r ∷ map (grown s) rows) parts.0
+      ∙ ap (λ (rs : List R). r ∷ rs) (none_grows s rows parts.1)
+
+  pub has_at : (key : K) (rows : List R) (i : ℕ) (r : R) → slice_get rows i ≡ Some r
+      → by.same (by.key_in r) key ≡ true → has_row by rows key ≡ true
+  has_at key [] i r e h = absurd cc
+  has_at key (x ∷ rows) zero r e h =
+      let same : x ≡ r = cc in
+      or_left (by.same (by.key_in x) key) (has_row by rows key)
+      (ap (λ (y : R). by.same (by.key_in y) key) same ∙ h)
+  has_at key (x ∷ rows) (suc i) r e h =
+      or_right (by.same (by.key_in x) key) (has_row by rows key) (has_at key rows i r e h)
+
+  -- where it stands
+  pub grows_at : (s : S) (rows : List R) (i : ℕ) (r : R) → AreApart by rows
+      → slice_get rows i ≡ Some r → by.same (by.key_in r) (by.key_of s) ≡ true
+      → set rows i (grow s r) ≡ map (grown s) rows
+  grows_at s [] i r apart e h = absurd cc
+  grows_at s (x ∷ rows) zero r apart e h =
+      let same : x ≡ r = cc in
+      let mine : by.same (by.key_in x) (by.key_of s) ≡ true =
+      ap (λ (y : R). by.same (by.key_in y) (by.key_of s)) same ∙ h in
+      let others : has_row by rows (by.key_of s) ≡ false =
+      subst (λ (k : K). has_row by rows k ≡ false) (law.is_key (by.key_in x) (by.key_of s) mine)
+      apart.0 in
+      ap (λ (y : R). grow s y ∷ rows) (sym same)
+      ∙ ap (λ (b : Bool). cond b (grow s x) x ∷ rows) (sym mine)
+      ∙ ap (λ (rs : List R). grown s x ∷ rs) (sym (none_grows s rows others))
+  grows_at s (x ∷ rows) (suc i) r apart e h =
+      let key = by.key_of s in
+      let other : by.same (by.key_in x) key ≡ false =
+      false_from_ne_true (by.same (by.key_in x) key) (λ mine. both_ways (has_row by rows key)
+      (subst (λ (k : K). has_row by rows k ≡ false) (law.is_key (by.key_in x) key mine) apart.0)
+      (has_at key rows i r e h)) in
+      ap (λ (rs : List R). x ∷ rs) (grows_at s rows i r apart.1 e h)
+      ∙ ap (λ (b : Bool). cond b (grow s x) x ∷ map (grown s) rows) (sym other)
+
   keys_more : (seen : List S) (s : S)
       → first_keys by (seen ++ s ∷ []) ≡ with_key by (first_keys by seen) (by.key_of s)
   keys_more seen s =
@@ -124,6 +196,7 @@ module _ {S K R : Type 0} (by : Keying S K R) (grow : S → R → R) (law : IsKe
         rows_are = ap (map (grown s)) is.rows_are ∙ sym (rows_grow seen s (first_keys by seen))
             ∙ sym (rows_by seen s rows true is.rows_are test);
         few = omega (arith, long, few);
+        apart = apart_grown s rows is.apart;
         complete = λ small key none.
             let less : length rows < by.most = omega (arith, long, small) in
             let gone : has_row by rows key ≡ false = sym (has_grown s key rows) ∙ none in
@@ -153,6 +226,10 @@ module _ {S K R : Type 0} (by : Keying S K R) (grow : S → R → R) (law : IsKe
       let fresh : row_with_key by more own ≡ first = row_more seen s own
       ∙ ap (λ (l : List S). grown s (by.over own l)) (is.complete small own none)
       ∙ ap (λ (b : Bool). cond b first (by.over own [])) mine in
+      let fresh_key : has_row by (map (grown s) rows) (by.key_in first) ≡ false =
+      ap (λ (k : K). has_row by (map (grown s) rows) k)
+      (law.kept s (by.over own []) ∙ law.in_row own [])
+      ∙ has_grown s own rows ∙ none in
       record {
         rows_are = ap (λ (rs : List R). map (grown s) rs ++ first ∷ []) is.rows_are
             ∙ ap (λ (rs : List R). rs ++ first ∷ []) (sym (rows_grow seen s keys))
@@ -160,6 +237,7 @@ module _ {S K R : Type 0} (by : Keying S K R) (grow : S → R → R) (law : IsKe
             ∙ sym (map-append (row_with_key by more) keys (own ∷ []))
             ∙ sym (rows_by seen s rows false is.rows_are test);
         few = omega (arith, long, longer, small);
+        apart = apart_more (map (grown s) rows) first (apart_grown s rows is.apart) fresh_key;
         complete = λ less key gone.
             let parts = or_parts (has_row by (map (grown s) rows) key)
             (has_row by (first ∷ []) key)

@@ -47,9 +47,15 @@ module _ {S K R : Type 0} (by : Keying S K R) where
       if has_row rows (by.key_of s) || nat_le by.most (length rows) then map (grown_by grow s) rows
       else map (grown_by grow s) rows ++ grow s (by.over (by.key_of s) []) ∷ []
 
+  -- no two rows have the same key
+  abbrev pub AreApart : List R → Type 0
+  AreApart [] = Unit {0}
+  AreApart (r ∷ rows) = (has_row rows (by.key_in r) ≡ false) × AreApart rows
+
   -- these are the rows of what was seen
   pub record IsKeyedTable (rows : List R) (seen : List S) : Type 0 where
     pub rows_are : rows ≡ keyed_rows seen
     pub few : length rows ≤ by.most
+    pub apart : AreApart rows
     pub complete : length rows < by.most → (key : K) → has_row rows key ≡ false
         → seen_of key seen ≡ []

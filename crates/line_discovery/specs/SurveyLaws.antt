@@ -8,7 +8,6 @@ use Rattle.packet_capture.specs.Captures.{Context, PieceContent, ArePieces, fram
 use Rattle.packet_capture.specs.Frames.{FrameContent}
 use Rattle.feed_text.specs.Formats.{TimedRecord}
 use Rattle.line_discovery.specs.declared.counts.SurveyCounts.{SurveyCounts}
-use Rattle.line_discovery.specs.declared.fate.Fate.{Fate}
 use Rattle.line_discovery.specs.declared.survey.LineSurvey.{LineSurvey}
 use Rattle.line_discovery.specs.Sightings.{HasFate, blanks_in, others_in, packets_in}
 use Rattle.line_discovery.specs.Surveys.{CountsSightings, ReadsSurvey}

@@ -70,7 +70,8 @@ rest_of c = record {
 
 abbrev pub table_head : List ℕ
 table_head =
-    codes "address and port         session          packets      messages         first          last         bytes         other           first time            last time\n"
+    codes "address and port         session          packets      messages         first     "
+    ++ codes "     last         bytes         other           first time            last time\n"
 
 -- a line: where, its session, what was counted, and the other datagrams to that address and port
 abbrev pub table_row : List LineRow → LineRow → List ℕ

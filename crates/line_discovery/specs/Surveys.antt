@@ -1,13 +1,13 @@
 -- Surveys of packet captures: a format without records, of which the frames are counted.
-use Rattle.std.specs.Prelude.{◌≡◌, ◌≢◌, ℕ, List, [], ◌∷◌, ◌++◌, map, flat_map}
+use Rattle.std.specs.Prelude.{◌≡◌, ◌≢◌, ℕ, List, [], ◌++◌, map, flat_map}
 use Rattle.std.specs.List.{AllZip}
 use Rattle.packet_capture.specs.declared.fault.CaptureFault.{CaptureFault}
 use Rattle.packet_capture.specs.declared.reader.Format.TheVariants.{Start}
 use Rattle.packet_capture.specs.declared.stop.Stop.{Stop}
 use Rattle.packet_capture.specs.declared.stop.Stop.TheVariants as stops
-use Rattle.packet_capture.specs.Captures.{Context, PieceContent, ArePieces, StopsReading, frames_of, new_context}
+use Rattle.packet_capture.specs.Captures.{PieceContent, ArePieces, StopsReading, frames_of, new_context}
 use Rattle.feed_text.specs.declared.record_format.Step.{Step}
-use Rattle.feed_text.specs.declared.record_format.Step.TheVariants.{Came, Passed, Wants, Bad}
+use Rattle.feed_text.specs.declared.record_format.Step.TheVariants.{Wants, Bad}
 use Rattle.feed_text.specs.Formats.{TimedRecord, Parsing}
 use Rattle.line_discovery.specs.declared.counts.SurveyCounts.{SurveyCounts}
 use Rattle.line_discovery.specs.declared.fate.Fate.{Fate}

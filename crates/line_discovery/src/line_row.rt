@@ -1,9 +1,8 @@
 //! What was counted of a line.
 ghost use Rattle.std.specs.Prelude.{◌≡◌};
-ghost use Rattle.line_discovery.specs.KeyedRows.{grown_by};
-ghost use Rattle.line_discovery.specs.Tables.{by_line, row_at_first, row_with};
+ghost use Rattle.line_discovery.specs.Tables.{row_at_first, row_with};
 
-use crate::line_key::{LineKey, is_same};
+use crate::line_key::LineKey;
 use crate::sighting::Sighting;
 use crate::span::{Span, wider};
 
@@ -47,14 +46,5 @@ impl LineRow {
         self.bytes = self.bytes.saturating_add(sighting.bytes);
         self.numbers = wider(self.numbers, sighting.numbers);
         self.times = wider(self.times, sighting.times);
-    }
-
-    /// Counts a datagram, if it is of this line.
-    pub(crate) fn count(&mut self, sighting: &Sighting)
-        ensures { self.new ≡ grown_by by_line row_with sighting.now self.old }
-    {
-        if is_same(&self.key, &sighting.key) {
-            self.grow(sighting);
-        }
     }
 }

@@ -1,6 +1,8 @@
 //! The table of the lines that were seen.
-ghost use Rattle.std.specs.Prelude.{◌≡◌, ◌≤◌, ◌<◌, [], ◌∷◌, ◌++◌, IfOk, length, map, vec_capacity, vec_len};
-ghost use Rattle.line_discovery.specs.KeyedRows.{grown_by, has_row, rows_grown};
+ghost use Rattle.std.specs.Prelude.{◌≡◌, ◌≤◌, [], ◌∷◌, ◌++◌, Some, false, true, IfNone, IfOk, IfSome, length, slice_get, vec_capacity};
+ghost use Rattle.line_discovery.specs.declared.line_row.LineRow.{LineRow};
+ghost use Rattle.line_discovery.specs.KeyedRows.{AreApart, has_row, rows_grown};
+ghost use Rattle.line_discovery.specs.Keys.{same_key};
 ghost use Rattle.line_discovery.specs.Tables.{by_line, listed_in, packets_at, row_with, rows_of, unlisted_of, up_to_most};
 
 use crate::line_key::{LineKey, is_same};
@@ -18,6 +20,8 @@ const MOST: usize = 4_096;
 #[derive(Drop)]
 pub struct Table {
     rows: Vec<LineRow>,
+    /// Where the row stands in which was counted last.
+    last: usize,
     count: u64,
     past: Past<Sighting>,
 }
@@ -35,36 +39,55 @@ impl Model for Table {
         IsLineTable t.rows.items t.count t.past.items × (4096 ≤ vec_capacity t.rows) };
 }
 
-/// Whether there is a row of this key.
-fn has_row(rows: &[LineRow], key: &LineKey) -> bool
-    ensures { result ≡ has_row by_line rows.now key.now }
+/// Where the row of this key stands, if there is one. The row at `last` is looked at first, since
+/// datagrams of one line often follow each other.
+fn place_of(rows: &[LineRow], last: usize, key: &LineKey) -> Option<usize>
+    ensures found { IfSome result (λ place. (row : LineRow) × (slice_get rows.now place ≡ Some row)
+        × (same_key row.key key.now ≡ true)) }
+    ensures none { IfNone result (has_row by_line rows.now key.now ≡ false) }
 {
-    rows.iter().any(|row| is_same(&row.key, key))
+    if last < rows.len() && is_same(&rows[last].key, key) {
+        return Some(last);
+    }
+    for place in 0..rows.len() {
+        if is_same(&rows[place].key, key) {
+            return Some(place);
+        }
+    }
+    None
 }
 
-/// Counts a datagram in the row of its line, if there is one.
-fn count_row(rows: &mut [LineRow], sighting: &Sighting)
-    ensures { rows.new ≡ map (grown_by by_line row_with sighting.now) rows.old }
+/// Counts a datagram in the row at this place, which is that of its line.
+fn grow_at(rows: &mut [LineRow], place: usize, sighting: &Sighting)
+    requires apart { AreApart by_line rows.old }
+    requires found { (row : LineRow) × (slice_get rows.old place ≡ Some row)
+        × (same_key row.key sighting.now.key ≡ true) }
+    ensures { rows.new ≡ rows_grown by_line row_with rows.old sighting.now }
 {
-    for place in 0..rows.len() {
-        rows[place].count(sighting);
-    }
+    rows[place].grow(sighting);
 }
 
 /// Counts a datagram in the row of its line, in a new one where there is none, unless there are
-/// 4,096.
-fn count_in(rows: &mut Vec<LineRow>, sighting: &Sighting)
+/// 4,096. Returns where that row stands, or `last`.
+fn count_in(rows: &mut Vec<LineRow>, last: usize, sighting: &Sighting) -> usize
+    requires apart { AreApart by_line rows.old.items }
     requires room { 4096 ≤ vec_capacity rows.old }
     requires few { length rows.old.items ≤ 4096 }
     ensures rows { rows.new.items ≡ rows_grown by_line row_with rows.old.items sighting.now }
     ensures room { 4096 ≤ vec_capacity rows.new }
 {
-    let found = has_row(rows.as_slice(), &sighting.key);
-    count_row(rows.as_mut_slice(), sighting);
-    if !found && rows.len() < MOST {
-        let mut row = LineRow::empty(sighting.key);
-        row.grow(sighting);
-        rows.push_reserved(row);
+    match place_of(rows.as_slice(), last, &sighting.key) {
+        Some(place) => {
+            grow_at(rows.as_mut_slice(), place, sighting);
+            place
+        }
+        None if rows.len() < MOST => {
+            let mut row = LineRow::empty(sighting.key);
+            row.grow(sighting);
+            rows.push_reserved(row);
+            rows.len() - 1
+        }
+        None => last,
     }
 }
 
@@ -98,6 +121,7 @@ impl Table {
     {
         Ok(Table {
             rows: Vec::with_capacity(alloc, MOST)?,
+            last: 0,
             count: 0,
             past: Past::new(),
         })
@@ -107,7 +131,7 @@ impl Table {
     pub(crate) fn count(&mut self, sighting: &Sighting)
         ensures { self.new ≡ self.old ++ sighting.now ∷ [] }
     {
-        count_in(&mut self.rows, sighting);
+        self.last = count_in(&mut self.rows, self.last, sighting);
         self.count = self.count.saturating_add(1);
         self.past = self.past.with(sighting);
     }

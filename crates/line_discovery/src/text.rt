@@ -1,6 +1,6 @@
 //! What was counted of a capture, as a table.
 ghost use Rattle.std.specs.Prelude.{◌≡◌, ◌++◌, IfOk, OnOk, flat_map};
-ghost use Rattle.line_discovery.specs.SurveyTexts.{high_of, low_of, other_key, session_name, table_of, table_rest, table_row, text_of_survey};
+ghost use Rattle.line_discovery.specs.SurveyTexts.{high_of, low_of, other_key, session_name, table_head, table_of, table_rest, table_row, text_of_survey};
 
 use crate::counts::SurveyCounts;
 use crate::json::json_text;
@@ -13,9 +13,13 @@ use crate::table::packets_at;
 use run_settings::StatsFormat;
 use std::alloc::{AllocError, Global};
 
-/// The heads of the columns.
+/// The heads of the first columns ..
 const HEAD: &[u8] =
-    b"address and port         session          packets      messages         first          last         bytes         other           first time            last time\n";
+    b"address and port         session          packets      messages         first     ";
+
+/// .. and of the others.
+const REST_OF_HEAD: &[u8] =
+    b"     last         bytes         other           first time            last time\n";
 
 /// How counts are put.
 const COUNTS: CellStyle = CellStyle {
@@ -133,6 +137,14 @@ fn put_rest(text: &mut Vec<u8>, rest: &SurveyRest) -> Result<(), AllocError>
     text.extend_from_slice(b"\n")
 }
 
+/// Appends the heads of all columns.
+fn put_head(text: &mut Vec<u8>) -> Result<(), AllocError>
+    ensures { OnOk result (text.new.items ≡ text.old.items ++ table_head) }
+{
+    text.extend_from_slice(HEAD)?;
+    text.extend_from_slice(REST_OF_HEAD)
+}
+
 /// Appends the table.
 fn put_table(
     alloc: Global,
@@ -144,7 +156,7 @@ fn put_table(
     ensures { OnOk result (text.new.items
         ≡ text.old.items ++ table_of others.now rows.now rest.now) }
 {
-    text.extend_from_slice(HEAD)?;
+    put_head(text)?;
     put_rows(alloc, text, others, rows)?;
     put_rest(text, rest)
 }

@@ -1,7 +1,7 @@
 use Rattle.std.proofs.Common.{List, ℕ, [], ◌++◌, ap, ◌∙◌}
 use Rattle.line_discovery.specs.declared.line_row.LineRow.{LineRow}
 use Rattle.line_discovery.specs.declared.rest.SurveyRest.{SurveyRest}
-use Rattle.line_discovery.specs.SurveyTexts.{json_of, rest_of}
+use Rattle.line_discovery.specs.SurveyTexts.{json_of}
 use Rattle.line_discovery.specs.Tables.{rows_of}
 use Rattle.line_discovery.proofs.json.json_text.Goals as goal
 

@@ -2,7 +2,7 @@ use Rattle.std.proofs.Common.{ap}
 use Rattle.packet_capture.specs.Captures.{frame_in_piece, piece_of}
 use Rattle.packet_capture.specs.Frames.{frame_of}
 use Rattle.line_discovery.specs.declared.counts.SurveyCounts.{SurveyCounts}
-use Rattle.line_discovery.proofs.Reading.{counts_frame, counts_silent}
+use Rattle.line_discovery.proofs.Reading.{counts_frame}
 use Rattle.line_discovery.proofs.counts.SurveyCounts.count_piece.Goals as goal
 
 pub returns : goal.returns
