@@ -1,10 +1,12 @@
 -- The metrics of a run that listens, in Prometheus' text format: of each metric a line with its
 -- help, one with its type, and a row for each value, with the value's labels. The names are this
 -- project's own.
-use Rattle.std.specs.Prelude.{ℕ, List, [], ◌∷◌, ◌++◌, codes, decimal, flat_map, slice_index}
+use Rattle.std.specs.Prelude.{ℕ, List, [], ◌∷◌, ◌++◌, Option, Some, None, codes, decimal, flat_map, slice_index}
 use Rattle.venue_lines.specs.declared.line_counts.LineCounts.{LineCounts}
 use Rattle.venue_lines.specs.declared.status.VenueStatus.{VenueStatus}
 use Rattle.run_metrics.specs.LineFigures.{datagram_count, lacking, lag, message_count}
+use Rattle.run_metrics.specs.declared.figures.LineEnd.{LineEnd}
+use Rattle.run_metrics.specs.declared.figures.LineEnd.TheVariants as ends
 use Rattle.run_metrics.specs.declared.figures.RunFigures.{RunFigures}
 use Rattle.run_metrics.specs.declared.figures.VenueFigures.{VenueFigures}
 use Rattle.run_metrics.specs.declared.line_metric.LineMetric.{LineMetric}
@@ -177,6 +179,58 @@ refusal_family all =
     (codes "counter")
     ++ flat_map (λ v. venue_refusals v) all
 
+-- ---- what is known of lines
+
+-- the datagrams that the system has dropped at a line's socket, where that is known
+abbrev pub dropped_row : (venue : ℕ) → (line : List ℕ) → Option ℕ → List ℕ
+dropped_row venue line None = []
+dropped_row venue line (Some count) =
+    line_row (codes "nbbo_dropped_datagrams_total") venue line count
+
+unfoldable pub dropped_rows : VenueFigures → List ℕ
+dropped_rows v =
+    dropped_row v.venue (codes "A") v.a.dropped ++ dropped_row v.venue (codes "B") v.b.dropped
+
+abbrev pub dropped_family : List VenueFigures → List ℕ
+dropped_family all =
+    head_text (codes "nbbo_dropped_datagrams_total")
+    (codes "Datagrams that the system dropped at the line's socket.")
+    (codes "counter")
+    ++ flat_map (λ v. dropped_rows v) all
+
+-- whether a line has ended by a cause
+unfoldable pub end_row : (venue : ℕ) → (line cause : List ℕ) → ℕ → List ℕ
+end_row venue line cause value =
+    text_of_parts
+    (codes "nbbo_line_ended{venue=\"" ∷ decimal venue ∷ codes "\",line=\"" ∷ line
+    ∷ codes "\",by=\"" ∷ cause ∷ codes "\"} " ∷ decimal value ∷ codes "\n" ∷ [])
+
+-- 1 at what has ended a line, and 0 at the other causes
+abbrev pub end_counts : Option LineEnd → List ℕ
+end_counts None = 0 ∷ 0 ∷ 0 ∷ 0 ∷ []
+end_counts (Some ends.OwnSession) = 1 ∷ 0 ∷ 0 ∷ 0 ∷ []
+end_counts (Some ends.OtherSession) = 0 ∷ 1 ∷ 0 ∷ 0 ∷ []
+end_counts (Some ends.ReadOut) = 0 ∷ 0 ∷ 1 ∷ 0 ∷ []
+end_counts (Some ends.Failed) = 0 ∷ 0 ∷ 0 ∷ 1 ∷ []
+
+unfoldable pub line_end_rows : (venue : ℕ) → (line : List ℕ) → Option LineEnd → List ℕ
+line_end_rows venue line end =
+    let counts = end_counts end in
+    end_row venue line (codes "own_session") (slice_index counts 0)
+    ++ (end_row venue line (codes "other_session") (slice_index counts 1)
+    ++ (end_row venue line (codes "datagrams") (slice_index counts 2)
+    ++ end_row venue line (codes "fault") (slice_index counts 3)))
+
+unfoldable pub end_rows : VenueFigures → List ℕ
+end_rows v =
+    line_end_rows v.venue (codes "A") v.a.end ++ line_end_rows v.venue (codes "B") v.b.end
+
+abbrev pub end_family : List VenueFigures → List ℕ
+end_family all =
+    head_text (codes "nbbo_line_ended") (codes "1 at what has ended the line, if it has ended.")
+    (codes "gauge")
+    ++ flat_map (λ v. end_rows v) all
+
 -- ---- the page
 
 abbrev pub run_metrics : List RunMetric
@@ -191,10 +245,12 @@ line_metrics =
     lines.Packets ∷ lines.Messages ∷ lines.NewMessages ∷ lines.RepeatedMessages
     ∷ lines.Heartbeats ∷ lines.Ends ∷ lines.AheadPackets ∷ []
 
--- the metrics of the run, of its venues, of their lines, and the refusals
+-- the metrics of the run, of its venues, of their lines, the refusals, what the system dropped, and
+-- which lines have ended
 abbrev pub page_text : RunFigures → List ℕ
 page_text figures =
     flat_map (λ m. run_family figures m) run_metrics
     ++ (flat_map (λ m. venue_family figures.venues.now m) venue_metrics
     ++ (flat_map (λ m. line_family figures.venues.now m) line_metrics
-    ++ refusal_family figures.venues.now))
+    ++ (refusal_family figures.venues.now
+    ++ (dropped_family figures.venues.now ++ end_family figures.venues.now))))

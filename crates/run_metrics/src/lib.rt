@@ -13,6 +13,7 @@
 mod figures;
 mod line_figures;
 mod line_metric;
+mod line_states;
 mod page;
 mod parts;
 mod reply;
@@ -20,7 +21,7 @@ mod response;
 mod run_metric;
 mod venue_metric;
 
-pub use figures::{RunFigures, VenueFigures};
+pub use figures::{LineEnd, LineState, RunFigures, UNKNOWN_STATE, VenueFigures};
 pub use line_figures::{datagram_count, lacking, lag, message_count, refused_count};
 pub use page::put_page;
 pub use reply::{Reply, reply_to};

@@ -4,6 +4,7 @@ ghost use Rattle.run_metrics.specs.Metrics.{line_family, line_refusals, line_row
 
 use crate::figures::{RunFigures, VenueFigures};
 use crate::line_metric::LineMetric;
+use crate::line_states::{put_dropped_family, put_end_family};
 use crate::parts::{COUNTER, put_head, put_line_row, put_refusal_row, put_run_row, put_venue_row};
 use crate::run_metric::RunMetric;
 use crate::venue_metric::VenueMetric;
@@ -217,8 +218,8 @@ fn put_refusal_family(text: &mut Vec<u8>, venues: &[VenueFigures]) -> Result<(),
     put_all_refusals(text, venues)
 }
 
-/// Appends the page of a run's metrics: those of the run, of its venues, of their lines, and the
-/// refusals.
+/// Appends the page of a run's metrics: those of the run, of its venues, of their lines, the
+/// refusals, what the system dropped, and which lines have ended.
 pub fn put_page(text: &mut Vec<u8>, figures: &RunFigures<'_>) -> Result<(), AllocError>
     ensures { OnOk result (text.new.items ≡ text.old.items ++ page_text figures.now) }
 {
@@ -247,5 +248,7 @@ pub fn put_page(text: &mut Vec<u8>, figures: &RunFigures<'_>) -> Result<(), Allo
         ],
         figures.venues,
     )?;
-    put_refusal_family(text, figures.venues)
+    put_refusal_family(text, figures.venues)?;
+    put_dropped_family(text, figures.venues)?;
+    put_end_family(text, figures.venues)
 }

@@ -1,6 +1,6 @@
 //! The texts of which a page of metrics is made: the head of a metric, and rows.
 ghost use Rattle.std.specs.Prelude.{◌≡◌, ◌++◌, OnOk, flat_map};
-ghost use Rattle.run_metrics.specs.Metrics.{head_text, line_row, refusal_row, run_row, venue_row};
+ghost use Rattle.run_metrics.specs.Metrics.{end_row, head_text, line_row, refusal_row, run_row, venue_row};
 
 use feed_types::VenueId;
 use itoa::Buffer;
@@ -14,6 +14,9 @@ pub(crate) const GAUGE: &str = "gauge";
 
 /// The name of the count of refusals.
 const REFUSED: &str = "nbbo_refused_packets_total{venue=\"";
+
+/// The name of what says which lines have ended.
+const ENDED: &str = "nbbo_line_ended{venue=\"";
 
 /// Appends texts, one after the other.
 pub(crate) fn put_texts(text: &mut Vec<u8>, parts: &[&str]) -> Result<(), AllocError>
@@ -135,6 +138,38 @@ pub(crate) fn put_refusal_row(
             line,
             "\",refusal=\"",
             number,
+            "\"} ",
+            digits,
+            "\n",
+        ],
+    )
+}
+
+/// Appends the row of whether a line has ended by a cause.
+#[tactic(auto, unfolding(crate::specs::Metrics::end_row))]
+pub(crate) fn put_end_row(
+    text: &mut Vec<u8>,
+    venue: VenueId,
+    line: &str,
+    cause: &str,
+    value: u64,
+) -> Result<(), AllocError>
+    ensures { OnOk result (text.new.items
+        ≡ text.old.items ++ end_row venue line.now cause.now value) }
+{
+    let mut place = Buffer::new();
+    let mut digits = Buffer::new();
+    let place = place.format(venue.index() as u64);
+    let digits = digits.format(value);
+    put_texts(
+        text,
+        &[
+            ENDED,
+            place,
+            "\",line=\"",
+            line,
+            "\",by=\"",
+            cause,
             "\"} ",
             digits,
             "\n",

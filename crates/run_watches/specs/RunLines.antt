@@ -19,9 +19,14 @@ pub record WatchedGaps : Type 0 where
   pub rule : GapRule
   pub venues : List ℕ
 
+-- the lines, and whether it is told with which sessions they ended, and what the system dropped
+pub record WatchedLines : Type 0 where
+  pub tells_more : Bool
+  pub lines : List (ℕ × LineId)
+
 -- the lines, the gaps, and whether counts are written
 pub record WatchedRun : Type 0 where
-  pub lines : List (ℕ × LineId)
+  pub lines : WatchedLines
   pub gaps : WatchedGaps
   pub counted : Bool
 
@@ -42,8 +47,18 @@ abbrev pub watched : LineWatch → ℕ × LineId
 watched watch = (watch.venue, watch.line)
 
 -- the lines that are watched, in their order
-abbrev pub watched_lines : LineWatches → List (ℕ × LineId)
-watched_lines watches = map watched watches.lines.items
+abbrev pub watched_lines : LineWatches → WatchedLines
+watched_lines watches = record {
+  tells_more = is_some watches.tables;
+  lines = map watched watches.lines.items;
+}
+
+-- the lines of the settings over so many sockets, which receive the first of them
+abbrev pub heard_lines : ListenSettings → ℕ → WatchedLines
+heard_lines settings sockets = record {
+  tells_more = has_further_options settings;
+  lines = take sockets (listened_lines settings);
+}
 
 -- the gaps that are watched by the settings: of each venue where they have a further option, and
 -- else of none
@@ -58,7 +73,7 @@ told_gaps settings = record {
 -- the run of the settings over so many sockets, which receive the first lines
 abbrev pub listened_run : ListenSettings → ℕ → WatchedRun
 listened_run settings sockets = record {
-  lines = take sockets (listened_lines settings);
+  lines = heard_lines settings sockets;
   gaps = told_gaps settings;
   counted = is_some settings.stats;
 }

@@ -6,11 +6,13 @@ use Rattle.feed_text.specs.StandardError.{SaysEach}
 use Rattle.run_watches.specs.GapNews.{gap_news_texts}
 use Rattle.run_watches.specs.Gaps.{gives_up}
 use Rattle.run_watches.specs.News.{SaysTotals, news_texts}
-use Rattle.run_watches.specs.RunLines.{WatchedGaps, WatchedRun}
+use Rattle.run_watches.specs.RunLines.{WatchedGaps, WatchedLines, WatchedRun}
 use Rattle.run_watches.specs.declared.gap_news.GapChange.{GapChange}
 use Rattle.run_watches.specs.declared.gap_news.GapChange.TheVariants.{Lacking, Closed, Unanswered, GivenUp}
 use Rattle.run_watches.specs.declared.gap_news.GapNews.{GapNews}
 use Rattle.run_watches.specs.declared.gap_rule.GapRule.{GapRule}
+use Rattle.run_watches.specs.declared.line_news.LineChange.{LineChange}
+use Rattle.run_watches.specs.declared.line_news.LineChange.TheVariants.{Ended, EndedWith, ReadOut, Failed, Unsent, Passed, Foreign}
 use Rattle.run_watches.specs.declared.line_news.LineNews.{LineNews}
 
 -- ---- news
@@ -35,15 +37,27 @@ pub record SaysNews {E : Type 0} (writing : Writing E) (IsNews : RunNews → Typ
 
 -- ---- of what they are
 
-abbrev pub IsNewsOfLine : ℕ × LineId → RunNews → Type 0
-IsNewsOfLine line (of_line news) = (news.venue, news.line) ≡ line
-IsNewsOfLine line (of_gap news) = ⊥
-IsNewsOfLine line (of_counts text) = ⊥
+-- that is told of a line: only where more is told with which session it ended
+abbrev pub IsTold : (tells_more : Bool) → LineChange → Type 0
+IsTold tells_more (EndedWith session) = tells_more ≡ true
+IsTold tells_more Ended = Unit {0}
+IsTold tells_more ReadOut = Unit {0}
+IsTold tells_more Failed = Unit {0}
+IsTold tells_more Unsent = Unit {0}
+IsTold tells_more Passed = Unit {0}
+IsTold tells_more Foreign = Unit {0}
 
-abbrev pub IsNewsOfLines : List (ℕ × LineId) → RunNews → Type 0
-IsNewsOfLines lines (of_line news) = Contains lines (news.venue, news.line)
-IsNewsOfLines lines (of_gap news) = ⊥
-IsNewsOfLines lines (of_counts text) = ⊥
+abbrev pub IsNewsOfLine : (tells_more : Bool) → ℕ × LineId → RunNews → Type 0
+IsNewsOfLine tells_more line (of_line news) =
+    ((news.venue, news.line) ≡ line) × IsTold tells_more news.change
+IsNewsOfLine tells_more line (of_gap news) = ⊥
+IsNewsOfLine tells_more line (of_counts text) = ⊥
+
+abbrev pub IsNewsOfLines : WatchedLines → RunNews → Type 0
+IsNewsOfLines w (of_line news) =
+    Contains w.lines (news.venue, news.line) × IsTold w.tells_more news.change
+IsNewsOfLines w (of_gap news) = ⊥
+IsNewsOfLines w (of_counts text) = ⊥
 
 -- by this rule that can happen to a gap: only where gaps are given up one is
 abbrev pub MayHappen : GapRule → GapChange → Type 0
@@ -88,7 +102,7 @@ SaysTable writing false before after = after ≡ before
 pub record SaysRunEnd {E : Type 0} (writing : Writing E) (run : WatchedRun) (before after : E)
     : Type 0 where
   pub mid : E
-  pub totals : SaysTotals writing run.lines before mid
+  pub totals : SaysTotals writing run.lines.tells_more run.lines.lines before mid
   pub table : SaysTable writing run.counted mid after
 
 -- all that is said of a run: news of it, and then its end

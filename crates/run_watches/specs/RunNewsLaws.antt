@@ -36,23 +36,25 @@ more_news w P s t u a b = record {
 -- counts of 0 for each line
 abbrev uncounted : List (ℕ × LineId) → List LineTally
 uncounted lines =
-    map (λ line. record { line = line; unsent = 0; passed = 0; foreign = 0 }) lines
+    map (λ line. record { line = line; unsent = 0; passed = 0; foreign = 0; dropped = 0 }) lines
 
 each_uncounted : (lines : List (ℕ × LineId)) → map (λ c. c.line) (uncounted lines) ≡ lines
 each_uncounted [] = refl
 each_uncounted (line ∷ lines) = ap (λ more. line ∷ more) (each_uncounted lines)
 
-none_counted : (lines : List (ℕ × LineId)) → flat_map totals_of (uncounted lines) ≡ []
-none_counted [] = refl
-none_counted (line ∷ lines) = none_counted lines
+none_counted : (tells_more : Bool) (lines : List (ℕ × LineId))
+    → flat_map (totals_of tells_more) (uncounted lines) ≡ []
+none_counted tells_more [] = refl
+none_counted true (line ∷ lines) = none_counted true lines
+none_counted false (line ∷ lines) = none_counted false lines
 
-pub no_totals : {E : Type 0} (w : Writing E) (lines : List (ℕ × LineId)) (s : E)
-    → SaysTotals w lines s s
-no_totals w lines s = record {
+pub no_totals : {E : Type 0} (w : Writing E) (tells_more : Bool) (lines : List (ℕ × LineId)) (s : E)
+    → SaysTotals w tells_more lines s s
+no_totals w tells_more lines s = record {
   counts = uncounted lines;
   one_each = each_uncounted lines;
   says = subst (λ totals. SaysEach w (flat_map total_texts totals) s s)
-      (sym (none_counted lines)) refl;
+      (sym (none_counted tells_more lines)) refl;
 }
 
 -- no text of counts
@@ -78,7 +80,7 @@ nothing_of_run w run s = record {
   news = no_run_news w run s;
   ended = record {
     mid = s;
-    totals = no_totals w run.lines s;
+    totals = no_totals w run.lines.tells_more run.lines.lines s;
     table = no_table w run.counted s;
   };
 }

@@ -2,10 +2,10 @@
 
 use crate::line_figures::REFUSALS;
 use crate::moment::Moment;
-use crate::venue_statuses::VenueStatuses;
-use run_metrics::{datagram_count, lacking, lag, message_count};
+use crate::venue_statuses::AllFigures;
+use run_metrics::{LineState, VenueFigures, datagram_count, lacking, lag, message_count};
 use std::alloc::{AllocError, Global};
-use venue_lines::{LineCounts, VenueStatus};
+use venue_lines::LineCounts;
 
 /// The members of a time: in seconds and in nanoseconds, null where it isn't known.
 fn time_json(alloc: Global, moment: Moment) -> Result<String, AllocError> {
@@ -32,11 +32,21 @@ fn refusals_json(alloc: Global, refused: &[u64; REFUSALS]) -> Result<String, All
     Ok(text)
 }
 
+/// The member of how many datagrams the system dropped, where it did.
+fn dropped_json(alloc: Global, state: &LineState) -> Result<String, AllocError> {
+    match state.dropped {
+        Some(count) if count > 0 => format!(in alloc; ",\"dropped\":{count}"),
+        _ => Ok(String::new(alloc)),
+    }
+}
+
 /// The object of what a line has brought.
-fn line_json(alloc: Global, counts: &LineCounts) -> Result<String, AllocError> {
+fn line_json(alloc: Global, counts: &LineCounts, state: &LineState) -> Result<String, AllocError> {
     let refusals = refusals_json(alloc, &counts.refused)?;
+    let dropped = dropped_json(alloc, state)?;
     format!(in alloc;
-        "{{\"packets\":{},\"messages\":{},\"new\":{},\"repeated\":{},\"heartbeats\":{},\"ends\":{},\"ahead\":{},\"refused\":{{{}}}}}",
+        "{{\"packets\":{},\"messages\":{},\"new\":{},\"repeated\":{},\
+         \"heartbeats\":{},\"ends\":{},\"ahead\":{},\"refused\":{{{}}}{}}}",
         datagram_count(counts),
         message_count(counts),
         counts.wins,
@@ -44,16 +54,19 @@ fn line_json(alloc: Global, counts: &LineCounts) -> Result<String, AllocError> {
         counts.heartbeats,
         counts.ends,
         counts.ahead,
-        refusals.as_str()
+        refusals.as_str(),
+        dropped.as_str()
     )
 }
 
 /// The members of a venue and its lines.
-fn venue_json(alloc: Global, place: usize, venue: &VenueStatus) -> Result<String, AllocError> {
-    let a = line_json(alloc, &venue.a)?;
-    let b = line_json(alloc, &venue.b)?;
+fn venue_json(alloc: Global, place: usize, figures: &VenueFigures) -> Result<String, AllocError> {
+    let venue = &figures.status;
+    let a = line_json(alloc, &venue.a, &figures.a)?;
+    let b = line_json(alloc, &venue.b, &figures.b)?;
     format!(in alloc;
-        "\"venue\":{place},\"sent\":{},\"known\":{},\"lag\":{},\"lacks\":{},\"requests\":{},\"lines\":{{\"A\":{},\"B\":{}}}",
+        "\"venue\":{place},\"sent\":{},\"known\":{},\"lag\":{},\"lacks\":{},\
+         \"requests\":{},\"lines\":{{\"A\":{},\"B\":{}}}",
         venue.cursors.sent,
         venue.cursors.known,
         lag(venue),
@@ -69,7 +82,7 @@ pub fn period_json(
     alloc: Global,
     moment: Moment,
     place: usize,
-    venue: &VenueStatus,
+    venue: &VenueFigures,
 ) -> Result<String, AllocError> {
     let time = time_json(alloc, moment)?;
     let members = venue_json(alloc, place, venue)?;
@@ -85,7 +98,7 @@ pub fn period_json(
 pub fn totals_json(
     alloc: Global,
     moment: Moment,
-    venues: &VenueStatuses,
+    venues: &AllFigures,
 ) -> Result<String, AllocError> {
     let time = time_json(alloc, moment)?;
     let mut text = String::new(alloc);

@@ -2,8 +2,10 @@
 //! end.
 
 use crate::line_figures::REFUSALS;
-use crate::venue_statuses::VenueStatuses;
-use run_metrics::{datagram_count, lacking, lag, message_count, refused_count};
+use crate::venue_statuses::AllFigures;
+use run_metrics::{
+    LineState, VenueFigures, datagram_count, lacking, lag, message_count, refused_count,
+};
 use std::alloc::{AllocError, Global};
 use venue_lines::{LineCounts, VenueStatus};
 
@@ -24,18 +26,28 @@ fn refusals_text(alloc: Global, refused: &[u64; REFUSALS]) -> Result<String, All
     Ok(text)
 }
 
+/// How many datagrams the system dropped, where it did: ` dropped 17`.
+fn dropped_text(alloc: Global, state: &LineState) -> Result<String, AllocError> {
+    match state.dropped {
+        Some(count) if count > 0 => format!(in alloc; " dropped {count}"),
+        _ => Ok(String::new(alloc)),
+    }
+}
+
 /// What a line has brought in a period.
-fn line_text(alloc: Global, counts: &LineCounts) -> Result<String, AllocError> {
+fn line_text(alloc: Global, counts: &LineCounts, state: &LineState) -> Result<String, AllocError> {
     let numbers = refusals_text(alloc, &counts.refused)?;
+    let dropped = dropped_text(alloc, state)?;
     format!(in alloc;
-        "packets {} messages {} new {} repeated {} ahead {} refused {}{}",
+        "packets {} messages {} new {} repeated {} ahead {} refused {}{}{}",
         datagram_count(counts),
         message_count(counts),
         counts.wins,
         counts.repeated,
         counts.ahead,
         refused_count(counts),
-        numbers.as_str()
+        numbers.as_str(),
+        dropped.as_str()
     )
 }
 
@@ -44,12 +56,14 @@ pub fn period_text(
     alloc: Global,
     seconds: u64,
     place: usize,
-    venue: &VenueStatus,
+    figures: &VenueFigures,
 ) -> Result<String, AllocError> {
-    let a = line_text(alloc, &venue.a)?;
-    let b = line_text(alloc, &venue.b)?;
+    let venue = &figures.status;
+    let a = line_text(alloc, &venue.a, &figures.a)?;
+    let b = line_text(alloc, &venue.b, &figures.b)?;
     format!(in alloc;
-        "nbbo: second {seconds} venue {place} sent {} known {} lag {} lacks {} requests {} A {} B {}\n",
+        "nbbo: second {seconds} venue {place} \
+         sent {} known {} lag {} lacks {} requests {} A {} B {}\n",
         venue.cursors.sent,
         venue.cursors.known,
         lag(venue),
@@ -66,10 +80,12 @@ fn line_row(
     place: usize,
     line: &str,
     counts: &LineCounts,
+    state: &LineState,
 ) -> Result<String, AllocError> {
     let numbers = refusals_text(alloc, &counts.refused)?;
+    let dropped = dropped_text(alloc, state)?;
     format!(in alloc;
-        "nbbo: {place:>5} {line:>4} {:>10} {:>10} {:>10} {:>10} {:>10} {:>10} {:>10}{}\n",
+        "nbbo: {place:>5} {line:>4} {:>10} {:>10} {:>10} {:>10} {:>10} {:>10} {:>10}{}{}\n",
         datagram_count(counts),
         message_count(counts),
         counts.wins,
@@ -77,7 +93,8 @@ fn line_row(
         counts.heartbeats,
         counts.ahead,
         refused_count(counts),
-        numbers.as_str()
+        numbers.as_str(),
+        dropped.as_str()
     )
 }
 
@@ -94,19 +111,20 @@ fn venue_row(alloc: Global, place: usize, venue: &VenueStatus) -> Result<String,
 }
 
 /// Returns the table of all venues' counts: a row for each line, and then one for each venue.
-pub fn table_text(alloc: Global, venues: &VenueStatuses) -> Result<String, AllocError> {
+pub fn table_text(alloc: Global, venues: &AllFigures) -> Result<String, AllocError> {
     let mut text = String::new(alloc);
     text.push_str(LINE_HEADS)?;
     for (place, venue) in venues.iter().enumerate() {
         if let Some(venue) = venue {
-            text.push_str(line_row(alloc, place, "A", &venue.a)?.as_str())?;
-            text.push_str(line_row(alloc, place, "B", &venue.b)?.as_str())?;
+            let VenueFigures { status, a, b, .. } = venue;
+            text.push_str(line_row(alloc, place, "A", &status.a, a)?.as_str())?;
+            text.push_str(line_row(alloc, place, "B", &status.b, b)?.as_str())?;
         }
     }
     text.push_str(VENUE_HEADS)?;
     for (place, venue) in venues.iter().enumerate() {
         if let Some(venue) = venue {
-            text.push_str(venue_row(alloc, place, venue)?.as_str())?;
+            text.push_str(venue_row(alloc, place, &venue.status)?.as_str())?;
         }
     }
     Ok(text)

@@ -16,6 +16,7 @@
 
 mod counts_json;
 mod counts_text;
+mod drop_table;
 mod gap_news;
 mod gap_rule;
 mod gap_watch;
@@ -29,6 +30,7 @@ mod metrics_client;
 mod metrics_server;
 mod moment;
 mod run_watches;
+mod socket_tables;
 mod venue_statuses;
 
 pub use gap_watches::GapWatches;
@@ -39,4 +41,5 @@ pub use listen_counts::ListenCounts;
 pub use metrics_server::{MetricsServer, RunProgress};
 pub use moment::Moment;
 pub use run_watches::RunWatches;
+pub use socket_tables::SocketTables;
 pub use venue_statuses::{NO_STATUSES, VenueStatuses, lacks_in};

@@ -2,16 +2,19 @@
 ghost use Rattle.std.specs.Prelude.{◌≡◌, decimal};
 ghost use Rattle.feed_text.specs.Devices.{Writing};
 ghost use Rattle.feed_text.specs.StandardError.{Says, SaysEach};
-ghost use Rattle.run_watches.specs.News.{change_text, counted_text, counted_texts, letter_text, line_end_texts, line_name_texts, news_texts, time_texts, total_texts, verb_text};
+ghost use Rattle.run_watches.specs.News.{change_text, change_texts, counted_text, counted_texts, letter_text, line_end_texts, line_name_texts, news_texts, session_of_texts, ended_session_texts, time_texts, total_texts, verb_text};
 
 use feed_text::{TextOut, write_number, write_stderr};
 use feed_types::{LineId, VenueId};
+use run_notes::write_session_name;
 
 /// What has happened to a line.
 #[derive(Clone, Copy, Debug, PartialEq, Eq)]
 pub enum LineChange {
     /// An end of session has ended it.
     Ended,
+    /// That was an end of this session.
+    EndedWith([u8; 10]),
     /// It has read as many datagrams as it may.
     ReadOut,
     /// Its socket has failed, or memory for a datagram was refused.
@@ -46,6 +49,8 @@ pub enum LineCounted {
     Passed,
     /// Datagrams of other senders that it passed over.
     Foreign,
+    /// Datagrams that the system dropped at its socket.
+    Dropped,
 }
 
 /// How much was counted of a line.
@@ -72,12 +77,13 @@ fn letter(line: LineId) -> &'static str
     }
 }
 
-/// The end of the line about what has happened.
+/// The end of the line about what has happened, up to a session's name where that is told.
 fn change_end(change: LineChange) -> &'static str
     ensures { result.now ≡ change_text change }
 {
     match change {
         LineChange::Ended => " ended by an end of session\n",
+        LineChange::EndedWith(_) => " ended with session ",
         LineChange::ReadOut => " ended by --datagrams\n",
         LineChange::Failed => " failed\n",
         LineChange::Unsent => " can't send requests\n",
@@ -94,6 +100,7 @@ fn verb(counted: LineCounted) -> &'static str
         LineCounted::Unsent => " couldn't send ",
         LineCounted::Passed => " went on after ",
         LineCounted::Foreign => " passed over ",
+        LineCounted::Dropped => " lost ",
     }
 }
 
@@ -108,6 +115,8 @@ fn counted_end(counted: LineCounted, count: u64) -> &'static str
         LineCounted::Passed => " ends of session\n",
         LineCounted::Foreign if count == 1 => " datagram of senders not in --from\n",
         LineCounted::Foreign => " datagrams of senders not in --from\n",
+        LineCounted::Dropped if count == 1 => " datagram that the system dropped\n",
+        LineCounted::Dropped => " datagrams that the system dropped\n",
     }
 }
 
@@ -130,6 +139,34 @@ fn write_line_name<E: TextOut>(venue: VenueId, line: LineId, errors: &mut E)
     write_stderr(letter(line), errors);
 }
 
+/// Writes the name of a session, and ends the line.
+fn write_session<E: TextOut>(session: &[u8; 10], errors: &mut E)
+    ensures { SaysEach (record { adds = E.adds; failures = E.failures })
+        (ended_session_texts session.now) errors.old errors.new }
+{
+    write_session_name(session, errors);
+    write_stderr("\n", errors);
+}
+
+/// Writes the session's name, where that is told.
+fn write_session_if<E: TextOut>(change: LineChange, errors: &mut E)
+    ensures { SaysEach (record { adds = E.adds; failures = E.failures })
+        (session_of_texts change) errors.old errors.new }
+{
+    if let LineChange::EndedWith(session) = change {
+        write_session(&session, errors);
+    }
+}
+
+/// Writes the end of the line about what has happened.
+fn write_change<E: TextOut>(change: LineChange, errors: &mut E)
+    ensures { SaysEach (record { adds = E.adds; failures = E.failures })
+        (change_texts change) errors.old errors.new }
+{
+    write_stderr(change_end(change), errors);
+    write_session_if(change, errors);
+}
+
 /// Writes what has happened to a line.
 pub fn write_news<E: TextOut>(news: &LineNews, errors: &mut E)
     ensures { SaysEach (record { adds = E.adds; failures = E.failures })
@@ -137,7 +174,7 @@ pub fn write_news<E: TextOut>(news: &LineNews, errors: &mut E)
 {
     write_time(news.second, errors);
     write_line_name(news.venue, news.line, errors);
-    write_stderr(change_end(news.change), errors);
+    write_change(news.change, errors);
 }
 
 /// Writes how a line has ended.
@@ -147,7 +184,7 @@ pub fn write_line_end<E: TextOut>(venue: VenueId, line: LineId, change: LineChan
 {
     write_stderr("nbbo: line ", errors);
     write_line_name(venue, line, errors);
-    write_stderr(change_end(change), errors);
+    write_change(change, errors);
 }
 
 /// Writes how many there were.

@@ -9,6 +9,12 @@ use std::sync::atomic::{AtomicBool, AtomicU64, Ordering};
 struct LineMarks {
     /// An end of session has ended the line.
     ended: AtomicBool,
+    /// Whether that is an end of the line's own session.
+    is_own: AtomicBool,
+    /// The first eight bytes of the session's name.
+    name_front: AtomicU64,
+    /// Its last two bytes.
+    name_rest: AtomicU64,
     /// It has read as many datagrams as it may.
     read_out: AtomicBool,
     /// It has failed.
@@ -34,6 +40,9 @@ impl LineProgress {
     pub fn new(alloc: Global) -> Result<LineProgress, AllocError> {
         let marks = LineMarks {
             ended: AtomicBool::new(false),
+            is_own: AtomicBool::new(false),
+            name_front: AtomicU64::new(0),
+            name_rest: AtomicU64::new(0),
             read_out: AtomicBool::new(false),
             failed: AtomicBool::new(false),
             sent: AtomicU64::new(0),
@@ -53,8 +62,14 @@ impl LineProgress {
         })
     }
 
-    /// Marks that an end of session has ended the line.
-    pub fn end(&self) {
+    /// Marks that an end of this session has ended the line, and whether it is the line's own.
+    pub fn end(&self, session: &[u8; 10], is_own: bool) {
+        let [a, b, c, d, e, f, g, h, i, j] = *session;
+        let front = u64::from_be_bytes([a, b, c, d, e, f, g, h]);
+        let rest = u64::from_be_bytes([0, 0, 0, 0, 0, 0, i, j]);
+        self.marks.name_front.store(front, Ordering::SeqCst);
+        self.marks.name_rest.store(rest, Ordering::SeqCst);
+        self.marks.is_own.store(is_own, Ordering::SeqCst);
         self.marks.ended.store(true, Ordering::SeqCst);
     }
 
@@ -91,6 +106,21 @@ impl LineProgress {
     /// Whether an end of session has ended the line.
     pub fn has_ended(&self) -> bool {
         self.marks.ended.load(Ordering::SeqCst)
+    }
+
+    /// Whether it was an end of the line's own session.
+    pub fn has_ended_by_own(&self) -> bool {
+        self.marks.is_own.load(Ordering::SeqCst)
+    }
+
+    /// The session whose end has ended the line, if one has.
+    pub fn ended_session(&self) -> Option<[u8; 10]> {
+        if !self.has_ended() {
+            return None;
+        }
+        let [a, b, c, d, e, f, g, h] = self.marks.name_front.load(Ordering::SeqCst).to_be_bytes();
+        let [_, _, _, _, _, _, i, j] = self.marks.name_rest.load(Ordering::SeqCst).to_be_bytes();
+        Some([a, b, c, d, e, f, g, h, i, j])
     }
 
     /// Whether the line has read as many datagrams as it may.

@@ -1,16 +1,20 @@
 //! The lines of a run as the thread beside it sees them: what is news of them, and what was
 //! counted.
-ghost use Rattle.std.specs.Prelude.{◌≡◌, ◌∷◌, [], flat_map};
+ghost use Rattle.std.specs.Prelude.{◌≡◌, ◌∷◌, [], Bool, IfSome, false, flat_map, is_some, map};
 ghost use Rattle.feed_text.specs.Devices.{Writing};
 ghost use Rattle.feed_text.specs.StandardError.{SaysEach};
 ghost use Rattle.run_watches.specs.News.{SaysTotals, total_if, total_texts};
 ghost use Rattle.run_watches.specs.RunLines.{watched, watched_lines};
-ghost use Rattle.run_watches.specs.RunNews.{IsNewsOfLine, IsNewsOfLines, SaysNews};
+ghost use Rattle.run_watches.specs.RunNews.{IsNewsOfLine, IsNewsOfLines, IsTold, SaysNews};
 
+use crate::drop_table::DropTable;
 use crate::line_news::{LineChange, LineCounted, LineNews, LineTotal, write_news, write_total};
 use crate::line_progress::LineProgress;
+use crate::socket_tables::SocketTables;
 use feed_text::TextOut;
 use feed_types::{LineId, VenueId};
+use run_metrics::{LineEnd, LineState, UNKNOWN_STATE, VenueFigures};
+use std::net::SocketAddr;
 use venue_lines::VenueStatus;
 
 /// A line, and what was said of it.
@@ -19,6 +23,8 @@ pub struct LineWatch {
     venue: VenueId,
     line: LineId,
     progress: LineProgress,
+    /// The address of its socket, if that is known.
+    address: Option<SocketAddr>,
     has_said_unsent: bool,
     has_said_passed: bool,
     has_said_foreign: bool,
@@ -27,13 +33,19 @@ pub struct LineWatch {
 
 impl LineWatch {
     /// A line of which nothing was said yet.
-    pub fn new(venue: VenueId, line: LineId, progress: LineProgress) -> LineWatch
+    pub fn new(
+        venue: VenueId,
+        line: LineId,
+        progress: LineProgress,
+        address: Option<SocketAddr>,
+    ) -> LineWatch
         ensures { watched result ≡ (venue, line) }
     {
         LineWatch {
             venue,
             line,
             progress,
+            address,
             has_said_unsent: false,
             has_said_passed: false,
             has_said_foreign: false,
@@ -42,7 +54,9 @@ impl LineWatch {
     }
 
     /// How the line has ended, if it has.
-    fn end(&self) -> Option<LineChange> {
+    fn end(&self) -> Option<LineChange>
+        ensures { (tells_more : Bool) → IfSome result (IsTold tells_more) }
+    {
         if self.progress.has_failed() {
             Some(LineChange::Failed)
         } else if self.progress.has_ended() {
@@ -56,7 +70,8 @@ impl LineWatch {
 
     /// That a request couldn't be sent, where that wasn't said yet.
     fn new_unsent(&mut self) -> Option<LineChange>
-        ensures { watched self.new ≡ watched self.old }
+        ensures line { watched self.new ≡ watched self.old }
+        ensures told { (tells_more : Bool) → IfSome result (IsTold tells_more) }
     {
         if self.has_said_unsent || self.progress.unsent() == 0 {
             return None;
@@ -67,7 +82,8 @@ impl LineWatch {
 
     /// That the line went on after an end of session, where that wasn't said yet.
     fn new_passed(&mut self) -> Option<LineChange>
-        ensures { watched self.new ≡ watched self.old }
+        ensures line { watched self.new ≡ watched self.old }
+        ensures told { (tells_more : Bool) → IfSome result (IsTold tells_more) }
     {
         if self.has_said_passed || self.progress.passed() == 0 {
             return None;
@@ -78,7 +94,8 @@ impl LineWatch {
 
     /// That a datagram of another sender was passed over, where that wasn't said yet.
     fn new_foreign(&mut self) -> Option<LineChange>
-        ensures { watched self.new ≡ watched self.old }
+        ensures line { watched self.new ≡ watched self.old }
+        ensures told { (tells_more : Bool) → IfSome result (IsTold tells_more) }
     {
         if self.has_said_foreign || self.progress.foreign() == 0 {
             return None;
@@ -89,7 +106,8 @@ impl LineWatch {
 
     /// How the line has ended, if it has, where that wasn't said yet.
     fn new_end(&mut self) -> Option<LineChange>
-        ensures { watched self.new ≡ watched self.old }
+        ensures line { watched self.new ≡ watched self.old }
+        ensures told { (tells_more : Bool) → IfSome result (IsTold tells_more) }
     {
         if self.has_said_end {
             return None;
@@ -99,10 +117,30 @@ impl LineWatch {
         end
     }
 
+    /// With which session the line ended, where that is told.
+    fn new_session(&self, tells_more: bool, end: Option<LineChange>) -> Option<LineChange>
+        ensures { IfSome result (IsTold tells_more) }
+    {
+        if !tells_more || end != Some(LineChange::Ended) {
+            return None;
+        }
+        match self.progress.ended_session() {
+            Some(session) => Some(LineChange::EndedWith(session)),
+            None => None,
+        }
+    }
+
     /// Writes what has happened to the line, if anything has.
-    fn write_change<E: TextOut>(&self, second: u64, change: Option<LineChange>, errors: &mut E)
+    fn write_change<E: TextOut>(
+        &self,
+        second: u64,
+        tells_more: bool,
+        change: Option<LineChange>,
+        errors: &mut E,
+    )
+        requires { IfSome change (IsTold tells_more) }
         ensures { SaysNews (record { adds = E.adds; failures = E.failures })
-            (IsNewsOfLine (watched self.now)) errors.old errors.new }
+            (IsNewsOfLine tells_more (watched self.now)) errors.old errors.new }
     {
         let Some(change) = change else {
             return;
@@ -116,11 +154,28 @@ impl LineWatch {
         write_news(&news, errors);
     }
 
-    /// Writes what is new of the line.
-    fn write_news<E: TextOut>(&mut self, second: u64, errors: &mut E)
+    /// Writes how the line has ended, if that is new, and then with which session.
+    fn write_end<E: TextOut>(
+        &self,
+        second: u64,
+        tells_more: bool,
+        end: Option<LineChange>,
+        errors: &mut E,
+    )
+        requires { IfSome end (IsTold tells_more) }
+        ensures { SaysNews (record { adds = E.adds; failures = E.failures })
+            (IsNewsOfLine tells_more (watched self.now)) errors.old errors.new }
+    {
+        let session = self.new_session(tells_more, end);
+        self.write_change(second, tells_more, end, errors);
+        self.write_change(second, tells_more, session, errors);
+    }
+
+    /// Writes what is new of the line, and where more is told with which session it ended.
+    fn write_news<E: TextOut>(&mut self, second: u64, tells_more: bool, errors: &mut E)
         ensures line { watched self.new ≡ watched self.old }
         ensures news { SaysNews (record { adds = E.adds; failures = E.failures })
-            (IsNewsOfLine (watched self.old)) errors.old errors.new }
+            (IsNewsOfLine tells_more (watched self.old)) errors.old errors.new }
     {
         // A line ends after all that it has counted, and its end is looked at first, so that
         // nothing is said after it.
@@ -128,10 +183,10 @@ impl LineWatch {
         let unsent = self.new_unsent();
         let passed = self.new_passed();
         let foreign = self.new_foreign();
-        self.write_change(second, unsent, errors);
-        self.write_change(second, passed, errors);
-        self.write_change(second, foreign, errors);
-        self.write_change(second, end, errors);
+        self.write_change(second, tells_more, unsent, errors);
+        self.write_change(second, tells_more, passed, errors);
+        self.write_change(second, tells_more, foreign, errors);
+        self.write_end(second, tells_more, end, errors);
     }
 
     /// Writes how many there were of what is counted, if there were any.
@@ -152,29 +207,103 @@ impl LineWatch {
         write_total(&total, errors);
     }
 
-    /// Writes what was counted of the line.
-    fn write_totals<E: TextOut>(&self, errors: &mut E)
+    /// What has ended the line while the run goes on, if it has ended.
+    fn cause(&self) -> Option<LineEnd> {
+        match self.end() {
+            Some(LineChange::Failed) => Some(LineEnd::Failed),
+            Some(LineChange::ReadOut) => Some(LineEnd::ReadOut),
+            Some(_) if self.progress.has_ended_by_own() => Some(LineEnd::OwnSession),
+            Some(_) => Some(LineEnd::OtherSession),
+            None => None,
+        }
+    }
+
+    /// How many datagrams the system has dropped at the line's socket, where that is known.
+    fn dropped(&self, drops: Option<&DropTable>) -> Option<u64> {
+        drops?.drops_at(self.address?)
+    }
+
+    /// How many that are, where it is looked for; else 0.
+    fn dropped_count(&self, drops: Option<&DropTable>) -> u64
+        ensures { is_some drops.entry ≡ false → result ≡ 0 }
+    {
+        match drops {
+            Some(drops) => self.dropped(Some(drops)).unwrap_or(0),
+            None => 0,
+        }
+    }
+
+    /// What is known of the line beside what it has brought.
+    fn state(&self, drops: Option<&DropTable>) -> LineState {
+        LineState {
+            dropped: self.dropped(drops),
+            end: self.cause(),
+        }
+    }
+
+    /// Writes what was counted of the line, and where it is looked for what the system dropped.
+    fn write_totals<E: TextOut>(&self, drops: Option<&DropTable>, errors: &mut E)
         ensures { SaysTotals (record { adds = E.adds; failures = E.failures })
-            (watched self.now ∷ []) errors.old errors.new }
+            (is_some drops.entry) (watched self.now ∷ []) errors.old errors.new }
     {
         self.write_total(LineCounted::Unsent, self.progress.unsent(), errors);
         self.write_total(LineCounted::Passed, self.progress.passed(), errors);
         self.write_total(LineCounted::Foreign, self.progress.foreign(), errors);
+        self.write_total(LineCounted::Dropped, self.dropped_count(drops), errors);
     }
 }
 
-/// The lines of a run, in the order of the settings.
+/// The lines of a run, in the order of the settings, and the system's tables of their sockets,
+/// where more is told of the lines.
 #[derive(Drop)]
 pub struct LineWatches {
     lines: Vec<LineWatch>,
+    tables: Option<SocketTables>,
 }
 
 impl LineWatches {
-    /// These lines.
-    pub fn new(lines: Vec<LineWatch>) -> LineWatches
-        ensures { result ≡ record { lines = lines } }
+    /// These lines. Where there are tables it is told with which sessions the lines ended, and how
+    /// many datagrams the system dropped.
+    pub fn new(lines: Vec<LineWatch>, tables: Option<SocketTables>) -> LineWatches
+        ensures { result ≡ record { lines = lines; tables = tables } }
     {
-        LineWatches { lines }
+        LineWatches { lines, tables }
+    }
+
+    /// What the system has dropped until now, where that is looked for.
+    pub(crate) fn drops(&self) -> Option<DropTable>
+        ensures { is_some result ≡ is_some self.now.tables }
+    {
+        match &self.tables {
+            Some(tables) => Some(tables.read()),
+            None => None,
+        }
+    }
+
+    /// What is known of a venue's line beside what it has brought.
+    fn state(&self, venue: VenueId, line: LineId, drops: Option<&DropTable>) -> LineState {
+        for watch in self.lines.as_slice() {
+            if watch.venue == venue && watch.line == line {
+                return watch.state(drops);
+            }
+        }
+        UNKNOWN_STATE
+    }
+
+    /// What a venue that has this status has come to, with those requests alone that its lines have
+    /// sent, and what is known of these.
+    pub(crate) fn figures(
+        &self,
+        venue: VenueId,
+        status: Option<VenueStatus>,
+        drops: Option<&DropTable>,
+    ) -> Option<VenueFigures> {
+        Some(VenueFigures {
+            venue,
+            status: self.with_sent(venue, status)?,
+            a: self.state(venue, LineId::A, drops),
+            b: self.state(venue, LineId::B, drops),
+        })
     }
 
     /// How many requests the venue's lines have sent.
@@ -201,8 +330,9 @@ impl LineWatches {
         ensures news { SaysNews (record { adds = E.adds; failures = E.failures })
             (IsNewsOfLines (watched_lines self.old)) errors.old errors.new }
     {
+        let tells_more = self.tables.is_some();
         match self.lines.get_mut(place) {
-            Some(line) => line.write_news(second, errors),
+            Some(line) => line.write_news(second, tells_more, errors),
             None => {}
         }
     }
@@ -218,13 +348,24 @@ impl LineWatches {
         }
     }
 
-    /// Writes what was counted of the lines.
-    pub fn write_totals<E: TextOut>(&self, errors: &mut E)
+    /// Writes what was counted of the lines, and where it is looked for what the system dropped.
+    fn write_totals_with<E: TextOut>(&self, drops: Option<&DropTable>, errors: &mut E)
         ensures { SaysTotals (record { adds = E.adds; failures = E.failures })
-            (watched_lines self.now) errors.old errors.new }
+            (is_some drops.entry) (map watched self.now.lines.items) errors.old errors.new }
     {
         for line in self.lines.as_slice() {
-            line.write_totals(errors);
+            line.write_totals(drops, errors);
         }
+    }
+
+    /// Writes what was counted of the lines. `drops` is what the system has dropped, where that is
+    /// looked for.
+    pub(crate) fn write_totals<E: TextOut>(&self, drops: &Option<DropTable>, errors: &mut E)
+        requires { is_some drops.now ≡ is_some self.now.tables }
+        ensures { SaysTotals (record { adds = E.adds; failures = E.failures })
+            (watched_lines self.now).tells_more (watched_lines self.now).lines
+            errors.old errors.new }
+    {
+        self.write_totals_with(drops.as_ref(), errors);
     }
 }

@@ -5,14 +5,14 @@ ghost use Rattle.run_watches.specs.RunNews.{SaysCounts};
 
 use crate::counts_json::{period_json, totals_json};
 use crate::counts_text::{period_text, table_text};
-use crate::line_figures::status_since;
+use crate::line_figures::figures_since;
 use crate::moment::Moment;
-use crate::venue_statuses::{NO_STATUSES, VenueStatuses};
+use crate::venue_statuses::{AllFigures, NO_FIGURES};
 use feed_text::{TextOut, write_stderr};
 use feed_types::{MAX_VENUES, VenueId};
+use run_metrics::VenueFigures;
 use run_settings::{ListenSettings, ListenStats, StatsFormat};
 use std::alloc::{AllocError, Global};
-use venue_lines::VenueStatus;
 
 /// When counts are printed, and what each venue had come to when its last line was.
 #[derive(Drop)]
@@ -21,7 +21,7 @@ pub struct ListenCounts {
     format: StatsFormat,
     period_ms: u64,
     due_ms: u64,
-    last_written: VenueStatuses,
+    last_written: AllFigures,
 }
 
 impl ListenCounts {
@@ -43,7 +43,7 @@ impl ListenCounts {
             format: stats.format,
             period_ms,
             due_ms: period_ms,
-            last_written: NO_STATUSES,
+            last_written: NO_FIGURES,
         }
     }
 
@@ -57,7 +57,7 @@ impl ListenCounts {
         &self,
         moment: Moment,
         place: usize,
-        since: &VenueStatus,
+        since: &VenueFigures,
     ) -> Result<String, AllocError> {
         match self.format {
             StatsFormat::Table => period_text(self.alloc, moment.second(), place, since),
@@ -66,32 +66,47 @@ impl ListenCounts {
     }
 
     /// What was counted of all venues.
-    fn totals(&self, moment: Moment, statuses: &VenueStatuses) -> Result<String, AllocError> {
+    fn totals(&self, moment: Moment, figures: &AllFigures) -> Result<String, AllocError> {
         match self.format {
-            StatsFormat::Table => table_text(self.alloc, statuses),
-            StatsFormat::Json => totals_json(self.alloc, moment, statuses),
+            StatsFormat::Table => table_text(self.alloc, figures),
+            StatsFormat::Json => totals_json(self.alloc, moment, figures),
         }
     }
 
     /// Writes the line of each venue, of what was counted since its line before, and has the next
-    /// lines due at the next period's end. `status` returns what a venue has come to, or None where
-    /// there is none. A line is left out where memory for it is refused.
+    /// lines due at the next period's end. `figures` returns what a venue has come to, or None
+    /// where there is none. A line is left out where memory for it is refused.
     #[tactic(auto, using(crate::specs::RunNewsLaws::no_counts, crate::proofs::Counts::more_counts))]
-    pub fn write_period<S, E>(&mut self, moment: Moment, status: S, errors: &mut E)
+    pub fn write_period<F, E>(&mut self, moment: Moment, figures: F, errors: &mut E)
     where
-        S: Fn(VenueId) -> Option<VenueStatus>,
+        F: Fn(VenueId) -> Option<VenueFigures>,
         E: TextOut,
-        requires { S.IsAlwaysCallable status }
+        requires { F.IsAlwaysCallable figures }
         ensures { SaysCounts (record { adds = E.adds; failures = E.failures })
             errors.old errors.new }
     {
         for place in 0..MAX_VENUES {
-            if let Some(status) = status(VenueId::at(place)) {
-                self.write_venue(moment, place, &status, errors);
-            }
+            self.write_any(moment, place, figures(VenueId::at(place)), errors);
         }
         let periods = moment.elapsed_ms / self.period_ms.max(1);
         self.due_ms = periods.saturating_add(1).saturating_mul(self.period_ms);
+    }
+
+    /// Writes the line of the venue at this place, if there is one.
+    #[tactic(auto, using(crate::specs::RunNewsLaws::no_counts))]
+    fn write_any<E: TextOut>(
+        &mut self,
+        moment: Moment,
+        place: usize,
+        figures: Option<VenueFigures>,
+        errors: &mut E,
+    )
+        ensures { SaysCounts (record { adds = E.adds; failures = E.failures })
+            errors.old errors.new }
+    {
+        if let Some(figures) = figures {
+            self.write_venue(moment, place, &figures, errors);
+        }
     }
 
     /// Writes the line of the venue at this place, which has come to this.
@@ -100,15 +115,15 @@ impl ListenCounts {
         &mut self,
         moment: Moment,
         place: usize,
-        status: &VenueStatus,
+        figures: &VenueFigures,
         errors: &mut E,
     )
         ensures { SaysCounts (record { adds = E.adds; failures = E.failures })
             errors.old errors.new }
     {
         if let Some(written) = self.last_written.get_mut(place) {
-            let since = status_since(status, written.as_ref());
-            *written = Some(*status);
+            let since = figures_since(figures, written.as_ref());
+            *written = Some(*figures);
             if let Ok(line) = self.period_line(moment, place, &since) {
                 write_stderr(line.as_str(), errors);
             }
@@ -118,11 +133,11 @@ impl ListenCounts {
     /// Writes what was counted of all venues, in the form of the counts. Where memory for it is
     /// refused, it is left out.
     #[tactic(auto, using(crate::specs::RunNewsLaws::no_counts))]
-    pub fn write_totals<E: TextOut>(&self, moment: Moment, statuses: &VenueStatuses, errors: &mut E)
+    pub fn write_totals<E: TextOut>(&self, moment: Moment, figures: &AllFigures, errors: &mut E)
         ensures { SaysCounts (record { adds = E.adds; failures = E.failures })
             errors.old errors.new }
     {
-        if let Ok(totals) = self.totals(moment, statuses) {
+        if let Ok(totals) = self.totals(moment, figures) {
             write_stderr(totals.as_str(), errors);
         }
     }

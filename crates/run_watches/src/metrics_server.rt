@@ -1,5 +1,6 @@
 //! The counts of a run, served to clients that ask for them by HTTP.
 
+use crate::line_watch::LineWatches;
 use crate::metrics_client::MetricsClient;
 use feed_types::{MAX_VENUES, VenueId};
 use run_metrics::{Reply, RunFigures, VenueFigures, answer};
@@ -24,19 +25,21 @@ pub struct MetricsServer {
     due_ms: u64,
 }
 
-/// The figures of the venues, of which `status` returns what one has come to, or None where there
-/// is none.
+/// The figures of the venues of these lines, of which `status` returns what one has come to, or
+/// None where there is none.
 fn venues_by<S: Fn(VenueId) -> Option<VenueStatus>>(
     alloc: Global,
+    lines: &LineWatches,
     status: S,
 ) -> Result<Vec<VenueFigures>, AllocError>
     requires { S.IsAlwaysCallable status }
 {
+    let drops = lines.drops();
     let mut venues = Vec::new(alloc);
     for place in 0..MAX_VENUES {
         let venue = VenueId::at(place);
-        if let Some(status) = status(venue) {
-            venues.push(VenueFigures { venue, status })?;
+        if let Some(figures) = lines.figures(venue, status(venue), drops.as_ref()) {
+            venues.push(figures)?;
         }
     }
     Ok(venues)
@@ -49,16 +52,17 @@ pub struct RunProgress {
     pub changes: u64,
 }
 
-/// The answer of a reply, of a run that has come so far.
+/// The answer of a reply, of a run of these lines that has come so far.
 fn answer_by<S: Fn(VenueId) -> Option<VenueStatus>>(
     alloc: Global,
     reply: Reply,
     progress: RunProgress,
+    lines: &LineWatches,
     status: S,
 ) -> Result<Vec<u8>, AllocError>
     requires { S.IsAlwaysCallable status }
 {
-    let venues = venues_by(alloc, status)?;
+    let venues = venues_by(alloc, lines, status)?;
     let figures = RunFigures {
         seconds: progress.elapsed_ms / 1_000,
         changes: progress.changes,
@@ -95,7 +99,7 @@ impl MetricsServer {
     }
 
     /// Goes on with the client at a place.
-    fn go_on_at<S>(&mut self, place: usize, progress: RunProgress, status: S)
+    fn go_on_at<S>(&mut self, place: usize, progress: RunProgress, lines: &LineWatches, status: S)
     where
         S: Fn(VenueId) -> Option<VenueStatus>,
         requires { S.IsAlwaysCallable status }
@@ -105,15 +109,15 @@ impl MetricsServer {
             return;
         };
         if let Some(reply) = client.read_request() {
-            client.give(answer_by(alloc, reply, progress, status));
+            client.give(answer_by(alloc, reply, progress, lines, status));
         }
         client.go_on(progress.elapsed_ms);
     }
 
     /// Looks at the clients, unless it has done so just before: takes new ones, reads what they
     /// ask, writes what they take, and lets those go that have gone or whose time is over. `status`
-    /// returns what a venue has come to, or None where there is none.
-    pub fn serve<S>(&mut self, progress: RunProgress, status: S)
+    /// returns what a venue of these lines has come to, or None where there is none.
+    pub(crate) fn serve<S>(&mut self, progress: RunProgress, lines: &LineWatches, status: S)
     where
         S: Fn(VenueId) -> Option<VenueStatus>,
         requires { S.IsAlwaysCallable status }
@@ -124,7 +128,7 @@ impl MetricsServer {
         self.due_ms = progress.elapsed_ms.saturating_add(LOOK_MS);
         self.accept(progress.elapsed_ms);
         for place in 0..self.clients.len() {
-            self.go_on_at(place, progress, &status);
+            self.go_on_at(place, progress, lines, &status);
         }
         self.clients.retain(|client| !client.is_gone());
     }

@@ -4,14 +4,15 @@ ghost use Rattle.feed_text.specs.Devices.{Writing};
 ghost use Rattle.run_watches.specs.RunLines.{watched_gaps, watched_lines, watched_run};
 ghost use Rattle.run_watches.specs.RunNews.{SaysRunEnd, SaysRunNews};
 
+use crate::drop_table::DropTable;
 use crate::gap_watches::GapWatches;
 use crate::line_watch::LineWatches;
 use crate::listen_counts::ListenCounts;
 use crate::metrics_server::{MetricsServer, RunProgress};
 use crate::moment::Moment;
-use crate::venue_statuses::{VenueStatuses, statuses_by};
+use crate::venue_statuses::{AllFigures, NO_FIGURES, VenueStatuses, statuses_by};
 use feed_text::TextOut;
-use feed_types::VenueId;
+use feed_types::{MAX_VENUES, VenueId};
 use venue_lines::VenueStatus;
 
 /// The lines of a run, the gaps of its venues, what is counted, if anything is, and to whom that is
@@ -78,8 +79,9 @@ impl RunWatches {
         let elapsed_ms = moment.elapsed_ms;
         if let Some(counts) = &mut self.counts {
             if counts.due_ms() <= elapsed_ms {
-                let sent = |venue| lines.with_sent(venue, status(venue));
-                counts.write_period(moment, sent, errors);
+                let drops = lines.drops();
+                let figures = |venue| lines.figures(venue, status(venue), drops.as_ref());
+                counts.write_period(moment, figures, errors);
             }
         }
     }
@@ -94,7 +96,7 @@ impl RunWatches {
     {
         let lines = &self.lines;
         if let Some(metrics) = &mut self.metrics {
-            metrics.serve(progress, |venue| lines.with_sent(venue, status(venue)));
+            metrics.serve(progress, lines, status);
         }
     }
 
@@ -125,15 +127,28 @@ impl RunWatches {
         statuses_by(|venue| self.lines.with_sent(venue, status(venue)))
     }
 
+    /// What each venue has come to that has one of these statuses, with what is known of its lines.
+    fn figures(&self, statuses: &VenueStatuses, drops: Option<&DropTable>) -> AllFigures {
+        let mut figures = NO_FIGURES;
+        for place in 0..MAX_VENUES {
+            figures[place] = self
+                .lines
+                .figures(VenueId::at(place), statuses[place], drops);
+        }
+        figures
+    }
+
     /// Writes what was counted of the lines, and then the totals of all counts, where counts are
     /// asked for. The venues have these statuses.
     pub fn write_end<E: TextOut>(&self, moment: Moment, statuses: &VenueStatuses, errors: &mut E)
         ensures { SaysRunEnd (record { adds = E.adds; failures = E.failures })
             (watched_run self.now) errors.old errors.new }
     {
-        self.lines.write_totals(errors);
+        let drops = self.lines.drops();
+        self.lines.write_totals(&drops, errors);
         if let Some(counts) = &self.counts {
-            counts.write_totals(moment, statuses, errors);
+            let figures = self.figures(statuses, drops.as_ref());
+            counts.write_totals(moment, &figures, errors);
         }
     }
 }

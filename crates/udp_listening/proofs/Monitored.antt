@@ -131,14 +131,15 @@ pub reported_of : {G N : Type 0} (ends : List (LineEnd G N UdpLineState))
 reported_of [] = refl
 reported_of (e ∷ ends) = ap (λ lines. seat_line e.seat ∷ lines) (reported_of ends)
 
-module _ {G N C W E : Type 0} (writing : Writing W) (telling : Writing E) (lanes : FeedLanes)
+module _ {G N C W E : Type 0} (settings : ListenSettings) (writing : Writing W)
+    (telling : Writing E) (lanes : FeedLanes)
     (brings : UdpLineState → List (List ℕ) → UdpLineState → Type 0) (failures : UdpLineState → ℕ)
     (tasks : List (LineTask UdpLineState)) (count : ℕ) (none : count ≡ 0)
     (before after : RunMonitor C W E) (whole : FeedReport UdpLineState) (report : ListenReport)
     (unprinted : IsUnprinted writing before.console.live_output before.console.output)
     (w : IsWholeRun G N any_lines lanes (λ l. l.venue) brings failures
     (HasMonitored writing telling) tasks true count before after whole)
-    (tells : IsReportOfFeed whole report) where
+    (tells : IsReportOfFeed settings whole report) where
   ended : Monitored writing telling before after (logs_with w.later w.others)
   ended = monitored writing telling before after w.log w.later w.others unprinted w.begun w.attended
       (w.all ∙ none)
@@ -147,7 +148,7 @@ module _ {G N C W E : Type 0} (writing : Writing W) (telling : Writing E) (lanes
   seated = lines_of (HasTaken any_lines lanes) brings failures tasks w.ends w.lines
 
   -- the report is that of the run
-  pub run_of : IsReportOfRun lanes (map task_line tasks) report
+  pub run_of : IsReportOfRun settings lanes (map task_line tasks) report
   run_of = record {
     seats = map (λ e. e.seat) w.ends;
     seated = seated;
@@ -180,12 +181,12 @@ pub listened_if_run : (settings : ListenSettings) (sockets : ℕ) (lanes : FeedL
     → lanes.setting ≡ feed_setting settings
     → length lanes.venues ≡ vec_len settings.feed.sessions
     → lines ≡ take sockets (listened_lines settings)
-    → IfOk outcome (IsReportOfRun lanes lines) → IfOk outcome (IsListened settings sockets)
+    → IfOk outcome (IsReportOfRun settings lanes lines) → IfOk outcome (IsListened settings sockets)
 listened_if_run settings sockets lanes lines (Ok report) setting venues same run = record {
   lanes = lanes;
   setting = setting;
   venues = venues;
-  run = subst (λ (l : List (ℕ × LineId)). IsReportOfRun lanes l report) same run;
+  run = subst (λ (l : List (ℕ × LineId)). IsReportOfRun settings lanes l report) same run;
 }
 listened_if_run settings sockets lanes lines (Err fault) setting venues same run = tt
 

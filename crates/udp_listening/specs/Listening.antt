@@ -14,6 +14,7 @@ use Rattle.journal_book.specs.ItemsIn.{items_in}
 use Rattle.live_feed.specs.subscriber.Logs.{SubscriberLogState}
 use Rattle.live_feed.specs.settle.Settlements.{SettlementState, VenueEndState, SubscriberEndState}
 use Rattle.feed_text.specs.StandardError.{Says, SaysEach}
+use Rattle.run_notes.specs.AbsentSymbols.{absent_texts}
 use Rattle.run_watches.specs.News.{line_end_texts}
 use Rattle.run_watches.specs.RunLines.{listened_run}
 use Rattle.run_watches.specs.RunNews.{SaysOfRun}
@@ -25,6 +26,7 @@ use Rattle.run_settings.specs.declared.listen_settings.ListenSettings.{ListenSet
 use Rattle.run_watches.specs.declared.line_news.LineChange.TheVariants as changes
 use Rattle.udp_listening.specs.declared.listening.ListenFault.{ListenFault}
 use Rattle.udp_listening.specs.declared.listening.ListenFault.TheVariants.{NoMemory, Unsettled}
+use Rattle.udp_listening.specs.declared.listen_report.EndedLine.{EndedLine}
 use Rattle.udp_listening.specs.declared.listen_report.ListenReport.{ListenReport}
 
 -- ---- what is printed on the output
@@ -72,8 +74,7 @@ first_count count [] = 0
 first_count count (s ∷ more) = count s
 
 -- From this output on the best lines of the log's first notices were written, as many as are
--- counted,
--- and no call failed.
+-- counted, and no call failed.
 pub record HasPrinted {W : Type 0} (writing : Writing W) (first : W) (log : List Logged)
     (printed : ℕ) (now : W) : Type 0 where
   pub few : printed ≤ length log
@@ -81,8 +82,7 @@ pub record HasPrinted {W : Type 0} (writing : Writing W) (first : W) (log : List
   pub sound : writing.failures now ≡ writing.failures first
 
 -- The same, or where the output has failed a part of the log's best lines, by calls of which the
--- last
--- one failed.
+-- last one failed.
 abbrev pub HasFollowed : {W : Type 0} → Writing W → W → List Logged → LiveOutput → ℕ → W → Type 0
 HasFollowed writing first log On printed now = HasPrinted writing first log printed now
 HasFollowed writing first log Off printed now = HasPrinted writing first log printed now
@@ -132,6 +132,10 @@ failed_texts line = line_end_texts line changes.Failed
 abbrev pub read_out_texts : ℕ × LineId → List (List ℕ)
 read_out_texts line = line_end_texts line changes.ReadOut
 
+-- an end of session has ended a line
+abbrev pub ended_texts : EndedLine → List (List ℕ)
+ended_texts e = line_end_texts (e.venue, e.line) (changes.EndedWith e.session)
+
 abbrev pub stop_text : Stop → List ℕ
 stop_text stops.JournalFull = codes "nbbo: journal full\n"
 stop_text stops.NoMemory = codes "nbbo: no memory\n"
@@ -146,11 +150,13 @@ stop_texts (Some stop) = stop_text stop ∷ []
 -- ---- the end
 
 -- what is said of a report: the lines that failed, why it stopped early, the lines that have read
--- as many datagrams as they may, and what venues lack
+-- as many datagrams as they may, what venues lack, with which sessions lines ended, and which
+-- symbols never came
 abbrev pub report_texts : ListenReport → List (List ℕ)
 report_texts report =
     (flat_map failed_texts report.failed.items ++ stop_texts report.stopped)
-    ++ (flat_map read_out_texts report.read_out.items ++ flat_map lack_texts report.lacking.items)
+    ++ ((flat_map read_out_texts report.read_out.items ++ flat_map lack_texts report.lacking.items)
+    ++ (flat_map ended_texts report.ended.items ++ absent_texts report.absent))
 
 -- 0 where no line failed and nothing stopped the run early
 abbrev pub report_status : List (ℕ × LineId) → Option Stop → ℕ

@@ -1,8 +1,10 @@
 -- What is reported of a feed that was listened to.
-use Rattle.std.specs.Prelude.{◌≡◌, ℕ, Bool, List, [], ◌∷◌, flat_map, is_some, length, map, take, vec_len, if◌then◌else◌}
+use Rattle.std.specs.Prelude.{◌≡◌, ℕ, Bool, true, false, ◌&&◌, not, List, [], ◌∷◌, Option, None, Some, flat_map, is_some, length, map, take, vec_len, if◌then◌else◌}
 use Rattle.feed_types.specs.declared.genuine.Anything.{Anything}
 use Rattle.feed_types.specs.declared.genuine.Genuine.{Ghosts as Genuine}
+use Rattle.feed_types.specs.declared.journal.Entry.{Entry}
 use Rattle.feed_types.specs.declared.line.LineId.{LineId}
+use Rattle.journal_book.specs.Journals.{JournalState, kept_of}
 use Rattle.live_feed.specs.Lanes.{FeedLanes}
 use Rattle.live_feed.specs.declared.run.whole.FeedReport.{FeedReport}
 use Rattle.live_feed.specs.declared.run.whole.LineReport.{LineReport}
@@ -10,10 +12,13 @@ use Rattle.live_feed.specs.declared.run.whole.LineTask.{LineTask}
 use Rattle.live_feed.specs.settle.Settlements.{IsSettlement}
 use Rattle.live_feed.specs.subscriber.Logs.{SubscriberLogState}
 use Rattle.live_feed.specs.venue.Seats.{SeatState}
+use Rattle.run_notes.specs.AbsentSymbols.{absent_among}
+use Rattle.run_settings.specs.FurtherOptions.{has_further_options}
 use Rattle.run_settings.specs.declared.listen_settings.ListenSettings.{ListenSettings}
 use Rattle.run_watches.specs.RunLines.{listened_lines}
 use Rattle.udp_listening.specs.Settings.{feed_setting}
 use Rattle.udp_listening.specs.UdpLines.{UdpLineState, is_read_out}
+use Rattle.udp_listening.specs.declared.listen_report.EndedLine.{EndedLine}
 use Rattle.udp_listening.specs.declared.listen_report.ListenReport.{ListenReport}
 
 -- lines that may carry anything
@@ -50,27 +55,65 @@ failed_lines lines = flat_map (λ r. line_if (is_some r.fault) (reported_line r)
 abbrev pub read_out_lines : List (LineReport UdpLineState) → List (ℕ × LineId)
 read_out_lines lines = flat_map (λ r. line_if (is_read_out r.source) (reported_line r)) lines
 
+abbrev pub ended_if : ℕ × LineId → Option (List ℕ) → List EndedLine
+ended_if line None = []
+ended_if line (Some session) =
+    record { venue = line.0; line = line.1; session = session } ∷ []
+
+-- the line and the session whose end has ended it, if one has
+abbrev pub ended_line : LineReport UdpLineState → List EndedLine
+ended_line r = ended_if (reported_line r) r.source.ender
+
+-- the lines that an end of session has ended
+abbrev pub ended_lines : List (LineReport UdpLineState) → List EndedLine
+ended_lines lines = flat_map ended_line lines
+
+-- the same where that is told
+abbrev pub told_ends : Bool → List (LineReport UdpLineState) → List EndedLine
+told_ends is_told lines = if is_told then ended_lines lines else []
+
+-- whether it is told which symbols never came: by settings with further options, where all entries
+-- are kept
+abbrev pub tells_absent : ListenSettings → Bool
+tells_absent settings = has_further_options settings && not (is_some settings.kept)
+
+-- the symbols of which no item is among the entries, where that is told
+abbrev pub absent_if : Bool → List Entry → List (List ℕ) → List (List ℕ)
+absent_if true entries symbols = absent_among entries symbols
+absent_if false entries symbols = []
+
+-- the settings' symbols of which no item is among those entries of a journal that are kept, where
+-- that is told
+abbrev pub reported_absent : ListenSettings → JournalState → List (List ℕ)
+reported_absent settings journal =
+    absent_if (tells_absent settings) (kept_of journal.kept journal.entries)
+    settings.feed.symbols.items
+
 -- ---- reports
 
--- This is told of a feed's whole life: which of its lines failed and which have read out, why it
--- stopped early, and what was settled.
-pub record IsReportOfFeed (whole : FeedReport UdpLineState) (told : ListenReport) : Type 0 where
+-- This is told of the whole life of the settings' feed: which of its lines failed and which have
+-- read out, why it stopped early, which session's end ended which line, which symbols never came,
+-- and what was settled.
+pub record IsReportOfFeed (settings : ListenSettings) (whole : FeedReport UdpLineState)
+    (told : ListenReport) : Type 0 where
   pub failed : told.failed.items ≡ failed_lines whole.lines.items
   pub stopped : told.stopped ≡ whole.stopped
   pub read_out : told.read_out.items ≡ read_out_lines whole.lines.items
+  pub ended : told.ended.items ≡ told_ends (has_further_options settings) whole.lines.items
+  pub absent : told.absent ≡ reported_absent settings whole.settlement.journal
   pub settlement : told.settlement ≡ whole.settlement
 
--- A feed with these lanes was run over these lines, and settled: the settlement is that of the
--- lines' seats and of one subscriber's log, and the report is that of its whole life.
-pub record IsReportOfRun (lanes : FeedLanes) (lines : List (ℕ × LineId)) (report : ListenReport)
-    : Type 0 where
+-- The settings' feed with these lanes was run over these lines, and settled: the settlement is that
+-- of the lines' seats and of one subscriber's log, and the report is that of its whole life.
+pub record IsReportOfRun (settings : ListenSettings) (lanes : FeedLanes)
+    (lines : List (ℕ × LineId)) (report : ListenReport) : Type 0 where
   pub seats : List SeatState
   pub seated : map seat_line seats ≡ lines
   pub log : SubscriberLogState
   pub whole : FeedReport UdpLineState
   pub reported : map reported_line whole.lines.items ≡ lines
   pub settled : IsSettlement any_lines lanes seats (log ∷ []) whole.settlement
-  pub tells : IsReportOfFeed whole report
+  pub tells : IsReportOfFeed settings whole report
 
 -- The feed of the settings, with a venue for each of their sessions, was run over so many of their
 -- lines, and settled, and the report is that of its whole life.
@@ -79,4 +122,4 @@ pub record IsListened (settings : ListenSettings) (sockets : ℕ) (report : List
   pub lanes : FeedLanes
   pub setting : lanes.setting ≡ feed_setting settings
   pub venues : length lanes.venues ≡ vec_len settings.feed.sessions
-  pub run : IsReportOfRun lanes (take sockets (listened_lines settings)) report
+  pub run : IsReportOfRun settings lanes (take sockets (listened_lines settings)) report

@@ -1,5 +1,5 @@
 -- The settings of `nbbo listen`, as a feed and its lines take them.
-use Rattle.std.specs.Prelude.{◌≡◌, ℕ, false, Some, slice_get, if◌then◌else◌}
+use Rattle.std.specs.Prelude.{◌≡◌, ℕ, false, None, Some, slice_get, if◌then◌else◌}
 use Rattle.feed_types.specs.declared.config.FeedConfig.{FeedConfig}
 use Rattle.live_feed.specs.Lanes.{FeedSetting}
 use Rattle.run_settings.specs.Senders.{senders_of}
@@ -41,3 +41,4 @@ pub record IsSourceOf (settings : ListenSettings) (venue : ℕ) (line : UdpLineS
   pub left : line.left ≡ settings.datagrams
   pub whole : line.failed ≡ false
   pub unended : line.ended ≡ false
+  pub ender : line.ender ≡ None

@@ -8,7 +8,8 @@ use Rattle.run_settings.specs.declared.end_rule.EndRule.TheVariants.{AnySession,
 
 -- the venue, its session, which ends of session end the line, the senders whose datagrams it
 -- brings, where any are named, how many it may still read, if there is any limit, whether its
--- socket has failed, and whether an end that was its last datagram has ended it, or its time
+-- socket has failed, whether an end that was its last datagram has ended it, or its time, and the
+-- session of such an end
 pub record UdpLineState : Type 0 where
   pub venue : ℕ
   pub session : List ℕ
@@ -17,6 +18,7 @@ pub record UdpLineState : Type 0 where
   pub left : Option ℕ
   pub failed : Bool
   pub ended : Bool
+  pub ender : Option (List ℕ)
 
 -- A line asks its socket for nothing once that has failed, so there is one failure at most.
 abbrev pub failures_of : Bool → ℕ
@@ -50,7 +52,14 @@ EndsLine AnySession session bytes = (ended : List ℕ) × SpellsEndOf ended byte
 EndsLine OwnSession session bytes = SpellsEndOf session bytes
 EndsLine NoSession session bytes = ⊥
 
--- the same of a datagram that is an end of the session `ended`, or no end of session
+-- Such an end, by these bytes, has ended the line: it reads nothing more, and which session's end
+-- that was is known.
+pub record IsEndedBy (bytes : List ℕ) (line : UdpLineState) : Type 0 where
+  pub none_left : line.left ≡ Some 0
+  pub ended : line.ended ≡ true
+  pub ender : (session : List ℕ) → SpellsEndOf session bytes → line.ender ≡ Some session
+
+-- an end that ends a line, by a datagram that is an end of the session `ended`, or of none
 abbrev pub IsLast : EndRule → List ℕ → Option (List ℕ) → Type 0
 IsLast AnySession session ended = IsTrue (is_some ended)
 IsLast OwnSession session ended = ended ≡ Some session

@@ -2,7 +2,7 @@
 //!
 //! What the network brings can't be known, so the trait speaks of a socket by relations between its
 //! states, with laws. Of a socket of the system they say nothing.
-ghost use Rattle.std.specs.Prelude.{◌≡◌, ◌≢◌, ◌≤◌, List, ℕ, IfErr, IfOk, OnErr, length, take};
+ghost use Rattle.std.specs.Prelude.{◌≡◌, ◌≢◌, ◌≤◌, List, ℕ, IfErr, IfOk, IsOk, OnErr, length, take, vec_capacity};
 ghost use Rattle.std.specs.declared.net.socket_addr.SocketAddr.{SocketAddr};
 ghost use Rattle.live_feed.specs.declared.run.source.SourceFault.TheVariants.{NoMemory};
 ghost use Rattle.live_feed.specs.venue.Datagrams.{bytes_of};
@@ -16,7 +16,7 @@ use std::io::ErrorKind;
 use std::net::{SocketAddr, UdpSocket};
 
 /// How many times one call asks the socket at most.
-const MAX_TURNS: u32 = 1_000_000;
+pub const MAX_TURNS: u32 = 1_000_000;
 
 /// Why a call of a socket brought no datagram.
 #[derive(Clone, Copy, Debug, PartialEq, Eq)]
@@ -78,6 +78,8 @@ impl DatagramIn for UdpSocket {
 pub struct LineSocket<S> {
     pub socket: S,
     pub senders: Senders,
+    /// The memory of a datagram that came back, for the next one.
+    pub used: Option<Vec<u8>>,
 }
 
 /// What a wait for a datagram came to.
@@ -116,13 +118,16 @@ fn receive<S: DatagramIn>(
     Err(SourceFault::TooManyTurns)
 }
 
-/// A datagram of these bytes.
-fn datagram_of(alloc: Global, bytes: &[u8]) -> Result<Datagram, AllocError>
-    ensures { IfOk result (λ datagram. bytes_of datagram ≡ bytes.now) }
+/// A datagram of these bytes, in memory that was used before. Where that has room for them, no more
+/// is asked for.
+fn datagram_of(used: Vec<u8>, bytes: &[u8]) -> Result<Datagram, AllocError>
+    ensures bytes { IfOk result (λ datagram. bytes_of datagram ≡ bytes.now) }
+    ensures room { length bytes.now ≤ vec_capacity used → IsOk result }
 {
-    let mut held = Vec::with_capacity(alloc, bytes.len())?;
-    held.extend_from_slice(bytes)?;
-    Ok(Datagram::new(held))
+    let mut used = used;
+    used.clear();
+    used.extend_from_slice(bytes)?;
+    Ok(Datagram::new(used))
 }
 
 impl<S: DatagramIn> LineSocket<S> {
@@ -139,7 +144,11 @@ impl<S: DatagramIn> LineSocket<S> {
                 if !self.senders.takes_from(&from) {
                     return Received::Foreign;
                 }
-                match datagram_of(alloc, &buffer[..count]) {
+                let used = match self.used.take() {
+                    Some(used) => used,
+                    None => Vec::new(alloc),
+                };
+                match datagram_of(used, &buffer[..count]) {
                     Ok(datagram) => Received::Taken(datagram),
                     Err(_) => Received::Failed(SourceFault::NoMemory),
                 }

@@ -37,6 +37,7 @@ mod udp_line;
 pub use listen::{NO_MEMORY, listen_with};
 pub use listen_sockets::ListenSockets;
 pub use metrics_socket::{bind_metrics, metrics_line};
+pub use run_watches::SocketTables;
 pub use socket_buffers::enlarge;
 pub use sockets::{BindFault, bind_sockets, listening_line, write_bind_fault};
 pub use udp_line::UdpLine;

@@ -158,7 +158,8 @@ fn live_output_of(settings: &ListenSettings) -> LiveOutput
 /// Where the settings ask for it, best lines are printed as they come, and counts on standard
 /// error; and metrics are served where there is a socket for them. Standard error has also what is
 /// news of the lines, as it comes, and which gaps were given up, as the settings say, and at the
-/// end what was counted of the lines.
+/// end what was counted of the lines; where the settings have further options also with which
+/// sessions lines ended, what the system dropped, and which symbols never came.
 pub fn listen_with<R, C, W, E>(
     rt: &R,
     clock: &C,
@@ -183,7 +184,7 @@ where
     let clock_copy: Result<C, AllocError> = clock.clone();
     let (Ok(feed), Ok(lines), Ok(gaps), Ok(clock)) = (
         feed_of(alloc, settings),
-        lines_over(alloc, settings, sockets.lines, clock),
+        lines_over(alloc, settings, sockets.lines, sockets.tables, clock),
         GapWatches::of(alloc, settings),
         clock_copy,
     ) else {
@@ -198,7 +199,7 @@ where
     let Listened {
         outcome,
         mut console,
-    } = run_feed::<Brand, R, C, W, E>(rt, alloc, feed, lines.tasks, monitor);
+    } = run_feed::<Brand, R, C, W, E>(rt, alloc, settings, feed, lines.tasks, monitor);
     let ended = print_end(alloc, &outcome, &mut console);
     let status = complete_status(settings.complete, &outcome, ended);
     (status, console.output, console.errors)

@@ -3,9 +3,10 @@ ghost use Rattle.std.specs.Prelude.{◌≡◌, ◌++◌, flat_map};
 ghost use Rattle.feed_text.specs.Devices.{Writing};
 ghost use Rattle.feed_text.specs.LackTexts.{lack_texts};
 ghost use Rattle.feed_text.specs.StandardError.{SaysEach};
-ghost use Rattle.udp_listening.specs.Listening.{failed_texts, read_out_texts, report_texts, stop_text, stop_texts};
+ghost use Rattle.run_notes.specs.AbsentSymbols.{absent_texts};
+ghost use Rattle.udp_listening.specs.Listening.{ended_texts, failed_texts, read_out_texts, report_texts, stop_text, stop_texts};
 
-use crate::listen_report::ListenReport;
+use crate::listen_report::{EndedLine, ListenReport};
 use feed_text::{TextOut, write_lacks, write_number, write_stderr};
 use feed_types::{LineId, VenueId};
 use live_feed::Stop;
@@ -73,12 +74,35 @@ fn write_gaps<E: TextOut>(report: &ListenReport, errors: &mut E)
     write_lacks(report.lacking.as_slice(), errors);
 }
 
+/// Writes with which sessions lines ended.
+fn write_each_ended<E: TextOut>(ended: &[EndedLine], errors: &mut E)
+    ensures { SaysEach (record { adds = E.adds; failures = E.failures })
+        (flat_map ended_texts ended.now) errors.old errors.new }
+{
+    for line in ended {
+        let change = LineChange::EndedWith(line.session);
+        write_line_end(line.venue, line.line, change, errors);
+    }
+}
+
+/// Writes with which sessions lines ended, and which symbols never came.
+fn write_ends<E: TextOut>(report: &ListenReport, errors: &mut E)
+    ensures { SaysEach (record { adds = E.adds; failures = E.failures })
+        (flat_map ended_texts report.now.ended.items ++ absent_texts report.now.absent)
+        errors.old errors.new }
+{
+    write_each_ended(report.ended.as_slice(), errors);
+    report.absent.write(errors);
+}
+
 /// Writes which lines failed, why the run stopped early, if it did, which lines have read as many
-/// datagrams as they may, and what venues lack.
+/// datagrams as they may, what venues lack, with which sessions lines ended, and which symbols
+/// never came.
 pub fn write_report_lines<E: TextOut>(report: &ListenReport, errors: &mut E)
     ensures { SaysEach (record { adds = E.adds; failures = E.failures })
         (report_texts report.now) errors.old errors.new }
 {
     write_faults(report, errors);
     write_gaps(report, errors);
+    write_ends(report, errors);
 }

@@ -1,14 +1,26 @@
 //! The report of listening.
 ghost use Rattle.std.specs.Prelude.{◌≡◌, ◌++◌, IfOk, OnOk, flat_map};
-ghost use Rattle.udp_listening.specs.Reports.{IsReportOfFeed, failed_lines, line_if, read_out_lines};
+ghost use Rattle.journal_book.specs.Journals.{kept_of};
+ghost use Rattle.run_settings.specs.FurtherOptions.{has_further_options};
+ghost use Rattle.udp_listening.specs.Reports.{IsReportOfFeed, absent_if, ended_line, ended_lines, failed_lines, line_if, read_out_lines, tells_absent, reported_absent, told_ends};
 
 use crate::listening::ListenFault;
 use crate::udp_line::UdpLine;
 use feed_text::Lack;
 use feed_types::{LineId, VenueId};
 use live_feed::{FeedReport, LineReport, Settlement, Stop};
+use run_notes::AbsentList;
+use run_settings::ListenSettings;
 use run_watches::{VenueStatuses, lacks_in};
 use std::alloc::{AllocError, Global};
+
+/// A line that an end of this session has ended.
+#[derive(Clone, Copy, Debug, PartialEq, Eq)]
+pub struct EndedLine {
+    pub venue: VenueId,
+    pub line: LineId,
+    pub session: [u8; 10],
+}
 
 /// The report of listening.
 #[derive(Drop)]
@@ -21,6 +33,12 @@ pub struct ListenReport {
     pub read_out: Vec<(VenueId, LineId)>,
     /// What is missing, of each venue that lacks anything.
     pub lacking: Vec<Lack>,
+    /// The lines that an end of session has ended, in the order of the settings, where these have
+    /// further options.
+    pub ended: Vec<EndedLine>,
+    /// The symbols of which no item came, where the settings have further options and all entries
+    /// are kept.
+    pub absent: AbsentList,
     /// What was taken, and what became of it.
     pub settlement: Settlement,
 }
@@ -73,20 +91,121 @@ fn read_out_in<C: Drop>(
     Ok(read_out)
 }
 
-/// The report of listening by the report of the feed, whose venues had these statuses at its end.
-/// NoMemory where memory was refused, and no other fault.
+/// Appends a line to the list where an end of session has ended it.
+fn append_ended<C: Drop>(
+    list: &mut Vec<EndedLine>,
+    report: &LineReport<UdpLine<C>>,
+) -> Result<(), AllocError>
+    ensures { OnOk result (list.new.items ≡ list.old.items ++ ended_line report.now) }
+{
+    if let Some(session) = report.source.ender() {
+        list.push(EndedLine {
+            venue: report.venue,
+            line: report.line,
+            session,
+        })?;
+    }
+    Ok(())
+}
+
+/// The lines that an end of session has ended, in order.
+fn ended_in<C: Drop>(
+    alloc: Global,
+    lines: &[LineReport<UdpLine<C>>],
+) -> Result<Vec<EndedLine>, AllocError>
+    ensures { IfOk result (λ ended. ended.items ≡ ended_lines lines.now) }
+{
+    let mut ended = Vec::new(alloc);
+    for line in lines {
+        append_ended(&mut ended, line)?;
+    }
+    Ok(ended)
+}
+
+/// The same where it is told, else none.
+fn ended_if_told<C: Drop>(
+    alloc: Global,
+    is_told: bool,
+    lines: &[LineReport<UdpLine<C>>],
+) -> Result<Vec<EndedLine>, AllocError>
+    ensures { IfOk result (λ ended. ended.items ≡ told_ends is_told lines.now) }
+{
+    if is_told {
+        ended_in(alloc, lines)
+    } else {
+        Ok(Vec::new(alloc))
+    }
+}
+
+/// The same where the settings have further options, else none.
+fn ended_of<C: Drop>(
+    alloc: Global,
+    settings: &ListenSettings,
+    lines: &[LineReport<UdpLine<C>>],
+) -> Result<Vec<EndedLine>, AllocError>
+    ensures { IfOk result (λ ended.
+        ended.items ≡ told_ends (has_further_options settings.now) lines.now) }
+{
+    ended_if_told(alloc, settings.has_further_options(), lines)
+}
+
+/// Whether it is told which symbols never came: by settings with further options, where all
+/// entries are kept.
+fn tells_absent(settings: &ListenSettings) -> bool
+    ensures { result ≡ tells_absent settings.now }
+{
+    settings.has_further_options() && !settings.kept.is_some()
+}
+
+/// The symbols of the settings of which no item is among the settlement's entries, where that is
+/// told; else none.
+fn absent_if_told(
+    alloc: Global,
+    is_told: bool,
+    settings: &ListenSettings,
+    settlement: &Settlement,
+) -> Result<AbsentList, AllocError>
+    ensures { IfOk result (λ absent. absent ≡ absent_if is_told
+        (kept_of settlement.now.journal.kept settlement.now.journal.entries)
+        settings.now.feed.symbols.items) }
+{
+    if is_told {
+        let symbols = settings.feed.symbols.as_slice();
+        AbsentList::among(alloc, settlement.entries(), symbols)
+    } else {
+        Ok(AbsentList::none(alloc))
+    }
+}
+
+/// The symbols of which the settings have it told that none came.
+fn absent_of(
+    alloc: Global,
+    settings: &ListenSettings,
+    settlement: &Settlement,
+) -> Result<AbsentList, AllocError>
+    ensures { IfOk result (λ absent.
+        absent ≡ reported_absent settings.now settlement.now.journal) }
+{
+    absent_if_told(alloc, tells_absent(settings), settings, settlement)
+}
+
+/// The report of listening by the report of the settings' feed, whose venues had these statuses at
+/// its end. NoMemory where memory was refused, and no other fault.
 pub fn report_of<C: Drop>(
     alloc: Global,
+    settings: &ListenSettings,
     whole: FeedReport<UdpLine<C>>,
     statuses: &VenueStatuses,
 ) -> Result<ListenReport, ListenFault>
-    ensures { IfOk result (IsReportOfFeed whole) }
+    ensures { IfOk result (IsReportOfFeed settings.now whole) }
 {
     Ok(ListenReport {
         failed: failed_in(alloc, whole.lines.as_slice())?,
         stopped: whole.stopped,
         read_out: read_out_in(alloc, whole.lines.as_slice())?,
         lacking: lacks_in(alloc, statuses)?,
+        ended: ended_of(alloc, settings, whole.lines.as_slice())?,
+        absent: absent_of(alloc, settings, &whole.settlement)?,
         settlement: whole.settlement,
     })
 }

@@ -102,11 +102,12 @@ fn fault_of(fault: WholeFault) -> ListenFault {
     }
 }
 
-/// Runs the feed over these lines until all have ended, with one subscriber, which wants every
-/// change, and settles it. The calling thread has the monitor, which polls that subscriber.
+/// Runs the settings' feed over these lines until all have ended, with one subscriber, which wants
+/// every change, and settles it. The calling thread has the monitor, which polls that subscriber.
 pub fn run_feed<N, R, C, W, E>(
     rt: &R,
     alloc: Global,
+    settings: &ListenSettings,
     feed: LiveFeed<Anything>,
     lines: Vec<LineTask<UdpLine<C>>>,
     monitor: RunMonitor<C, W, E>,
@@ -122,7 +123,8 @@ where
         monitor.console.live_output monitor.console.output }
     ensures listened { HasListened (record { adds = W.adds; failures = W.failures })
         monitor.console.output result.outcome result.console.live_output result.console.output }
-    ensures run { IfOk result.outcome (IsReportOfRun N.lanes (map task_line lines.items)) }
+    ensures run { IfOk result.outcome
+        (IsReportOfRun settings.now N.lanes (map task_line lines.items)) }
     ensures says { SaysOfRun (record { adds = E.adds; failures = E.failures })
         (watched_run monitor.watches) monitor.console.errors result.console.errors }
 {
@@ -139,7 +141,7 @@ where
         rt, alloc, task, monitor,
     );
     let outcome = match outcome {
-        Ok(whole) => report_of(alloc, whole, &attendant.statuses),
+        Ok(whole) => report_of(alloc, settings, whole, &attendant.statuses),
         Err(fault) => Err(fault_of(fault)),
     };
     Listened {

@@ -1,14 +1,15 @@
 //! The sources of a feed's lines.
-ghost use Rattle.std.specs.Prelude.{◌≡◌, ◌/◌, ◌<◌, IfOk, length, map, take, vec_len};
+ghost use Rattle.std.specs.Prelude.{◌≡◌, ◌/◌, ◌<◌, IfOk, is_some, length, map, take, vec_len};
+ghost use Rattle.run_settings.specs.FurtherOptions.{has_further_options};
 ghost use Rattle.udp_listening.specs.Reports.{task_line};
-ghost use Rattle.run_watches.specs.RunLines.{line_at, listened_lines, watched_lines};
+ghost use Rattle.run_watches.specs.RunLines.{heard_lines, line_at, listened_lines, watched_lines};
 ghost use Rattle.udp_listening.specs.Settings.{IsSourceOf};
 
 use crate::udp_line::{UdpLine, UdpLineSettings};
 use feed_types::{LineId, VenueId};
 use live_feed::{LineSource, LineTask};
 use run_settings::ListenSettings;
-use run_watches::{LineWatch, LineWatches};
+use run_watches::{LineWatch, LineWatches, SocketTables};
 use std::alloc::{AllocError, Global};
 use std::net::UdpSocket;
 use std::rt::Clock;
@@ -52,30 +53,44 @@ pub struct ListenLines<C> {
     pub watches: LineWatches,
 }
 
+/// The system's tables, where more is told of the lines: by settings with further options.
+fn tables_if_told(settings: &ListenSettings, tables: SocketTables) -> Option<SocketTables>
+    ensures { is_some result ≡ has_further_options settings.now }
+{
+    if settings.has_further_options() {
+        Some(tables)
+    } else {
+        None
+    }
+}
+
 /// Makes the sources of the settings' lines, which these sockets receive, in the order of the
 /// settings. There are two lines for each session.
 pub fn lines_over<C: Clock + Clone + Drop>(
     alloc: Global,
     settings: &ListenSettings,
     sockets: Vec<UdpSocket>,
+    tables: SocketTables,
     clock: &C,
 ) -> Result<ListenLines<C>, AllocError>
     ensures tasks { IfOk result (λ lines. map task_line lines.tasks.items
         ≡ take (length sockets.items) (listened_lines settings.now)) }
     ensures watches { IfOk result (λ lines. watched_lines lines.watches
-        ≡ take (length sockets.items) (listened_lines settings.now)) }
+        ≡ heard_lines settings.now (length sockets.items)) }
 {
     let mut tasks = Vec::with_capacity(alloc, sockets.len())?;
     let mut watches = Vec::with_capacity(alloc, sockets.len())?;
     let most = 2 * settings.feed.sessions.len();
     for (place, socket) in sockets.into_iter().take(most).enumerate() {
+        let address = socket.local_addr().ok();
         let source = source_at(alloc, settings, place, socket, clock.clone()?)?;
         let line = line_at(place);
-        watches.push(LineWatch::new(source.venue(), line, source.share_progress()?))?;
+        let progress = source.share_progress()?;
+        watches.push(LineWatch::new(source.venue(), line, progress, address))?;
         tasks.push(LineTask { line, source })?;
     }
     Ok(ListenLines {
         tasks,
-        watches: LineWatches::new(watches),
+        watches: LineWatches::new(watches, tables_if_told(settings, tables)),
     })
 }

@@ -4,9 +4,9 @@ ghost use Rattle.std.specs.Duration.{as_nanos};
 ghost use Rattle.live_feed.specs.venue.Datagrams.{bytes_of};
 ghost use Rattle.live_feed.specs.run.Runs.{failures_after};
 ghost use Rattle.run_settings.specs.Senders.{senders_of};
-ghost use Rattle.udp_listening.specs.UdpLines.{EndsLine, IsLast, IsOver, SpellsEndOf, failures_of, is_none_left, is_read_out};
+ghost use Rattle.udp_listening.specs.UdpLines.{EndsLine, IsEndedBy, IsLast, IsOver, SpellsEndOf, failures_of, is_none_left, is_read_out};
 
-use crate::datagram_in::{LineSocket, Received};
+use crate::datagram_in::{LineSocket, MAX_TURNS, Received};
 use feed_types::{Anything, VenueId};
 use live_feed::{Datagram, LineSource, SourceFault};
 use mold_packet::{Kind, Request, one_reading, read_packet, write_request};
@@ -23,9 +23,6 @@ const MAX_DATAGRAM: usize = 65_535;
 
 /// How many bytes a request has.
 const REQUEST_LEN: usize = 20;
-
-/// How many times one call asks the socket at most.
-const MAX_TURNS: u32 = 1_000_000;
 
 /// How long a line waits for a datagram, in milliseconds, until a run may look whether it is to
 /// stop.
@@ -70,6 +67,8 @@ pub struct UdpLine<C> {
     to_read: Option<u32>,
     broken: bool,
     at_end: bool,
+    /// The session whose end has ended the line, if one has.
+    ender: Option<[u8; 10]>,
     /// What the socket has brought for the next call: a datagram, or why there is none.
     received: Option<Result<Datagram, SourceFault>>,
     alloc: Global,
@@ -90,6 +89,7 @@ impl<C> Model for UdpLine<C> {
       left = l.to_read;
       failed = l.broken;
       ended = l.at_end;
+      ender = l.ender;
     } };
 }
 
@@ -192,6 +192,7 @@ impl<C: Clock + Drop> UdpLine<C> {
         ensures left { IfOk result (λ line. line.left ≡ settings.datagrams) }
         ensures whole { IfOk result (λ line. line.failed ≡ false) }
         ensures unended { IfOk result (λ line. line.ended ≡ false) }
+        ensures ender { IfOk result (λ line. line.ender ≡ None) }
     {
         let _ = socket.set_read_timeout(Some(Duration::from_millis(WAIT_MS)));
         let deadline_ms = deadline_of(&clock, settings.seconds);
@@ -202,6 +203,7 @@ impl<C: Clock + Drop> UdpLine<C> {
             line_socket: LineSocket {
                 socket,
                 senders: settings.senders,
+                used: None,
             },
             requests_to: settings.requests_to,
             progress: LineProgress::new(alloc)?,
@@ -211,6 +213,7 @@ impl<C: Clock + Drop> UdpLine<C> {
             to_read: settings.datagrams,
             broken: false,
             at_end: false,
+            ender: None,
             received: None,
             alloc,
             buffer: vec![in alloc; 0; MAX_DATAGRAM]?,
@@ -275,8 +278,8 @@ impl<C: Drop> UdpLine<C> {
 
     /// Marks how the line has ended, if it has by a datagram.
     fn mark_end(&self) {
-        if self.at_end {
-            self.progress.end();
+        if let Some(session) = self.ender {
+            self.progress.end(&session, session == self.own_session);
         } else if is_none_left(self.to_read) {
             self.progress.read_out();
         }
@@ -302,24 +305,28 @@ impl<C: Drop> UdpLine<C> {
     /// Counts a datagram of these bytes that was read. One that ends the line is its last.
     fn count_read(&mut self, bytes: &[u8])
         requires { is_none_left self.old.left ≡ false }
-        ensures rest { self.new
-            ≡ record (self.old) { left = self.new.left; ended = self.new.ended } }
+        ensures rest { self.new ≡ record (self.old) {
+          left = self.new.left;
+          ended = self.new.ended;
+          ender = self.new.ender;
+        } }
         ensures last { EndsLine self.old.rule self.old.session bytes.now
-            → (self.new.left ≡ Some 0) × (self.new.ended ≡ true) }
+            → IsEndedBy bytes.now self.new }
         ensures other { (EndsLine self.old.rule self.old.session bytes.now → ⊥)
             → (option_map (λ left. left + 1) self.new.left ≡ self.old.left)
-            × (self.new.ended ≡ false) }
+            × (self.new.ended ≡ false) × (self.new.ender ≡ self.old.ender) }
     {
         let ended = ended_session(bytes);
         self.at_end = is_last(self.end_rule, self.own_session, ended);
         if ended.is_some() && !self.at_end {
             self.progress.count_passed();
         }
-        self.to_read = if self.at_end {
-            Some(0)
+        if self.at_end {
+            self.ender = ended;
+            self.to_read = Some(0);
         } else {
-            one_fewer(self.to_read)
-        };
+            self.to_read = one_fewer(self.to_read);
+        }
         self.mark_end();
     }
 
@@ -333,16 +340,17 @@ impl<C: Drop> UdpLine<C> {
         ensures ended { IsOver self.old → (result ≡ Ok None) × (self.new ≡ self.old) }
         ensures last { (datagram : Datagram) → result ≡ Ok (Some datagram)
             → EndsLine self.old.rule self.old.session (bytes_of datagram)
-            → (self.new.left ≡ Some 0) × (self.new.ended ≡ true) }
+            → IsEndedBy (bytes_of datagram) self.new }
         ensures other { (datagram : Datagram) → result ≡ Ok (Some datagram)
             → (EndsLine self.old.rule self.old.session (bytes_of datagram) → ⊥)
             → (option_map (λ left. left + 1) self.new.left ≡ self.old.left)
-            × (self.new.ended ≡ false) }
+            × (self.new.ended ≡ false) × (self.new.ender ≡ self.old.ender) }
         ensures venue { self.new.venue ≡ self.old.venue }
         ensures session { self.new.session ≡ self.old.session }
         ensures rule { self.new.rule ≡ self.old.rule }
         ensures senders { self.new.senders ≡ self.old.senders }
         ensures ended_by { OnErr result (self.new.ended ≡ self.old.ended) }
+        ensures ender { OnErr result (self.new.ender ≡ self.old.ender) }
         ensures sound { IfOk result
             (λ _. failures_of self.new.failed ≡ failures_of self.old.failed) }
         ensures failed { IfErr result (λ fault. failures_of self.new.failed
@@ -367,6 +375,13 @@ impl<C: Drop> UdpLine<C> {
             Some(Err(fault)) => Err(self.fail(fault)),
             None => Err(self.fail(SourceFault::TooManyTurns)),
         }
+    }
+
+    /// The session whose end has ended the line, if one has.
+    pub fn ender(&self) -> Option<[u8; 10]>
+        ensures { result ≡ self.now.ender }
+    {
+        self.ender
     }
 
     /// Whether the line has ended since it has read as many datagrams as it may.
@@ -403,6 +418,13 @@ impl<C: Clock + Drop> LineSource<Anything> for UdpLine<C> {
 
     fn next(&mut self) -> Result<Option<Datagram>, SourceFault> {
         self.receive_next()
+    }
+
+    /// Keeps the datagram's memory for the next one.
+    fn recycle(&mut self, datagram: Datagram)
+        ensures { self.new ≡ self.old }
+    {
+        self.line_socket.used = Some(datagram.into_bytes());
     }
 
     fn now_ms(&mut self) -> u64 {

@@ -1,9 +1,9 @@
-use Rattle.std.proofs.Common.{[], ◌≡◌, ◌∙◌, Err, ap, length, map, refl, subst, sym, take}
+use Rattle.std.proofs.Common.{[], ◌≡◌, ◌∙◌, Err, ap, length, map, refl, subst, sym}
 use Rattle.std.specs.Prelude.{is_some}
 use Rattle.feed_text.specs.Devices.{Writing}
 use Rattle.udp_listening.specs.Listening.{IsUnprinted, ListensToEnd}
 use Rattle.udp_listening.specs.Reports.{task_line}
-use Rattle.run_watches.specs.RunLines.{listened_lines, listened_run, told_gaps, watched_gaps, watched_run}
+use Rattle.run_watches.specs.RunLines.{heard_lines, listened_run, told_gaps, watched_gaps, watched_run}
 use Rattle.run_watches.specs.RunNews.{SaysOfRun}
 use Rattle.udp_listening.specs.declared.console.Console.{Console}
 use Rattle.udp_listening.specs.declared.listening.ListenFault.TheVariants.{NoMemory}
@@ -75,7 +75,7 @@ returns g c =
     let console = ran.result.console in
     let printed = c.print_end-ended in
     let new = c.new-monitor.ensures.console ∙ c.new-console.ensures.console in
-    let lines = take sockets (listened_lines settings) in
+    let lines = heard_lines settings sockets in
     let run : watched_run monitor.watches ≡ listened_run settings sockets =
     ap (λ w. watched_run w) c.new-monitor.ensures.watches ∙ c.new-watches.ensures
     ∙ ap (λ first. record {

@@ -45,10 +45,11 @@ returns-clause-listened g c =
     elim c.match-outcome.branch [
       | in-Ok w' ↦
           subst (λ o. HasListened out first o live now) (sym w'.outcome-is)
-          (listened_by out first live now (IsReportOfFeed w'.in-Ok.whole)
+          (listened_by out first live now (IsReportOfFeed c.args.settings.now w'.in-Ok.whole)
           w'.report_of-outcome.result
           (λ report tells.
-          printed_of out w _ _ _ _ _ c.new.ensures.len before after w'.in-Ok.whole report
+          printed_of c.args.settings.now out w _ _ _ _ _ c.new.ensures.len before after
+          w'.in-Ok.whole report
           c.requires.unprinted
           (IfOk-at_ok _ w'.in-Ok.is ran.ensures.whole) tells)
           failed w'.report_of-outcome.ensures)
@@ -68,13 +69,15 @@ returns-clause-run g c =
       failures = g.E.TextOut.failures;
     } in
     let ran = c.run_whole-outcome in
-    let run = IsReportOfRun g.N.FeedName.lanes (map task_line c.args.lines.items) in
+    let run =
+    IsReportOfRun c.args.settings.now g.N.FeedName.lanes (map task_line c.args.lines.items) in
     elim c.match-outcome.branch [
       | in-Ok w' ↦
           subst (λ o. IfOk o run) (sym w'.outcome-is)
           (told_by w'.report_of-outcome.result
           (λ report tells.
-          run_of out w _ _ _ _ _ c.new.ensures.len c.args.monitor ran.result.attendant
+          run_of c.args.settings.now out w _ _ _ _ _ c.new.ensures.len c.args.monitor
+          ran.result.attendant
           w'.in-Ok.whole report c.requires.unprinted
           (IfOk-at_ok _ w'.in-Ok.is ran.ensures.whole) tells)
           w'.report_of-outcome.ensures)

@@ -1,10 +1,11 @@
-use Rattle.std.proofs.Common.{rules, ◌∙◌, ◌*◌, ℕ, ap, length, min, refl, sym}
+use Rattle.std.proofs.Common.{rules, ◌∙◌, ◌*◌, ℕ, ap, length, map, min, refl, sym}
 use Rattle.std.proofs.lemmas.Iterator.{YieldsList-from_take}
 use Rattle.std.proofs.lemmas.Iterator.Adapters.{YieldsList-from_vec}
 use Rattle.std.proofs.lemmas.Iterator.Consumers.{YieldsList-at, YieldsList-end, YieldsList-from_enumerate, YieldsList-turn}
 use Rattle.std.proofs.lemmas.List.{length-take, length_push}
 use Rattle.std.proofs.lemmas.List.FromFn.{length-enumerate_from}
 use Rattle.std.specs.Prelude.{take}
+use Rattle.run_settings.specs.FurtherOptions.{has_further_options}
 use Rattle.udp_listening.specs.Reports.{task_line}
 use Rattle.run_watches.specs.RunLines.{listened_line, watched, watched_lines}
 use Rattle.udp_listening.proofs.Watching.{first_lines, more_listened, place_of}
@@ -75,5 +76,14 @@ returns g c =
     let all = first_lines _ (length items) (length c.loop-place.yielded) count in
     record {
       tasks = c.loop-place.invariant.2 ∙ all;
-      watches = ap (λ w. watched_lines w) c.new-2.ensures ∙ c.loop-place.invariant.3 ∙ all;
+      watches =
+          ap (λ w. watched_lines w) c.new-2.ensures
+          ∙ ap (λ told. record {
+            tells_more = told;
+            lines = map watched c.loop-place.watches.items;
+          }) c.tables_if_told.ensures
+          ∙ ap (λ lines. record {
+            tells_more = has_further_options c.args.settings.now;
+            lines = lines;
+          }) (c.loop-place.invariant.3 ∙ all);
     }

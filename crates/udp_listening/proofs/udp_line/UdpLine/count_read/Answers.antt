@@ -15,7 +15,8 @@ returns-clause-last g c =
     c.ended_session-ended.result
     c.ended_session-ended.ensures.only ends in
     let at_end : c.is_last-self-inside.result ≡ true = c.is_last-self-inside.ensures.1 last in
+    let only = c.ended_session-ended.ensures.only in
     elim c.if-self.branch [
-      | then-self w ↦ search (rules, at_end, w.self-is)
-      | else-self w ↦ search (rules, at_end, w.self-is)
+      | then-self w ↦ search (rules, at_end, only, w.self-is)
+      | else-self w ↦ search (rules, at_end, only, w.self-is)
     ]

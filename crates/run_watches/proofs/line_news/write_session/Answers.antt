@@ -1,0 +1,16 @@
+use Rattle.std.proofs.Common.{[], ◌∷◌, codes}
+use Rattle.feed_text.specs.Devices.{Writing}
+use Rattle.feed_text.specs.laws.SaidTexts.{says_each, says_one}
+use Rattle.run_notes.specs.SessionNames.{name_texts}
+use Rattle.run_watches.proofs.line_news.write_session.Goals as goal
+
+pub returns : goal.returns
+returns g c =
+    let w : Writing g.row.E.Denot = record {
+      adds = g.E.TextOut.adds;
+      failures = g.E.TextOut.failures;
+    } in
+    says_each w (name_texts c.args.session.now) (codes "\n" ∷ []) c.args.errors.now
+    c.write_session_name.new.errors c.write_stderr.new.errors c.write_session_name.ensures
+    (says_one w (codes "\n") c.write_session_name.new.errors c.write_stderr.new.errors
+    c.write_stderr.ensures)

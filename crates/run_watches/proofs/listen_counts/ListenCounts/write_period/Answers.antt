@@ -1,0 +1,12 @@
+use Rattle.feed_text.specs.Devices.{Writing}
+use Rattle.run_watches.proofs.Counts.{more_counts}
+use Rattle.run_watches.proofs.listen_counts.ListenCounts.write_period.Goals as goal
+
+pub loop-place-preserved : goal.loop-place-preserved
+loop-place-preserved g c =
+    let w : Writing g.row.E.Denot = record {
+      adds = g.E.TextOut.adds;
+      failures = g.E.TextOut.failures;
+    } in
+    more_counts w c.args.errors.now c.loop-place.errors c.write_any.new.errors
+    c.loop-place.invariant c.write_any.ensures
