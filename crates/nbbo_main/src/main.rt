@@ -46,8 +46,8 @@ use std::sync::ledger::{Blank, Ledger};
 use std::thread::Threads;
 use std::{env, io};
 use udp_listening::{
-    BindFault, ListenSockets, NO_MEMORY, bind_metrics, bind_sockets, enlarge, listen_with,
-    listening_line, metrics_line, write_bind_fault,
+    BindFault, ListenSockets, NO_MEMORY, SocketTables, bind_metrics, bind_sockets, enlarge,
+    listen_with, listening_line, metrics_line, write_bind_fault,
 };
 
 /// The words of the command line, the program's name first.
@@ -150,14 +150,24 @@ fn run_words<R: CaptureIn + Drop, W: TextOut, E: TextOut>(
     (ran.next, ran.output)
 }
 
-/// Opens the sockets of the settings. Where one is refused, all are closed.
+/// Opens the sockets of the settings, and where it is told what the system drops at them its
+/// tables. Where a socket is refused, all are closed.
 fn bind_all(rt: &HostRuntime, settings: &ListenSettings) -> Result<ListenSockets, BindFault> {
     let lines = bind_sockets(rt, rt.alloc(), settings.lines.as_slice())?;
     let metrics = match settings.metrics {
         Some(address) => Some(bind_metrics(rt, address)?),
         None => None,
     };
-    Ok(ListenSockets { lines, metrics })
+    let tables = if settings.has_further_options() {
+        SocketTables::open(rt, rt.alloc())
+    } else {
+        SocketTables::none(rt.alloc())
+    };
+    Ok(ListenSockets {
+        lines,
+        metrics,
+        tables,
+    })
 }
 
 /// Says where the sockets listen, how large their buffers are where a size was asked for, and where

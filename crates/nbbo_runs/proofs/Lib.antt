@@ -1,11 +1,9 @@
 pub mod CaptureCounts
-pub mod FirstAbsent
 pub mod Keeping
 pub mod NamedLines
 pub mod PrintedTexts
 pub mod SaidLacks
 pub mod StatsTexts
-pub mod SymbolKeys
 pub mod WatchedRuns
 pub mod SessionCounts
-pub mod PeriodPrints
+pub mod SinkPrints

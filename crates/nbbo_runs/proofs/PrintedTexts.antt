@@ -1,13 +1,15 @@
 -- The texts that are printed at the end of a replay.
 use Rattle.std.proofs.Common.{◌≡◌, List, ℕ, Ok, Err, subst}
 use Rattle.std.specs.Prelude.{IfOk, IsOkAnd, Result}
+use Rattle.std.specs.Result.{result_and}
 use Rattle.feed_text.specs.declared.replay.ReplayConfig.{ReplayConfig}
 use Rattle.feed_text.specs.declared.replay_stop.ReplayStop.{ReplayStop}
 use Rattle.feed_text.specs.declared.replay_stop.ReplayStop.TheVariants.{ReadFailed, SinkFailed, Bad, Short, TooManyTurns, JournalFull, NoMemory}
 use Rattle.feed_text.specs.Devices.{Reading, Writing}
 use Rattle.feed_text.specs.Formats.{Parsing}
 use Rattle.feed_text.specs.SinkEvents.{TimedEvent}
-use Rattle.nbbo_runs.specs.Printing.{PrintsFigures, PrintsText}
+use Rattle.nbbo_runs.specs.Printing.{LeavesMissing, PrintsFigures, PrintsText}
+use Rattle.nbbo_runs.specs.declared.watched_sink.Missing.{Missing}
 
 -- a text of one kind is of another one, too
 pub text_as : {W F : Type 0} (writing : Writing W) (One Other : List ℕ → Type 0) (before after : W)
@@ -49,3 +51,13 @@ figures_as reading writing parsing config One Other from to start finish before 
           (each figures.told) figures.prints;
       ends = figures.ends;
     }
+
+-- what is missing after a replay is so after its printing, which comes first
+pub missing_after : {R S F : Type 0} (reading : Reading R) (parsing : Parsing S F)
+    (config : ReplayConfig) (from to : R) (start finish : S) (old new : Missing)
+    (printed seen : Result (Unit {0}) (ReplayStop F))
+    → LeavesMissing reading parsing config from to start finish old new seen
+    → LeavesMissing reading parsing config from to start finish old new (result_and printed seen)
+missing_after reading parsing config from to start finish old new (Ok done) seen left = left
+missing_after reading parsing config from to start finish old new (Err stop) seen left =
+    record { lacks = tt; absent = tt }

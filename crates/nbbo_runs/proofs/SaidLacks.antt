@@ -4,7 +4,8 @@ use Rattle.std.specs.Prelude.{Bool, Result}
 use Rattle.feed_text.specs.Devices.{Writing}
 use Rattle.feed_text.specs.StandardError.{SaysEach}
 use Rattle.feed_text.specs.declared.lack.Lack.{Lack}
-use Rattle.nbbo_runs.specs.AbsentSymbols.{symbols_with, told_absent}
+use Rattle.nbbo_runs.specs.AbsentSymbols.{told_absent}
+use Rattle.run_notes.specs.AbsentSymbols.{symbols_with}
 use Rattle.nbbo_runs.specs.Lacks.{told_lacks}
 
 pub tells_items : {S F : Type 0} (w : Writing S) (outcome : Result (Unit {0}) F)

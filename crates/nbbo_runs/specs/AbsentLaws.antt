@@ -1,19 +1,12 @@
 -- The laws of a sink whose symbols are watched.
-use Rattle.std.proofs.Common.{◌≡◌, ℕ, List, [], ◌++◌, true, false, refl, sym, ap, ◌∙◌}
-use Rattle.std.specs.Prelude.{Bool, ◌&&◌, ◌||◌, not}
+use Rattle.std.proofs.Common.{◌≡◌, ℕ, List, [], ◌++◌, sym, ap, ◌∙◌}
+use Rattle.std.specs.Prelude.{Bool, ◌&&◌, not}
 use Rattle.std.proofs.lemmas.List.Folds.{list_any-append}
 use Rattle.feed_text.specs.SinkEvents.{TimedEvent}
 use Rattle.nbbo_runs.specs.declared.watched_sink.WatchedSink.{WatchedSink}
-use Rattle.nbbo_runs.specs.AbsentSymbols.{IsAfterItems, TakesWatched, brings_item, comes_in, has_key}
-
-stays : (a : Bool) → a ≡ (a && true)
-stays true = refl
-stays false = refl
-
-one_or_other : (a b c : Bool) → ((a && not b) && not c) ≡ (a && not (b || c))
-one_or_other true true c = refl
-one_or_other true false c = refl
-one_or_other false b c = refl
+use Rattle.nbbo_runs.specs.AbsentSymbols.{IsAfterItems, TakesWatched, brings_item, comes_in}
+use Rattle.run_notes.specs.AbsentLaws.{one_or_other, stays}
+use Rattle.run_notes.specs.AbsentSymbols.{has_key}
 
 pub items_none : (before : List ℕ) → IsAfterItems before [] before
 items_none before key = stays (has_key before key)

@@ -7,7 +7,7 @@ use Rattle.run_settings.specs.declared.skip_rule.SkipRule.TheVariants as skips
 use Rattle.run_settings.specs.declared.run_input.RunInput.{RunInput}
 use Rattle.run_settings.specs.declared.run_input.RunInput.TheVariants.{Own, Packets}
 use Rattle.run_settings.specs.declared.run_output.RunOutput.{RunOutput}
-use Rattle.run_settings.specs.declared.run_output.RunOutput.TheVariants.{Lines, Bests, Stats, Gaps, Periods}
+use Rattle.run_settings.specs.declared.run_output.RunOutput.TheVariants.{Lines, Bests, Stats, Gaps, Periods, BestTimes}
 use Rattle.run_settings.specs.declared.run_settings.RunSettings.{RunSettings}
 use Rattle.nbbo_runs.specs.declared.terminals.Terminals.{Terminals}
 
@@ -29,6 +29,7 @@ is_part (Bests format) = true
 is_part (Stats format) = true
 is_part (Gaps format) = true
 is_part (Periods style) = true
+is_part (BestTimes style) = true
 
 -- A replay of a packet capture tells it; one of a capture of the project's own format where
 -- standard error is a terminal, where not all lines are printed, and where gaps are given up. So

@@ -13,15 +13,21 @@ use Rattle.feed_text.specs.declared.lack.Lack.{Lack}
 use Rattle.feed_text.specs.ReplayStates.{SinkTaking}
 use Rattle.feed_text.specs.Replays.{text_told}
 use Rattle.feed_text.specs.SinkEvents.{TimedEvent}
+use Rattle.replay_reports.specs.best_times.BestTimeTexts.{text_of_best_times}
 use Rattle.replay_reports.specs.gaps.GapTexts.{text_of_gaps}
 use Rattle.replay_reports.specs.periods.PeriodTexts.{text_of_periods}
 use Rattle.replay_reports.specs.rows.RowSinks.{text_of_rows}
+use Rattle.replay_reports.specs.spans.SpanEvents.{events_in}
 use Rattle.replay_reports.specs.Texts.{IsTextOfTimes}
 use Rattle.replay_run.specs.Printed.{facts_of_run}
 use Rattle.run_settings.specs.declared.run_output.RunOutput.{RunOutput}
-use Rattle.run_settings.specs.declared.run_output.RunOutput.TheVariants.{Lines, Bests, Stats, Gaps, Periods}
+use Rattle.run_settings.specs.declared.run_output.RunOutput.TheVariants.{Lines, Bests, Stats, Gaps, Periods, BestTimes}
+use Rattle.run_settings.specs.declared.period_style.PeriodStyle.{PeriodStyle}
 use Rattle.run_settings.specs.declared.run_settings.RunSettings.{RunSettings}
+use Rattle.run_settings.specs.declared.time_span.TimeSpan.{TimeSpan}
 use Rattle.nbbo_runs.specs.AbsentSymbols.{LeavesAbsent}
+use Rattle.run_notes.specs.AbsentSymbols.{symbols_with}
+use Rattle.nbbo_runs.specs.declared.watched_sink.Missing.{Missing}
 use Rattle.nbbo_runs.specs.Kept.{keeping}
 use Rattle.nbbo_runs.specs.Lacks.{is_packet_input}
 
@@ -84,33 +90,81 @@ abbrev pub IsStatsText : ReplayConfig → StatsFormat → Bool → List TimedEve
 IsStatsText config format timed told text =
     IsTextOfTimes format timed (venues_in config) config.window told text
 
+-- ---- what is missing
+
+-- Where a replay came to its end, what its venues lack was appended to what is missing, and the
+-- symbols are left in it of which no item came, if that is watched.
+pub record LeavesMissing {R S F : Type 0} (reading : Reading R) (parsing : Parsing S F)
+    (config : ReplayConfig) (from to : R) (start finish : S) (before after : Missing)
+    (outcome : Result (Unit {0}) (ReplayStop F)) : Type 0 where
+  pub lacks : OnOk outcome (AppendsLacks reading parsing config from to start finish
+      before.lacks.items after.lacks.items)
+  pub absent : OnOk outcome (LeavesAbsent reading parsing config from to start finish outcome
+      before.is_watched (symbols_with after.absent config.symbols.now))
+
+-- A replay was printed as it went on, and what is missing at its end was left.
+pub record PrintsWatched {R S F W : Type 0} (reading : Reading R) (writing : Writing W)
+    (parsing : Parsing S F) (config : ReplayConfig) (text_of : List TimedEvent → List ℕ)
+    (from to : R) (start finish : S) (before after : W) (old new : Missing)
+    (outcome : Result (Unit {0}) (ReplayStop F)) : Type 0 where
+  pub prints : PrintsEvents reading writing parsing config text_of
+      from to start finish before after outcome
+  pub missing : LeavesMissing reading parsing config from to start finish old new outcome
+
+-- The same of statistics.
+pub record PrintsCounted {R S F W : Type 0} (reading : Reading R) (writing : Writing W)
+    (parsing : Parsing S F) (config : ReplayConfig) (Is : List TimedEvent → List ℕ → Type 0)
+    (from to : R) (start finish : S) (before after : W) (old new : Missing)
+    (outcome : Result (Unit {0}) (ReplayStop F)) : Type 0 where
+  pub prints : PrintsFigures reading writing parsing config Is
+      from to start finish before after outcome
+  pub missing : LeavesMissing reading parsing config from to start finish old new outcome
+
 -- ---- by what is asked for
 
--- All lines, the rows of best lines alone, statistics, or the rows of gaps or of periods; rows of
--- best lines and statistics are `timed` where the records have times.
+-- the rows of periods of these events
+abbrev pub periods_in : ReplayConfig → PeriodStyle → List TimedEvent → List ℕ
+periods_in config style told = text_of_periods style (venues_in config) told
+
+-- and those of how long national bests stood
+abbrev pub best_times_in : ReplayConfig → PeriodStyle → List TimedEvent → List ℕ
+best_times_in config style told =
+    text_of_best_times
+    (record { style = style; venues = venues_in config; symbols = config.symbols.now }) told
+
+-- All lines; or of the events in the span the rows of best lines alone, statistics, or the rows of
+-- gaps or of periods. Rows of best lines and statistics are `timed` where the records have times.
 abbrev pub PrintsBy : {R S F W : Type 0} (reading : Reading R) (writing : Writing W)
-    (parsing : Parsing S F) (config : ReplayConfig) (timed : Bool)
+    (parsing : Parsing S F) (config : ReplayConfig) (timed : Bool) (span : TimeSpan)
     (from to : R) (start finish : S) (before after : W)
     (outcome : Result (Unit {0}) (ReplayStop F)) → RunOutput → Type 0
-PrintsBy reading writing parsing config timed from to start finish before after outcome Lines =
+PrintsBy reading writing parsing config timed span from to start finish before after outcome
+    Lines =
     PrintsEvents reading writing parsing config text_told
     from to start finish before after outcome
-PrintsBy reading writing parsing config timed from to start finish before after outcome
+PrintsBy reading writing parsing config timed span from to start finish before after outcome
     (Bests format) =
     PrintsEvents reading writing parsing config
-    (text_of_rows (record { format = format; timed = timed }))
+    (λ told. text_of_rows (record { format = format; timed = timed }) (events_in span told))
     from to start finish before after outcome
-PrintsBy reading writing parsing config timed from to start finish before after outcome
+PrintsBy reading writing parsing config timed span from to start finish before after outcome
     (Stats format) =
-    PrintsFigures reading writing parsing config (IsStatsText config format timed)
+    PrintsFigures reading writing parsing config
+    (λ told. IsStatsText config format timed (events_in span told))
     from to start finish before after outcome
-PrintsBy reading writing parsing config timed from to start finish before after outcome
+PrintsBy reading writing parsing config timed span from to start finish before after outcome
     (Gaps format) =
-    PrintsEvents reading writing parsing config (text_of_gaps format)
+    PrintsEvents reading writing parsing config (λ told. text_of_gaps format (events_in span told))
     from to start finish before after outcome
-PrintsBy reading writing parsing config timed from to start finish before after outcome
+PrintsBy reading writing parsing config timed span from to start finish before after outcome
     (Periods style) =
-    PrintsEvents reading writing parsing config (text_of_periods style (venues_in config))
+    PrintsEvents reading writing parsing config
+    (λ told. periods_in config style (events_in span told))
+    from to start finish before after outcome
+PrintsBy reading writing parsing config timed span from to start finish before after outcome
+    (BestTimes style) =
+    PrintsEvents reading writing parsing config
+    (λ told. best_times_in config style (events_in span told))
     from to start finish before after outcome
 
 -- the settings as a replay takes them; it makes at most 1,000,000,000 calls of the reader
@@ -132,7 +186,7 @@ pub record PrintsAsked {R S F W : Type 0} (reading : Reading R) (writing : Writi
   pub config : ReplayConfig
   pub is : IsConfigOf settings config
   pub prints : PrintsBy reading writing parsing config (is_packet_input settings.input)
-      from to start finish before after outcome settings.output
+      settings.span from to start finish before after outcome settings.output
   pub lacks : OnOk outcome (AppendsLacks reading parsing config from to start finish old new)
   pub absent_are : OnOk outcome
       (LeavesAbsent reading parsing config from to start finish outcome is_watched absent)

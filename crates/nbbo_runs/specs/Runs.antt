@@ -115,27 +115,28 @@ pub record Converted {R W E : Type 0} (devices : Devices R W E) (words : List Te
 -- A text that was asked for is on output, and nothing on standard error, with status 0. Where it
 -- couldn't be written whole, that is the run's fault.
 abbrev pub Shows : {W E : Type 0} (writing : Writing W) (telling : Writing E) (text : List ℕ)
-    (before after : W) (silent told : E) (status : ℕ) → Type 0
-Shows writing telling text before after silent told status =
-    (writing.adds before text after × (told ≡ silent) × (status ≡ 0))
+    (before after : W) (errors_before errors_after : E) (status : ℕ) → Type 0
+Shows writing telling text before after errors_before errors_after status =
+    (writing.adds before text after × (errors_after ≡ errors_before) × (status ≡ 0))
     ⊎ (Wrote writing.adds before text after × (writing.failures after ≡ writing.failures before + 1)
-    × Says telling write_failed_text silent told × (status ≡ 1))
+    × Says telling write_failed_text errors_before errors_after × (status ≡ 1))
 
 -- Nothing is on output, and the reason on standard error.
 pub record Complains {W E : Type 0} (telling : Writing E) (text : List ℕ) (due : ℕ)
-    (before after : W) (silent told : E) (status : ℕ) : Type 0 where
+    (before after : W) (errors_before errors_after : E) (status : ℕ) : Type 0 where
   pub same : after ≡ before
-  pub says : Says telling text silent told
+  pub says : Says telling text errors_before errors_after
   pub ends : status ≡ due
 
 -- A refusal is printed: help and the version on output, all else on standard error.
 pub record TellsRefusal {W E : Type 0} (writing : Writing W) (telling : Writing E)
-    (refusal : Refusal) (before after : W) (silent told : E) (status : ℕ) : Type 0 where
+    (refusal : Refusal) (before after : W) (errors_before errors_after : E) (status : ℕ)
+    : Type 0 where
   pub asked : refusal_status refusal ≡ 0
-      → Shows writing telling (refusal_text refusal) before after silent told status
+      → Shows writing telling (refusal_text refusal) before after errors_before errors_after status
   pub refused : refusal_status refusal ≢ 0
       → Complains telling (refusal_text refusal) (refusal_status refusal)
-      before after silent told status
+      before after errors_before errors_after status
 
 -- The words are refused, and nothing was read.
 pub record Refused {R W E : Type 0} (devices : Devices R W E) (words : List Text)

@@ -1,7 +1,7 @@
 -- The sessions that come at a venue and aren't its first: what is seen of them, the rows of that,
 -- and what is said of them at the end.
 use Rattle.std.specs.Prelude.{ℕ, ◌+◌, ◌==◌, Bool, true, false, ◌&&◌, nat_lt, nat_le, List, [], ◌∷◌, ◌++◌, codes, decimal, flat_map, length, take, slice_get, Option, None, Some, if◌then◌else◌}
-use Rattle.std.specs.List.{list_all, list_any, sum_by}
+use Rattle.std.specs.List.{list_any, sum_by}
 use Rattle.std.specs.Str.{bytes_eq}
 use Rattle.feed_text.specs.declared.record_format.Step.{Step}
 use Rattle.feed_text.specs.declared.record_format.Step.TheVariants.{Came}
@@ -9,6 +9,7 @@ use Rattle.feed_text.specs.Capture.{CaptureRecord, datagram_record, record_of, r
 use Rattle.feed_text.specs.Formats.{TimedRecord}
 use Rattle.line_discovery.specs.KeyedRows.{Keying, keyed_rows}
 use Rattle.line_discovery.specs.Tables.{up_to_most}
+use Rattle.run_notes.specs.SessionNames.{name_texts}
 use Rattle.nbbo_runs.specs.declared.session_row.SessionRow.{SessionRow}
 use Rattle.nbbo_runs.specs.declared.session_row.SessionSighting.{SessionSighting}
 use Rattle.nbbo_runs.specs.declared.session_row.VenueSession.{VenueSession}
@@ -87,15 +88,6 @@ session_rows seen = keyed_rows by_session seen
 abbrev pub datagrams_text : ℕ → List ℕ
 datagrams_text count =
     if count == 1 then codes " datagram of session " else codes " datagrams of session "
-
--- a byte that a terminal can show
-abbrev pub is_shown : ℕ → Bool
-is_shown b = nat_le 32 b && nat_lt b 127
-
-abbrev pub name_texts : List ℕ → List (List ℕ)
-name_texts name =
-    if list_all is_shown name then codes "\"" ∷ name ∷ codes "\"" ∷ []
-    else codes "(bytes that can't be shown)" ∷ []
 
 abbrev pub refused_texts : ℕ → ℕ → List (List ℕ)
 refused_texts venue count =

@@ -1,106 +1,11 @@
-//! What is said of symbols of which no item came, on standard error.
-ghost use Rattle.std.specs.Prelude.{◌≡◌, ◌&&◌, flat_map, if◌then◌else◌, length, nat_lt, take};
-ghost use Rattle.feed_text.specs.StandardError.{Says, SaysEach};
-ghost use Rattle.feed_types.specs.Symbols.{key_of, name_of};
-ghost use Rattle.nbbo_runs.specs.AbsentSymbols.{absent_texts, has_key, more_symbols_text, more_symbols_texts, symbol_texts, symbols_with, texts_if, told_absent};
+//! What is said of symbols of which no item came, after a run of the program.
+ghost use Rattle.feed_text.specs.StandardError.{SaysEach};
+ghost use Rattle.nbbo_runs.specs.AbsentSymbols.{told_absent};
+ghost use Rattle.run_notes.specs.AbsentSymbols.{symbols_with};
 
-use crate::absent_symbols::AbsentSymbols;
-use feed_text::{TextOut, write_all, write_number, write_stderr};
+use feed_text::TextOut;
 use feed_types::SymbolName;
-
-/// The most symbols that are named.
-const MOST: usize = 8;
-
-/// Writes the name of a symbol.
-fn write_name<E: TextOut>(symbol: &SymbolName, errors: &mut E)
-    ensures { Says (record { adds = E.adds; failures = E.failures })
-        (name_of symbol.now) errors.old errors.new }
-{
-    let _ = write_all(symbol.name(), errors);
-}
-
-/// Writes that a symbol never came.
-fn write_symbol<E: TextOut>(symbol: &SymbolName, errors: &mut E)
-    ensures { SaysEach (record { adds = E.adds; failures = E.failures })
-        (symbol_texts symbol.now) errors.old errors.new }
-{
-    write_stderr("nbbo: symbol ", errors);
-    write_name(symbol, errors);
-    write_stderr(" never came\n", errors);
-}
-
-/// Returns whether a symbol is absent, and to be named after this many others.
-fn is_named(symbol: &SymbolName, absent: &AbsentSymbols, before: usize) -> bool
-    ensures { result ≡ (nat_lt before 8 && has_key absent.now (key_of symbol.now)) }
-{
-    before < MOST && absent.has(*symbol)
-}
-
-/// Writes that a symbol never came, if it is to be named. Returns how many were named.
-fn write_if<E: TextOut>(is_named: bool, symbol: &SymbolName, errors: &mut E) -> usize
-    ensures says { SaysEach (record { adds = E.adds; failures = E.failures })
-        (texts_if is_named symbol.now) errors.old errors.new }
-    ensures count { result ≡ (if is_named then 1 else 0) }
-{
-    if !is_named {
-        return 0;
-    }
-    write_symbol(symbol, errors);
-    1
-}
-
-/// Writes that the first eight of the symbols that are absent never came.
-fn write_first<E: TextOut>(symbols: &[SymbolName], absent: &AbsentSymbols, errors: &mut E)
-    ensures { SaysEach (record { adds = E.adds; failures = E.failures })
-        (flat_map symbol_texts (take 8 (symbols_with absent.now symbols.now)))
-        errors.old errors.new }
-{
-    let mut named = 0;
-    for symbol in symbols {
-        named += write_if(is_named(symbol, absent, named), symbol, errors);
-    }
-}
-
-/// Returns how many of the symbols are absent.
-fn count_absent(symbols: &[SymbolName], absent: &AbsentSymbols) -> usize
-    ensures { result ≡ length (symbols_with absent.now symbols.now) }
-{
-    symbols.iter().filter(|symbol| absent.has(**symbol)).count()
-}
-
-/// What stands after a count of symbols.
-fn more_symbols(count: u64) -> &'static str
-    ensures { result.now ≡ more_symbols_text count }
-{
-    if count == 1 {
-        " more symbol never came\n"
-    } else {
-        " more symbols never came\n"
-    }
-}
-
-/// Writes how many symbols more never came, if any.
-fn write_more<E: TextOut>(count: u64, errors: &mut E)
-    ensures { SaysEach (record { adds = E.adds; failures = E.failures })
-        (more_symbols_texts count) errors.old errors.new }
-{
-    if count == 0 {
-        return;
-    }
-    write_stderr("nbbo: ", errors);
-    write_number(count, errors);
-    write_stderr(more_symbols(count), errors);
-}
-
-/// Writes which of the symbols are absent: the first of them, and how many more.
-fn write_absent<E: TextOut>(symbols: &[SymbolName], absent: &AbsentSymbols, errors: &mut E)
-    ensures { SaysEach (record { adds = E.adds; failures = E.failures })
-        (absent_texts (symbols_with absent.now symbols.now)) errors.old errors.new }
-{
-    write_first(symbols, absent, errors);
-    let more = count_absent(symbols, absent).saturating_sub(MOST);
-    write_more(more as u64, errors);
-}
+use run_notes::{AbsentSymbols, write_absent};
 
 /// Writes which of the symbols are absent after a run with this outcome, if that is told.
 pub(crate) fn tell_absent<F, E: TextOut>(

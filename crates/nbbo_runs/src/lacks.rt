@@ -33,8 +33,11 @@ fn is_part(output: RunOutput) -> bool
 {
     match output {
         RunOutput::Lines => false,
-        RunOutput::Bests(_) | RunOutput::Stats(_) | RunOutput::Gaps(_) | RunOutput::Periods(_) =>
-            true,
+        RunOutput::Bests(_)
+        | RunOutput::Stats(_)
+        | RunOutput::Gaps(_)
+        | RunOutput::Periods(_)
+        | RunOutput::BestTimes(_) => true,
     }
 }
 

@@ -17,7 +17,6 @@
 #![tactic(auto)]
 
 mod absent_report;
-mod absent_symbols;
 mod capture_report;
 mod config;
 mod discovery;

@@ -1,26 +1,27 @@
 //! What is printed of a replay.
-ghost use Rattle.std.specs.Prelude.{◌≡◌, [], Err, IfErr, IfOk, IsOkAnd, OnOk, true, false, vec_len};
+ghost use Rattle.std.specs.Prelude.{◌≡◌, [], Err, IfErr, IfOk, IsOkAnd, vec_len};
 ghost use Rattle.feed_text.specs.declared.replay_stop.ReplayStop.TheVariants.{NoMemory};
 ghost use Rattle.feed_text.specs.EventReplays.{venues_in};
-ghost use Rattle.feed_text.specs.Lacks.{AppendsLacks};
 ghost use Rattle.feed_text.specs.Replays.{CanReplay, text_told};
+ghost use Rattle.replay_reports.specs.best_times.BestTimeSinks.{IsNewBestTimes};
+ghost use Rattle.replay_reports.specs.gaps.GapSinks.{IsNewGapRows};
 ghost use Rattle.replay_reports.specs.gaps.GapTexts.{text_of_gaps};
 ghost use Rattle.replay_reports.specs.periods.PeriodSinks.{IsNewPeriods};
-ghost use Rattle.replay_reports.specs.periods.PeriodTexts.{text_of_periods};
-ghost use Rattle.replay_reports.specs.rows.RowSinks.{text_of_rows};
-ghost use Rattle.nbbo_runs.specs.AbsentSymbols.{LeavesAbsent, symbols_with};
-ghost use Rattle.nbbo_runs.specs.Printing.{IsTextOfSink, PrintsAsked, PrintsEvents, PrintsFigures, PrintsText};
+ghost use Rattle.replay_reports.specs.rows.RowSinks.{IsNewRows, text_of_rows};
+ghost use Rattle.replay_reports.specs.spans.SpanEvents.{events_in};
+ghost use Rattle.run_notes.specs.AbsentSymbols.{symbols_with};
+ghost use Rattle.nbbo_runs.specs.Printing.{IsTextOfSink, PrintsAsked, PrintsCounted, PrintsText, PrintsWatched, best_times_in, periods_in};
 
-use crate::config::config_of;
+use crate::config::{RunConfig, config_of};
 use crate::lacks::is_packet_input;
 use crate::watched_sink::{Missing, replay_watched};
-use feed_text::replay::ReplayConfig;
 use feed_text::{
     CaptureIn, LineBuffer, RecordFormat, ReplayStop, Replayed, TextOut, TextPage, TextSink,
     write_all,
 };
 use replay_reports::{
-    BestRows, GapRows, PeriodCounts, PeriodRows, RowStyle, StatsSink, TimedStats,
+    BestRows, BestTimeRows, GapRows, PeriodCounts, PeriodRows, RowStyle, SpanSink, StatsSink,
+    TimedStats, new_times,
 };
 use run_settings::{PeriodStyle, RowFormat, RunOutput, RunSettings, StatsFormat};
 use std::alloc::{AllocError, Global};
@@ -52,39 +53,48 @@ fn page_before<W>(alloc: Global, output: W) -> Result<TextPage<W>, W>
 /// missing at the end is left in `missing`.
 fn print_lines<R: CaptureIn, F: RecordFormat, W: TextOut>(
     alloc: Global,
-    config: &ReplayConfig<'_>,
+    config: &RunConfig<'_>,
     format: &mut F,
     input: &mut R,
     output: W,
     missing: &mut Missing,
 ) -> Replayed<W, F::Fault>
-    requires can { CanReplay config.now }
-    requires of_venues { F.venues format.old ≡ venues_in config.now }
-    ensures prints { PrintsEvents
+    requires can { CanReplay config.now.replay }
+    requires of_venues { F.venues format.old ≡ venues_in config.now.replay }
+    ensures { PrintsWatched
         (record { gives = R.gives; ends = R.ends; failures = R.failures; fails = R.fails })
         (record { adds = W.adds; failures = W.failures })
         (record { reads = F.reads; wants = F.wants; is_bad = F.is_bad; is_whole = F.is_whole })
-        config.now text_told input.old input.new format.old format.new
-        output result.sink result.outcome }
-    ensures lacks { OnOk result.outcome (AppendsLacks
-        (record { gives = R.gives; ends = R.ends; failures = R.failures; fails = R.fails })
-        (record { reads = F.reads; wants = F.wants; is_bad = F.is_bad; is_whole = F.is_whole })
-        config.now input.old input.new format.old format.new
-        missing.old.lacks.items missing.new.lacks.items) }
-    ensures absent { OnOk result.outcome (LeavesAbsent
-        (record { gives = R.gives; ends = R.ends; failures = R.failures; fails = R.fails })
-        (record { reads = F.reads; wants = F.wants; is_bad = F.is_bad; is_whole = F.is_whole })
-        config.now input.old input.new format.old format.new result.outcome
-        missing.old.is_watched (symbols_with missing.new.absent config.now.symbols.now)) }
+        config.now.replay text_told
+        input.old input.new format.old format.new output result.sink missing.old missing.new
+        result.outcome }
 {
     let page = match page_before(alloc, output) {
         Ok(page) => page,
         Err(output) => return without_memory(output),
     };
-    let replayed = replay_watched(alloc, config, format, input, TextSink::new(page), missing);
+    let replayed = replay_watched(
+        alloc,
+        &config.replay,
+        format,
+        input,
+        TextSink::new(page),
+        missing,
+    );
     Replayed {
         sink: replayed.sink.into_writer(),
         outcome: replayed.outcome,
+    }
+}
+
+/// The rows of best lines, before the output. Where memory is refused the output is returned.
+fn rows_before<W>(alloc: Global, style: RowStyle, output: W) -> Result<BestRows<W>, W>
+    ensures rows { IfOk result (IsNewRows output style) }
+    ensures refused { IfErr result (λ back. back ≡ output) }
+{
+    match page_before(alloc, output) {
+        Ok(page) => Ok(BestRows::new(page, style)),
+        Err(output) => Err(output),
     }
 }
 
@@ -92,41 +102,47 @@ fn print_lines<R: CaptureIn, F: RecordFormat, W: TextOut>(
 /// the outcome. What is missing at the end is left in `missing`.
 fn print_rows<R: CaptureIn, F: RecordFormat, W: TextOut>(
     alloc: Global,
-    config: &ReplayConfig<'_>,
+    config: &RunConfig<'_>,
     style: RowStyle,
     format: &mut F,
     input: &mut R,
     output: W,
     missing: &mut Missing,
 ) -> Replayed<W, F::Fault>
-    requires can { CanReplay config.now }
-    requires of_venues { F.venues format.old ≡ venues_in config.now }
-    ensures prints { PrintsEvents
+    requires can { CanReplay config.now.replay }
+    requires of_venues { F.venues format.old ≡ venues_in config.now.replay }
+    ensures { PrintsWatched
         (record { gives = R.gives; ends = R.ends; failures = R.failures; fails = R.fails })
         (record { adds = W.adds; failures = W.failures })
         (record { reads = F.reads; wants = F.wants; is_bad = F.is_bad; is_whole = F.is_whole })
-        config.now (text_of_rows style) input.old input.new format.old format.new
-        output result.sink result.outcome }
-    ensures lacks { OnOk result.outcome (AppendsLacks
-        (record { gives = R.gives; ends = R.ends; failures = R.failures; fails = R.fails })
-        (record { reads = F.reads; wants = F.wants; is_bad = F.is_bad; is_whole = F.is_whole })
-        config.now input.old input.new format.old format.new
-        missing.old.lacks.items missing.new.lacks.items) }
-    ensures absent { OnOk result.outcome (LeavesAbsent
-        (record { gives = R.gives; ends = R.ends; failures = R.failures; fails = R.fails })
-        (record { reads = F.reads; wants = F.wants; is_bad = F.is_bad; is_whole = F.is_whole })
-        config.now input.old input.new format.old format.new result.outcome
-        missing.old.is_watched (symbols_with missing.new.absent config.now.symbols.now)) }
+        config.now.replay (λ told. text_of_rows style (events_in config.now.span told))
+        input.old input.new format.old format.new output result.sink missing.old missing.new
+        result.outcome }
 {
-    let page = match page_before(alloc, output) {
-        Ok(page) => page,
-        Err(output) => return without_memory(output),
-    };
-    let rows = BestRows::new(page, style);
-    let replayed = replay_watched(alloc, config, format, input, rows, missing);
-    Replayed {
-        sink: replayed.sink.into_writer(),
-        outcome: replayed.outcome,
+    match rows_before(alloc, style, output) {
+        Ok(rows) => {
+            let rows = SpanSink {
+                sink: rows,
+                span: config.span,
+            };
+            let replayed = replay_watched(alloc, &config.replay, format, input, rows, missing);
+            Replayed {
+                sink: replayed.sink.sink.into_writer(),
+                outcome: replayed.outcome,
+            }
+        }
+        Err(output) => without_memory(output),
+    }
+}
+
+/// The rows of gaps, before the output. Where memory is refused the output is returned.
+fn gaps_before<W>(alloc: Global, format: RowFormat, output: W) -> Result<GapRows<W>, W>
+    ensures rows { IfOk result (IsNewGapRows output format) }
+    ensures refused { IfErr result (λ back. back ≡ output) }
+{
+    match page_before(alloc, output) {
+        Ok(page) => Ok(GapRows::new(page, format)),
+        Err(output) => Err(output),
     }
 }
 
@@ -134,56 +150,52 @@ fn print_rows<R: CaptureIn, F: RecordFormat, W: TextOut>(
 /// outcome. What is missing at the end is left in `missing`.
 fn print_gaps<R: CaptureIn, F: RecordFormat, W: TextOut>(
     alloc: Global,
-    config: &ReplayConfig<'_>,
+    config: &RunConfig<'_>,
     rows: RowFormat,
     format: &mut F,
     input: &mut R,
     output: W,
     missing: &mut Missing,
 ) -> Replayed<W, F::Fault>
-    requires can { CanReplay config.now }
-    requires of_venues { F.venues format.old ≡ venues_in config.now }
-    ensures prints { PrintsEvents
+    requires can { CanReplay config.now.replay }
+    requires of_venues { F.venues format.old ≡ venues_in config.now.replay }
+    ensures { PrintsWatched
         (record { gives = R.gives; ends = R.ends; failures = R.failures; fails = R.fails })
         (record { adds = W.adds; failures = W.failures })
         (record { reads = F.reads; wants = F.wants; is_bad = F.is_bad; is_whole = F.is_whole })
-        config.now (text_of_gaps rows) input.old input.new format.old format.new
-        output result.sink result.outcome }
-    ensures lacks { OnOk result.outcome (AppendsLacks
-        (record { gives = R.gives; ends = R.ends; failures = R.failures; fails = R.fails })
-        (record { reads = F.reads; wants = F.wants; is_bad = F.is_bad; is_whole = F.is_whole })
-        config.now input.old input.new format.old format.new
-        missing.old.lacks.items missing.new.lacks.items) }
-    ensures absent { OnOk result.outcome (LeavesAbsent
-        (record { gives = R.gives; ends = R.ends; failures = R.failures; fails = R.fails })
-        (record { reads = F.reads; wants = F.wants; is_bad = F.is_bad; is_whole = F.is_whole })
-        config.now input.old input.new format.old format.new result.outcome
-        missing.old.is_watched (symbols_with missing.new.absent config.now.symbols.now)) }
+        config.now.replay (λ told. text_of_gaps rows (events_in config.now.span told))
+        input.old input.new format.old format.new output result.sink missing.old missing.new
+        result.outcome }
 {
-    let page = match page_before(alloc, output) {
-        Ok(page) => page,
-        Err(output) => return without_memory(output),
-    };
-    let gaps = GapRows::new(page, rows);
-    let replayed = replay_watched(alloc, config, format, input, gaps, missing);
-    Replayed {
-        sink: replayed.sink.into_writer(),
-        outcome: replayed.outcome,
+    match gaps_before(alloc, rows, output) {
+        Ok(rows) => {
+            let rows = SpanSink {
+                sink: rows,
+                span: config.span,
+            };
+            let replayed = replay_watched(alloc, &config.replay, format, input, rows, missing);
+            Replayed {
+                sink: replayed.sink.sink.into_writer(),
+                outcome: replayed.outcome,
+            }
+        }
+        Err(output) => without_memory(output),
     }
 }
 
 /// The rows of the periods of the venues, before the output. Where memory is refused the output is
 /// returned.
-fn rows_before<W>(
+fn periods_before<W>(
     alloc: Global,
-    config: &ReplayConfig<'_>,
+    config: &RunConfig<'_>,
     style: PeriodStyle,
     output: W,
 ) -> Result<PeriodRows<W>, W>
-    ensures rows { IfOk result (IsNewPeriods output style (venues_in config.now)) }
+    ensures rows { IfOk result (IsNewPeriods output
+        (record { style = style; venues = venues_in config.now.replay })) }
     ensures refused { IfErr result (λ back. back ≡ output) }
 {
-    let Ok(counts) = PeriodCounts::new(alloc, config.sessions.len()) else {
+    let Ok(counts) = PeriodCounts::new(alloc, config.replay.sessions.len()) else {
         return Err(output);
     };
     match page_before(alloc, output) {
@@ -196,37 +208,96 @@ fn rows_before<W>(
 /// outcome. What is missing at the end is left in `missing`.
 fn print_periods<R: CaptureIn, F: RecordFormat, W: TextOut>(
     alloc: Global,
-    config: &ReplayConfig<'_>,
+    config: &RunConfig<'_>,
     style: PeriodStyle,
     format: &mut F,
     input: &mut R,
     output: W,
     missing: &mut Missing,
 ) -> Replayed<W, F::Fault>
-    requires can { CanReplay config.now }
-    requires of_venues { F.venues format.old ≡ venues_in config.now }
-    ensures prints { PrintsEvents
+    requires can { CanReplay config.now.replay }
+    requires of_venues { F.venues format.old ≡ venues_in config.now.replay }
+    ensures { PrintsWatched
         (record { gives = R.gives; ends = R.ends; failures = R.failures; fails = R.fails })
         (record { adds = W.adds; failures = W.failures })
         (record { reads = F.reads; wants = F.wants; is_bad = F.is_bad; is_whole = F.is_whole })
-        config.now (text_of_periods style (venues_in config.now)) input.old input.new
-        format.old format.new output result.sink result.outcome }
-    ensures lacks { OnOk result.outcome (AppendsLacks
-        (record { gives = R.gives; ends = R.ends; failures = R.failures; fails = R.fails })
-        (record { reads = F.reads; wants = F.wants; is_bad = F.is_bad; is_whole = F.is_whole })
-        config.now input.old input.new format.old format.new
-        missing.old.lacks.items missing.new.lacks.items) }
-    ensures absent { OnOk result.outcome (LeavesAbsent
-        (record { gives = R.gives; ends = R.ends; failures = R.failures; fails = R.fails })
-        (record { reads = F.reads; wants = F.wants; is_bad = F.is_bad; is_whole = F.is_whole })
-        config.now input.old input.new format.old format.new result.outcome
-        missing.old.is_watched (symbols_with missing.new.absent config.now.symbols.now)) }
+        config.now.replay
+        (λ told. periods_in config.now.replay style (events_in config.now.span told))
+        input.old input.new format.old format.new output result.sink missing.old missing.new
+        result.outcome }
 {
-    match rows_before(alloc, config, style, output) {
+    match periods_before(alloc, config, style, output) {
         Ok(rows) => {
-            let replayed = replay_watched(alloc, config, format, input, rows, missing);
+            let rows = SpanSink {
+                sink: rows,
+                span: config.span,
+            };
+            let replayed = replay_watched(alloc, &config.replay, format, input, rows, missing);
             Replayed {
-                sink: replayed.sink.into_writer(),
+                sink: replayed.sink.sink.into_writer(),
+                outcome: replayed.outcome,
+            }
+        }
+        Err(output) => without_memory(output),
+    }
+}
+
+/// The rows of how long national bests stood, before the output. Where memory is refused the output
+/// is returned.
+fn best_times_before<W>(
+    alloc: Global,
+    config: &RunConfig<'_>,
+    style: PeriodStyle,
+    output: W,
+) -> Result<BestTimeRows<W>, W>
+    ensures rows { IfOk result (IsNewBestTimes output (record {
+      style = style;
+      venues = venues_in config.now.replay;
+      symbols = config.now.replay.symbols.now;
+    })) }
+    ensures refused { IfErr result (λ back. back ≡ output) }
+{
+    let Ok(times) = new_times(alloc, config.replay.symbols) else {
+        return Err(output);
+    };
+    let venues = config.replay.sessions.len();
+    match page_before(alloc, output) {
+        Ok(page) => Ok(BestTimeRows::new(page, style, venues, times)),
+        Err(output) => Err(output),
+    }
+}
+
+/// Replays a capture, and prints the rows of how long national bests stood in its periods in a
+/// style. Returns the output beside the outcome. What is missing at the end is left in `missing`.
+fn print_best_times<R: CaptureIn, F: RecordFormat, W: TextOut>(
+    alloc: Global,
+    config: &RunConfig<'_>,
+    style: PeriodStyle,
+    format: &mut F,
+    input: &mut R,
+    output: W,
+    missing: &mut Missing,
+) -> Replayed<W, F::Fault>
+    requires can { CanReplay config.now.replay }
+    requires of_venues { F.venues format.old ≡ venues_in config.now.replay }
+    ensures { PrintsWatched
+        (record { gives = R.gives; ends = R.ends; failures = R.failures; fails = R.fails })
+        (record { adds = W.adds; failures = W.failures })
+        (record { reads = F.reads; wants = F.wants; is_bad = F.is_bad; is_whole = F.is_whole })
+        config.now.replay
+        (λ told. best_times_in config.now.replay style (events_in config.now.span told))
+        input.old input.new format.old format.new output result.sink missing.old missing.new
+        result.outcome }
+{
+    match best_times_before(alloc, config, style, output) {
+        Ok(rows) => {
+            let rows = SpanSink {
+                sink: rows,
+                span: config.span,
+            };
+            let replayed = replay_watched(alloc, &config.replay, format, input, rows, missing);
+            Replayed {
+                sink: replayed.sink.sink.into_writer(),
                 outcome: replayed.outcome,
             }
         }
@@ -263,37 +334,33 @@ struct Statistics<K> {
 /// the outcome. What is missing at the end is left in `missing`.
 fn print_stats<R: CaptureIn, F: RecordFormat, W: TextOut, K: StatsSink + Drop>(
     alloc: Global,
-    config: &ReplayConfig<'_>,
+    config: &RunConfig<'_>,
     stats: Statistics<K>,
     format: &mut F,
     input: &mut R,
     mut output: W,
     missing: &mut Missing,
 ) -> Replayed<W, F::Fault>
-    requires can { CanReplay config.now }
-    requires of_venues { F.venues format.old ≡ venues_in config.now }
-    ensures prints { PrintsFigures
+    requires can { CanReplay config.now.replay }
+    requires of_venues { F.venues format.old ≡ venues_in config.now.replay }
+    ensures { PrintsCounted
         (record { gives = R.gives; ends = R.ends; failures = R.failures; fails = R.fails })
         (record { adds = W.adds; failures = W.failures })
         (record { reads = F.reads; wants = F.wants; is_bad = F.is_bad; is_whole = F.is_whole })
-        config.now (IsTextOfSink K.takes (λ sink. K.is_text sink stats.form) stats.made)
-        input.old input.new format.old format.new output result.sink result.outcome }
-    ensures lacks { OnOk result.outcome (AppendsLacks
-        (record { gives = R.gives; ends = R.ends; failures = R.failures; fails = R.fails })
-        (record { reads = F.reads; wants = F.wants; is_bad = F.is_bad; is_whole = F.is_whole })
-        config.now input.old input.new format.old format.new
-        missing.old.lacks.items missing.new.lacks.items) }
-    ensures absent { OnOk result.outcome (LeavesAbsent
-        (record { gives = R.gives; ends = R.ends; failures = R.failures; fails = R.fails })
-        (record { reads = F.reads; wants = F.wants; is_bad = F.is_bad; is_whole = F.is_whole })
-        config.now input.old input.new format.old format.new result.outcome
-        missing.old.is_watched (symbols_with missing.new.absent config.now.symbols.now)) }
+        config.now.replay (λ told. IsTextOfSink K.takes (λ sink. K.is_text sink stats.form)
+        stats.made (events_in config.now.span told))
+        input.old input.new format.old format.new output result.sink missing.old missing.new
+        result.outcome }
 {
     let Statistics { made, form } = stats;
     let Ok(sink) = made else {
         return without_memory(output);
     };
-    let replayed = replay_watched(alloc, config, format, input, sink, missing);
+    let sink = SpanSink {
+        sink,
+        span: config.span,
+    };
+    let replayed = replay_watched(alloc, &config.replay, format, input, sink, missing);
     let printed = write_text(replayed.sink.text(alloc, form), &mut output);
     Replayed {
         sink: output,
@@ -334,9 +401,13 @@ pub fn print<R: CaptureIn, F: RecordFormat, W: TextOut>(
         RunOutput::Periods(style) => {
             print_periods(alloc, &config, style, format, input, output, missing)
         }
+        RunOutput::BestTimes(style) => {
+            print_best_times(alloc, &config, style, format, input, output, missing)
+        }
         RunOutput::Stats(form) => {
-            let venues = config.sessions.len();
-            let made = TimedStats::new(alloc, venues, config.window as usize, timed);
+            let venues = config.replay.sessions.len();
+            let window = config.replay.window as usize;
+            let made = TimedStats::new(alloc, venues, window, timed);
             let stats = Statistics { made, form };
             print_stats(alloc, &config, stats, format, input, output, missing)
         }

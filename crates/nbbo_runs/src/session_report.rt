@@ -1,12 +1,12 @@
 //! What is said of sessions that nothing names, on standard error.
 ghost use Rattle.std.specs.Prelude.{◌≡◌, false, flat_map};
-ghost use Rattle.std.specs.List.{list_all};
-ghost use Rattle.feed_text.specs.StandardError.{Says, SaysEach};
-ghost use Rattle.nbbo_runs.specs.Sessions.{datagrams_text, full_texts, is_shown, name_texts, refused_texts, row_texts, session_texts, sessions_texts};
+ghost use Rattle.feed_text.specs.StandardError.{SaysEach};
+ghost use Rattle.nbbo_runs.specs.Sessions.{datagrams_text, full_texts, refused_texts, row_texts, session_texts, sessions_texts};
 
 use crate::session_row::SessionRow;
-use feed_text::{TextOut, write_all, write_number, write_stderr};
+use feed_text::{TextOut, write_number, write_stderr};
 use feed_types::VenueId;
+use run_notes::write_session_name;
 
 /// The most rows of sessions.
 const MOST: usize = 64;
@@ -20,35 +20,6 @@ fn datagrams(count: u64) -> &'static str
     } else {
         " datagrams of session "
     }
-}
-
-/// Returns whether a terminal can show all of a name.
-fn is_shown(name: &[u8]) -> bool
-    ensures { result ≡ list_all is_shown name.now }
-{
-    name.iter().all(|b| *b >= 32 && *b < 127)
-}
-
-/// Writes a name as it is.
-fn write_bytes<E: TextOut>(name: &[u8; 10], errors: &mut E)
-    ensures { Says (record { adds = E.adds; failures = E.failures })
-        name.now errors.old errors.new }
-{
-    let _ = write_all(name, errors);
-}
-
-/// Writes the name of a session.
-fn write_name<E: TextOut>(name: &[u8; 10], errors: &mut E)
-    ensures { SaysEach (record { adds = E.adds; failures = E.failures })
-        (name_texts name.now) errors.old errors.new }
-{
-    if !is_shown(name) {
-        write_stderr("(bytes that can't be shown)", errors);
-        return;
-    }
-    write_stderr("\"", errors);
-    write_bytes(name, errors);
-    write_stderr("\"", errors);
 }
 
 /// Writes which venue refused how many datagrams.
@@ -69,7 +40,7 @@ fn write_unnamed<E: TextOut>(row: &SessionRow, errors: &mut E)
         (row_texts false row.now) errors.old errors.new }
 {
     write_refused(row.session.venue, row.datagrams, errors);
-    write_name(&row.session.name, errors);
+    write_session_name(&row.session.name, errors);
     write_stderr(", which isn't named\n", errors);
 }
 

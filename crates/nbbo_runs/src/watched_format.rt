@@ -1,5 +1,5 @@
 //! A format of captures whose datagrams are watched.
-ghost use Rattle.std.specs.Prelude.{◌≡◌, ◌++◌, length, slice_get, slice_index_or};
+ghost use Rattle.std.specs.Prelude.{◌≡◌, ◌++◌, IfNone, IfSome, None, Some, length, slice_get, slice_index_or};
 ghost use Rattle.feed_text.specs.StandardError.{SaysEach};
 ghost use Rattle.nbbo_runs.specs.Sessions.{datagram_sightings, is_first, name_in, sighted_by};
 ghost use Rattle.nbbo_runs.specs.Watches.{IsWatched, WatchedReads, first_venues_texts, seen_texts, silent_texts, unwatched, venue_texts, watch_texts, watched_by, watched_texts};
@@ -49,14 +49,16 @@ fn watch<F>(venues: &mut [VenueWatch], step: &Step<'_, F>)
 }
 
 /// Returns the name of the session in a datagram, if that is long enough for a packet's header.
+// It is lent: a copy for each datagram took some 40 instructions.
 #[inline(always)]
-fn name_in(bytes: &[u8]) -> Option<[u8; 10]>
-    ensures { result ≡ name_in bytes.now }
+fn name_in(bytes: &[u8]) -> Option<&[u8; 10]>
+    ensures found { IfSome result (λ name. name_in bytes.now ≡ Some name.now) }
+    ensures none { IfNone result (name_in bytes.now ≡ None) }
 {
     if bytes.len() < HEADER {
         return None;
     }
-    bytes.first_chunk::<10>().copied()
+    bytes.first_chunk::<10>()
 }
 
 /// Returns whether the venue's first session has this name, where there is such a venue.
@@ -79,11 +81,11 @@ fn note_datagram(seen: &mut SessionTable, sessions: &[[u8; 10]], venue: VenueId,
     let Some(name) = name_in(bytes) else {
         return;
     };
-    if is_first(sessions, venue, &name) {
+    if is_first(sessions, venue, name) {
         return;
     }
     seen.count(&SessionSighting {
-        session: VenueSession { venue, name },
+        session: VenueSession { venue, name: *name },
         is_renewal: false,
     });
 }

@@ -1,16 +1,18 @@
 //! A sink whose symbols are watched.
-ghost use Rattle.std.specs.Prelude.{◌≡◌, true, IfOk, OnOk};
+ghost use Rattle.std.specs.Prelude.{◌≡◌, ℕ, ◌&&◌, not, true, IfOk, OnOk};
 ghost use Rattle.feed_text.specs.EventReplays.{AnswersRun, venues_in};
 ghost use Rattle.feed_text.specs.Lacks.{AppendsLacks};
 ghost use Rattle.feed_text.specs.Replays.{CanReplay};
 ghost use Rattle.replay_run.specs.Printed.{facts_of_run};
-ghost use Rattle.nbbo_runs.specs.AbsentSymbols.{AreKeysOf, IsNewMissing, LeavesAbsent, symbols_with};
+ghost use Rattle.feed_text.specs.SinkEvents.{told_by};
+ghost use Rattle.nbbo_runs.specs.AbsentSymbols.{IsNewMissing, LeavesAbsent, brings_item};
+ghost use Rattle.run_notes.specs.AbsentSymbols.{AreKeysOf, has_key, symbols_with};
 
-use crate::absent_symbols::AbsentSymbols;
 use feed_text::replay::ReplayConfig;
 use feed_text::{CaptureIn, Event, EventSink, Lack, RecordFormat, ReplayStop, Replayed, SinkStop};
 use feed_types::SymbolName;
 use replay_run::replay;
+use run_notes::AbsentSymbols;
 use std::alloc::{AllocError, Global};
 
 /// A sink, and the symbols of which no item came to it yet.
@@ -18,6 +20,18 @@ use std::alloc::{AllocError, Global};
 pub struct WatchedSink<K> {
     pub(crate) sink: K,
     pub(crate) absent: AbsentSymbols,
+}
+
+/// Takes out the symbol of an event, if that is an item.
+#[inline(always)]
+fn note_event(absent: &mut AbsentSymbols, event: &Event<'_>)
+    ensures { (key : ℕ) → has_key absent.new key
+        ≡ (has_key absent.old key && not (brings_item key (told_by event.now))) }
+{
+    match event {
+        Event::Item { item, .. } => absent.note_any(&item.item),
+        _ => {}
+    }
 }
 
 impl<K: EventSink> EventSink for WatchedSink<K> {
@@ -40,7 +54,7 @@ impl<K: EventSink> EventSink for WatchedSink<K> {
 
     #[inline(always)]
     fn take(&mut self, time: Option<u64>, event: &Event<'_>) -> Result<(), SinkStop> {
-        self.absent.note_event(event);
+        note_event(&mut self.absent, event);
         self.sink.take(time, event)
     }
 

@@ -1,12 +1,18 @@
+use Rattle.std.proofs.Common.{◌≡◌, ℕ, List, []}
+use Rattle.feed_text.specs.SinkEvents.{TimedEvent}
 use Rattle.feed_text.specs.Devices.{Reading, Writing}
-use Rattle.feed_text.specs.EventReplays.{venues_in}
 use Rattle.feed_text.specs.Formats.{Parsing}
 use Rattle.replay_run.specs.Printed.{facts_of_run}
-use Rattle.nbbo_runs.proofs.PeriodPrints.{periods_printed}
+use Rattle.feed_text.specs.EventReplays.{venues_in}
+use Rattle.nbbo_runs.specs.Printing.{periods_in}
+use Rattle.replay_reports.specs.declared.periods.period_rows.PeriodRows.{PeriodRows}
+use Rattle.replay_reports.specs.declared.spans.span_sink.SpanSink.{SpanSink}
+use Rattle.replay_reports.specs.spans.SpanEvents.{events_in}
+use Rattle.nbbo_runs.proofs.SinkPrints.{periods_taking, periods_write, in_span, sink_printed, span_writes}
 use Rattle.nbbo_runs.proofs.printing.print_periods.Goals as goal
 
-pub returns-in-Ok-clause-prints : goal.returns-in-Ok-clause-prints
-returns-in-Ok-clause-prints g c =
+pub returns-in-Ok : goal.returns-in-Ok
+returns-in-Ok g c =
     let reading : Reading g.row.R.Denot = record {
       gives = g.R.CaptureIn.gives;
       ends = g.R.CaptureIn.ends;
@@ -22,9 +28,23 @@ returns-in-Ok-clause-prints g c =
       is_whole = g.F.RecordFormat.is_whole;
     } in
     let config = c.args.config.now in
-    let rows = c.in-Ok.rows in
-    let is = c.in-Ok.ensures.rows in
-    rw c.into_writer.ensures
-    (periods_printed reading writing parsing config (facts_of_run config) c.args.style
-    (venues_in config) c.args.output rows c.replay_watched-replayed.result.sink is _ _ _ _
-    c.replay_watched-replayed.result.outcome c.replay_watched-replayed.ensures.headline)
+    let old : SpanSink (PeriodRows g.row.W.Denot) =
+    record { sink = c.in-Ok.rows; span = config.span } in
+    let new = c.replay_watched-replayed.result.sink in
+    let text : List TimedEvent → List ℕ = periods_in config.replay c.args.style in
+    let writes = span_writes writing (periods_taking writing)
+    (λ s. s.page.text.items ≡ []) (λ s. s.page.writer) text c.args.output old new
+    (periods_write writing c.args.output
+    (record { style = c.args.style; venues = venues_in config.replay }) old.sink new.sink
+    c.in-Ok.ensures.rows) in
+    rw c.into_writer.ensures (record {
+      prints = sink_printed reading writing parsing config.replay (facts_of_run config.replay)
+          (in_span (periods_taking writing))
+          (λ s. s.sink.page.text.items ≡ []) (λ s. s.sink.page.writer)
+          (λ told. text (events_in config.span told)) c.args.output old new writes _ _ _ _
+          c.replay_watched-replayed.result.outcome c.replay_watched-replayed.ensures.headline;
+      missing = record {
+        lacks = c.replay_watched-replayed.ensures.lacks;
+        absent = c.replay_watched-replayed.ensures.absent;
+      };
+    })

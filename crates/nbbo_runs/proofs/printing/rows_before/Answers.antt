@@ -1,11 +1,8 @@
 use Rattle.std.proofs.Common.{subst}
-use Rattle.feed_text.specs.EventReplays.{venues_in}
-use Rattle.replay_reports.specs.periods.PeriodSinks.{IsNewPeriods}
+use Rattle.replay_reports.specs.rows.RowSinks.{IsNewRows}
 use Rattle.nbbo_runs.proofs.printing.rows_before.Goals as goal
 
-pub returns-in-Ok-page_before-clause-rows : goal.returns-in-Ok-page_before-clause-rows
-returns-in-Ok-page_before-clause-rows g c =
-    let venues = venues_in c.args.config.now in
-    subst (λ writer. IsNewPeriods writer c.args.style venues c.new-in-Ok-page_before.result)
-    c.in-Ok-page_before.ensures.writer
-    (c.new-in-Ok-page_before.ensures venues (c.in-Ok.ensures c.args.style.length))
+pub returns-in-Ok-clause-rows : goal.returns-in-Ok-clause-rows
+returns-in-Ok-clause-rows g c =
+    subst (λ writer. IsNewRows writer c.args.style c.new.result)
+    c.in-Ok.ensures.writer c.new.ensures

@@ -5,7 +5,8 @@ use Rattle.feed_text.specs.Devices.{Reading, Writing}
 use Rattle.feed_text.specs.Formats.{Parsing}
 use Rattle.feed_text.specs.StandardError.{Says}
 use Rattle.feed_text.specs.laws.SaidTexts.{says_each}
-use Rattle.nbbo_runs.specs.AbsentSymbols.{symbols_with, told_absent}
+use Rattle.nbbo_runs.specs.AbsentSymbols.{told_absent}
+use Rattle.run_notes.specs.AbsentSymbols.{symbols_with}
 use Rattle.nbbo_runs.specs.Lacks.{tells_lacks, told_lacks}
 use Rattle.nbbo_runs.specs.Printing.{PrintsAsked}
 use Rattle.nbbo_runs.proofs.SaidLacks.{tells_absent, tells_items}
@@ -36,7 +37,7 @@ returns g c =
     let symbols = settings.feed.symbols.items in
     let absent = symbols_with missing.absent symbols in
     let finish = c.print-printed.new.format in
-    let silent = c.args.errors.now in
+    let errors_before = c.args.errors.now in
     let hinted = c.write_stderr.new.errors in
     let lacking = c.tell_lacks.new.errors in
     let said = c.tell_absent.new.errors in
@@ -59,7 +60,7 @@ returns g c =
           c.print-printed.ensures);
       says = (
         hinted,
-        subst (λ (text : List ℕ). Says telling text silent hinted) c.input_hint.ensures
+        subst (λ (text : List ℕ). Says telling text errors_before hinted) c.input_hint.ensures
             c.write_stderr.ensures,
         says_each telling (told_lacks outcome due lacks)
             (told_absent outcome due absent ++ end_texts) hinted lacking end

@@ -1,7 +1,8 @@
 use Rattle.std.proofs.Common.{[], ◌∷◌, ◌++◌, codes}
 use Rattle.feed_text.specs.Devices.{Writing}
 use Rattle.feed_text.specs.laws.SaidTexts.{says_each, says_one}
-use Rattle.nbbo_runs.specs.Sessions.{name_texts, refused_texts}
+use Rattle.nbbo_runs.specs.Sessions.{refused_texts}
+use Rattle.run_notes.specs.SessionNames.{name_texts}
 use Rattle.nbbo_runs.proofs.session_report.write_unnamed.Goals as goal
 
 pub returns : goal.returns
@@ -11,11 +12,12 @@ returns g c =
     let row = c.args.row.now in
     let name = name_texts row.session.name in
     let last = codes ", which isn't named\n" ∷ [] in
-    let silent = c.args.errors.now in
+    let errors_before = c.args.errors.now in
     let refused = c.write_refused.new.errors in
-    let named = c.write_name.new.errors in
+    let named = c.write_session_name.new.errors in
     let end = c.write_stderr.new.errors in
-    says_each w (refused_texts row.session.venue row.datagrams) (name ++ last) silent refused end
+    says_each w (refused_texts row.session.venue row.datagrams) (name ++ last) errors_before
+    refused end
     c.write_refused.ensures
-    (says_each w name last refused named end c.write_name.ensures
+    (says_each w name last refused named end c.write_session_name.ensures
     (says_one w (codes ", which isn't named\n") named end c.write_stderr.ensures))

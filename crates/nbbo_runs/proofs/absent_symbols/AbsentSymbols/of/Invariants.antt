@@ -1,6 +1,0 @@
-use Rattle.std.proofs.Common.{take}
-use Rattle.nbbo_runs.specs.AbsentSymbols.{AreKeysOf}
-use Rattle.nbbo_runs.proofs.absent_symbols.AbsentSymbols.of.Given as goal
-
-abbrev pub invariant-loop-symbol : goal.invariant-loop-symbol
-invariant-loop-symbol l = AreKeysOf (take l.symbol-index l.symbols) l.keys.keys
