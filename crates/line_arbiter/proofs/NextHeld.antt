@@ -12,7 +12,7 @@ use Rattle.line_arbiter.specs.States.{State, held_of}
 use Rattle.line_arbiter.specs.Outcomes.{IsBefore}
 use Rattle.line_arbiter.specs.Steps.{IsSound}
 use Rattle.line_arbiter.specs.laws.Bringing.{number_in}
-use Rattle.line_arbiter.proofs.Soundness.{held_some, none_past_end, put_is, still_none}
+use Rattle.line_arbiter.proofs.Soundness.{held_some, none_past_end, put_is, put_kept, still, still_none}
 use Rattle.line_arbiter.proofs.Windows.{in_window}
 
 none_held : (held : Held) (m : ℕ) → held_at held m ≡ None → IsSome (held_at held m) → ⊥
@@ -76,11 +76,6 @@ put_here sent p None m past low high =
     ) refl
 put_here sent p (Some x) m past low high = refl
 
-put_kept : (sent : ℕ) (p : Content) (found : Option Item) (m : ℕ) → IsSome found
-    → IsSome (put_all sent p found m)
-put_kept sent p None m some = absurd (false≢true some)
-put_kept sent p (Some x) m some = refl
-
 -- A packet was put in whose last message wasn't sent, and the front has moved over it.
 pub moved_from : (s : State) (new : Held) (p : Content) (front : ℕ) (next : Option ℕ)
     → IsSound s → IsNextHeld (held_of s) s.front next → 1 ≤ length p.messages
@@ -126,10 +121,6 @@ moved_from s new p front next sound is some unsent before after base from run st
                 ]
           ];
     }
-
-still : (b : Bool) (o : Option Item) → b ≡ false → (if b then None else o) ≡ o
-still true o e = absurd (false≢true (sym e))
-still false o e = refl
 
 -- the item that is sent is not past the front
 pub next_advanced : (s : State) (new : Held) (next : Option ℕ) → IsSound s

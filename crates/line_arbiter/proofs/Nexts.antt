@@ -1,6 +1,6 @@
 -- The item after the last one sent is the next of the stream.
 use Rattle.std.proofs.Common.{◌≡◌, ℕ, zero, suc, ◌+◌, ◌-◌, ◌<◌, ◌≤◌, Bool, true, false, List, [], ◌∷◌, ◌++◌, length, map, Option, Some, None, refl, sym, ap, subst, ◌∙◌, arith, inl, inr}
-use Rattle.std.specs.Prelude.{IsSome, slice_get, nat_eq, nat_le, ◌==◌, if◌then◌else◌}
+use Rattle.std.specs.Prelude.{IfNone, IfSome, IsSome, slice_get, nat_eq, nat_le, ◌==◌, if◌then◌else◌}
 use Rattle.std.specs.List.{range_with_len}
 use Rattle.std.specs.Option.{option_map, unwrap_or}
 use Rattle.std.proofs.lemmas.Bool.{cases_lt, le-ltb, lt-ltb, ne_eqb}
@@ -10,15 +10,17 @@ use Rattle.std.proofs.lemmas.Option.{slice_get-map, slice_get_past}
 use Rattle.feed_types.specs.declared.item.Item.{Item}
 use Rattle.feed_types.specs.declared.item.Item.TheVariants as items
 use Rattle.line_arbiter.specs.Packets.{Input, carried, end_of, first_of}
-use Rattle.line_arbiter.specs.Streams.{end_at, item_in, item_numbered, opens_of, stream_to, wins_of}
+use Rattle.line_arbiter.specs.Streams.{closed_of, end_at, item_in, item_numbered, opens_of, part_of, place_of, stream_of, stream_to, wins_of}
 use Rattle.line_arbiter.specs.Holding.{held_at}
-use Rattle.line_arbiter.specs.States.{State, held_of, next_from, next_of}
+use Rattle.feed_types.specs.declared.item.Numbered.{Numbered}
+use Rattle.line_arbiter.specs.States.{State, held_of, next_from, next_of, IsAdvanced}
 use Rattle.feed_types.specs.PerLines.{on_line}
 use Rattle.line_arbiter.specs.Counts.{shown}
+use Rattle.line_arbiter.specs.Fits.{Fits}
 use Rattle.line_arbiter.specs.Steps.{DropsNext, IsSound}
 use Rattle.line_arbiter.specs.laws.Fronts.{IsFront, opens_most}
 use Rattle.line_arbiter.proofs.Soundness.{before_end}
-use Rattle.line_arbiter.proofs.Standing.{Stands}
+use Rattle.line_arbiter.proofs.Standing.{Stands, stands_of}
 use Rattle.line_arbiter.specs.laws.Lengths.{end_most, length-stream}
 use Rattle.line_arbiter.proofs.Cursors.{held_is, end_len}
 
@@ -34,7 +36,7 @@ get_right [] ys n h = ap (slice_get ys) (sym h)
 get_right (x ∷ xs) ys zero h = absurd (omega arith)
 get_right (x ∷ xs) ys (suc n) h = get_right xs ys n (omega arith)
 
-pub get_past : {X : Type 0} (xs ys : List X) (k : ℕ)
+get_past : {X : Type 0} (xs ys : List X) (k : ℕ)
     → slice_get (xs ++ ys) (length xs + k) ≡ slice_get ys k
 get_past [] ys k = ap (slice_get ys) (omega arith)
 get_past (x ∷ xs) ys k = let e : length (x ∷ xs) + k ≡ suc (length xs + k) = omega arith
@@ -79,6 +81,11 @@ from_held : (m : ℕ) (item : Option Item) (o : Option ℕ) → IsSome item
     → next_from m item o ≡ Some (record { number = m; item = unwrap_or item items.Other })
 from_held m None o h = absurd cc
 from_held m (Some x) o h = refl
+
+-- an item is ready where one is held
+pub held_ready : (s : State) → IsSome (held_at (held_of s) (s.sent + 1)) → IsSome (next_of s)
+held_ready s here = subst (λ (o : Option Numbered). IsSome o)
+    (sym (from_held (s.sent + 1) (held_at (held_of s) (s.sent + 1)) s.end here)) refl
 
 pub none_from : (o : Option Item) → ((item : Item) → o ≡ Some item → ⊥) → o ≡ None
 none_from None h = refl
@@ -144,6 +151,14 @@ next_is s packets sound fits =
       ]
     ]
 
+-- which is the one of the stream after the last item sent
+pub next_of_stream : (s : State) (packets : List Input) → IsSound s → Fits s packets
+    → next_of s ≡ slice_get (stream_of packets) (place_of packets s.sent)
+next_of_stream s packets sound fits =
+    next_is s packets sound (stands_of fits)
+    ∙ ap (λ (n : ℕ). slice_get (stream_to packets n) (s.sent + 1 - opens_of packets)) fits.front
+    ∙ sym (get_past (closed_of packets) (part_of packets) (s.sent + 1 - opens_of packets))
+
 slice_get_some : {X : Type 0} (xs : List X) (i : ℕ) → IsSome (slice_get xs i) → i + 1 ≤ length xs
 slice_get_some [] i h = absurd cc
 slice_get_some (x ∷ xs) zero h = omega arith
@@ -196,3 +211,35 @@ advance_fits old new packets sound ready by fits =
           ∙ ap (λ (s : State). shown (on_line line s.earlier + wins_of packets line))
           (sym by.others);
     }
+
+advanced : {old new : State} → DropsNext old new → IsAdvanced old new
+advanced by = record {
+  sent = by.sent;
+  kept = record {
+    session = record {
+      venue = ap (λ (s : State). s.venue) by.others;
+      sessions = ap (λ (s : State). s.sessions) by.others;
+      session = ap (λ (s : State). s.session) by.others;
+      window = ap (λ (s : State). s.window) by.others;
+      earlier = ap (λ (s : State). s.earlier) by.others;
+    };
+    front = ap (λ (s : State). s.front) by.others;
+    known = ap (λ (s : State). s.known) by.others;
+    end = ap (λ (s : State). s.end) by.others;
+    wins = ap (λ (s : State). s.wins) by.others;
+  };
+}
+
+-- the next item was taken out, if there was one
+pub taken_advances : (out : Option Numbered) (old new : State) → IfSome out (λ n. DropsNext old new)
+    → IfSome out (λ n. IsAdvanced old new)
+taken_advances None old new by = tt
+taken_advances (Some n) old new by = advanced by
+
+pub taken_fits : (out : Option Numbered) (old new : State) (packets : List Input) → IsSound old
+    → out ≡ next_of old → IfSome out (λ n. DropsNext old new) → IfNone out (new ≡ old)
+    → Stands old packets → Stands new packets
+taken_fits None old new packets sound is by left fits =
+    subst (λ (s : State). Stands s packets) (sym left) fits
+taken_fits (Some n) old new packets sound is by left fits =
+    advance_fits old new packets sound (subst (λ (o : Option Numbered). IsSome o) is refl) by fits

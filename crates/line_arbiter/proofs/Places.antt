@@ -162,7 +162,3 @@ count-drop (place ∷ places) = count_first is_some place places ∙ omega arith
 pub length_rest : (places : List (Option Item)) → length (drop 1 places) ≡ length places - 1
 length_rest [] = refl
 length_rest (x ∷ places) = omega arith
-
-pub some_first : (places : List (Option Item))
-    → one_if (is_some (in_place places 0)) ≤ count_by is_some places
-some_first places = let c = count-drop places in omega arith

@@ -203,6 +203,12 @@ sound_skip old new n sound open_ by =
         | inr past ↦ held new.front (by.run new.front past (omega arith))
       ];
       held_known = held;
+      ready = λ m past low. elim (cases_lt m n) [
+        | inr above ↦ by.run m above low
+        | inl below ↦ subst (λ (o : Option Item). IsSome o)
+            (sym (by.held m ∙ ap (λ (b : Bool). if b then Some items.Skipped else
+            held_at (held_of old) m) (eq-eqb m (n - 1) (omega arith)))) refl
+      ];
       stop = by.stop;
       sent_or_end = inl (omega arith);
       few = subst (λ (names : List (List ℕ)). length names ≤ 64)

@@ -1,7 +1,7 @@
 -- What an arbiter keeps, after each step.
 use Rattle.std.proofs.Common.{◌≡◌, ℕ, ◌+◌, ◌<◌, ◌≤◌, Bool, true, false, List, length, Option, Some, None, refl, sym, ap, subst, ◌∙◌, arith, inl, inr}
 use Rattle.std.specs.Prelude.{nat_eq, nat_lt, ◌&&◌, ◌⊎◌, IsSome, if◌then◌else◌}
-use Rattle.std.proofs.lemmas.Bool.{cases_lt, eqb-true, false≢true, and_parts}
+use Rattle.std.proofs.lemmas.Bool.{cases_lt, eqb-true, false≢true, and_parts, ne_eqb}
 use Rattle.feed_types.specs.declared.item.Item.{Item}
 use Rattle.feed_types.specs.declared.item.Item.TheVariants as items
 use Rattle.feed_types.specs.declared.item.Numbered.{Numbered}
@@ -57,6 +57,11 @@ put_is sent p None m item e =
     })
 put_is sent p (Some x) m item e = inl e
 
+pub put_kept : (sent : ℕ) (p : Content) (found : Option Item) (m : ℕ) → IsSome found
+    → IsSome (put_all sent p found m)
+put_kept sent p None m some = absurd (false≢true some)
+put_kept sent p (Some x) m some = refl
+
 pub held_some : (o : Option Item) → IsSome o → (item : Item) × (o ≡ Some item)
 held_some None h = absurd (false≢true h)
 held_some (Some x) h = (x, refl)
@@ -93,6 +98,11 @@ sound_after line fresh old new p sound before by =
         | inr stays ↦ let f = sound.front_known in omega arith
       ];
       held_known = held;
+      ready = λ m past low. elim (cases_lt old.front m) [
+        | inl more ↦ by.run m more low
+        | inr within ↦ subst (λ (o : Option Item). IsSome o) (sym (by.held m))
+            (put_kept old.sent p (held_at (held_of old) m) m (sound.ready m (omega arith) within))
+      ];
       stop = by.stop;
       sent_or_end = elim sound.sent_or_end [
         | inl within ↦ let from = by.from in inl (omega arith)
@@ -126,10 +136,28 @@ none_past_end s sound ended m = by_item (held_at (held_of s) m) refl
         in
         absurd (omega arith)
 
+-- a message is held at the next number where the front is past it, and none where it isn't
+pub some_next : (s : State) → IsSound s → s.sent < s.front
+    → IsSome (held_at (held_of s) (s.sent + 1))
+some_next s sound more = sound.ready (s.sent + 1) (omega arith) (omega arith)
+
+pub none_next : (s : State) → IsSound s → s.front ≤ s.sent
+    → held_at (held_of s) (s.sent + 1) ≡ None
+none_next s sound all = elim sound.sent_or_end [
+  | inl within ↦
+      let same : s.sent ≡ s.front = omega arith in
+      ap (λ (n : ℕ). held_at (held_of s) (n + 1)) same ∙ sound.stop
+  | inr ended ↦ none_past_end s sound ended.1 (s.sent + 1)
+]
+
 -- the item that is sent is held no longer
 passed : (b : Bool) (o : Option Item) → IsSome (if b then None else o) → IsSome o
 passed true o some = absurd (false≢true some)
 passed false o some = some
+
+pub still : (b : Bool) (o : Option Item) → b ≡ false → (if b then None else o) ≡ o
+still true o e = absurd (false≢true (sym e))
+still false o e = refl
 
 pub still_none : (b : Bool) (o : Option Item) → o ≡ None → (if b then None else o) ≡ None
 still_none true o e = refl
@@ -169,6 +197,10 @@ sound_advanced old new sound ready others held =
       held_known = λ m some.
           let h = sound.held_known m (passed (nat_eq m (old.sent + 1)) (held_at (held_of old) m)
           (subst (λ (o : Option Item). IsSome o) (held m) some)) in omega arith;
+      ready = λ m past low. subst (λ (o : Option Item). IsSome o)
+          (sym (held m ∙ still (nat_eq m (old.sent + 1)) (held_at (held_of old) m)
+          (ne_eqb m (old.sent + 1) (λ e. omega arith))))
+          (sound.ready m (omega arith) (omega arith));
       stop =
           rw front (held (old.front + 1)
           ∙ still_none (nat_eq (old.front + 1) (old.sent + 1))

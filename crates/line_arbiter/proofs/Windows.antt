@@ -18,7 +18,7 @@ none_is : (o : Option Item) → is_some o ≡ false → o ≡ None
 none_is None h = refl
 none_is (Some x) h = absurd (false≢true (sym h))
 
-not_some : (o : Option Item) → o ≡ None → IsSome o → ⊥
+pub not_some : (o : Option Item) → o ≡ None → IsSome o → ⊥
 not_some o is some = false≢true (subst (λ (o : Option Item). IsSome o) is some)
 
 -- a number's place
@@ -26,6 +26,11 @@ pub at_number : (held : Held) (m : ℕ) → held.base < m
     → held_at held m ≡ in_place held.places (m - held.base - 1)
 at_number held m h = ap (λ (t : Bool). if t then None else in_place held.places (m - held.base - 1))
     (lt-leb m held.base h)
+
+pub first_place : (held : Held) → in_place held.places 0 ≡ held_at held (held.base + 1)
+first_place held =
+    let place : held.base + 1 - held.base - 1 ≡ 0 = omega arith in
+    ap (in_place held.places) (sym place) ∙ sym (at_number held (held.base + 1) (omega arith))
 
 pub before_base : (held : Held) (m : ℕ) → m ≤ held.base → held_at held m ≡ None
 before_base held m h = ap (λ (t : Bool). if t then None else in_place held.places

@@ -19,13 +19,15 @@ use Rattle.line_arbiter.specs.Filling.{put_all, fresh_to, HeldAgrees, HeldDisagr
 use Rattle.line_arbiter.specs.States.{State, held_of}
 
 -- What every arbiter keeps: the front, and what is held, are known of, which is to before the
--- announced end; nothing is held right after the front; the last item sent is not past the front,
--- or is End; there are at most 64 sessions; and the wins are shown.
+-- announced end; all from the last item sent up to the front is held, and nothing right after it;
+-- the last item sent is not past the front, or is End; there are at most 64 sessions; and the wins
+-- are shown.
 pub record IsSound (s : State) : Type 0 where
   pub end_small : (e : ℕ) → s.end ≡ Some e → e < 2 ^ 64
   pub known_at_end : (e : ℕ) → s.end ≡ Some e → s.known + 1 ≡ e
   pub front_known : s.front ≤ s.known
   pub held_known : (m : ℕ) → IsSome (held_at (held_of s) m) → m ≤ s.known
+  pub ready : (m : ℕ) → s.sent < m → m ≤ s.front → IsSome (held_at (held_of s) m)
   pub stop : held_at (held_of s) (s.front + 1) ≡ None
   pub sent_or_end : (s.sent ≤ s.front) ⊎ ((s.sent ≡ s.front + 1) × (s.end ≡ Some s.sent))
   pub few : length s.sessions ≤ 64

@@ -1,6 +1,6 @@
 //! One venue's lines, in sequence.
 
-ghost use Rattle.std.specs.Prelude.{◌≡◌, ℕ, ◌∷◌, ◌++◌, ◌↔◌, ◌+◌, ◌^◌, ◌<◌, ◌≤◌, List, [], IfOk, IfSome, Ok, IsSome, MatchBool, Contains, IsErrOf, OnErr, OnOk, slice_get, Some, None, length};
+ghost use Rattle.std.specs.Prelude.{◌≡◌, ℕ, ◌∷◌, ◌++◌, ◌↔◌, ◌+◌, ◌^◌, ◌<◌, ◌≤◌, List, [], IfNone, IfOk, IfSome, Ok, IsSome, MatchBool, Contains, IsErrOf, OnErr, OnOk, slice_get, Some, None, length};
 ghost use Rattle.feed_types.specs.Prefix.{IsPrefix};
 ghost use Rattle.feed_types.specs.declared.line.LineId.{LineId};
 ghost use Rattle.line_arbiter.specs.Packets.{Input, Skip, arrival_of};
@@ -144,10 +144,13 @@ impl<G: Genuine> Arbiter<G> {
         ensures value { result ≡ held_at (held_of self.now) (self.now.sent + 1) }
         ensures small { IsSome result → self.now.sent + 1 < 2 ^ 64 }
     {
-        if self.run_to == self.held.base() {
+        if self.held.base() >= self.run_to {
             return None;
         }
-        self.held.first()
+        let Some(item) = self.held.first() else {
+            unreachable!();
+        };
+        Some(item)
     }
 
     /// Returns the item that is ready, if any.
@@ -179,13 +182,48 @@ impl<G: Genuine> Arbiter<G> {
         self.ready().is_some()
     }
 
-    /// Goes past the item that is ready.
-    fn drop_next(&mut self)
+    /// Goes past the item that is ready, and returns it where it was held.
+    #[inline(always)]
+    fn drop_next(&mut self) -> Option<Item>
         requires { IsSome (next_of self.old) }
+        ensures item { result ≡ held_at (held_of self.old) (self.old.sent + 1) }
         ensures after { DropsNext self.old self.new }
         ensures sound { IsSound self.old }
     {
-        self.held.pass();
+        self.held.pass()
+    }
+
+    /// Takes the next message out, which is held.
+    #[inline(always)]
+    fn take_held(&mut self) -> Numbered
+        requires held { IsSome (held_at (held_of self.old) (self.old.sent + 1)) }
+        requires small { self.old.sent + 1 < 2 ^ 64 }
+        ensures value { Some result ≡ next_of self.old }
+        ensures after { DropsNext self.old self.new }
+        ensures sound { IsSound self.old }
+    {
+        let number = self.held.base() + 1;
+        let Some(item) = self.drop_next() else {
+            unreachable!();
+        };
+        Numbered { number, item }
+    }
+
+    /// Takes the item out that is ready, if any. Most often it is a message, of which a place is
+    /// known.
+    #[inline(always)]
+    fn take_out(&mut self) -> Option<Numbered>
+        ensures value { result ≡ next_of self.old }
+        ensures after { IfSome result (λ _. DropsNext self.old self.new) }
+        ensures left { IfNone result (self.new ≡ self.old) }
+        ensures sound { IsSound self.old }
+    {
+        if self.held.base() < self.run_to {
+            return Some(self.take_held());
+        }
+        let end = self.ready()?;
+        self.drop_next();
+        Some(end)
     }
 
     /// Gives up all messages below the number, of which none is held.
@@ -244,6 +282,25 @@ impl<G: Genuine> Arbiter<G> {
         ensures fits { (packets : List Input) → Fits self.old packets → Fits self.new packets }
     {
         self.drop_next();
+    }
+
+    /// Takes out the item after the last one advanced past, if it is there: it does what
+    /// `next_ready` and then `advance` do.
+    #[inline(always)]
+    pub fn take_ready(&mut self) -> Option<Numbered>
+        ensures value { result ≡ next_of self.old }
+        ensures number { IfSome result (λ n. n.number ≡ self.old.sent + 1) }
+        ensures over { HasEnded self.old.end self.old.sent → result ≡ None }
+        ensures stream { (packets : List Input) → Fits self.old packets
+            → result ≡ slice_get (stream_of packets) (place_of packets self.old.sent) }
+        ensures genuine { (packets : List Input) → Fits self.old packets
+            → AreGenuine G.carries G.ends self.old.venue (ordinal_of self.old) packets
+            → IfSome result (IsGenuineItem G.carries G.ends self.old.venue (ordinal_of self.old)) }
+        ensures after { IfSome result (λ _. IsAdvanced self.old self.new) }
+        ensures left { IfNone result (self.new ≡ self.old) }
+        ensures fits { (packets : List Input) → Fits self.old packets → Fits self.new packets }
+    {
+        self.take_out()
     }
 
     /// Returns the run of messages to ask for: from the first that is missing, as many as are

@@ -9,7 +9,7 @@
 //!
 //! - take a packet: `take`;
 //! - take a packet that needs no place in the window: `is_next` and `take_next`;
-//! - take items out: `next_ready` and `advance`;
+//! - take items out: `take_ready`, or `next_ready` and `advance`;
 //! - read the cursors, and what to ask for: `status`, `gap`, `wins` and `all_wins`;
 //! - read the session, and begin the next one: `venue`, `session`, `ordinal` and `renew`;
 //! - give up what is missing: `skip_to`.

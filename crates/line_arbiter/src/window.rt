@@ -112,10 +112,30 @@ fn put(places: &mut HeapCircularBuffer<Option<Item>>, place: usize, item: Item)
 
 /// Returns whether the place holds an item.
 #[inline]
-fn is_held(place: Option<Option<Item>>) -> bool
-    ensures { result ≡ is_some (option_and_then (λ held. held) place) }
+fn is_held(place: &Option<Option<Item>>) -> bool
+    ensures { result ≡ is_some (option_and_then (λ held. held) place.now) }
 {
     matches!(place, Some(Some(_)))
+}
+
+/// Returns the item that the place holds.
+#[inline(always)]
+fn held_in(place: &Option<Option<Item>>) -> Option<Item>
+    ensures { result ≡ option_and_then (λ held. held) place.now }
+{
+    match place {
+        Some(held) => *held,
+        None => None,
+    }
+}
+
+/// Returns the count without the one that is gone, if one is.
+#[inline(always)]
+fn without_gone(count: u32, is_gone: bool) -> u32
+    requires { (if is_gone then 1 else 0) ≤ count }
+    ensures { count ≡ result + (if is_gone then 1 else 0) }
+{
+    if is_gone { count - 1 } else { count }
 }
 
 impl Window {
@@ -269,9 +289,12 @@ impl Window {
         self.held_items += 1;
     }
 
-    /// Goes past the first place. The bit of its number is then that of the number 65,536 further.
-    pub(crate) fn pass(&mut self)
+    /// Goes past the first place, and returns what it held. The bit of its number is then that of
+    /// the number 65,536 further.
+    #[inline(always)]
+    pub(crate) fn pass(&mut self) -> Option<Item>
         requires { held_at self.old (self.old.base + 1) ≡ None → self.old.base + 1 < 2 ^ 64 }
+        ensures value { result ≡ held_at self.old (self.old.base + 1) }
         ensures base { self.new.base ≡ self.old.base + 1 }
         ensures width { self.new.width ≡ self.old.width }
         ensures held { (m : ℕ)
@@ -279,9 +302,10 @@ impl Window {
             ≡ (if nat_eq m (self.old.base + 1) then None else held_at self.old m) }
     {
         let first = self.places.pop_front();
-        self.held_items -= u32::from(is_held(first));
+        self.held_items = without_gone(self.held_items, is_held(&first));
         self.base_number += 1;
         unmark(&mut self.marks, self.base_number);
+        held_in(&first)
     }
 
     /// Places the empty window after a number.

@@ -13,6 +13,7 @@ invariant_of-result g c = record {
     front_known = omega arith;
     held_known = λ m some. absurd
         (false≢true (subst (λ (o : Option Item). IsSome o) (c.in-Ok.ensures.empty m) some));
+    ready = λ m past low. let base = c.in-Ok.ensures.base in absurd (omega arith);
     stop = c.in-Ok.ensures.empty 1;
     sent_or_end = inl (let base = c.in-Ok.ensures.base in omega arith);
     few = search rules;
