@@ -167,10 +167,9 @@ fn drain(lines: &mut Arbiter<Anything>, lane: &mut Lane<Numbered>) -> Result<(),
               ++ drop (place_of packets lines.old.sent) (stream_of packets);
         }) }
 {
-    while let Some(next) = lines.next_ready() {
+    while let Some(next) = lines.take_ready() {
         let Numbered { number, item } = next;
         put(lane, number, item)?;
-        lines.advance();
     }
     Ok(())
 }

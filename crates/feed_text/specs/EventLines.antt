@@ -1,8 +1,8 @@
 -- The line of each event.
-use Rattle.std.specs.Prelude.{ℕ, List}
+use Rattle.std.specs.Prelude.{ℕ, List, []}
 use Rattle.mold_packet.specs.Faults.{code_of}
 use Rattle.feed_text.specs.Lines.{packet_line, fault_line, item_line, best_line, gap_line, renew_line, skip_line, declare_line, venue_line, wins_by}
-use Rattle.feed_text.specs.SinkEvents.{SinkEvent, TimedEvent, told_packet, told_refusal, told_item, told_best, told_gap, told_renewal, told_skip, told_declaration, told_last}
+use Rattle.feed_text.specs.SinkEvents.{SinkEvent, TimedEvent, told_packet, told_refusal, told_item, told_best, told_gap, told_renewal, told_skip, told_declaration, told_last, told_before}
 
 abbrev pub event_line : SinkEvent → List ℕ
 event_line (told_packet venue line number count answer) = packet_line venue line answer
@@ -14,6 +14,7 @@ event_line (told_renewal venue answer) = renew_line venue answer
 event_line (told_skip venue number answer) = skip_line venue number answer
 event_line (told_declaration venue on position) = declare_line venue on position
 event_line (told_last venue sent a b recovery) = venue_line venue sent (wins_by a b recovery)
+event_line (told_before event) = []
 
 -- the same, whenever it came
 abbrev pub timed_line : TimedEvent → List ℕ

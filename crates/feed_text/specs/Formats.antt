@@ -30,7 +30,7 @@ pub record TakesPiece {S : Type 0} (reads : S → List ℕ → List TimedRecord 
 -- What some bytes begin with.
 abbrev pub StepsTo : {S F : Type 0} → (S → List ℕ → List TimedRecord → S → List ℕ → Type 0)
     → (S → List ℕ → Type 0) → (S → List ℕ → F → Type 0) → S → List ℕ → Step F → S → Type 0
-StepsTo reads wants is_bad old bytes (Came r time len) new =
+StepsTo reads wants is_bad old bytes (Came len time r) new =
     TakesPiece reads old bytes (timed_record (record_of r) time ∷ []) len new
 StepsTo reads wants is_bad old bytes (Passed len) new = TakesPiece reads old bytes [] len new
 StepsTo reads wants is_bad old bytes Wants new =
@@ -39,7 +39,7 @@ StepsTo reads wants is_bad old bytes (Bad fault) new = is_bad old bytes fault ×
 
 -- what comes is a record of one of this many venues
 abbrev pub CameOf : {F : Type 0} → ℕ → Step F → Type 0
-CameOf venues (Came r time len) = IsRecord venues (record_of r)
+CameOf venues (Came len time r) = IsRecord venues (record_of r)
 CameOf venues (Passed len) = Unit {0}
 CameOf venues Wants = Unit {0}
 CameOf venues (Bad fault) = Unit {0}

@@ -16,6 +16,7 @@ use Rattle.feed_text.specs.declared.event.Event.TheVariants.{Packet, Refusal, It
 -- A packet was answered, with its messages' first number and their count; a datagram was no packet,
 -- an item was taken, a national best changed, messages are to be asked for, a renewal or a skip was
 -- answered, self-help was declared or withdrawn, or the capture is over: the venue's last state.
+-- What came before all that is told is told as such, to a sink that asks for it.
 pub data SinkEvent : Type 0 where
   told_packet : (venue : ℕ) (line : LineId) (number count : ℕ) (answer : Result Outcome LineFault)
       → SinkEvent
@@ -27,6 +28,7 @@ pub data SinkEvent : Type 0 where
   told_skip : (venue number : ℕ) (answer : Result (Unit {0}) SkipFault) → SinkEvent
   told_declaration : (venue : ℕ) (on : Bool) (position : Option ℕ) → SinkEvent
   told_last : (venue sent a b recovery : ℕ) → SinkEvent
+  told_before : (event : SinkEvent) → SinkEvent
 
 -- an event with the time at which its record came, if that is known
 pub record TimedEvent : Type 0 where

@@ -83,7 +83,7 @@ impl LineBuffer {
 
     /// Makes room for a line of `bytes` bytes. Fails where memory was refused.
     #[inline(always)]
-    pub(crate) fn make_room(&mut self, bytes: usize) -> Result<(), AllocError>
+    pub fn make_room(&mut self, bytes: usize) -> Result<(), AllocError>
         requires { bytes ≤ 1024 }
         ensures kept { self.new.items ≡ self.old.items }
         ensures room { OnOk result (bytes ≤ self.new.room) }

@@ -12,10 +12,12 @@ pub const CAPTURE_ROOM: usize = 1_179_648;
 #[derive(Clone, Copy, Debug, PartialEq, Eq)]
 pub enum Step<'a, F> {
     /// A piece of this length, with a record, and the time at which it came, if that is known.
+    // Its length has the place of that of the piece without a record: a record there would be put
+    // into one word with it, and taken out again.
     Came {
-        record: Record<'a>,
-        time: Option<u64>,
         len: usize,
+        time: Option<u64>,
+        record: Record<'a>,
     },
     /// A piece of this length, without a record.
     Passed(usize),

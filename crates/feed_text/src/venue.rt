@@ -65,9 +65,7 @@ fn publish_each<K: EventSink>(
     ensures { TakesReady (record { takes = K.takes; fails = K.fails }) venue
         arbiter.old arbiter.new (state_of_replay output.old) (state_of_replay output.new) result }
 {
-    // Its place is passed while the window's fields are at hand.
-    while let Some(next) = arbiter.next_ready() {
-        arbiter.advance();
+    while let Some(next) = arbiter.take_ready() {
         output.take_item(venue, &next)?;
     }
     Ok(())

@@ -6,16 +6,16 @@ use Rattle.feed_core.proofs.venue.drain.Goals as goal
 
 pub loop-next-preserved : goal.loop-next-preserved
 loop-next-preserved c = record {
-  fits = λ packets f. c.advance.ensures.fits packets (c.loop-next.invariant.fits packets f);
+  fits = λ packets f. c.in-Some.ensures.fits packets (c.loop-next.invariant.fits packets f);
   lane = λ packets f. drain_more (stream_of packets) (place_of packets c.loop-next.lines.sent)
-      (place_of packets c.advance.new.self.sent) c.loop-next.lane c.put.new.lane _ c.in-Some.next
+      (place_of packets c.take_ready.new.self.sent) c.loop-next.lane c.put.new.lane _ c.in-Some.next
       (c.in-Some.ensures.stream packets (c.loop-next.invariant.fits packets f))
-      (ap (place_of packets) c.advance.ensures.after.sent
+      (ap (place_of packets) c.in-Some.ensures.after.sent
       ∙ place_next (c.loop-next.invariant.fits packets f)) c.in_ok-put.ensures.ok
       (c.loop-next.invariant.lane packets f);
 }
 
 pub returns : goal.returns
 returns c = λ packets f. drain_done (stream_of packets) (place_of packets c.loop-next.lines.sent)
-    c.loop-next.lane _ (sym c.in_default.is ∙ c.next_ready.ensures.stream packets
+    c.loop-next.lane _ (sym c.in_default.is ∙ c.take_ready.ensures.stream packets
     (c.loop-next.invariant.fits packets f)) (c.loop-next.invariant.lane packets f)

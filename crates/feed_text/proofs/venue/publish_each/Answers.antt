@@ -26,41 +26,44 @@ loop-next-init g c = record {
 
 pub loop-next-preserved : goal.loop-next-preserved
 loop-next-preserved g c = record {
-  fits = λ P f. c.advance.ensures.fits P (c.loop-next.invariant.fits P f);
-  kept = keeping_all_but_sent_is_transitive c.loop-next.invariant.kept c.advance.ensures.after.kept;
+  fits = λ P f. c.in-Some.ensures.fits P (c.loop-next.invariant.fits P f);
+  kept = keeping_all_but_sent_is_transitive c.loop-next.invariant.kept c.in-Some.ensures.after.kept;
   venues = c.in_ok-take_item.ensures.venues ∙ c.loop-next.invariant.venues;
   emitted = λ P f.
       let fits = c.loop-next.invariant.fits P f in
-      let one_more : place_of P c.advance.new.self.sent ≡ place_of P c.loop-next.arbiter.sent + 1 =
-      ap (place_of P) c.advance.ensures.after.sent ∙ place_next fits in
+      let one_more : place_of P c.take_ready.new.self.sent
+      ≡ place_of P c.loop-next.arbiter.sent + 1 =
+      ap (place_of P) c.in-Some.ensures.after.sent ∙ place_next fits in
       took_one (laws_of g) (item_taken c.args.venue c.in-Some.next) _
       (ap (map (item_taken c.args.venue))
       (rest_next (stream_of P) (place_of P c.loop-next.arbiter.sent)
-      (place_of P c.advance.new.self.sent) c.in-Some.next (c.in-Some.ensures.stream P fits)
+      (place_of P c.take_ready.new.self.sent) c.in-Some.next (c.in-Some.ensures.stream P fits)
       one_more))
       (c.loop-next.invariant.emitted P f) c.in_ok-take_item.ensures;
 }
 
 pub returns : goal.returns
-returns g c = record {
-  emits = λ P f.
-      let here = c.next_ready.ensures.stream P (c.loop-next.invariant.fits P f) in
-      took_all (ap (map (item_taken c.args.venue))
-      (rest_end (stream_of P) (place_of P c.loop-next.arbiter.sent) (sym c.in_default.is
-      ∙ here))) (c.loop-next.invariant.emitted P f);
-  sent = record {
-    fits = λ P f.
-        let fits = c.loop-next.invariant.fits P f in
-        let here = c.next_ready.ensures.stream P fits in
-        let most : length (stream_of P) ≤ place_of P c.loop-next.arbiter.sent =
-        no_more (stream_of P) (place_of P c.loop-next.arbiter.sent) (sym c.in_default.is ∙ here)
-        in
-        let least : place_of P c.loop-next.arbiter.sent ≤ length (stream_of P) = place_within fits
-        in
-        (fits, omega arith);
-    kept = c.loop-next.invariant.kept;
-  };
-}
+returns g c =
+    let left = rw c.in_default.is at c.take_ready.ensures.left in
+    record {
+      emits = λ P f.
+          let here = c.take_ready.ensures.stream P (c.loop-next.invariant.fits P f) in
+          took_all (ap (map (item_taken c.args.venue))
+          (rest_end (stream_of P) (place_of P c.loop-next.arbiter.sent) (sym c.in_default.is
+          ∙ here))) (c.loop-next.invariant.emitted P f);
+      sent = rw left (record {
+        fits = λ P f.
+            let fits = c.loop-next.invariant.fits P f in
+            let here = c.take_ready.ensures.stream P fits in
+            let most : length (stream_of P) ≤ place_of P c.loop-next.arbiter.sent =
+            no_more (stream_of P) (place_of P c.loop-next.arbiter.sent)
+            (sym c.in_default.is ∙ here) in
+            let least : place_of P c.loop-next.arbiter.sent ≤ length (stream_of P) =
+            place_within fits in
+            (fits, omega arith);
+        kept = c.loop-next.invariant.kept;
+      });
+    }
 
 pub returns-in_err-take_item : goal.returns-in_err-take_item
 returns-in_err-take_item g c =
