@@ -3,6 +3,7 @@ ghost use Rattle.std.specs.Prelude.{◌≡◌, ◌*◌, vec_len};
 
 use crate::end_rule::EndRule;
 use crate::feed_settings::FeedSettings;
+use crate::formats::BestFormat;
 use crate::listen_stats::ListenStats;
 use crate::sender::Senders;
 use std::net::SocketAddr;
@@ -36,6 +37,8 @@ pub struct ListenSettings {
     pub complete: bool,
     /// Whether each best line is printed as it comes.
     pub follow: bool,
+    /// The form of best lines, which is text where they aren't printed as they come.
+    pub format: BestFormat,
     /// How many changes the subscriber may be behind, where each best line is printed as it comes;
     /// else all changes are kept.
     pub kept: Option<u32>,

@@ -4,10 +4,10 @@ use Rattle.std.specs.Prelude.{flat_map}
 use Rattle.feed_text.specs.TextPageLaws.{takes_no_text, takes_more_text, fails_after_text, fails_longer_text}
 use Rattle.feed_text.specs.TextPages.{FailsPage, FailsText, TakesText}
 use Rattle.feed_text.specs.SinkEvents.{TimedEvent}
-use Rattle.replay_reports.specs.declared.rows.row_sink.BestRows.{BestRows}
-use Rattle.replay_reports.specs.declared.rows.style.RowStyle.{RowStyle}
+use Rattle.replay_reports.specs.declared.row_sink.BestRows.{BestRows}
+use Rattle.best_rows.specs.declared.style.RowStyle.{RowStyle}
 use Rattle.replay_reports.specs.rows.RowSinks.{FailsRows, IsNewRows, TakesRows, text_of_rows}
-use Rattle.replay_reports.specs.rows.RowTexts.{event_row, header_of}
+use Rattle.best_rows.specs.RowTexts.{event_row, header_of}
 
 module _ {W : Type 0} (adds : W → List ℕ → W → Type 0) (failures : W → ℕ) where
   pub takes_no_rows : ((s : W) → adds s [] s) → (s : BestRows W)

@@ -2,9 +2,9 @@
 use Rattle.std.specs.Prelude.{◌≡◌, ℕ, List, ◌++◌, flat_map}
 use Rattle.feed_text.specs.TextPages.{TakesText, FailsText}
 use Rattle.feed_text.specs.SinkEvents.{TimedEvent}
-use Rattle.replay_reports.specs.declared.rows.row_sink.BestRows.{BestRows}
-use Rattle.replay_reports.specs.declared.rows.style.RowStyle.{RowStyle}
-use Rattle.replay_reports.specs.rows.RowTexts.{event_row, header_of}
+use Rattle.replay_reports.specs.declared.row_sink.BestRows.{BestRows}
+use Rattle.best_rows.specs.declared.style.RowStyle.{RowStyle}
+use Rattle.best_rows.specs.RowTexts.{event_row, header_of}
 
 -- A sink of rows that took no event: its header waits.
 pub record IsNewRows {W : Type 0} (writer : W) (style : RowStyle) (sink : BestRows W) : Type 0 where

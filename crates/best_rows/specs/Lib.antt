@@ -1,0 +1,7 @@
+pub mod Quoting
+pub mod Times
+pub mod RowTexts
+pub mod CsvFields
+pub mod NoticeRows
+pub mod NoticeRowLaws
+pub mod AppendLaws

@@ -1,0 +1,37 @@
+-- The times of rows: the seconds from 1970 on at which a row's record came.
+use Rattle.std.specs.Prelude.{ℕ, ◌/◌, ◌%◌, Bool, true, false, List, [], ◌++◌, codes, decimal, Option, Some, None}
+use Rattle.best_rows.specs.declared.row_time.RowTime.{RowTime}
+use Rattle.best_rows.specs.declared.row_time.RowTime.TheVariants.{Absent, Given}
+
+-- what a row says of this time, where rows are timed or not
+abbrev pub row_time : Bool → Option ℕ → RowTime
+row_time false time = Absent
+row_time true time = Given time
+
+-- the last nine digits of a number
+unfoldable pub nine_digits : ℕ → List ℕ
+nine_digits n =
+    decimal (n / 100000000 % 10) ++ decimal (n / 10000000 % 10) ++ decimal (n / 1000000 % 10)
+    ++ decimal (n / 100000 % 10) ++ decimal (n / 10000 % 10) ++ decimal (n / 1000 % 10)
+    ++ decimal (n / 100 % 10) ++ decimal (n / 10 % 10) ++ decimal (n / 1 % 10)
+
+-- nanoseconds as seconds with nine places
+abbrev pub seconds_text : ℕ → List ℕ
+seconds_text time = decimal (time / 1000000000) ++ codes "." ++ nine_digits time
+
+-- one more value of a row of comma-separated values, empty where the time isn't known
+abbrev pub csv_time : RowTime → List ℕ
+csv_time Absent = []
+csv_time (Given None) = codes ","
+csv_time (Given (Some time)) = codes "," ++ seconds_text time
+
+-- two more members of an object, in seconds and in nanoseconds
+abbrev pub json_known_time : ℕ → List ℕ
+json_known_time time =
+    codes ",\"time\":" ++ seconds_text time ++ codes ",\"time_ns\":" ++ decimal time
+
+-- the same, null where the time isn't known
+abbrev pub json_time : RowTime → List ℕ
+json_time Absent = []
+json_time (Given None) = codes ",\"time\":null,\"time_ns\":null"
+json_time (Given (Some time)) = json_known_time time

@@ -1,0 +1,66 @@
+//! Rows of comma-separated values.
+ghost use Rattle.std.specs.Prelude.{◌≤◌};
+ghost use Rattle.journal_book.specs.Changes.{notice_of};
+ghost use Rattle.feed_text.specs.Pages.{Appends};
+ghost use Rattle.best_rows.specs.RowTexts.{csv_row, csv_side};
+ghost use Rattle.best_rows.specs.Times.{csv_time};
+
+use crate::quoting::put_csv_name;
+use crate::row_time::RowTime;
+use crate::rows::put_state;
+use crate::seconds::put_seconds;
+use feed_text::{LineBuffer, put_bytes, put_number, put_price};
+use feed_types::Best;
+use nbbo_book::Change;
+
+/// Appends the venue, the price and the size of a side, each empty where there is none.
+fn put_csv_side(text: &mut LineBuffer, side: &Option<Best>)
+    requires { 55 ≤ text.old.room }
+    ensures { Appends text.old (csv_side side.now) 55 text.new }
+{
+    match side {
+        None => put_bytes(text, *b",,"),
+        Some(best) => {
+            put_number(text, best.venue.index() as u64);
+            put_bytes(text, *b",");
+            put_price(text, best.price);
+            put_bytes(text, *b",");
+            put_number(text, best.size);
+        }
+    }
+}
+
+/// Appends a time as one more value.
+fn put_csv_time(text: &mut LineBuffer, time: RowTime)
+    requires { 31 ≤ text.old.room }
+    ensures { Appends text.old (csv_time time) 31 text.new }
+{
+    match time {
+        RowTime::Absent => {}
+        RowTime::Given(None) => put_bytes(text, *b","),
+        RowTime::Given(Some(time)) => {
+            put_bytes(text, *b",");
+            put_seconds(text, time);
+        }
+    }
+}
+
+/// Appends the row of a change of the national best, under this number.
+pub fn put_csv(text: &mut LineBuffer, time: RowTime, number: u64, change: &Change)
+    requires { 214 ≤ text.old.room }
+    ensures { Appends text.old (csv_row time (notice_of number change.now)) 214 text.new }
+{
+    put_number(text, number);
+    put_bytes(text, *b",");
+    put_number(text, change.position);
+    put_bytes(text, *b",");
+    put_csv_name(text, change.symbol);
+    put_bytes(text, *b",");
+    put_csv_side(text, &change.national.bid);
+    put_bytes(text, *b",");
+    put_csv_side(text, &change.national.offer);
+    put_bytes(text, *b",");
+    put_state(text, change.national.state());
+    put_csv_time(text, time);
+    put_bytes(text, *b"\n");
+}
