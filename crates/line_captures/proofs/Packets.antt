@@ -148,7 +148,7 @@ pub step_read : Lasts → (s t : PacketState) (bytes : List ℕ) (p : PieceConte
     → t.venues ≡ s.venues → CountsPieces s.lines s.progress (p ∷ []) t.progress
     → IsStepOf s.lines p step
     → StepsTo ReadsPackets wants_packets is_bad_packets s bytes step t
-step_read law s t bytes p (Came r time len) is lines venues counts k =
+step_read law s t bytes p (Came len time r) is lines venues counts k =
     subst (λ (n : ℕ). TakesPiece ReadsPackets s bytes (timed_record (record_of r) time ∷ []) n t)
     (sym k.0) (piece_read law s t bytes p _ is lines venues counts k.1)
 step_read law s t bytes p (Passed len) is lines venues counts k =
@@ -163,9 +163,9 @@ pub stop_read : (s t : PacketState) (bytes : List ℕ) (stop : Stop) (step : Ste
 stop_read s t bytes (stops.Wants n) Wants why same k = let few = few_unread s.context bytes n why
     in ((n, why), omega (arith, few), same)
 stop_read s t bytes (stops.Bad fault) (Bad told) why same k = (rw k why, same)
-stop_read s t bytes (stops.Wants n) (Came r time len) why same k = absurd k
+stop_read s t bytes (stops.Wants n) (Came len time r) why same k = absurd k
 stop_read s t bytes (stops.Wants n) (Passed len) why same k = absurd k
 stop_read s t bytes (stops.Wants n) (Bad told) why same k = absurd k
-stop_read s t bytes (stops.Bad fault) (Came r time len) why same k = absurd k
+stop_read s t bytes (stops.Bad fault) (Came len time r) why same k = absurd k
 stop_read s t bytes (stops.Bad fault) (Passed len) why same k = absurd k
 stop_read s t bytes (stops.Bad fault) Wants why same k = absurd k

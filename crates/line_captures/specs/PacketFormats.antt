@@ -106,14 +106,14 @@ record_on_line d = Datagram d.venue d.line d.bytes
 
 -- a step as a replay takes it
 abbrev pub step_from : PieceStep → Step CaptureFault
-step_from (steps.Came len venue line bytes time) = Came (Datagram venue line bytes) time len
+step_from (steps.Came len venue line bytes time) = Came len time (Datagram venue line bytes)
 step_from (steps.Passed len) = Passed len
 step_from steps.Wants = Wants
 step_from (steps.Bad fault) = Bad fault
 
 -- the step of a piece
 abbrev pub IsStepOf : List CapturedLine → PieceContent → Step CaptureFault → Type 0
-IsStepOf lines piece (Came r time len) =
+IsStepOf lines piece (Came len time r) =
     (len ≡ piece.len) × AreTimed lines (frames_in piece) (timed_record (record_of r) time ∷ [])
 IsStepOf lines piece (Passed len) = (len ≡ piece.len) × AreTimed lines (frames_in piece) []
 IsStepOf lines piece Wants = ⊥

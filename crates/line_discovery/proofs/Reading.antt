@@ -91,9 +91,9 @@ pub stop_read : (s t : LineSurvey) (bytes : List ℕ) (stop : Stop) (step : Step
 stop_read s t bytes (stops.Wants n) Wants why same k = let few = few_unread s.capture bytes n why
     in ((n, why), omega (arith, few), same)
 stop_read s t bytes (stops.Bad fault) (Bad told) why same k = (rw k why, same)
-stop_read s t bytes (stops.Wants n) (Came r time len) why same k = absurd k
+stop_read s t bytes (stops.Wants n) (Came len time r) why same k = absurd k
 stop_read s t bytes (stops.Wants n) (Passed len) why same k = absurd k
 stop_read s t bytes (stops.Wants n) (Bad told) why same k = absurd k
-stop_read s t bytes (stops.Bad fault) (Came r time len) why same k = absurd k
+stop_read s t bytes (stops.Bad fault) (Came len time r) why same k = absurd k
 stop_read s t bytes (stops.Bad fault) (Passed len) why same k = absurd k
 stop_read s t bytes (stops.Bad fault) Wants why same k = absurd k

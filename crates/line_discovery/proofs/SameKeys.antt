@@ -66,3 +66,9 @@ pub tested_key : (r : Bool) (a b : LineKey) → (r ≡ true → a ≡ b) → (a 
 tested_key r a b there back = tested r (same_key a b)
     (λ h. subst (λ (x : LineKey). same_key a x ≡ true) (there h) (key_same a))
     (λ h. back (key_is a b h))
+
+pub tested_session : (r : Bool) (a b : Option (List ℕ)) → (r ≡ true → a ≡ b) → (a ≡ b → r ≡ true)
+    → r ≡ same_session a b
+tested_session r a b there back = tested r (same_session a b)
+    (λ h. subst (λ (x : Option (List ℕ)). same_session a x ≡ true) (there h) (session_same a))
+    (λ h. back (session_is a b h))

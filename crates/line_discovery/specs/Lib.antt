@@ -5,5 +5,7 @@ pub mod Tables
 pub mod Surveys
 pub mod SurveyLaws
 pub mod SurveyTexts
+pub mod Places
+pub mod LineWords
 pub mod KeyedRows
 pub mod KeyedRowLaws

@@ -1,9 +1,5 @@
 -- What was counted of a capture, as a table and as JSON (RFC 8259).
 use Rattle.std.specs.Prelude.{ℕ, ◌-◌, ◌==◌, ◌||◌, List, [], ◌∷◌, ◌++◌, codes, decimal, flat_map, length, sum, take, Option, None, Some, option_map, if◌then◌else◌}
-use Rattle.std.specs.Net.Addr.{segments_of}
-use Rattle.std.specs.Net.Text.{ipv4_text, ipv6_text, scope_text}
-use Rattle.packet_capture.specs.declared.datagram.Address.{Address}
-use Rattle.packet_capture.specs.declared.datagram.Address.TheVariants.{V4, V6}
 use Rattle.run_settings.specs.declared.formats.StatsFormat.{StatsFormat}
 use Rattle.run_settings.specs.declared.formats.StatsFormat.TheVariants.{Table, Json}
 use Rattle.line_discovery.specs.declared.counts.SurveyCounts.{SurveyCounts}
@@ -11,15 +7,11 @@ use Rattle.line_discovery.specs.declared.line_key.LineKey.{LineKey}
 use Rattle.line_discovery.specs.declared.line_row.LineRow.{LineRow}
 use Rattle.line_discovery.specs.declared.rest.SurveyRest.{SurveyRest}
 use Rattle.line_discovery.specs.declared.span.Span.{Span}
+use Rattle.line_discovery.specs.LineWords.{words_of}
+pub use Rattle.line_discovery.specs.Places.{other_key, place_text, session_name}
 use Rattle.line_discovery.specs.Tables.{packets_at, rows_of, unlisted_of, up_to_most}
 
 -- ---- parts
-
--- an address and port, as `--lines` takes them
-abbrev pub place_text : Address → ℕ → List ℕ
-place_text (V4 octets) port = ipv4_text octets ++ (codes ":" ++ decimal port)
-place_text (V6 octets) port =
-    codes "[" ++ (ipv6_text (segments_of octets) ++ (scope_text 0 ++ (codes "]:" ++ decimal port)))
 
 -- so many spaces, of 24 at most
 abbrev pub spaces : ℕ → List ℕ
@@ -46,14 +38,6 @@ low_of span = option_map (λ s. s.low) span
 
 abbrev pub high_of : Option Span → Option ℕ
 high_of span = option_map (λ s. s.high) span
-
--- the key of the other datagrams to the same address and port
-abbrev pub other_key : LineKey → LineKey
-other_key key = record { address = key.address; port = key.port; session = None }
-
-abbrev pub session_name : Option (List ℕ) → List ℕ
-session_name None = []
-session_name (Some name) = name
 
 -- the other datagrams and where they went, frames without a datagram, and datagrams that are in no
 -- row
@@ -102,8 +86,10 @@ table_rest r =
     ∷ [])
     ++ codes "\n"
 
+-- and then the words for the lines that came
 abbrev pub table_of : List LineRow → List LineRow → SurveyRest → List ℕ
-table_of others rows rest = table_head ++ (flat_map (table_row others) rows ++ table_rest rest)
+table_of others rows rest =
+    table_head ++ (flat_map (table_row others) rows ++ (table_rest rest ++ words_of rows))
 
 -- ---- JSON: an object on a line of its own for each row, and then one of the rest
 

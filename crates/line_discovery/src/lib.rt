@@ -28,6 +28,7 @@ mod survey;
 mod table;
 mod tally;
 mod text;
+mod words;
 
 pub use counts::SurveyCounts;
 pub use line_key::LineKey;

@@ -1,6 +1,6 @@
 //! The key of a line in a capture.
 ghost use Rattle.std.specs.Prelude.{◌≡◌, IsTrue, ◌↔◌};
-ghost use Rattle.line_discovery.specs.Keys.{same_key};
+ghost use Rattle.line_discovery.specs.Keys.{same_key, same_session};
 
 use packet_capture::Address;
 
@@ -20,6 +20,20 @@ fn are_equal(one: &LineKey, other: &LineKey) -> bool
     ensures { IsTrue result ↔ (one.now ≡ other.now) }
 {
     one == other
+}
+
+/// Whether the sessions are equal.
+fn are_equal_sessions(one: &Option<[u8; 10]>, other: &Option<[u8; 10]>) -> bool
+    ensures { IsTrue result ↔ (one.now ≡ other.now) }
+{
+    one == other
+}
+
+/// Whether the sessions are the same.
+pub(crate) fn is_same_session(one: &Option<[u8; 10]>, other: &Option<[u8; 10]>) -> bool
+    ensures { result ≡ same_session one.now other.now }
+{
+    are_equal_sessions(one, other)
 }
 
 /// Whether the keys are the same.

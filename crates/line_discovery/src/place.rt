@@ -1,6 +1,6 @@
 //! Addresses as texts.
 ghost use Rattle.std.specs.Prelude.{◌≡◌, IfOk, string_bytes};
-ghost use Rattle.line_discovery.specs.SurveyTexts.{place_text};
+ghost use Rattle.line_discovery.specs.Places.{place_text};
 
 use packet_capture::Address;
 use std::alloc::{AllocError, Global};

@@ -10,6 +10,7 @@ use crate::pieces::{CellStyle, put_cells, put_place};
 use crate::rest::{SurveyRest, rest_of};
 use crate::span::Span;
 use crate::table::packets_at;
+use crate::words::put_words;
 use run_settings::StatsFormat;
 use std::alloc::{AllocError, Global};
 
@@ -158,7 +159,8 @@ fn put_table(
 {
     put_head(text)?;
     put_rows(alloc, text, others, rows)?;
-    put_rest(text, rest)
+    put_rest(text, rest)?;
+    put_words(alloc, text, rows)
 }
 
 /// Returns the table of what was counted.
