@@ -8,9 +8,11 @@ use Rattle.clap.specs.Faults.{fault_of}
 use Rattle.clap.specs.declared.error.kind.ErrorKind.{ErrorKind}
 use Rattle.clap.specs.declared.error.kind.ErrorKind.TheVariants.{DisplayHelp, DisplayVersion, OutOfMemory}
 use Rattle.command_words.specs.CapturedLines.{HasInputFault, NamesInput}
-use Rattle.command_words.specs.CommandLine.{GivesNoConversion, GivesNoDiscovery, IsAccepted, IsCommand, IsRefused, RefusesBy, lines_refusal_by, senders_refusal_by, span_refusal_by, stats_refusal_by, values_of}
+use Rattle.command_words.specs.CommandLine.{GivesNoConversion, GivesNoDiscovery, IsAccepted, IsCommand, IsRefused, RefusesBy, format_refusal_by, lines_refusal_by, senders_refusal_by, span_refusal_by, stats_refusal_by, values_of}
 use Rattle.command_words.specs.FeedRequests.{GivesFeed}
-use Rattle.command_words.specs.ListenRequests.{GivesBadListenStats, GivesListenStats, GivesNoListening, ListensToNoSenders}
+use Rattle.command_words.specs.ListenRequests.{GivesBadListenStats, GivesListenStats, GivesNoListening, ListensInNoFormat, ListensToNoSenders}
+use Rattle.command_words.specs.declared.listen_format.ListenFormatFault.{ListenFormatFault}
+use Rattle.command_words.specs.declared.listen_format.ListenFormatFault.TheVariants as formats
 use Rattle.command_words.specs.StatsFormats.{HasListenStatsFault, NamesListenStats}
 use Rattle.run_settings.specs.declared.listen_stats.ListenStats.{ListenStats}
 use Rattle.command_words.specs.OptionValues.{IsCount, IsFlag, IsGivenCount, IsWindowOf}
@@ -311,6 +313,12 @@ pub GivesNoListening-senders : (rows : List Row) (fault : SendersFault)
     → GivesNoListening rows (senders_refusal_by fault)
 GivesNoListening-senders rows senders.BadSender wrong has = wrong has
 GivesNoListening-senders rows senders.NoMemory wrong has = tt
+
+-- a fault of the format is the refusal, where all that is looked at before is right
+pub GivesNoListening-format : (rows : List Row) (fault : ListenFormatFault)
+    → ListensInNoFormat rows fault → GivesNoListening rows (format_refusal_by fault)
+GivesNoListening-format rows formats.BadFormat has = inr has
+GivesNoListening-format rows formats.FormatUnfollowed has = has
 
 -- one subcommand isn't another one
 not_both : (words : List Text) → IsCommand (codes "listen") words

@@ -14,6 +14,8 @@ use Rattle.command_words.specs.CapturedLines.{HasAllLinesFault, NameAllLines}
 use Rattle.command_words.specs.Commands.{nbbo_app}
 use Rattle.command_words.specs.declared.addresses.LinesFault.{LinesFault}
 use Rattle.command_words.specs.declared.addresses.LinesFault.TheVariants as lines
+use Rattle.command_words.specs.declared.listen_format.ListenFormatFault.{ListenFormatFault}
+use Rattle.command_words.specs.declared.listen_format.ListenFormatFault.TheVariants as formats
 use Rattle.command_words.specs.declared.sender_list.SendersFault.{SendersFault}
 use Rattle.command_words.specs.declared.sender_list.SendersFault.TheVariants as senders
 use Rattle.command_words.specs.declared.sessions.SessionsFault.{SessionsFault}
@@ -30,7 +32,7 @@ use Rattle.run_settings.specs.declared.run_settings.RunSettings.{RunSettings}
 use Rattle.command_words.specs.declared.task.Task.{Task}
 use Rattle.command_words.specs.declared.task.Task.TheVariants.{Run, Convert, Discover, Listen}
 use Rattle.command_words.specs.declared.refusal.Refusal.{Refusal}
-use Rattle.command_words.specs.declared.refusal.Refusal.TheVariants.{Shown, Usage, NotText, BadSession, TooManySessions, BadLines, BadRequest, BadFormat, BadPeriod, EveryWithoutLines, GapsWithEvery, BestsWithoutEvery, BadTime, ToBeforeFrom, SpanOfLines, SpanWithoutLines, BadEnd, KeptUnfollowed, BadSender, BadMetrics, BadSymbol, TooManySymbols, DuplicateSymbol, NoMemory}
+use Rattle.command_words.specs.declared.refusal.Refusal.TheVariants.{Shown, Usage, NotText, BadSession, TooManySessions, BadLines, BadRequest, BadFormat, BadPeriod, EveryWithoutLines, GapsWithEvery, BestsWithoutEvery, BadTime, ToBeforeFrom, SpanOfLines, SpanWithoutLines, BadEnd, KeptUnfollowed, FormatUnfollowed, BadSender, BadMetrics, BadSymbol, TooManySymbols, DuplicateSymbol, NoMemory}
 use Rattle.run_settings.specs.declared.captured_line.CapturedLine.{CapturedLine}
 use Rattle.command_words.specs.OptionValues.{lines_in, rows_of_command}
 use Rattle.command_words.specs.RunRequests.{Gives, GivesNoStats, GivesNone, GivesStats}
@@ -82,6 +84,10 @@ symbols_refusal_by symbols.NoMemory = NoMemory
 abbrev pub senders_refusal_by : SendersFault → Refusal
 senders_refusal_by senders.BadSender = BadSender
 senders_refusal_by senders.NoMemory = NoMemory
+
+abbrev pub format_refusal_by : ListenFormatFault → Refusal
+format_refusal_by formats.BadFormat = BadFormat
+format_refusal_by formats.FormatUnfollowed = FormatUnfollowed
 
 -- a text that was asked for: help, or the version
 abbrev pub IsAsked : ErrorKind → Type 0
@@ -201,6 +207,7 @@ refusal_text SpanOfLines = codes "nbbo: --from or --to without --best-only\n"
 refusal_text SpanWithoutLines = codes "nbbo: --from or --to without --lines\n"
 refusal_text BadEnd = codes "nbbo: bad end\n"
 refusal_text KeptUnfollowed = codes "nbbo: --kept without --follow\n"
+refusal_text FormatUnfollowed = codes "nbbo: --format without --follow\n"
 refusal_text BadSender = codes "nbbo: bad sender\n"
 refusal_text BadMetrics = codes "nbbo: bad metrics address\n"
 refusal_text BadSymbol = codes "nbbo: bad symbol\n"

@@ -53,7 +53,9 @@ ends_app =
 -- listen with its options for the time until then, too
 abbrev pub meanwhile_app : App
 meanwhile_app =
-    with_rule (with_rule (with_rule ends_app buffer_rule) follow_rule) kept_rule
+    with_rule
+    (with_rule (with_rule (with_rule ends_app buffer_rule) follow_rule) format_rule)
+    kept_rule
 
 -- listen with its options for counts, too
 abbrev pub counting_meanwhile_app : App
@@ -63,16 +65,15 @@ counting_meanwhile_app =
 abbrev pub listen_app : App
 listen_app = with_rule counting_meanwhile_app symbols_rule
 
+-- the program with its texts
+abbrev pub titled_app : App
+titled_app = on_top (λ top. record top { has_version = true }) (new_app (codes "nbbo"))
+
 -- the program without its subcommands, which then does nothing
 abbrev pub program_app : App
 program_app =
-    on_top
-    (λ top. record top {
-      subcommand_required = true;
-      arg_required_else_help = true;
-      has_version = true;
-    })
-    (new_app (codes "nbbo"))
+    on_top (λ top. record top { subcommand_required = true; arg_required_else_help = true })
+    titled_app
 
 abbrev pub replaying_app : App
 replaying_app = with_subcommand program_app replay_app.top

@@ -5,9 +5,11 @@ pub mod CommandLine
 pub mod Commands
 pub mod EndRules
 pub mod FeedRequests
+pub mod ListenFormats
 pub mod ListenOptions
 pub mod ListenRequests
 pub mod OptionValues
+pub mod OptionForms
 pub mod Options
 pub mod ReplayOptions
 pub mod RunRequests

@@ -1,9 +1,12 @@
 -- The settings that the values of the options of listen give.
-use Rattle.std.specs.Prelude.{◌≡◌, ℕ, List, Bool, true, false, Option, Some, None, Err, IsSome, codes, if◌then◌else◌, length}
+use Rattle.std.specs.Prelude.{◌≡◌, ◌⊎◌, ℕ, List, Bool, true, false, Option, Some, None, Err, IsSome, codes, if◌then◌else◌, length}
 use Rattle.clap.specs.Walk.{Row, Text, first_of, one_of}
 use Rattle.command_words.specs.Addresses.{HasLinesFault, NameLines, NamesMetrics, NamesNoMetrics, NamesRequest, NamesNoRequest}
 use Rattle.command_words.specs.EndRules.{NamesEndRule, NamesNoEndRule}
 use Rattle.run_settings.specs.declared.end_rule.EndRule.{EndRule}
+use Rattle.command_words.specs.ListenFormats.{HasListenFormatFault, NamesListenFormat}
+use Rattle.command_words.specs.declared.listen_format.ListenFormatFault.{ListenFormatFault}
+use Rattle.command_words.specs.declared.listen_format.ListenFormatFault.TheVariants as formats
 use Rattle.command_words.specs.SenderLists.{HasSendersFault, NameSenders}
 use Rattle.command_words.specs.Sessions.{sessions_in}
 use Rattle.command_words.specs.declared.sender_list.SendersFault.TheVariants as senders
@@ -17,7 +20,7 @@ use Rattle.run_settings.specs.declared.listen_stats.ListenStats.{ListenStats}
 use Rattle.run_settings.specs.declared.sender.Senders.{Senders}
 use Rattle.command_words.specs.StatsFormats.{HasListenStatsFault, NamesListenStats}
 use Rattle.command_words.specs.declared.refusal.Refusal.{Refusal}
-use Rattle.command_words.specs.declared.refusal.Refusal.TheVariants.{BadSession, TooManySessions, BadLines, BadRequest, BadFormat, BadEnd, KeptUnfollowed, BadSender, BadMetrics, BadSymbol, TooManySymbols, DuplicateSymbol, NoMemory}
+use Rattle.command_words.specs.declared.refusal.Refusal.TheVariants.{BadSession, TooManySessions, BadLines, BadRequest, BadFormat, BadEnd, KeptUnfollowed, FormatUnfollowed, BadSender, BadMetrics, BadSymbol, TooManySymbols, DuplicateSymbol, NoMemory}
 use Rattle.std.specs.declared.net.socket_addr.SocketAddr.{SocketAddr}
 use Rattle.command_words.specs.OptionValues.{IsCount, IsFlag, IsGivenCount, lines_in, list_in, symbol_words_in}
 use Rattle.command_words.specs.FeedRequests.{GivesFeed, GivesVenues}
@@ -76,6 +79,7 @@ pub record GivesListening (rows : List Row) (settings : ListenSettings) : Type 0
   pub until_input_ends : IsFlag (one_of (codes "until-input-ends") rows) settings.until_input_ends
   pub complete : IsFlag (one_of (codes "complete") rows) settings.complete
   pub follow : IsFlag (one_of (codes "follow") rows) settings.follow
+  pub format : NamesListenFormat settings.follow (first_of (codes "format") rows) settings.format
   pub kept : GivesKept rows settings.follow settings.kept
   pub stats : GivesListenStats rows settings.stats
   pub metrics : NamesMetrics (first_of (codes "metrics") rows) settings.metrics
@@ -155,9 +159,18 @@ pub record ListensWithoutStats (rows : List Row) : Type 0 where
   pub served : NamesMetrics (first_of (codes "metrics") rows) metrics
   pub fault : GivesBadListenStats rows
 
+-- The format is wrong, where all that is looked at before is right.
+pub record ListensInNoFormat (rows : List Row) (fault : ListenFormatFault) : Type 0 where
+  pub before : GivesSenders rows
+  pub metrics : Option SocketAddr
+  pub served : NamesMetrics (first_of (codes "metrics") rows) metrics
+  pub stats : Option ListenStats
+  pub counted : GivesListenStats rows stats
+  pub has : HasListenFormatFault before.follow (first_of (codes "format") rows) fault
+
 -- The values of the options of listen give no settings: the sessions are looked at first, then the
 -- lines, the address for requests, the symbols, the rule for ends, how many changes are kept, the
--- senders, the address of metrics, and the counts.
+-- senders, the address of metrics, the counts, and the format.
 abbrev pub GivesNoListening : List Row → Refusal → Type 0
 GivesNoListening rows BadSession = sessions_in (list_in rows) ≡ Err sessions.BadSession
 GivesNoListening rows TooManySessions = sessions_in (list_in rows) ≡ Err sessions.TooManySessions
@@ -172,6 +185,8 @@ GivesNoListening rows BadEnd = ListensToNoEnd rows
 GivesNoListening rows KeptUnfollowed = ListensWithKept rows
 GivesNoListening rows BadSender = ListensToNoSenders rows
 GivesNoListening rows BadMetrics = ListensWithoutMetrics rows
-GivesNoListening rows BadFormat = ListensWithoutStats rows
+GivesNoListening rows BadFormat =
+    ListensWithoutStats rows ⊎ ListensInNoFormat rows formats.BadFormat
+GivesNoListening rows FormatUnfollowed = ListensInNoFormat rows formats.FormatUnfollowed
 GivesNoListening rows NoMemory = Unit {0}
 GivesNoListening rows _ = ⊥

@@ -9,7 +9,7 @@ use std::alloc::{AllocError, Global};
 use std::net::SocketAddr;
 
 /// Why a list of lines is refused.
-#[derive(Clone, Copy, Debug, PartialEq, Eq)]
+#[derive(Clone, Copy)]
 pub enum LinesFault {
     /// The list isn't two addresses for each venue, separated by commas.
     BadLines,
@@ -63,7 +63,7 @@ pub fn read_lines(alloc: Global, list: &str, venues: usize) -> Result<Vec<Socket
 }
 
 /// The text for the address of metrics is no address.
-#[derive(Clone, Copy, Debug, PartialEq, Eq)]
+#[derive(Clone, Copy)]
 pub struct MetricsFault;
 
 /// The address at which metrics are served, if a text is given for it.
@@ -81,7 +81,7 @@ pub fn read_metrics(text: Option<&str>) -> Result<Option<SocketAddr>, MetricsFau
 }
 
 /// The text for the address of requests is no address, or one to which no request can be sent.
-#[derive(Clone, Copy, Debug, PartialEq, Eq)]
+#[derive(Clone, Copy)]
 pub struct RequestFault;
 
 /// Whether a request can be sent to the address from each of the lines.

@@ -5,11 +5,11 @@ ghost use Rattle.command_words.specs.BestFormats.{HasFormatFault, NamesFormat, f
 use run_settings::{BestFormat, RunOutput};
 
 /// The format is none of those that there are, or is given where all lines are printed.
-#[derive(Clone, Copy, Debug, PartialEq, Eq)]
+#[derive(Clone, Copy)]
 pub struct FormatFault;
 
 /// The format of this name.
-fn format_named(name: &str) -> Option<BestFormat>
+pub fn format_named(name: &str) -> Option<BestFormat>
     ensures { result ≡ format_named name.now }
 {
     if name == "text" {

@@ -23,6 +23,7 @@ use crate::commands::nbbo_command;
 use crate::end_rule::{EndRuleFault, read_end_rule};
 use crate::limits::DEFAULT_WINDOW;
 use crate::listen_counts::{datagrams_of, kept_of, usual_journal};
+use crate::listen_format::listen_format_of;
 use crate::listen_stats::listen_stats_of;
 use crate::refusal::Refusal;
 use crate::run_words::{replay_of, stats_format_of, stats_of};
@@ -244,6 +245,7 @@ fn listening_of(alloc: Global, listen: &ArgMatches<'_>) -> Result<ListenSettings
     let from = senders_of(alloc, listen)?;
     let metrics = metrics_of(listen)?;
     let stats = listen_stats_of(listen)?;
+    let format = listen_format_of(listen, follow)?;
     Ok(ListenSettings {
         feed,
         lines,
@@ -258,6 +260,7 @@ fn listening_of(alloc: Global, listen: &ArgMatches<'_>) -> Result<ListenSettings
         until_input_ends: flag_of(listen, "until-input-ends"),
         complete: flag_of(listen, "complete"),
         follow,
+        format,
         kept,
         stats,
         metrics,

@@ -2,7 +2,7 @@
 ghost use Rattle.std.specs.Prelude.{◌≡◌, IfOk, false};
 ghost use Rattle.clap.specs.Simple.{app_of};
 ghost use Rattle.clap.specs.declared.builder.command.Command.TheViews.{out-Command as fields_of};
-ghost use Rattle.command_words.specs.Commands.{converting_app, listening_app, nbbo_app, program_app, replaying_app, reporting_app};
+ghost use Rattle.command_words.specs.Commands.{converting_app, listening_app, nbbo_app, program_app, replaying_app, reporting_app, titled_app};
 
 use crate::convert_command::convert_command;
 use crate::discovery_command::discovery_command;
@@ -31,9 +31,9 @@ Examples:
 
 'nbbo replay --help' and 'nbbo listen --help' tell what is read and what is printed.";
 
-/// The program without its subcommands.
+/// The program with its texts.
 fn program_texts<'a>(alloc: Global) -> Result<Command<'a>, AllocError>
-    ensures app { IfOk result (λ c. app_of c ≡ program_app) }
+    ensures app { IfOk result (λ c. app_of c ≡ titled_app) }
     ensures local { IfOk result (λ c. (fields_of c).has_globals ≡ false) }
 {
     Ok(
@@ -41,7 +41,17 @@ fn program_texts<'a>(alloc: Global) -> Result<Command<'a>, AllocError>
             .bin_name("nbbo")?
             .version(VERSION)
             .about(ABOUT)
-            .after_help(EXAMPLE)
+            .after_help(EXAMPLE),
+    )
+}
+
+/// The program without its subcommands.
+fn program_command<'a>(alloc: Global) -> Result<Command<'a>, AllocError>
+    ensures app { IfOk result (λ c. app_of c ≡ program_app) }
+    ensures local { IfOk result (λ c. (fields_of c).has_globals ≡ false) }
+{
+    Ok(
+        program_texts(alloc)?
             .subcommand_required(true)
             .arg_required_else_help(true),
     )
@@ -52,7 +62,7 @@ fn replaying_command<'a>(alloc: Global) -> Result<Command<'a>, AllocError>
     ensures app { IfOk result (λ c. app_of c ≡ replaying_app) }
     ensures local { IfOk result (λ c. (fields_of c).has_globals ≡ false) }
 {
-    program_texts(alloc)?.subcommand(replay_command(alloc)?)
+    program_command(alloc)?.subcommand(replay_command(alloc)?)
 }
 
 /// The program with `replay` and `listen`.

@@ -6,7 +6,9 @@ ghost use Rattle.clap.specs.declared.builder.command.Command.TheViews.{out-Comma
 ghost use Rattle.command_words.specs.Commands.{convert_app};
 ghost use Rattle.command_words.specs.Options.{lines_rule};
 
+use crate::command_texts::{CommandTexts, texts_command};
 use crate::limits::text;
+use crate::option_forms::required_option;
 use crate::options::CAPTURED_LINES_HELP;
 use clap::{Arg, Command};
 use std::alloc::{AllocError, Global};
@@ -49,12 +51,13 @@ fn converted_lines_option<'a>(alloc: Global) -> Arg<'a>
     ensures rule { rule_of result ≡ lines_rule }
     ensures local { result.global ≡ false }
 {
-    Arg::new(alloc, "lines")
-        .long("lines")
-        .value_name("LIST")
-        .required(true)
-        .help("Where the lines' datagrams go: an address for line A and one for B of each venue")
-        .long_help(CAPTURED_LINES_HELP)
+    required_option(
+        alloc,
+        "lines",
+        "LIST",
+        "Where the lines' datagrams go: an address for line A and one for B of each venue",
+        CAPTURED_LINES_HELP,
+    )
 }
 
 /// The texts of `convert`, without its option.
@@ -62,12 +65,14 @@ fn convert_texts<'a>(alloc: Global) -> Command<'a>
     ensures app { app_of result ≡ new_app (codes "convert") }
     ensures local { (fields_of result).has_globals ≡ false }
 {
-    Command::new(alloc, "convert")
-        .about(ABOUT)
-        .long_about(LONG_ABOUT)
-        .override_usage(USAGE)
-        .after_help(EXAMPLE)
-        .after_long_help(END)
+    let texts = CommandTexts {
+        about: ABOUT,
+        long_about: LONG_ABOUT,
+        usage: USAGE,
+        example: EXAMPLE,
+        end: END,
+    };
+    texts_command(alloc, "convert", texts)
 }
 
 /// The whole of `convert`.

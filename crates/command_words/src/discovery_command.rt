@@ -6,6 +6,8 @@ ghost use Rattle.clap.specs.declared.builder.command.Command.TheViews.{out-Comma
 ghost use Rattle.command_words.specs.Commands.{discovering_app};
 ghost use Rattle.command_words.specs.Options.{format_rule};
 
+use crate::command_texts::{CommandTexts, texts_command};
+use crate::option_forms::valued_option;
 use clap::{Arg, Command};
 use std::alloc::{AllocError, Global};
 
@@ -39,7 +41,10 @@ Printed, a row in the order in which each first came, up to 4096 of them:
   first time, last time      the earliest and the latest, in nanoseconds from 1970 on, '-' where the
                              capture has none
 and then the other datagrams, how many addresses and ports these went to (up to 4096), the frames
-without a UDP datagram, and the datagrams that are in no row, since there were 4096 already.
+without a UDP datagram, and the datagrams that are in no row, since there were 4096 already. The last
+line has the words --sessions and --lines for the venues whose session came at exactly two addresses
+and ports, at neither of them after another session's; it isn't there where there is none, and leaves
+out names that can't stand in it.
 
 A datagram is a packet where its bytes spell one of MoldUDP64 and the session's name is printable
 ASCII (bytes 20 to 7e). Datagrams of another kind may look like one, as a heartbeat of no session.
@@ -49,6 +54,7 @@ where nothing is known.
 
 Examples:
   nbbo lines < day.pcap
+  eval \"nbbo stats $(nbbo lines < day.pcap | tail -1)\" < day.pcap
   zcat day.pcap.gz | nbbo lines --format json | jq -r 'select(.session) | .address'
 
 Status:
@@ -68,11 +74,13 @@ fn rows_format_option<'a>(alloc: Global) -> Arg<'a>
     ensures rule { rule_of result ≡ format_rule }
     ensures local { result.global ≡ false }
 {
-    Arg::new(alloc, "format")
-        .long("format")
-        .value_name("FORMAT")
-        .help("The format of the rows: table or json")
-        .long_help(FORMAT_HELP)
+    valued_option(
+        alloc,
+        "format",
+        "FORMAT",
+        "The format of the rows: table or json",
+        FORMAT_HELP,
+    )
 }
 
 /// The texts of `lines`, without its option.
@@ -80,12 +88,14 @@ fn discovery_texts<'a>(alloc: Global) -> Command<'a>
     ensures app { app_of result ≡ new_app (codes "lines") }
     ensures local { (fields_of result).has_globals ≡ false }
 {
-    Command::new(alloc, "lines")
-        .about(ABOUT)
-        .long_about(LONG_ABOUT)
-        .override_usage(USAGE)
-        .after_help(EXAMPLE)
-        .after_long_help(END)
+    let texts = CommandTexts {
+        about: ABOUT,
+        long_about: LONG_ABOUT,
+        usage: USAGE,
+        example: EXAMPLE,
+        end: END,
+    };
+    texts_command(alloc, "lines", texts)
 }
 
 /// The whole of `lines`.

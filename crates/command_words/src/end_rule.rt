@@ -5,7 +5,7 @@ ghost use Rattle.command_words.specs.EndRules.{NamesEndRule, NamesNoEndRule, end
 use run_settings::EndRule;
 
 /// The name is that of no rule.
-#[derive(Clone, Copy, Debug, PartialEq, Eq)]
+#[derive(Clone, Copy)]
 pub struct EndRuleFault;
 
 /// The rule of this name.

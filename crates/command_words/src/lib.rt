@@ -12,13 +12,15 @@
 //!
 //! Begin with `command_line.rt`, then `commands.rt` and a command, as `listen_command.rt`. An
 //! option stands with its texts in `options.rt` if commands share it, else in `listen_options.rt`,
-//! `replay_options.rt` or with its command; its rule in the file of that name in `specs/`.
+//! `replay_options.rt` or with its command; its rule in the file of that name in `specs/`. Both are
+//! of a form of `option_forms.rt`.
 #![tactic(auto)]
 
 mod addresses;
 mod best_format;
 mod captured_lines;
 mod command_line;
+mod command_texts;
 mod commands;
 mod convert_command;
 mod discovery_command;
@@ -26,8 +28,10 @@ mod end_rule;
 mod limits;
 mod listen_command;
 mod listen_counts;
+mod listen_format;
 mod listen_options;
 mod listen_stats;
+mod option_forms;
 mod options;
 mod period_words;
 mod refusal;

@@ -4,6 +4,8 @@ ghost use Rattle.clap.specs.Simple.{app_of, new_app};
 ghost use Rattle.clap.specs.declared.builder.command.Command.TheViews.{out-Command as fields_of};
 ghost use Rattle.command_words.specs.Commands.{counting_meanwhile_app, counts_app, ends_app, lines_app, listen_app, meanwhile_app, waits_app};
 
+use crate::command_texts::{CommandTexts, texts_command};
+use crate::listen_format::listen_format_option;
 use crate::listen_options::{
     buffer_option, complete_flag, datagrams_option, follow_flag, from_option, kept_option,
     lines_option, live_join_flag, live_journal_option, metrics_option, request_option,
@@ -46,7 +48,7 @@ Printed lines, once all lines have ended; with --follow each best line as it com
                                  STATE is empty, one-sided, normal, locked or crossed
   venue V sent SENT wins A B R   for each venue: how many items came in sequence, and how many
                                  messages each line brought first. R is 0: replies to requests
-                                 come on line A or B
+                                 come on line A or B. With --format csv or json rows stand alone
 
 An example to try, from the folder of the program's sources. Start this in the background:
   ./nbbo listen --sessions NORTH,SOUTH --lines \
@@ -118,7 +120,8 @@ Status:
      'bad end': --end is neither any nor own nor none; '--kept without --follow': without it all
      changes are kept; 'bad sender': --from isn't IP addresses, with or without a port; 'bad
      metrics address': --metrics isn't an IP address and a port; 'bad format': --stats-format is
-     neither table nor json, or --stats isn't given
+     neither table nor json, or --stats isn't given, or --format is neither text nor csv nor json;
+     '--format without --follow'
   3  with --complete: as 0, and a venue lacks messages
 
 While it runs standard error says when a line ends or fails, and at its first request that can't
@@ -139,12 +142,14 @@ fn listen_texts<'a>(alloc: Global) -> Command<'a>
     ensures app { app_of result ≡ new_app (codes "listen") }
     ensures local { (fields_of result).has_globals ≡ false }
 {
-    Command::new(alloc, "listen")
-        .about(ABOUT)
-        .long_about(LONG_ABOUT)
-        .override_usage(USAGE)
-        .after_help(EXAMPLE)
-        .after_long_help(LINES)
+    let texts = CommandTexts {
+        about: ABOUT,
+        long_about: LONG_ABOUT,
+        usage: USAGE,
+        example: EXAMPLE,
+        end: LINES,
+    };
+    texts_command(alloc, "listen", texts)
 }
 
 /// `listen` with its options that say where.
@@ -200,6 +205,7 @@ fn meanwhile_command<'a>(alloc: Global) -> Result<Command<'a>, AllocError>
     ends_command(alloc)?
         .arg(buffer_option(alloc))?
         .arg(follow_flag(alloc))?
+        .arg(listen_format_option(alloc))?
         .arg(kept_option(alloc))
 }
 

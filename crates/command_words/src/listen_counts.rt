@@ -10,7 +10,7 @@ use crate::limits::{DEFAULT_COUNT, DEFAULT_KEPT};
 use clap::ArgMatches;
 
 /// How many changes are kept is said where all are.
-#[derive(Clone, Copy, Debug, PartialEq, Eq)]
+#[derive(Clone, Copy)]
 pub struct KeptFault;
 
 /// The number of entries for which there is room where the words don't say: as many as there may be

@@ -6,7 +6,8 @@ ghost use Rattle.command_words.specs.ListenOptions.{buffer_rule, complete_rule, 
 ghost use Rattle.command_words.specs.Options.{join_rule, lines_rule};
 
 use crate::limits::{MAX_BUFFER, text};
-use clap::{Arg, ArgAction, value_parser};
+use crate::option_forms::{flag_option, from_one, from_zero, required_option, valued_option};
+use clap::{Arg, value_parser};
 use std::alloc::Global;
 
 const LINES_HELP: &str = "\
@@ -21,12 +22,13 @@ pub fn lines_option<'a>(alloc: Global) -> Arg<'a>
     ensures rule { rule_of result ≡ lines_rule }
     ensures local { result.global ≡ false }
 {
-    Arg::new(alloc, "lines")
-        .long("lines")
-        .value_name("LIST")
-        .required(true)
-        .help("Where the lines are received: an address for line A and one for B of each venue")
-        .long_help(LINES_HELP)
+    required_option(
+        alloc,
+        "lines",
+        "LIST",
+        "Where the lines are received: an address for line A and one for B of each venue",
+        LINES_HELP,
+    )
 }
 
 const REQUEST_HELP: &str = "\
@@ -44,11 +46,13 @@ pub fn request_option<'a>(alloc: Global) -> Arg<'a>
     ensures rule { rule_of result ≡ request_rule }
     ensures local { result.global ≡ false }
 {
-    Arg::new(alloc, "request")
-        .long("request")
-        .value_name("ADDR")
-        .help("Where messages that are missing are asked for")
-        .long_help(REQUEST_HELP)
+    valued_option(
+        alloc,
+        "request",
+        "ADDR",
+        "Where messages that are missing are asked for",
+        REQUEST_HELP,
+    )
 }
 
 const FROM_HELP: &str = "\
@@ -62,11 +66,13 @@ pub fn from_option<'a>(alloc: Global) -> Arg<'a>
     ensures rule { rule_of result ≡ from_rule }
     ensures local { result.global ≡ false }
 {
-    Arg::new(alloc, "from")
-        .long("from")
-        .value_name("LIST")
-        .help("Whose datagrams are taken: IP addresses, with or without a port")
-        .long_help(FROM_HELP)
+    valued_option(
+        alloc,
+        "from",
+        "LIST",
+        "Whose datagrams are taken: IP addresses, with or without a port",
+        FROM_HELP,
+    )
 }
 
 const JOIN_HELP: &str = "\
@@ -79,11 +85,12 @@ pub fn live_join_flag<'a>(alloc: Global) -> Arg<'a>
     ensures rule { rule_of result ≡ join_rule }
     ensures local { result.global ≡ false }
 {
-    Arg::new(alloc, "join")
-        .long("join")
-        .action(ArgAction::SetTrue)
-        .help("Gives up at once what is missing before the first message in sequence")
-        .long_help(JOIN_HELP)
+    flag_option(
+        alloc,
+        "join",
+        "Gives up at once what is missing before the first message in sequence",
+        JOIN_HELP,
+    )
 }
 
 const SKIP_AFTER_HELP: &str = text!("\
@@ -96,14 +103,16 @@ pub fn skip_after_option<'a>(alloc: Global) -> Arg<'a>
     ensures rule { rule_of result ≡ skip_after_rule }
     ensures local { result.global ≡ false }
 {
-    Arg::new(alloc, "skip-after")
-        .long("skip-after")
-        .value_name("MS")
-        .value_parser(value_parser!(u32).range(1..=i64::from(u32::MAX)))
-        .help(text!(
+    let option = valued_option(
+        alloc,
+        "skip-after",
+        "MS",
+        text!(
             "After how many milliseconds a gap is given up that stands so long, 1 to " MAX_COUNT
-        ))
-        .long_help(SKIP_AFTER_HELP)
+        ),
+        SKIP_AFTER_HELP,
+    );
+    from_one(option)
 }
 
 const LIVE_JOURNAL_HELP: &str = text!("\
@@ -116,15 +125,17 @@ pub fn live_journal_option<'a>(alloc: Global) -> Arg<'a>
     ensures rule { rule_of result ≡ live_journal_rule }
     ensures local { result.global ≡ false }
 {
-    Arg::new(alloc, "journal")
-        .long("journal")
-        .value_name("N")
-        .value_parser(value_parser!(u32).range(0..=i64::from(u32::MAX)))
-        .help(text!(
+    let option = valued_option(
+        alloc,
+        "journal",
+        "N",
+        text!(
             "How many items and declarations of self-help there may be, 0 to " MAX_COUNT
             " [default: " DEFAULT_COUNT ", with --follow " MAX_COUNT "]"
-        ))
-        .long_help(LIVE_JOURNAL_HELP)
+        ),
+        LIVE_JOURNAL_HELP,
+    );
+    from_zero(option)
 }
 
 const DATAGRAMS_HELP: &str = text!("\
@@ -136,15 +147,17 @@ pub fn datagrams_option<'a>(alloc: Global) -> Arg<'a>
     ensures rule { rule_of result ≡ datagrams_rule }
     ensures local { result.global ≡ false }
 {
-    Arg::new(alloc, "datagrams")
-        .long("datagrams")
-        .value_name("N")
-        .value_parser(value_parser!(u32).range(0..=i64::from(u32::MAX)))
-        .help(text!(
+    let option = valued_option(
+        alloc,
+        "datagrams",
+        "N",
+        text!(
             "How many datagrams a line reads at most, 0 to " MAX_COUNT
             " [default: " DEFAULT_COUNT ", with --follow no limit]"
-        ))
-        .long_help(DATAGRAMS_HELP)
+        ),
+        DATAGRAMS_HELP,
+    );
+    from_zero(option)
 }
 
 const END_HELP: &str = "\
@@ -159,11 +172,13 @@ pub fn which_end_option<'a>(alloc: Global) -> Arg<'a>
     ensures rule { rule_of result ≡ which_end_rule }
     ensures local { result.global ≡ false }
 {
-    Arg::new(alloc, "end")
-        .long("end")
-        .value_name("WHICH")
-        .help("Which ends of session end a line: any, own or none [default: any]")
-        .long_help(END_HELP)
+    valued_option(
+        alloc,
+        "end",
+        "WHICH",
+        "Which ends of session end a line: any, own or none [default: any]",
+        END_HELP,
+    )
 }
 
 const BUFFER_HELP: &str = text!("\
@@ -176,14 +191,14 @@ pub fn buffer_option<'a>(alloc: Global) -> Arg<'a>
     ensures rule { rule_of result ≡ buffer_rule }
     ensures local { result.global ≡ false }
 {
-    Arg::new(alloc, "buffer")
-        .long("buffer")
-        .value_name("BYTES")
-        .value_parser(value_parser!(u32).range(1..=i64::from(MAX_BUFFER)))
-        .help(
-            text!("How large a buffer to ask for at each line's socket, 1 to " MAX_BUFFER " bytes"),
-        )
-        .long_help(BUFFER_HELP)
+    let option = valued_option(
+        alloc,
+        "buffer",
+        "BYTES",
+        text!("How large a buffer to ask for at each line's socket, 1 to " MAX_BUFFER " bytes"),
+        BUFFER_HELP,
+    );
+    option.value_parser(value_parser!(u32).range(1..=i64::from(MAX_BUFFER)))
 }
 
 const SECONDS_HELP: &str = text!("\
@@ -195,12 +210,14 @@ pub fn seconds_option<'a>(alloc: Global) -> Arg<'a>
     ensures rule { rule_of result ≡ seconds_rule }
     ensures local { result.global ≡ false }
 {
-    Arg::new(alloc, "seconds")
-        .long("seconds")
-        .value_name("N")
-        .value_parser(value_parser!(u32).range(1..=i64::from(u32::MAX)))
-        .help(text!("After how many seconds the run ends, 1 to " MAX_COUNT))
-        .long_help(SECONDS_HELP)
+    let option = valued_option(
+        alloc,
+        "seconds",
+        "N",
+        text!("After how many seconds the run ends, 1 to " MAX_COUNT),
+        SECONDS_HELP,
+    );
+    from_one(option)
 }
 
 const UNTIL_INPUT_ENDS_HELP: &str = "\
@@ -214,11 +231,12 @@ pub fn until_input_ends_flag<'a>(alloc: Global) -> Arg<'a>
     ensures rule { rule_of result ≡ until_input_ends_rule }
     ensures local { result.global ≡ false }
 {
-    Arg::new(alloc, "until-input-ends")
-        .long("until-input-ends")
-        .action(ArgAction::SetTrue)
-        .help("Ends the run when standard input ends")
-        .long_help(UNTIL_INPUT_ENDS_HELP)
+    flag_option(
+        alloc,
+        "until-input-ends",
+        "Ends the run when standard input ends",
+        UNTIL_INPUT_ENDS_HELP,
+    )
 }
 
 const COMPLETE_HELP: &str = "\
@@ -231,11 +249,12 @@ pub fn complete_flag<'a>(alloc: Global) -> Arg<'a>
     ensures rule { rule_of result ≡ complete_rule }
     ensures local { result.global ≡ false }
 {
-    Arg::new(alloc, "complete")
-        .long("complete")
-        .action(ArgAction::SetTrue)
-        .help("Ends with status 3 where a venue lacks messages at the end")
-        .long_help(COMPLETE_HELP)
+    flag_option(
+        alloc,
+        "complete",
+        "Ends with status 3 where a venue lacks messages at the end",
+        COMPLETE_HELP,
+    )
 }
 
 const FOLLOW_HELP: &str = "\
@@ -249,11 +268,12 @@ pub fn follow_flag<'a>(alloc: Global) -> Arg<'a>
     ensures rule { rule_of result ≡ follow_rule }
     ensures local { result.global ≡ false }
 {
-    Arg::new(alloc, "follow")
-        .long("follow")
-        .action(ArgAction::SetTrue)
-        .help("Prints each best line as it comes")
-        .long_help(FOLLOW_HELP)
+    flag_option(
+        alloc,
+        "follow",
+        "Prints each best line as it comes",
+        FOLLOW_HELP,
+    )
 }
 
 const KEPT_HELP: &str = text!("\
@@ -266,15 +286,17 @@ pub fn kept_option<'a>(alloc: Global) -> Arg<'a>
     ensures rule { rule_of result ≡ kept_rule }
     ensures local { result.global ≡ false }
 {
-    Arg::new(alloc, "kept")
-        .long("kept")
-        .value_name("N")
-        .value_parser(value_parser!(u32).range(1..=i64::from(u32::MAX)))
-        .help(text!(
+    let option = valued_option(
+        alloc,
+        "kept",
+        "N",
+        text!(
             "With --follow: how many changes may wait to be printed, 1 to " MAX_COUNT
             " [default: " DEFAULT_KEPT "]"
-        ))
-        .long_help(KEPT_HELP)
+        ),
+        KEPT_HELP,
+    );
+    from_one(option)
 }
 
 const STATS_HELP: &str = text!("\
@@ -295,14 +317,16 @@ pub fn stats_option<'a>(alloc: Global) -> Arg<'a>
     ensures rule { rule_of result ≡ stats_rule }
     ensures local { result.global ≡ false }
 {
-    Arg::new(alloc, "stats")
-        .long("stats")
-        .value_name("SECONDS")
-        .value_parser(value_parser!(u32).range(1..=i64::from(u32::MAX)))
-        .help(text!(
+    let option = valued_option(
+        alloc,
+        "stats",
+        "SECONDS",
+        text!(
             "Every how many seconds standard error has counts of each venue, 1 to " MAX_COUNT
-        ))
-        .long_help(STATS_HELP)
+        ),
+        STATS_HELP,
+    );
+    from_one(option)
 }
 
 const STATS_FORMAT_HELP: &str = "\
@@ -318,11 +342,13 @@ pub fn stats_format_option<'a>(alloc: Global) -> Arg<'a>
     ensures rule { rule_of result ≡ listen_stats_format_rule }
     ensures local { result.global ≡ false }
 {
-    Arg::new(alloc, "stats-format")
-        .long("stats-format")
-        .value_name("FORMAT")
-        .help("The form of what --stats prints: table or json [default: table]")
-        .long_help(STATS_FORMAT_HELP)
+    valued_option(
+        alloc,
+        "stats-format",
+        "FORMAT",
+        "The form of what --stats prints: table or json [default: table]",
+        STATS_FORMAT_HELP,
+    )
 }
 
 const METRICS_HELP: &str = "\
@@ -337,9 +363,11 @@ pub fn metrics_option<'a>(alloc: Global) -> Arg<'a>
     ensures rule { rule_of result ≡ metrics_rule }
     ensures local { result.global ≡ false }
 {
-    Arg::new(alloc, "metrics")
-        .long("metrics")
-        .value_name("ADDR")
-        .help("Where the counts are served by HTTP, as Prometheus reads them")
-        .long_help(METRICS_HELP)
+    valued_option(
+        alloc,
+        "metrics",
+        "ADDR",
+        "Where the counts are served by HTTP, as Prometheus reads them",
+        METRICS_HELP,
+    )
 }

@@ -5,7 +5,8 @@ ghost use Rattle.clap.specs.Walk.{rule_of};
 ghost use Rattle.command_words.specs.Options.{captured_lines_rule, from_time_rule, join_rule, journal_rule, sessions_rule, skip_gaps_rule, symbols_rule, to_time_rule, window_rule};
 
 use crate::limits::text;
-use clap::{Arg, ArgAction, value_parser};
+use crate::option_forms::{flag_option, from_zero, required_option, valued_option};
+use clap::{Arg, value_parser};
 use feed_types::MAX_WINDOW;
 use std::alloc::Global;
 
@@ -19,12 +20,13 @@ pub fn sessions_option<'a>(alloc: Global) -> Arg<'a>
     ensures rule { rule_of result ≡ sessions_rule }
     ensures local { result.global ≡ false }
 {
-    Arg::new(alloc, "sessions")
-        .long("sessions")
-        .value_name("LIST")
-        .required(true)
-        .help(text!("The first session of each venue, 1 to " MAX_VENUES " names parted by commas"))
-        .long_help(SESSIONS_HELP)
+    required_option(
+        alloc,
+        "sessions",
+        "LIST",
+        text!("The first session of each venue, 1 to " MAX_VENUES " names parted by commas"),
+        SESSIONS_HELP,
+    )
 }
 
 pub const CAPTURED_LINES_HELP: &str = "\
@@ -39,13 +41,13 @@ pub fn captured_lines_option<'a>(alloc: Global) -> Arg<'a>
     ensures rule { rule_of result ≡ captured_lines_rule }
     ensures local { result.global ≡ false }
 {
-    Arg::new(alloc, "lines")
-        .long("lines")
-        .value_name("LIST")
-        .help(
-            "Reads a packet capture (pcap or pcapng): two addresses for each venue, A's and then B's",
-        )
-        .long_help(CAPTURED_LINES_HELP)
+    valued_option(
+        alloc,
+        "lines",
+        "LIST",
+        "Reads a packet capture (pcap or pcapng): two addresses for each venue, A's and then B's",
+        CAPTURED_LINES_HELP,
+    )
 }
 
 const WINDOW_HELP: &str = text!("\
@@ -57,13 +59,16 @@ pub fn window_option<'a>(alloc: Global) -> Arg<'a>
     ensures rule { rule_of result ≡ window_rule }
     ensures local { result.global ≡ false }
 {
-    Arg::new(alloc, "window")
-        .long("window")
-        .value_name("N")
+    let option = valued_option(
+        alloc,
+        "window",
+        "N",
+        text!("How many messages a venue holds past the last item sent, 1 to " MAX_WINDOW),
+        WINDOW_HELP,
+    );
+    option
         .value_parser(value_parser!(u32).range(1..=i64::from(MAX_WINDOW)))
         .default_value(text!(DEFAULT_WINDOW))
-        .help(text!("How many messages a venue holds past the last item sent, 1 to " MAX_WINDOW))
-        .long_help(WINDOW_HELP)
 }
 
 const JOURNAL_HELP: &str = text!("\
@@ -75,13 +80,14 @@ pub fn journal_option<'a>(alloc: Global) -> Arg<'a>
     ensures rule { rule_of result ≡ journal_rule }
     ensures local { result.global ≡ false }
 {
-    Arg::new(alloc, "journal")
-        .long("journal")
-        .value_name("N")
-        .value_parser(value_parser!(u32).range(0..=i64::from(u32::MAX)))
-        .default_value(text!(DEFAULT_COUNT))
-        .help(text!("How many items and declarations of self-help there may be, 0 to " MAX_COUNT))
-        .long_help(JOURNAL_HELP)
+    let option = valued_option(
+        alloc,
+        "journal",
+        "N",
+        text!("How many items and declarations of self-help there may be, 0 to " MAX_COUNT),
+        JOURNAL_HELP,
+    );
+    from_zero(option).default_value(text!(DEFAULT_COUNT))
 }
 
 const JOIN_HELP: &str = "\
@@ -95,11 +101,12 @@ pub fn join_flag<'a>(alloc: Global) -> Arg<'a>
     ensures rule { rule_of result ≡ join_rule }
     ensures local { result.global ≡ false }
 {
-    Arg::new(alloc, "join")
-        .long("join")
-        .action(ArgAction::SetTrue)
-        .help("Begins with a session's first packet, also where that lies past the window")
-        .long_help(JOIN_HELP)
+    flag_option(
+        alloc,
+        "join",
+        "Begins with a session's first packet, also where that lies past the window",
+        JOIN_HELP,
+    )
 }
 
 const SKIP_GAPS_HELP: &str = "\
@@ -114,29 +121,32 @@ pub fn skip_gaps_flag<'a>(alloc: Global) -> Arg<'a>
     ensures rule { rule_of result ≡ skip_gaps_rule }
     ensures local { result.global ≡ false }
 {
-    Arg::new(alloc, "skip-gaps")
-        .long("skip-gaps")
-        .action(ArgAction::SetTrue)
-        .help("Gives up messages that are missing where a packet lies past the window")
-        .long_help(SKIP_GAPS_HELP)
+    flag_option(
+        alloc,
+        "skip-gaps",
+        "Gives up messages that are missing where a packet lies past the window",
+        SKIP_GAPS_HELP,
+    )
 }
 
 const FROM_HELP: &str = "\
 The rows or statistics are of what came at this time or later, in UTC as
 2026-11-28T14:30:00Z or with up to nine decimals of a second. All of the capture is
-replayed; only with --lines, by the times of the frames. Statistics know nothing of what
-came before: its messages count as left out, and a best stands from its first change on";
+replayed; only with --lines, by the times of the frames. Messages that a packet told of
+before are neither missing nor left out; a best stands from its first change on";
 
 /// `--from TIME`.
 pub fn from_time_option<'a>(alloc: Global) -> Arg<'a>
     ensures rule { rule_of result ≡ from_time_rule }
     ensures local { result.global ≡ false }
 {
-    Arg::new(alloc, "from")
-        .long("from")
-        .value_name("TIME")
-        .help("Prints of what came at this time or later, as 2026-11-28T14:30:00Z")
-        .long_help(FROM_HELP)
+    valued_option(
+        alloc,
+        "from",
+        "TIME",
+        "Prints of what came at this time or later, as 2026-11-28T14:30:00Z",
+        FROM_HELP,
+    )
 }
 
 const TO_HELP: &str = "\
@@ -148,11 +158,13 @@ pub fn to_time_option<'a>(alloc: Global) -> Arg<'a>
     ensures rule { rule_of result ≡ to_time_rule }
     ensures local { result.global ≡ false }
 {
-    Arg::new(alloc, "to")
-        .long("to")
-        .value_name("TIME")
-        .help("Prints of what came before this time")
-        .long_help(TO_HELP)
+    valued_option(
+        alloc,
+        "to",
+        "TIME",
+        "Prints of what came before this time",
+        TO_HELP,
+    )
 }
 
 const SYMBOLS_HELP: &str = text!("\
@@ -165,9 +177,21 @@ pub fn symbols_argument<'a>(alloc: Global) -> Arg<'a>
     ensures rule { rule_of result ≡ symbols_rule }
     ensures local { result.global ≡ false }
 {
+    symbol_words(
+        alloc,
+        text!("The symbols whose national best is printed, at most " MAX_SYMBOLS),
+        SYMBOLS_HELP,
+    )
+}
+
+/// Words for symbols, with these texts.
+pub fn symbol_words<'a>(alloc: Global, help: &'a str, long_help: &'a str) -> Arg<'a>
+    ensures rule { rule_of result ≡ symbols_rule }
+    ensures local { result.global ≡ false }
+{
     Arg::new(alloc, "symbols")
         .value_name("SYMBOL")
         .num_args(0..)
-        .help(text!("The symbols whose national best is printed, at most " MAX_SYMBOLS))
-        .long_help(SYMBOLS_HELP)
+        .help(help)
+        .long_help(long_help)
 }

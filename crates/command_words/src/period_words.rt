@@ -5,7 +5,7 @@ ghost use Rattle.command_words.specs.PeriodWords.{IsInUnit, IsLengthOf, SpellsPe
 use run_settings::PeriodLength;
 
 /// A unit of the lengths of periods.
-#[derive(Clone, Copy, Debug, PartialEq, Eq)]
+#[derive(Clone, Copy)]
 pub enum PeriodUnit {
     Milliseconds,
     Seconds,

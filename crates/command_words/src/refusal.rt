@@ -1,12 +1,13 @@
 //! The reasons why the program has no settings.
 ghost use Rattle.std.specs.Prelude.{◌≡◌};
-ghost use Rattle.command_words.specs.CommandLine.{lines_refusal_by, refusal_by, refusal_status, refusal_text, senders_refusal_by, span_refusal_by, stats_refusal_by, symbols_refusal_by};
+ghost use Rattle.command_words.specs.CommandLine.{format_refusal_by, lines_refusal_by, refusal_by, refusal_status, refusal_text, senders_refusal_by, span_refusal_by, stats_refusal_by, symbols_refusal_by};
 ghost use Rattle.command_words.specs.declared.refusal.Refusal.TheVariants.{BadEnd, BadFormat, BestsWithoutEvery, BadMetrics, BadRequest, KeptUnfollowed, NoMemory};
 
 use crate::addresses::{LinesFault, MetricsFault, RequestFault};
 use crate::best_format::FormatFault;
 use crate::end_rule::EndRuleFault;
 use crate::listen_counts::KeptFault;
+use crate::listen_format::ListenFormatFault;
 use crate::sender_list::SendersFault;
 use crate::sessions::SessionsFault;
 use crate::span_words::SpanFault;
@@ -31,8 +32,8 @@ pub enum Refusal {
     BadLines,
     /// The text for the address of requests is no address, or one to which no request can be sent.
     BadRequest,
-    /// The format of the best lines is none of those that there are, or is given where all lines
-    /// are printed; or so is that of counts, which is given where none are printed.
+    /// The format of the best lines is none of those that there are, or is given where a replay
+    /// prints all lines; or so is that of counts, which is given where none are printed.
     BadFormat,
     /// The length of periods is none from a millisecond to an hour.
     BadPeriod,
@@ -55,6 +56,8 @@ pub enum Refusal {
     /// How many changes are kept is said where all are, since best lines aren't printed as they
     /// come.
     KeptUnfollowed,
+    /// The format of best lines is said where they aren't printed as they come.
+    FormatUnfollowed,
     /// The list of senders isn't addresses, with or without a port.
     BadSender,
     /// The text for the address of metrics is no address.
@@ -84,7 +87,7 @@ impl Refusal {
             Refusal::BestsWithoutEvery | Refusal::BadTime | Refusal::ToBeforeFrom => 2,
             Refusal::SpanOfLines | Refusal::SpanWithoutLines => 2,
             Refusal::GapsWithEvery | Refusal::BadEnd | Refusal::KeptUnfollowed => 2,
-            Refusal::BadSender | Refusal::BadMetrics => 2,
+            Refusal::FormatUnfollowed | Refusal::BadSender | Refusal::BadMetrics => 2,
             Refusal::BadSymbol | Refusal::TooManySymbols | Refusal::DuplicateSymbol => 2,
         }
     }
@@ -112,6 +115,7 @@ impl Refusal {
             Refusal::SpanWithoutLines => "nbbo: --from or --to without --lines\n",
             Refusal::BadEnd => "nbbo: bad end\n",
             Refusal::KeptUnfollowed => "nbbo: --kept without --follow\n",
+            Refusal::FormatUnfollowed => "nbbo: --format without --follow\n",
             Refusal::BadSender => "nbbo: bad sender\n",
             Refusal::BadMetrics => "nbbo: bad metrics address\n",
             Refusal::BadSymbol => "nbbo: bad symbol\n",
@@ -216,6 +220,17 @@ impl From<KeptFault> for Refusal {
 
     fn from(_fault: KeptFault) -> Refusal {
         Refusal::KeptUnfollowed
+    }
+}
+
+impl From<ListenFormatFault> for Refusal {
+    ghost from_gives = { λ fault refusal. refusal ≡ format_refusal_by fault };
+
+    fn from(fault: ListenFormatFault) -> Refusal {
+        match fault {
+            ListenFormatFault::BadFormat => Refusal::BadFormat,
+            ListenFormatFault::FormatUnfollowed => Refusal::FormatUnfollowed,
+        }
     }
 }
 

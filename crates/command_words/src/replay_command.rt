@@ -4,6 +4,7 @@ ghost use Rattle.clap.specs.Simple.{app_of, new_app};
 ghost use Rattle.clap.specs.declared.builder.command.Command.TheViews.{out-Command as fields_of};
 ghost use Rattle.command_words.specs.Commands.{choices_app, choices_span_app, options_app, replay_app, skipping_app};
 
+use crate::command_texts::{CommandTexts, texts_command};
 use crate::limits::text;
 use crate::options::{
     captured_lines_option, from_time_option, join_flag, journal_option, sessions_option,
@@ -146,12 +147,14 @@ fn replay_texts<'a>(alloc: Global) -> Command<'a>
     ensures app { app_of result ≡ new_app (codes "replay") }
     ensures local { (fields_of result).has_globals ≡ false }
 {
-    Command::new(alloc, "replay")
-        .about(ABOUT)
-        .long_about(LONG_ABOUT)
-        .override_usage(USAGE)
-        .after_help(EXAMPLE)
-        .after_long_help(LINES)
+    let texts = CommandTexts {
+        about: ABOUT,
+        long_about: LONG_ABOUT,
+        usage: USAGE,
+        example: EXAMPLE,
+        end: LINES,
+    };
+    texts_command(alloc, "replay", texts)
 }
 
 /// `replay` with its options that have a value.

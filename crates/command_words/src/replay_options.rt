@@ -5,7 +5,8 @@ ghost use Rattle.clap.specs.Walk.{rule_of};
 ghost use Rattle.command_words.specs.Options.{format_rule, gaps_rule};
 ghost use Rattle.command_words.specs.ReplayOptions.{best_only_rule};
 
-use clap::{Arg, ArgAction};
+use crate::option_forms::{flag_option, valued_option};
+use clap::Arg;
 use std::alloc::Global;
 
 const GAPS_HELP: &str = "\
@@ -16,11 +17,12 @@ pub fn gaps_flag<'a>(alloc: Global) -> Arg<'a>
     ensures rule { rule_of result ≡ gaps_rule }
     ensures local { result.global ≡ false }
 {
-    Arg::new(alloc, "gaps")
-        .long("gaps")
-        .action(ArgAction::SetTrue)
-        .help("Prints after each datagram which messages are to be asked for, if any are missing")
-        .long_help(GAPS_HELP)
+    flag_option(
+        alloc,
+        "gaps",
+        "Prints after each datagram which messages are to be asked for, if any are missing",
+        GAPS_HELP,
+    )
 }
 
 const BEST_ONLY_HELP: &str = "\
@@ -31,11 +33,12 @@ pub fn best_only_flag<'a>(alloc: Global) -> Arg<'a>
     ensures rule { rule_of result ≡ best_only_rule }
     ensures local { result.global ≡ false }
 {
-    Arg::new(alloc, "best-only")
-        .long("best-only")
-        .action(ArgAction::SetTrue)
-        .help("Prints the best lines alone")
-        .long_help(BEST_ONLY_HELP)
+    flag_option(
+        alloc,
+        "best-only",
+        "Prints the best lines alone",
+        BEST_ONLY_HELP,
+    )
 }
 
 const FORMAT_HELP: &str = "\
@@ -52,9 +55,11 @@ pub fn format_option<'a>(alloc: Global) -> Arg<'a>
     ensures rule { rule_of result ≡ format_rule }
     ensures local { result.global ≡ false }
 {
-    Arg::new(alloc, "format")
-        .long("format")
-        .value_name("FORMAT")
-        .help("The format of the best lines with --best-only: text, csv or json")
-        .long_help(FORMAT_HELP)
+    valued_option(
+        alloc,
+        "format",
+        "FORMAT",
+        "The format of the best lines with --best-only: text, csv or json",
+        FORMAT_HELP,
+    )
 }

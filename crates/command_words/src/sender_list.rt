@@ -10,7 +10,7 @@ use std::alloc::{AllocError, Global};
 use std::net::{IpAddr, SocketAddr};
 
 /// Why a list of senders is refused.
-#[derive(Clone, Copy, Debug, PartialEq, Eq)]
+#[derive(Clone, Copy)]
 pub enum SendersFault {
     /// The list isn't addresses, with or without a port, separated by commas.
     BadSender,

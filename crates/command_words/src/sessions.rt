@@ -11,7 +11,7 @@ use std::alloc::{AllocError, Global};
 const NAME_LEN: usize = 10;
 
 /// Why a list of sessions is refused.
-#[derive(Clone, Copy, Debug, PartialEq, Eq)]
+#[derive(Clone, Copy)]
 pub enum SessionsFault {
     /// A name is empty, has more than ten bytes, or has a byte outside of `20` to `7e`.
     BadSession,

@@ -7,7 +7,7 @@ use crate::time_words::read_time;
 use run_settings::{RunOutput, TimeSpan};
 
 /// Why there is no span.
-#[derive(Clone, Copy, Debug, PartialEq, Eq)]
+#[derive(Clone, Copy)]
 pub enum SpanFault {
     /// A text is no time.
     BadTime,
@@ -20,7 +20,7 @@ pub enum SpanFault {
 }
 
 /// Why a text is no time.
-#[derive(Clone, Copy, Debug, PartialEq, Eq)]
+#[derive(Clone, Copy)]
 pub struct TimeFault;
 
 impl From<TimeFault> for SpanFault {

@@ -6,12 +6,14 @@ ghost use Rattle.clap.specs.declared.builder.command.Command.TheViews.{out-Comma
 ghost use Rattle.command_words.specs.Commands.{counting_app, stats_app, stats_rows_app, stats_skips_app, stats_span_app};
 ghost use Rattle.command_words.specs.Options.{bests_rule, every_rule, format_rule, gaps_rule, symbols_rule};
 
+use crate::command_texts::{CommandTexts, texts_command};
 use crate::limits::text;
+use crate::option_forms::{flag_option, valued_option};
 use crate::options::{
     captured_lines_option, from_time_option, join_flag, sessions_option, skip_gaps_flag,
-    to_time_option, window_option,
+    symbol_words, to_time_option, window_option,
 };
-use clap::{Arg, ArgAction, Command};
+use clap::{Arg, Command};
 use std::alloc::{AllocError, Global};
 
 /// `stats`, in one line.
@@ -127,11 +129,12 @@ fn stats_gaps_flag<'a>(alloc: Global) -> Arg<'a>
     ensures rule { rule_of result ≡ gaps_rule }
     ensures local { result.global ≡ false }
 {
-    Arg::new(alloc, "gaps")
-        .long("gaps")
-        .action(ArgAction::SetTrue)
-        .help("Prints a row for each gap in place of the counts")
-        .long_help(GAPS_HELP)
+    flag_option(
+        alloc,
+        "gaps",
+        "Prints a row for each gap in place of the counts",
+        GAPS_HELP,
+    )
 }
 
 const EVERY_HELP: &str = "\
@@ -144,11 +147,13 @@ fn every_option<'a>(alloc: Global) -> Arg<'a>
     ensures rule { rule_of result ≡ every_rule }
     ensures local { result.global ≡ false }
 {
-    Arg::new(alloc, "every")
-        .long("every")
-        .value_name("PERIOD")
-        .help("Prints rows of each period of this length in place of counts, as 100ms or 1s")
-        .long_help(EVERY_HELP)
+    valued_option(
+        alloc,
+        "every",
+        "PERIOD",
+        "Prints rows of each period of this length in place of counts, as 100ms or 1s",
+        EVERY_HELP,
+    )
 }
 
 const BESTS_HELP: &str = "\
@@ -162,11 +167,12 @@ fn bests_flag<'a>(alloc: Global) -> Arg<'a>
     ensures rule { rule_of result ≡ bests_rule }
     ensures local { result.global ≡ false }
 {
-    Arg::new(alloc, "bests")
-        .long("bests")
-        .action(ArgAction::SetTrue)
-        .help("Prints with --every how long venues had the national bests, and the spread")
-        .long_help(BESTS_HELP)
+    flag_option(
+        alloc,
+        "bests",
+        "Prints with --every how long venues had the national bests, and the spread",
+        BESTS_HELP,
+    )
 }
 
 const FORMAT_HELP: &str = "\
@@ -179,11 +185,13 @@ fn stats_format_option<'a>(alloc: Global) -> Arg<'a>
     ensures rule { rule_of result ≡ format_rule }
     ensures local { result.global ≡ false }
 {
-    Arg::new(alloc, "format")
-        .long("format")
-        .value_name("FORMAT")
-        .help("The format of the counts: table or json; of rows: csv or json")
-        .long_help(FORMAT_HELP)
+    valued_option(
+        alloc,
+        "format",
+        "FORMAT",
+        "The format of the counts: table or json; of rows: csv or json",
+        FORMAT_HELP,
+    )
 }
 
 const SYMBOLS_HELP: &str = text!("\
@@ -196,13 +204,11 @@ fn counted_symbols_argument<'a>(alloc: Global) -> Arg<'a>
     ensures rule { rule_of result ≡ symbols_rule }
     ensures local { result.global ≡ false }
 {
-    Arg::new(alloc, "symbols")
-        .value_name("SYMBOL")
-        .num_args(0..)
-        .help(text!(
-            "The symbols of whose national best the changes are counted, at most " MAX_SYMBOLS
-        ))
-        .long_help(SYMBOLS_HELP)
+    symbol_words(
+        alloc,
+        text!("The symbols of whose national best the changes are counted, at most " MAX_SYMBOLS),
+        SYMBOLS_HELP,
+    )
 }
 
 /// The texts of `stats`, without its options.
@@ -210,12 +216,14 @@ fn stats_texts<'a>(alloc: Global) -> Command<'a>
     ensures app { app_of result ≡ new_app (codes "stats") }
     ensures local { (fields_of result).has_globals ≡ false }
 {
-    Command::new(alloc, "stats")
-        .about(ABOUT)
-        .long_about(LONG_ABOUT)
-        .override_usage(USAGE)
-        .after_help(EXAMPLE)
-        .after_long_help(END)
+    let texts = CommandTexts {
+        about: ABOUT,
+        long_about: LONG_ABOUT,
+        usage: USAGE,
+        example: EXAMPLE,
+        end: END,
+    };
+    texts_command(alloc, "stats", texts)
 }
 
 /// `stats` with its options that say what is read.

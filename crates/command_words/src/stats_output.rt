@@ -10,7 +10,7 @@ use crate::stats_format::read_stats_format;
 use run_settings::{PeriodStyle, RowFormat, RunOutput};
 
 /// Why `nbbo stats` prints nothing.
-#[derive(Clone, Copy, Debug, PartialEq, Eq)]
+#[derive(Clone, Copy)]
 pub enum StatsFault {
     /// The length of the periods is none from a millisecond to an hour.
     BadPeriod,
@@ -105,7 +105,7 @@ pub fn read_stats_output(
 }
 
 /// Rows of national bests are asked for where there are no periods.
-#[derive(Clone, Copy, Debug, PartialEq, Eq)]
+#[derive(Clone, Copy)]
 pub struct BestsFault;
 
 /// What is printed where `--bests` is given, or isn't: rows of how long national bests stood in

@@ -10,7 +10,7 @@ use nbbo_book::are_distinct;
 use std::alloc::{AllocError, Global};
 
 /// Why words name no symbols.
-#[derive(Clone, Copy, Debug, PartialEq, Eq)]
+#[derive(Clone, Copy)]
 pub enum SymbolsFault {
     /// A word is empty, has more than eight bytes, or has a byte outside of `21` to `7e`.
     BadSymbol,
