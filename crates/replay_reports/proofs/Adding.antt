@@ -10,7 +10,7 @@ use Rattle.line_arbiter.specs.declared.outcome.Outcome.{Outcome}
 use Rattle.line_arbiter.specs.declared.outcome.LineFault.{LineFault}
 use Rattle.line_captures.specs.FullCounts.{count_after}
 use Rattle.feed_text.specs.declared.event.Event.{Event}
-use Rattle.feed_text.specs.SinkEvents.{SinkEvent, told_best, told_by, told_packet, told_refusal}
+use Rattle.feed_text.specs.SinkEvents.{SinkEvent, told_before, told_best, told_by, told_packet, told_refusal}
 use Rattle.replay_reports.specs.declared.counts.gap_stats.GapStats.{GapStats}
 use Rattle.replay_reports.specs.declared.counts.line_stats.LineStats.{LineStats}
 use Rattle.replay_reports.specs.declared.counts.stats.StateStats.{StateStats}
@@ -104,6 +104,21 @@ own_counted old new e k is same kept venues states =
     (subst (λ (x : Event). new.venues ≡ each_venue (own_at (told_by x)) 0 old.venues) is venues
     ∙ same)
     (states ∙ sym kept))
+
+-- and one before all that is counted
+pub own_begun : (old new : Counted) (e k : Event) → e ≡ k
+    → each_venue (own_at (told_before (told_by k))) 0 old.venues
+    ≡ each_venue (venue_after (told_before (told_by k) ∷ [])) 0 old.venues
+    → new.venues ≡ each_venue (own_at (told_before (told_by e))) 0 old.venues
+    → new.states ≡ old.states
+    → new ≡ counted_after old (told_before (told_by e) ∷ [])
+own_begun old new e k is same venues states =
+    subst (λ (x : Event). new ≡ counted_after old (told_before (told_by x) ∷ [])) (sym is)
+    (counted_by old new (told_before (told_by k))
+    (subst (λ (x : Event). new.venues ≡ each_venue (own_at (told_before (told_by x))) 0 old.venues)
+    is venues
+    ∙ same)
+    states)
 
 -- ---- a change of a national best
 

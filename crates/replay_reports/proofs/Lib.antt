@@ -1,5 +1,3 @@
-pub mod Appending
-pub mod CsvReading
 pub mod Adding
 pub mod Placing
 pub mod Leading

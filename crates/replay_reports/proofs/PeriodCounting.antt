@@ -1,10 +1,11 @@
 -- The counts of periods after one event more, and the rows of the period that is over with it.
-use Rattle.std.proofs.Common.{◌≡◌, ℕ, Bool, true, false, cond, List, [], ◌∷◌, ◌++◌, Option, append-nil, length, sym, ap, subst, ◌∙◌, refl}
-use Rattle.std.specs.Prelude.{is_some}
+use Rattle.std.proofs.Common.{◌≡◌, ℕ, Bool, true, false, cond, List, [], ◌∷◌, ◌++◌, Option, None, Some, append-nil, length, sym, ap, subst, ◌∙◌, refl, eq-eqb}
+use Rattle.std.specs.Prelude.{is_some, not}
 use Rattle.feed_text.specs.SinkEvents.{TimedEvent}
 use Rattle.run_settings.specs.declared.period_style.PeriodStyle.{PeriodStyle}
 use Rattle.replay_reports.specs.declared.counts.venue_stats.VenueStats.{VenueStats}
 use Rattle.replay_reports.specs.declared.periods.period_counts.PeriodCounts.{PeriodCounts}
+use Rattle.replay_reports.specs.best_times.Standing.{is_another}
 use Rattle.replay_reports.specs.counts.Stats.{Counted, counted_after}
 use Rattle.replay_reports.specs.periods.PeriodTexts.{ended_text, rows_with}
 use Rattle.replay_reports.specs.periods.RowHistories.{rows_told}
@@ -46,6 +47,22 @@ counted_period length_ns venues events e old new are more keeps begins =
           ∙ chosen venues is_over events earlier;
       begin = begin;
     }
+
+-- a period isn't over where it stays at hand
+pub ended_by_same : (begin : Option ℕ) → period_ended_by begin begin ≡ None
+ended_by_same None = refl
+ended_by_same (Some time) =
+    ap (λ (same : Bool). cond same None (Some time)) (eq-eqb time time refl)
+
+pub not_another : (begin : Option ℕ) → is_another begin begin ≡ false
+not_another None = refl
+not_another (Some time) = ap not (eq-eqb time time refl)
+
+pub kept_before : (c : PeriodCounts) → c.before.items
+    ≡ cond (is_some (period_ended_by c.begin c.begin)) c.stats.venues c.before.items
+kept_before c =
+    sym (ap (λ (o : Option ℕ). cond (is_some o) c.stats.venues c.before.items)
+    (ended_by_same c.begin))
 
 -- the rows of one event
 pub rows_are : (style : PeriodStyle) (venues : ℕ) (e : TimedEvent) (earlier : List TimedEvent)

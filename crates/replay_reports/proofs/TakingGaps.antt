@@ -5,7 +5,7 @@ use Rattle.feed_text.specs.Devices.{Moved}
 use Rattle.feed_text.specs.declared.text_page.TextPage.{TextPage}
 use Rattle.feed_text.specs.TextPages.{TakesPage}
 use Rattle.feed_text.specs.TextPageLaws.{takes_no_page}
-use Rattle.feed_text.specs.SinkEvents.{SinkEvent, timed_event}
+use Rattle.feed_text.specs.SinkEvents.{SinkEvent, timed_event, told_before}
 use Rattle.replay_reports.specs.declared.gaps.gap_rows.GapRows.{GapRows}
 use Rattle.replay_reports.specs.declared.gaps.venue_gaps.EndedGaps.{EndedGaps}
 use Rattle.replay_reports.specs.gaps.Gaps.{gap_venue, gaps_after_at, gaps_after_event, gaps_over, no_gaps_yet}
@@ -57,3 +57,24 @@ module _ {W : Type 0} (adds : W → List ℕ → W → Type 0) (failures : W →
           kept = ap failures writer ∙ kept;
         };
       }
+
+-- ---- an event before all that is told
+
+no_rows_before : {W : Type 0} (s : GapRows W) (e : SinkEvent) (at : Option ℕ)
+    → gap_rows_by s.format s.venues None (told_before e) at ≡ []
+no_rows_before s e None = refl
+no_rows_before s e (Some venue) = refl
+
+pub took_before : {W : Type 0} (adds : W → List ℕ → W → Type 0) (failures : W → ℕ)
+    (e : SinkEvent) (s t : GapRows W) → ((w : W) → adds w [] w)
+    → t.page ≡ s.page → t.format ≡ s.format
+    → t.venues ≡ gaps_after_event s.venues None (told_before e) (gap_venue e)
+    → TakesGaps adds failures s (timed_event None (told_before e) ∷ []) t
+took_before {W} adds failures e s t none page format venues = record {
+  same_format = format;
+  venues = venues;
+  takes = subst (λ (p : TextPage W). TakesPage adds failures s.page
+      (gap_rows_by s.format s.venues None (told_before e) (gap_venue e) ++ []) p) (sym page)
+      (subst (λ (l : List ℕ). TakesPage adds failures s.page (l ++ []) s.page)
+      (sym (no_rows_before s e (gap_venue e))) (takes_no_page adds failures none s.page));
+}

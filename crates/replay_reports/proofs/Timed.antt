@@ -11,7 +11,7 @@ use Rattle.line_arbiter.specs.declared.outcome.LineFault.{LineFault}
 use Rattle.line_arbiter.specs.declared.outcome.Outcome.{Outcome}
 use Rattle.line_arbiter.specs.declared.outcome.Outcome.TheVariants.{Taken, Heartbeat, Ended, Ahead}
 use Rattle.feed_text.specs.declared.event.Event.{Event}
-use Rattle.feed_text.specs.SinkEvents.{SinkEvent, TimedEvent, timed_event, told_by, told_packet, told_renewal}
+use Rattle.feed_text.specs.SinkEvents.{SinkEvent, TimedEvent, timed_event, told_before, told_by, told_packet, told_renewal}
 use Rattle.replay_reports.specs.declared.times.peak_rate.PeakRate.{PeakRate}
 use Rattle.replay_reports.specs.declared.times.times.Times.{Times}
 use Rattle.replay_reports.specs.declared.times.timed_stats.TimedStats.{TimedStats}
@@ -359,6 +359,14 @@ idle_timed window time events t e k is idle timed =
       begins = idle.begins n;
       accepted = idle.accepted n;
     })) timed)
+
+-- an event before all that is told changes nothing
+pub begun_timed : (window : ℕ) (events : List TimedEvent) (t : Times) (e : SinkEvent)
+    → AreTimesOf window events t → AreTimesOf window (timed_event None (told_before e) ∷ events) t
+begun_timed window events t e timed =
+    rates_kept window None events (told_before e) t t (λ time. refl) refl refl
+    (all_untouched window (timed_event None (told_before e)) events t.venues.items
+    (λ n within. record { came = refl; begins = refl; accepted = refl })) timed
 
 -- a rate after one packet more
 pub rate_more : (length time count messages : ℕ)

@@ -1,7 +1,3 @@
--- The rows of national bests.
-pub mod Quoting
-pub mod Times
-pub mod RowTexts
-pub mod CsvFields
+-- A sink of the rows of national bests.
 pub mod RowSinks
 pub mod RowLaws

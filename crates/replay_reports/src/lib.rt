@@ -1,9 +1,9 @@
 //! Reports of a replay: sinks of its events that print rows of the national bests, or its
 //! statistics.
 //!
-//! A [`BestRows`] writes the row of each national best that changed, in its [`RowStyle`], after the
-//! format's header: text, comma-separated values or JSON lines. A row's time is that of its own
-//! event (`specs/rows/RowSinks.antt`). A [`GapRows`] writes the rows of the gaps in the numbers of
+//! A [`BestRows`] writes the row of each national best that changed, in its `RowStyle`, after the
+//! format's header (`best_rows`). A row's time is that of its own event
+//! (`specs/rows/RowSinks.antt`). A [`GapRows`] writes the rows of the gaps in the numbers of
 //! packets, as they end (`specs/gaps/Gaps.antt`), and a [`PeriodRows`] what each line brought in
 //! each period of the clock (`specs/periods/PeriodTexts.antt`). A [`BestTimeRows`] writes how long
 //! national bests stood in each period (`specs/best_times/Standing.antt`). A [`Stats`] writes
@@ -11,16 +11,17 @@
 //! (`specs/counts/Counts.antt`: a filter, then a count or a sum). A [`TimedStats`] also holds how a
 //! packet capture's lines run in time (`specs/times/Timing.antt`). Each is a [`StatsSink`], which
 //! has its statistics as a text: a table or JSON (`specs/Texts.antt`). A [`SpanSink`] tells another
-//! sink the events in a span of time (`specs/spans/SpanEvents.antt`).
+//! sink the events in a span of time, and a [`SpannedSink`] those before it as such, so that
+//! numbers that come are known as those that come next (`specs/spans/SpanEvents.antt`).
 //!
-//! Begin at `rows/row_sink.rt`, `gaps/gap_rows.rt`, `periods/period_rows.rt` or `counts/stats.rt`.
+//! Begin at `row_sink.rt`, `gaps/gap_rows.rt`, `periods/period_rows.rt` or `counts/stats.rt`.
 #![tactic(auto)]
 
 mod best_times;
 mod counts;
 mod gaps;
 mod periods;
-mod rows;
+mod row_sink;
 mod spans;
 mod text;
 mod times;
@@ -43,10 +44,9 @@ pub use periods::line_figures::LineFigures;
 pub use periods::period_counts::PeriodCounts;
 pub use periods::period_row::PeriodRow;
 pub use periods::period_rows::PeriodRows;
-pub use rows::read_back::csv_reads_back;
-pub use rows::row_sink::BestRows;
-pub use rows::style::{RowStyle, has_times};
+pub use row_sink::BestRows;
 pub use spans::span_sink::SpanSink;
+pub use spans::spanned_sink::SpannedSink;
 pub use text::StatsSink;
 pub use times::durations::Durations;
 pub use times::extent::Extent;

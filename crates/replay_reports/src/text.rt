@@ -7,13 +7,13 @@ ghost use Rattle.replay_reports.specs.Texts.{IsTimedText, losses_part, text_of_s
 use crate::counts::json::put_json;
 use crate::counts::stats::Stats;
 use crate::counts::table::put_table;
+use crate::spans::spanned_sink::SpannedSink;
 use crate::times::figures::TimeFigures;
 use crate::times::losses_json::put_losses_json;
 use crate::times::losses_table::put_losses_table;
 use crate::times::timed_stats::TimedStats;
 use crate::times::times_json::put_times_json;
 use crate::times::times_table::put_times_table;
-use feed_text::EventSink;
 use run_settings::StatsFormat;
 use std::alloc::{AllocError, Global};
 
@@ -89,7 +89,7 @@ fn times_text(
 }
 
 /// A sink of events that keeps statistics of them, and has them as a text.
-pub trait StatsSink: EventSink {
+pub trait StatsSink: SpannedSink {
     /// A text of what it keeps, in a format.
     ghost is_text: { Self → StatsFormat → List ℕ → Type 0 };
 

@@ -12,8 +12,8 @@ use Rattle.replay_reports.specs.counts.Pieces.{first_texts}
 use Rattle.replay_reports.specs.gaps.GapTexts.{seconds_or}
 use Rattle.replay_reports.specs.periods.Periods.{period_ended}
 use Rattle.replay_reports.specs.periods.RowHistories.{rows_told}
-use Rattle.replay_reports.specs.rows.Quoting.{csv_text, quoted}
-use Rattle.replay_reports.specs.rows.Times.{json_known_time, seconds_text}
+use Rattle.best_rows.specs.Quoting.{csv_text, quoted}
+use Rattle.best_rows.specs.Times.{json_known_time, seconds_text}
 
 -- ---- a row: shares and the spread with nine places
 

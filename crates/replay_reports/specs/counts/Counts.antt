@@ -11,7 +11,7 @@ use Rattle.line_arbiter.specs.declared.outcome.Outcome.{Outcome}
 use Rattle.line_arbiter.specs.declared.outcome.Outcome.TheVariants.{Taken, Heartbeat, Ended, Ahead}
 use Rattle.line_arbiter.specs.Streams.{is_same_line}
 use Rattle.line_captures.specs.FullCounts.{count_after}
-use Rattle.feed_text.specs.SinkEvents.{SinkEvent, told_packet, told_refusal, told_item, told_renewal, told_skip, told_declaration}
+use Rattle.feed_text.specs.SinkEvents.{SinkEvent, told_packet, told_refusal, told_item, told_renewal, told_skip, told_declaration, told_before}
 use Rattle.replay_reports.specs.declared.counts.line_stats.LineStats.{LineStats}
 use Rattle.replay_reports.specs.declared.counts.line_stats.Refusals.{Refusals}
 use Rattle.replay_reports.specs.declared.counts.gap_stats.SequenceStats.{SequenceStats}
@@ -135,31 +135,53 @@ abbrev pub given_up_after : ℕ → ℕ → Item → ℕ
 given_up_after last number items.Skipped = number - last
 given_up_after last number _ = 0
 
--- The present session after one more event: a packet brings messages first, an item Skipped stands
--- for those that were given up, and with a next session numbers begin anew.
-abbrev pub session_after : SessionStats → SinkEvent → SessionStats
-session_after s (told_packet venue on number count (Ok (Taken new repeated))) =
-    record s { come = count_after s.come new }
-session_after s (told_item venue numbered) = record {
-  last = numbered.number;
-  come = count_after s.come (given_up_after s.last numbered.number numbered.item);
-  given_up = count_after s.given_up (given_up_after s.last numbered.number numbered.item);
-}
-session_after s (told_renewal venue (Ok ordinal)) = record s { last = 0; come = 0 }
-session_after s _ = s
-
--- ---- gaps: messages that packets' numbers pass over
-
--- the number that comes next, where all comes in order
-abbrev pub expected_in : SequenceStats → ℕ
-expected_in s = s.highest + 1
-
 -- the highest number that was told of, once a packet tells of this last one: the end of a session
 -- says
 -- which is its last
 abbrev pub highest_after : Outcome → ℕ → ℕ → ℕ
 highest_after Ended highest last = last
 highest_after _ highest last = max highest last
+
+-- how many of the messages that came first with a packet have numbers past this one, at most
+abbrev pub new_past : ℕ → ℕ → ℕ → ℕ → ℕ
+new_past before number count new = min new (count - min count (before + 1 - number))
+
+-- The present session after one more event: a packet brings messages first, an item Skipped stands
+-- for those that were given up, and with a next session numbers begin anew. Of messages that were
+-- told of before, none counts.
+abbrev pub session_told : SessionStats → SinkEvent → SessionStats
+session_told s (told_packet venue on number count (Ok (Taken new repeated))) =
+    record s { come = count_after s.come (new_past s.before number count new) }
+session_told s (told_item venue numbered) = record s {
+  last = numbered.number;
+  come = count_after s.come
+      (given_up_after (max s.last s.before) numbered.number numbered.item);
+  given_up = count_after s.given_up (given_up_after s.last numbered.number numbered.item);
+}
+session_told s (told_renewal venue (Ok ordinal)) = record s { before = 0; last = 0; come = 0 }
+session_told s _ = s
+
+-- the same after an event before all that is counted: what it tells of was told of before
+abbrev pub session_begun : SessionStats → SinkEvent → SessionStats
+session_begun s (told_packet venue on number count (Ok outcome)) =
+    record s { before = highest_after outcome s.before (count_after (number - 1) count) }
+session_begun s (told_skip venue number (Ok done)) =
+    record s { before = max s.before (number - 1) }
+session_begun s (told_item venue numbered) = record s { last = numbered.number }
+session_begun s (told_renewal venue (Ok ordinal)) = record s { before = 0; last = 0; come = 0 }
+session_begun s _ = s
+
+-- an event that is told as one before counts as such until messages came
+abbrev pub session_after : SessionStats → SinkEvent → SessionStats
+session_after s (told_before event) =
+    if s.come == 0 then session_begun s event else session_told s event
+session_after s event = session_told s event
+
+-- ---- gaps: messages that packets' numbers pass over
+
+-- the number that comes next, where all comes in order
+abbrev pub expected_in : SequenceStats → ℕ
+expected_in s = s.highest + 1
 
 -- The sequence after a packet with this many messages from a number on: what it leaves out is what
 -- is between the next number and its own, and what it brings again is below the next number.
@@ -175,17 +197,32 @@ sequence_heard s number count outcome = record {
 
 -- The sequence after one more event. A packet that is refused tells nothing, a next session begins
 -- at 1, and after a skip to a number a sequence of which nothing came begins there.
-abbrev pub sequence_after : SequenceStats → SinkEvent → SequenceStats
-sequence_after s (told_packet venue on number count (Ok outcome)) =
+abbrev pub sequence_told : SequenceStats → SinkEvent → SequenceStats
+sequence_told s (told_packet venue on number count (Ok outcome)) =
     sequence_heard s number count outcome
-sequence_after s (told_renewal venue (Ok ordinal)) = record s { begun = false; highest = 0 }
-sequence_after s (told_skip venue number (Ok done)) =
+sequence_told s (told_renewal venue (Ok ordinal)) = record s { begun = false; highest = 0 }
+sequence_told s (told_skip venue number (Ok done)) =
     record s { highest = if s.begun then s.highest else number - 1 }
-sequence_after s _ = s
+sequence_told s _ = s
+
+-- after a packet before all that is counted, which says which number comes next
+abbrev pub sequence_begun : SequenceStats → ℕ → ℕ → Outcome → SequenceStats
+sequence_begun s number count outcome = record s {
+  begun = true;
+  highest = highest_after outcome s.highest (count_after (number - 1) count);
+}
+
+-- the same after an event that is counted, or is one before
+abbrev pub sequence_after : SequenceStats → SinkEvent → SequenceStats
+sequence_after s (told_before (told_packet venue on number count (Ok outcome))) =
+    sequence_begun s number count outcome
+sequence_after s (told_before event) = sequence_told s event
+sequence_after s event = sequence_told s event
 
 -- it is no packet of another line
 abbrev pub concerns_line : LineId → SinkEvent → Bool
 concerns_line line (told_packet venue on number count answer) = is_same_line on line
+concerns_line line (told_before event) = concerns_line line event
 concerns_line line _ = true
 
 abbrev pub line_sequence_after : LineId → SequenceStats → List SinkEvent → SequenceStats
@@ -248,7 +285,7 @@ own_after s events = record {
   offers = s.offers;
 }
 
--- how many messages are missing: numbers that packets told of and that neither came nor were given
--- up
+-- how many messages are missing: numbers that packets told of, though not before, and that neither
+-- came nor were given up
 abbrev pub missing_in : VenueStats → ℕ
-missing_in s = s.gaps.all.highest - s.session.come
+missing_in s = s.gaps.all.highest - s.session.before - s.session.come

@@ -6,7 +6,7 @@ use Rattle.feed_types.specs.declared.national.Best.{Best}
 use Rattle.feed_types.specs.declared.national.NationalState.{NationalState}
 use Rattle.feed_types.specs.declared.national.NationalState.TheVariants.{Empty, OneSided, Normal, Locked, Crossed}
 use Rattle.line_captures.specs.FullCounts.{count_after}
-use Rattle.feed_text.specs.SinkEvents.{SinkEvent, TimedEvent, told_packet, told_refusal, told_item, told_best, told_renewal, told_skip, told_declaration}
+use Rattle.feed_text.specs.SinkEvents.{SinkEvent, TimedEvent, told_packet, told_refusal, told_item, told_best, told_renewal, told_skip, told_declaration, told_before}
 use Rattle.replay_reports.specs.declared.counts.gap_stats.GapStats.{GapStats}
 use Rattle.replay_reports.specs.declared.counts.gap_stats.SequenceStats.{SequenceStats}
 use Rattle.replay_reports.specs.declared.counts.line_stats.LineStats.{LineStats}
@@ -62,6 +62,7 @@ is_at_venue venue (told_item at numbered) = at == venue
 is_at_venue venue (told_renewal at answer) = at == venue
 is_at_venue venue (told_skip at number answer) = at == venue
 is_at_venue venue (told_declaration at on position) = at == venue
+is_at_venue venue (told_before event) = is_at_venue venue event
 is_at_venue venue _ = false
 
 -- the best of a side is this venue's
@@ -169,7 +170,7 @@ nothing_at = record {
   b = no_packets;
   recovery = no_packets;
   items = no_items;
-  session = record { last = 0; come = 0; given_up = 0 };
+  session = record { before = 0; last = 0; come = 0; given_up = 0 };
   gaps = no_gaps;
   skips = 0;
   skips_refused = 0;

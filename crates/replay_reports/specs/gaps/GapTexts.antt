@@ -11,7 +11,7 @@ use Rattle.replay_reports.specs.declared.gaps.open_gap.GapEnd.TheVariants as end
 use Rattle.replay_reports.specs.declared.gaps.venue_gaps.EndedGaps.{EndedGaps}
 use Rattle.replay_reports.specs.declared.gaps.venue_gaps.VenueGaps.{VenueGaps}
 use Rattle.replay_reports.specs.gaps.Gaps.{gap_venue, gaps_after_event, gaps_over, no_gaps_yet}
-use Rattle.replay_reports.specs.rows.Times.{seconds_text}
+use Rattle.best_rows.specs.Times.{seconds_text}
 
 -- ---- words
 

@@ -6,7 +6,9 @@ use Rattle.feed_types.specs.declared.line.LineId.{LineId}
 use Rattle.feed_types.specs.declared.line.LineId.TheVariants as lines
 use Rattle.line_arbiter.specs.declared.outcome.Outcome.{Outcome}
 use Rattle.line_captures.specs.FullCounts.{count_after}
-use Rattle.feed_text.specs.SinkEvents.{SinkEvent, TimedEvent, told_packet, told_item, told_renewal, told_skip, told_last}
+use Rattle.feed_text.specs.SinkEvents.{SinkEvent, TimedEvent, told_packet, told_item, told_renewal, told_skip, told_last, told_before}
+use Rattle.replay_reports.specs.declared.counts.gap_stats.GapStats.{GapStats}
+use Rattle.replay_reports.specs.declared.counts.gap_stats.SequenceStats.{SequenceStats}
 use Rattle.replay_reports.specs.declared.gaps.line_gaps.LineGaps.{LineGaps}
 use Rattle.replay_reports.specs.declared.gaps.open_gap.EndedGap.{EndedGap}
 use Rattle.replay_reports.specs.declared.gaps.open_gap.GapEnd.{GapEnd}
@@ -15,7 +17,7 @@ use Rattle.replay_reports.specs.declared.gaps.open_gap.GapPass.{GapPass}
 use Rattle.replay_reports.specs.declared.gaps.open_gap.OpenGap.{OpenGap}
 use Rattle.replay_reports.specs.declared.gaps.venue_gaps.EndedGaps.{EndedGaps}
 use Rattle.replay_reports.specs.declared.gaps.venue_gaps.VenueGaps.{VenueGaps}
-use Rattle.replay_reports.specs.counts.Counts.{expected_in, sequence_after, sequence_heard}
+use Rattle.replay_reports.specs.counts.Counts.{expected_in, gaps_after, sequence_after, sequence_heard}
 use Rattle.replay_reports.specs.counts.Stats.{no_sequence}
 
 -- ---- a gap
@@ -134,6 +136,27 @@ gaps_renewed v = record v {
   front = 0;
 }
 
+-- the number of the present session's last item, after an event before all that is told
+abbrev pub front_begun : ℕ → SinkEvent → ℕ
+front_begun front (told_item venue numbered) = numbered.number
+front_begun front (told_renewal venue (Ok ordinal)) = 0
+front_begun front _ = front
+
+abbrev pub line_begun : SequenceStats → LineGaps
+line_begun sequence = record { sequence = sequence; standing = None }
+
+abbrev pub sequences_of : VenueGaps → GapStats
+sequences_of v = record { a = v.a.sequence; b = v.b.sequence; all = v.all.sequence }
+
+-- After an event before all that is told no gap is open, and it is known which number comes next.
+abbrev pub gaps_begun : VenueGaps → SinkEvent → VenueGaps
+gaps_begun v event = record v {
+  a = line_begun (gaps_after (sequences_of v) (told_before event ∷ [])).a;
+  b = line_begun (gaps_after (sequences_of v) (told_before event ∷ [])).b;
+  all = line_begun (gaps_after (sequences_of v) (told_before event ∷ [])).all;
+  front = front_begun v.front event;
+}
+
 -- what an event of the venue tells
 abbrev pub gaps_noted : VenueGaps → Option ℕ → SinkEvent → VenueGaps
 gaps_noted v time (told_packet venue line number count (Ok outcome)) =
@@ -141,6 +164,7 @@ gaps_noted v time (told_packet venue line number count (Ok outcome)) =
 gaps_noted v time (told_item venue numbered) = record v { front = numbered.number }
 gaps_noted v time (told_skip venue number (Ok done)) = gaps_skipped v number
 gaps_noted v time (told_renewal venue (Ok ordinal)) = gaps_renewed v
+gaps_noted v time (told_before event) = gaps_begun v event
 gaps_noted v time _ = v
 
 abbrev pub pass_by : VenueGaps → Option ℕ → GapEnd → GapPass
@@ -196,6 +220,7 @@ gap_venue (told_item venue numbered) = Some venue
 gap_venue (told_renewal venue answer) = Some venue
 gap_venue (told_skip venue number answer) = Some venue
 gap_venue (told_last venue sent a b recovery) = Some venue
+gap_venue (told_before event) = gap_venue event
 gap_venue _ = None
 
 -- the venues after an event of one of them

@@ -12,7 +12,7 @@ use Rattle.replay_reports.specs.counts.Stats.{nothing_at}
 use Rattle.replay_reports.specs.periods.PeriodFigures.{row_of_a, row_of_b}
 use Rattle.replay_reports.specs.periods.Periods.{before_period, counts_told, period_ended}
 use Rattle.replay_reports.specs.periods.RowHistories.{rows_told}
-use Rattle.replay_reports.specs.rows.Times.{json_known_time, seconds_text}
+use Rattle.best_rows.specs.Times.{json_known_time, seconds_text}
 
 -- ---- a row
 

@@ -8,9 +8,7 @@ ghost use Rattle.replay_reports.specs.best_times.Standing.{Piece};
 
 use crate::best_times::best_figures::{BestFigures, MOST_SPREAD};
 use crate::gaps::gap_texts::{put_csv_seconds, put_json_seconds};
-use crate::rows::json_rows::put_known_time;
-use crate::rows::quoting::{put_csv_name, put_quoted};
-use crate::rows::seconds::put_seconds;
+use best_rows::{put_csv_name, put_known_time, put_quoted, put_seconds};
 use feed_text::{LineBuffer, put_bytes, put_number};
 use feed_types::SymbolName;
 use run_settings::{PeriodLength, RowFormat};

@@ -14,7 +14,7 @@ use run_settings::PeriodLength;
 pub struct PeriodStep {
     /// When it began, if there is one.
     pub begin: Option<u64>,
-    /// Whether it is another one than before.
+    /// Whether another period, or none, is at hand than before.
     pub begins: bool,
     /// From which time of it the event's piece of time begins.
     pub from: u64,

@@ -1,10 +1,11 @@
 //! The gaps of a venue: the messages that packets' numbers pass over.
 ghost use Rattle.std.specs.Prelude.{◌≡◌, ℕ, ◌+◌, ◌-◌, ◌<◌, ◌∷◌, [], Ok, false, max, min};
 ghost use Rattle.line_captures.specs.FullCounts.{count_after};
-ghost use Rattle.feed_text.specs.SinkEvents.{told_packet, told_renewal, told_skip};
-ghost use Rattle.replay_reports.specs.counts.Counts.{gaps_after, highest_after, sequence_after, sequence_heard};
+ghost use Rattle.feed_text.specs.SinkEvents.{told_before, told_by, told_packet, told_renewal, told_skip};
+ghost use Rattle.replay_reports.specs.counts.Counts.{gaps_after, highest_after, sequence_after, sequence_begun, sequence_heard};
 
 use crate::counts::line_stats::raised;
+use feed_text::Event;
 use feed_types::LineId;
 use line_arbiter::{LineFault, Outcome};
 
@@ -30,7 +31,7 @@ pub struct SequenceStats {
 
 /// Returns how many of this many numbers, from a number on, are at most the highest one.
 #[inline(always)]
-fn brought_again(highest: u64, number: u64, count: u16) -> u64
+pub(crate) fn brought_again(highest: u64, number: u64, count: u16) -> u64
     ensures { result ≡ min count (highest + 1 - number) }
 {
     if number > highest {
@@ -42,7 +43,7 @@ fn brought_again(highest: u64, number: u64, count: u16) -> u64
 /// Returns the highest number that was told of, once a packet tells of this last one: the end of a
 /// session says which is its last.
 #[inline(always)]
-fn highest_after(outcome: &Outcome, highest: u64, last: u64) -> u64
+pub(crate) fn highest_after(outcome: &Outcome, highest: u64, last: u64) -> u64
     ensures { result ≡ highest_after outcome.now highest last }
 {
     match outcome {
@@ -77,6 +78,16 @@ impl SequenceStats {
         } else if number - self.highest > 1 {
             self.leave_out(number - self.highest - 1);
         }
+        let last = raised(number.saturating_sub(1), u64::from(count));
+        self.highest = highest_after(outcome, self.highest, last);
+        self.begun = true;
+    }
+
+    /// Takes a packet that wasn't refused before all that is counted: it says which number comes
+    /// next.
+    fn begin(&mut self, number: u64, count: u16, outcome: &Outcome)
+        ensures { self.new ≡ sequence_begun self.old number count outcome.now }
+    {
         let last = raised(number.saturating_sub(1), u64::from(count));
         self.highest = highest_after(outcome, self.highest, last);
         self.begun = true;
@@ -138,6 +149,49 @@ impl GapStats {
             LineId::A => self.a.hear(number, count, outcome),
             LineId::B => self.b.hear(number, count, outcome),
             LineId::Recovery => {}
+        }
+    }
+
+    /// Takes a packet that wasn't refused before all that is counted.
+    fn begin_on(&mut self, line: LineId, number: u64, count: u16, outcome: &Outcome)
+        ensures { (venue : ℕ) → self.new ≡ gaps_after self.old
+            (told_before (told_packet venue line number count (Ok outcome.now)) ∷ []) }
+    {
+        self.all.begin(number, count, outcome);
+        match line {
+            LineId::A => self.a.begin(number, count, outcome),
+            LineId::B => self.b.begin(number, count, outcome),
+            LineId::Recovery => {}
+        }
+    }
+
+    /// Takes an event before all that is counted.
+    pub(crate) fn begin(&mut self, event: &Event<'_>)
+        ensures { self.new ≡ gaps_after self.old (told_before (told_by event.now) ∷ []) }
+    {
+        match event {
+            Event::Packet {
+                line,
+                number,
+                count,
+                answer: Ok(outcome),
+                ..
+            } => self.begin_on(*line, *number, *count, outcome),
+            Event::Renewal { answer: Ok(_), .. } => self.renew(),
+            Event::Skip {
+                number,
+                answer: Ok(()),
+                ..
+            } => self.skip_to(*number),
+            Event::Packet { answer: Err(_), .. }
+            | Event::Renewal { answer: Err(_), .. }
+            | Event::Skip { answer: Err(_), .. }
+            | Event::Refusal { .. }
+            | Event::Item { .. }
+            | Event::Best { .. }
+            | Event::Gap { .. }
+            | Event::Declaration { .. }
+            | Event::Last { .. } => {}
         }
     }
 

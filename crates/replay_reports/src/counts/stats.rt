@@ -1,6 +1,6 @@
 //! The counts of all venues, and the sink of events that counts them.
 ghost use Rattle.std.specs.Prelude.{◌≡◌, ◌==◌, ◌<◌, ℕ, ◌∷◌, [], IfOk, length, nat_lt, slice_index_or, true};
-ghost use Rattle.feed_text.specs.SinkEvents.{told_by, told_best};
+ghost use Rattle.feed_text.specs.SinkEvents.{told_before, told_by, told_best};
 ghost use Rattle.journal_book.specs.Changes.{notice_of};
 ghost use Rattle.replay_reports.specs.counts.Counts.{missing_in};
 ghost use Rattle.replay_reports.specs.times.Heard.{is_accepted};
@@ -49,6 +49,17 @@ fn add_own(venues: &mut [VenueStats], venue: VenueId, event: &Event<'_>)
     let place = venue.index();
     if place < venues.len() {
         venues[place].add_event(event);
+    }
+}
+
+/// Takes an event of the venue before all that is counted, if there is one of this number.
+fn begin_own(venues: &mut [VenueStats], venue: VenueId, event: &Event<'_>)
+    requires { (n : ℕ) → is_at_venue n (told_by event.now) ≡ (venue == n) }
+    ensures { venues.new ≡ each_venue (own_at (told_before (told_by event.now))) 0 venues.old }
+{
+    let place = venue.index();
+    if place < venues.len() {
+        venues[place].begin(event);
     }
 }
 
@@ -167,6 +178,28 @@ impl Stats {
         add_own(self.venues.as_mut_slice(), venue, event);
     }
 
+    /// Counts an event of a venue that comes seldom.
+    // As a call: with the way of each kind of event in it `add` would be too large to be inlined.
+    #[inline(never)]
+    fn add_rare_at(&mut self, venue: VenueId, event: &Event<'_>)
+        requires { (n : ℕ) → is_at_venue n (told_by event.now) ≡ (venue == n) }
+        ensures venues { self.new.venues
+            ≡ each_venue (own_at (told_by event.now)) 0 self.old.venues }
+        ensures states { self.new.states ≡ self.old.states }
+    {
+        self.add_at(venue, event);
+    }
+
+    /// Takes an event of a venue before all that is counted.
+    fn begin_at(&mut self, venue: VenueId, event: &Event<'_>)
+        requires { (n : ℕ) → is_at_venue n (told_by event.now) ≡ (venue == n) }
+        ensures venues { self.new.venues
+            ≡ each_venue (own_at (told_before (told_by event.now))) 0 self.old.venues }
+        ensures states { self.new.states ≡ self.old.states }
+    {
+        begin_own(self.venues.as_mut_slice(), venue, event);
+    }
+
     /// Returns whether messages of a venue are missing.
     #[inline(always)]
     fn lacks_at(&self, venue: VenueId) -> bool
@@ -201,6 +234,24 @@ impl Stats {
         }
     }
 
+    /// Takes an event before all that is counted: by it numbers that come are known as those that
+    /// come next, and what was told of before isn't missing.
+    pub(crate) fn begin(&mut self, event: &Event<'_>)
+        ensures { self.new ≡ counted_after self.old (told_before (told_by event.now) ∷ []) }
+    {
+        match event {
+            Event::Packet { venue, .. } => self.begin_at(*venue, event),
+            Event::Refusal { venue, .. } => self.begin_at(*venue, event),
+            Event::Item { venue, .. } => self.begin_at(*venue, event),
+            Event::Renewal { venue, .. } => self.begin_at(*venue, event),
+            Event::Skip { venue, .. } => self.begin_at(*venue, event),
+            Event::Declaration { venue, .. } => self.begin_at(*venue, event),
+            Event::Best { .. } => {}
+            Event::Gap { .. } => {}
+            Event::Last { .. } => {}
+        }
+    }
+
     /// Counts an event.
     #[inline(always)]
     pub(crate) fn add(&mut self, event: &Event<'_>)
@@ -208,15 +259,15 @@ impl Stats {
     {
         match event {
             Event::Packet { venue, .. } => self.add_at(*venue, event),
-            Event::Refusal { venue, .. } => self.add_at(*venue, event),
+            Event::Refusal { venue, .. } => self.add_rare_at(*venue, event),
             Event::Item { venue, .. } => self.add_at(*venue, event),
             Event::Best { number, change } => {
                 self.add_leaders(change);
                 self.add_state(*number, change);
             }
-            Event::Renewal { venue, .. } => self.add_at(*venue, event),
-            Event::Skip { venue, .. } => self.add_at(*venue, event),
-            Event::Declaration { venue, .. } => self.add_at(*venue, event),
+            Event::Renewal { venue, .. } => self.add_rare_at(*venue, event),
+            Event::Skip { venue, .. } => self.add_rare_at(*venue, event),
+            Event::Declaration { venue, .. } => self.add_rare_at(*venue, event),
             Event::Gap { .. } => {}
             Event::Last { .. } => {}
         }

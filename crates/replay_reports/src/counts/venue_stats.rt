@@ -1,10 +1,10 @@
 //! The counts of a venue.
-ghost use Rattle.std.specs.Prelude.{◌≡◌, ℕ, ◌∷◌, []};
+ghost use Rattle.std.specs.Prelude.{◌≡◌, ℕ, ◌-◌, ◌∷◌, [], max};
 ghost use Rattle.line_captures.specs.FullCounts.{count_after};
-ghost use Rattle.feed_text.specs.SinkEvents.{told_by, told_item, told_packet, told_refusal};
-ghost use Rattle.replay_reports.specs.counts.Counts.{given_up_after, items_after, missing_in, own_after, session_after};
+ghost use Rattle.feed_text.specs.SinkEvents.{told_before, told_by, told_item, told_packet, told_refusal};
+ghost use Rattle.replay_reports.specs.counts.Counts.{items_after, missing_in, new_past, own_after, session_after, session_begun, session_told};
 
-use crate::counts::gap_stats::GapStats;
+use crate::counts::gap_stats::{GapStats, brought_again, highest_after};
 use crate::counts::line_stats::{LineStats, raised};
 use feed_text::Event;
 use feed_types::{Item, LineId, Numbered};
@@ -42,21 +42,22 @@ impl ItemStats {
     }
 }
 
-/// How many messages an item stands for that were given up, after the session's item of the number
-/// `last`.
+/// Returns how many of the messages that came first with a packet, which has this many from a
+/// number on, have numbers past `before`, at most.
 #[inline(always)]
-fn given_up(last: u64, numbered: &Numbered) -> u64
-    ensures { result ≡ given_up_after last numbered.now.number numbered.now.item }
+fn new_past(before: u64, number: u64, count: u16, new: u16) -> u64
+    ensures { result ≡ new_past before number count new }
 {
-    match &numbered.item {
-        Item::Skipped => numbered.number.saturating_sub(last),
-        Item::Quote(_) | Item::Halt { .. } | Item::Other | Item::End => 0,
-    }
+    let past = u64::from(count).saturating_sub(brought_again(before, number, count));
+    u64::from(new).min(past)
 }
 
 /// The messages of a venue's present session, and those that all its sessions gave up.
 #[derive(Clone, Copy, Debug, Default, PartialEq, Eq)]
 pub struct SessionStats {
+    /// The highest number of the present session that was told of before all that is counted, 0
+    /// where the session began since then. What has this number or a lower one doesn't count.
+    pub before: u64,
     /// The number of the present session's last item, 0 where there is none.
     pub last: u64,
     /// The messages of the present session that came or were given up, each once.
@@ -66,37 +67,129 @@ pub struct SessionStats {
 }
 
 impl SessionStats {
-    /// Counts a packet.
+    /// Counts a packet with this many messages from a number on.
     #[inline(always)]
-    fn add_packet(&mut self, answer: &Result<Outcome, LineFault>)
-        ensures { (line : LineId) (venue number count : ℕ) → self.new
-            ≡ session_after self.old (told_packet venue line number count answer.now) }
+    fn add_packet(&mut self, number: u64, count: u16, answer: &Result<Outcome, LineFault>)
+        ensures { (line : LineId) (venue : ℕ) → self.new
+            ≡ session_told self.old (told_packet venue line number count answer.now) }
     {
         match answer {
-            Ok(Outcome::Taken { new, .. }) => self.come = raised(self.come, u64::from(*new)),
+            Ok(Outcome::Taken { new, .. }) => {
+                self.come = raised(self.come, new_past(self.before, number, count, *new));
+            }
             _ => {}
         }
+    }
+
+    /// Counts that messages were given up, up to a number.
+    #[inline(never)]
+    fn give_up(&mut self, number: u64)
+        ensures { self.new ≡ record self.old {
+          come = count_after self.old.come (number - max self.old.last self.old.before);
+          given_up = count_after self.old.given_up (number - self.old.last);
+        } }
+    {
+        let first = self.last.max(self.before);
+        self.come = raised(self.come, number.saturating_sub(first));
+        self.given_up = raised(self.given_up, number.saturating_sub(self.last));
     }
 
     /// Counts an item.
     #[inline(always)]
     fn add_item(&mut self, numbered: &Numbered)
-        ensures { (venue : ℕ) → self.new ≡ session_after self.old (told_item venue numbered.now) }
+        ensures { (venue : ℕ) → self.new ≡ session_told self.old (told_item venue numbered.now) }
     {
-        let count = given_up(self.last, numbered);
-        if count > 0 {
-            self.come = raised(self.come, count);
-            self.given_up = raised(self.given_up, count);
+        match &numbered.item {
+            Item::Skipped => self.give_up(numbered.number),
+            Item::Quote(_) | Item::Halt { .. } | Item::Other | Item::End => {}
         }
         self.last = numbered.number;
     }
 
     /// Begins the next session.
     fn renew(&mut self)
-        ensures { self.new ≡ record self.old { last = 0; come = 0 } }
+        ensures { self.new ≡ record self.old { before = 0; last = 0; come = 0 } }
     {
+        self.before = 0;
         self.last = 0;
         self.come = 0;
+    }
+
+    /// Counts an event.
+    fn add_event(&mut self, event: &Event<'_>)
+        ensures { self.new ≡ session_told self.old (told_by event.now) }
+    {
+        match event {
+            Event::Packet {
+                number,
+                count,
+                answer,
+                ..
+            } => self.add_packet(*number, *count, answer),
+            Event::Item { item, .. } => self.add_item(item),
+            Event::Renewal { answer: Ok(_), .. } => self.renew(),
+            Event::Renewal { answer: Err(_), .. }
+            | Event::Skip { .. }
+            | Event::Refusal { .. }
+            | Event::Best { .. }
+            | Event::Gap { .. }
+            | Event::Declaration { .. }
+            | Event::Last { .. } => {}
+        }
+    }
+
+    /// Takes a packet before all that is counted.
+    fn begin_past(&mut self, number: u64, count: u16, answer: &Result<Outcome, LineFault>)
+        ensures { (line : LineId) (venue : ℕ) → self.new
+            ≡ session_begun self.old (told_packet venue line number count answer.now) }
+    {
+        match answer {
+            Ok(outcome) => {
+                let last = raised(number.saturating_sub(1), u64::from(count));
+                self.before = highest_after(outcome, self.before, last);
+            }
+            Err(_) => {}
+        }
+    }
+
+    /// Takes an event before all that is counted.
+    fn begin(&mut self, event: &Event<'_>)
+        ensures { self.new ≡ session_begun self.old (told_by event.now) }
+    {
+        match event {
+            Event::Packet {
+                number,
+                count,
+                answer,
+                ..
+            } => self.begin_past(*number, *count, answer),
+            Event::Skip {
+                number,
+                answer: Ok(()),
+                ..
+            } => self.before = self.before.max(number.saturating_sub(1)),
+            Event::Item { item, .. } => self.last = item.number,
+            Event::Renewal { answer: Ok(_), .. } => self.renew(),
+            Event::Renewal { answer: Err(_), .. }
+            | Event::Skip { answer: Err(_), .. }
+            | Event::Refusal { .. }
+            | Event::Best { .. }
+            | Event::Gap { .. }
+            | Event::Declaration { .. }
+            | Event::Last { .. } => {}
+        }
+    }
+
+    /// Takes an event that is told as one before all that is counted. Once messages came it is an
+    /// event like others.
+    fn begin_after(&mut self, event: &Event<'_>)
+        ensures { self.new ≡ session_after self.old (told_before (told_by event.now)) }
+    {
+        if self.come == 0 {
+            self.begin(event);
+        } else {
+            self.add_event(event);
+        }
     }
 }
 
@@ -126,13 +219,14 @@ pub struct VenueStats {
 }
 
 impl VenueStats {
-    /// Returns how many messages of the present session are missing: packets told of them, and they
-    /// neither came nor were given up.
+    /// Returns how many messages of the present session are missing: packets told of them, though
+    /// not before all that is counted, and they neither came nor were given up.
     #[inline(always)]
     pub fn missing(&self) -> u64
         ensures { result ≡ missing_in self.now }
     {
-        self.gaps.all.highest.saturating_sub(self.session.come)
+        let told = self.gaps.all.highest.saturating_sub(self.session.before);
+        told.saturating_sub(self.session.come)
     }
 
     /// Counts a packet that was answered.
@@ -147,7 +241,7 @@ impl VenueStats {
         ensures { (venue : ℕ) → self.new
             ≡ own_after self.old (told_packet venue line number count answer.now ∷ []) }
     {
-        self.session.add_packet(answer);
+        self.session.add_packet(number, count, answer);
         self.gaps.add_packet(line, number, count, answer);
         match line {
             LineId::A => self.a.add_packet(answer),
@@ -191,6 +285,14 @@ impl VenueStats {
         ensures { self.new ≡ record self.old { offers = count_after self.old.offers 1 } }
     {
         self.offers = raised(self.offers, 1);
+    }
+
+    /// Takes an event of the venue before all that is counted.
+    pub(crate) fn begin(&mut self, event: &Event<'_>)
+        ensures { self.new ≡ own_after self.old (told_before (told_by event.now) ∷ []) }
+    {
+        self.session.begin_after(event);
+        self.gaps.begin(event);
     }
 
     /// Counts an event of the venue.

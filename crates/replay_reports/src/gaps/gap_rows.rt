@@ -1,7 +1,7 @@
 //! A sink of the rows of gaps.
-ghost use Rattle.std.specs.Prelude.{◌≡◌, [], length, slice_index_or};
-ghost use Rattle.feed_text.specs.SinkEvents.{told_by};
-ghost use Rattle.replay_reports.specs.gaps.Gaps.{AreGapsOver, gap_venue, gaps_after_at, gaps_over, no_gaps_yet};
+ghost use Rattle.std.specs.Prelude.{◌≡◌, [], None, length, slice_index_or};
+ghost use Rattle.feed_text.specs.SinkEvents.{told_before, told_by};
+ghost use Rattle.replay_reports.specs.gaps.Gaps.{AreGapsOver, gap_venue, gaps_after_at, gaps_after_event, gaps_over, no_gaps_yet};
 ghost use Rattle.replay_reports.specs.gaps.GapSinks.{IsNewGapRows};
 
 use crate::gaps::gap_texts::{put_gap_header, put_gaps};
@@ -54,6 +54,15 @@ fn take_at(
     venues[venue.index()].take(time, event)
 }
 
+/// Takes an event of a venue before all that is told.
+fn begin_at(venues: &mut [VenueGaps], venue: VenueId, event: &Event<'_>)
+    requires { length venues.old ≡ 16 }
+    ensures { venues.new
+        ≡ gaps_after_at venues.old venue None (told_before (told_by event.now)) }
+{
+    venues[venue.index()].begin(event);
+}
+
 impl<W> GapRows<W> {
     /// Writes rows to the page's writer from here on, after the header.
     pub fn new(page: TextPage<W>, format: RowFormat) -> GapRows<W>
@@ -66,6 +75,19 @@ impl<W> GapRows<W> {
             page,
             format,
             venues: [VenueGaps::new(); MAX_VENUES],
+        }
+    }
+
+    /// Takes an event before all that is told.
+    pub(crate) fn begin(&mut self, event: &Event<'_>)
+        ensures page { self.new.page ≡ self.old.page }
+        ensures format { self.new.format ≡ self.old.format }
+        ensures venues { self.new.venues ≡ gaps_after_event self.old.venues None
+            (told_before (told_by event.now)) (gap_venue (told_by event.now)) }
+    {
+        match venue_of(event) {
+            Some(venue) => begin_at(&mut self.venues, venue, event),
+            None => {}
         }
     }
 

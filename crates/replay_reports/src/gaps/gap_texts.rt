@@ -6,7 +6,7 @@ ghost use Rattle.replay_reports.specs.gaps.GapTexts.{began_json, ended_json, gap
 use crate::gaps::gap_line::GapLine;
 use crate::gaps::open_gap::{EndedGap, GapEnd};
 use crate::gaps::venue_gaps::EndedGaps;
-use crate::rows::seconds::put_seconds;
+use best_rows::put_seconds;
 use feed_text::{LineBuffer, put_bytes, put_number};
 use feed_types::VenueId;
 use run_settings::RowFormat;

@@ -1,6 +1,6 @@
 //! The gap of a line.
 ghost use Rattle.std.specs.Prelude.{◌≡◌, Some};
-ghost use Rattle.replay_reports.specs.gaps.Gaps.{gap_after, gap_if_over, gap_unless_over, line_heard, line_renewed, line_skipped, no_line_gaps};
+ghost use Rattle.replay_reports.specs.gaps.Gaps.{gap_after, gap_if_over, gap_unless_over, line_begun, line_heard, line_renewed, line_skipped, no_line_gaps};
 
 use crate::counts::gap_stats::SequenceStats;
 use crate::gaps::open_gap::{EndedGap, GapPass, OpenGap, gap_after};
@@ -29,6 +29,16 @@ impl LineGaps {
                 longest: 0,
                 again: 0,
             },
+            standing: None,
+        }
+    }
+
+    /// Of a line whose numbers go on so, and that has no open gap.
+    pub(crate) fn begun(sequence: SequenceStats) -> LineGaps
+        ensures { result ≡ line_begun sequence }
+    {
+        LineGaps {
+            sequence,
             standing: None,
         }
     }

@@ -1,8 +1,9 @@
 //! The gaps of a venue.
-ghost use Rattle.std.specs.Prelude.{◌≡◌};
-ghost use Rattle.feed_text.specs.SinkEvents.{told_by};
-ghost use Rattle.replay_reports.specs.gaps.Gaps.{AreGapsOver, end_by_line, ended_at_pass, gaps_heard, gaps_noted, gaps_over, gaps_renewed, gaps_skipped, has_open_gap, left_at_pass, no_gaps_yet, pass_after, pass_by, venue_gaps_after};
+ghost use Rattle.std.specs.Prelude.{◌≡◌, None};
+ghost use Rattle.feed_text.specs.SinkEvents.{told_before, told_by};
+ghost use Rattle.replay_reports.specs.gaps.Gaps.{AreGapsOver, end_by_line, ended_at_pass, front_begun, gaps_heard, gaps_noted, gaps_over, gaps_renewed, gaps_skipped, has_open_gap, left_at_pass, no_gaps_yet, pass_after, pass_by, venue_gaps_after};
 
+use crate::counts::gap_stats::GapStats;
 use crate::gaps::line_gaps::LineGaps;
 use crate::gaps::open_gap::{EndedGap, GapEnd, GapPass};
 use crate::times::venue_timing::HeardPacket;
@@ -38,6 +39,25 @@ fn end_by_line(line: LineId) -> GapEnd
         LineId::A => GapEnd::A,
         LineId::B => GapEnd::B,
         LineId::Recovery => GapEnd::Recovery,
+    }
+}
+
+/// Returns the number of the present session's last item after an event before all that is told,
+/// where it was `front` so far.
+fn front_begun(front: u64, event: &Event<'_>) -> u64
+    ensures { result ≡ front_begun front (told_by event.now) }
+{
+    match event {
+        Event::Item { item, .. } => item.number,
+        Event::Renewal { answer: Ok(_), .. } => 0,
+        Event::Renewal { answer: Err(_), .. }
+        | Event::Packet { .. }
+        | Event::Skip { .. }
+        | Event::Refusal { .. }
+        | Event::Best { .. }
+        | Event::Gap { .. }
+        | Event::Declaration { .. }
+        | Event::Last { .. } => front,
     }
 }
 
@@ -180,6 +200,23 @@ impl VenueGaps {
             b: self.b.take_ended(pass),
             all: self.all.take_ended(pass),
         }
+    }
+
+    /// Takes an event of the venue before all that is told.
+    pub(crate) fn begin(&mut self, event: &Event<'_>)
+        ensures { self.new
+            ≡ venue_gaps_after self.old None (told_before (told_by event.now)) }
+    {
+        let mut sequences = GapStats {
+            a: self.a.sequence,
+            b: self.b.sequence,
+            all: self.all.sequence,
+        };
+        sequences.begin(event);
+        self.a = LineGaps::begun(sequences.a);
+        self.b = LineGaps::begun(sequences.b);
+        self.all = LineGaps::begun(sequences.all);
+        self.front = front_begun(self.front, event);
     }
 
     /// Takes an event of the venue, and returns the gaps that it ends. There is none of them where

@@ -1,6 +1,6 @@
 //! The counts of a capture at the begin of a period and now.
-ghost use Rattle.std.specs.Prelude.{◌≡◌, ℕ, List, [], ◌∷◌, IfOk, if◌then◌else◌, is_some, length, replicate};
-ghost use Rattle.feed_text.specs.SinkEvents.{TimedEvent, timed_event, told_by};
+ghost use Rattle.std.specs.Prelude.{◌≡◌, ℕ, List, [], ◌∷◌, IfOk, None, if◌then◌else◌, is_some, length, replicate};
+ghost use Rattle.feed_text.specs.SinkEvents.{TimedEvent, timed_event, told_before, told_by};
 ghost use Rattle.replay_reports.specs.counts.Stats.{nothing_at};
 ghost use Rattle.replay_reports.specs.periods.Periods.{ArePeriodCounts, begin_after, begin_by, ends_all, period_begin, period_ended, period_ended_by};
 
@@ -133,6 +133,16 @@ impl PeriodCounts {
             → result ≡ period_ended length (timed_event time (told_by event.now)) events }
     {
         period_ended_by(self.begin, begin_after(length, time, event, self.begin))
+    }
+
+    /// Takes an event before all that is counted.
+    pub(crate) fn begin(&mut self, event: &Event<'_>)
+        ensures { (length venues : ℕ) (events : List TimedEvent)
+            → ArePeriodCounts length venues events self.old
+            → ArePeriodCounts length venues
+            (timed_event None (told_before (told_by event.now)) ∷ events) self.new }
+    {
+        self.stats.begin(event);
     }
 
     /// Counts an event.

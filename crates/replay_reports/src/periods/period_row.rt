@@ -6,8 +6,7 @@ ghost use Rattle.replay_reports.specs.periods.PeriodTexts.{period_csv, period_he
 
 use crate::counts::venue_stats::VenueStats;
 use crate::periods::line_figures::LineFigures;
-use crate::rows::json_rows::put_known_time;
-use crate::rows::seconds::put_seconds;
+use best_rows::{put_known_time, put_seconds};
 use feed_text::{LineBuffer, put_bytes, put_number};
 use feed_types::LineId;
 use run_settings::RowFormat;

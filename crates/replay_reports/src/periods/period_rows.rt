@@ -1,5 +1,6 @@
 //! A sink of the rows of periods.
-ghost use Rattle.std.specs.Prelude.{◌≡◌, ℕ, ◌++◌, [], OnErr, OnOk, slice_index_or};
+ghost use Rattle.std.specs.Prelude.{◌≡◌, ℕ, ◌++◌, List, [], ◌∷◌, None, OnErr, OnOk, slice_index_or};
+ghost use Rattle.feed_text.specs.SinkEvents.{TimedEvent, timed_event, told_before, told_by};
 ghost use Rattle.replay_reports.specs.counts.Stats.{nothing_at};
 ghost use Rattle.feed_text.specs.TextPages.{FailsPage};
 ghost use Rattle.replay_reports.specs.periods.PageTexts.{TakesPage};
@@ -39,6 +40,18 @@ impl<W> PeriodRows<W> {
             style,
             counts,
         }
+    }
+
+    /// Takes an event before all that is told.
+    pub(crate) fn begin(&mut self, event: &Event<'_>)
+        ensures page { self.new.page ≡ self.old.page }
+        ensures style { self.new.style ≡ self.old.style }
+        ensures counts { (length venues : ℕ) (events : List TimedEvent)
+            → ArePeriodCounts length venues events self.old.counts
+            → ArePeriodCounts length venues
+            (timed_event None (told_before (told_by event.now)) ∷ events) self.new.counts }
+    {
+        self.counts.begin(event);
     }
 
     /// Returns the writer, as the last call left it. What waits is dropped.

@@ -1,16 +1,17 @@
 //! A sink that is told the events in a span of time.
-ghost use Rattle.std.specs.Prelude.{◌≡◌};
+ghost use Rattle.std.specs.Prelude.{◌≡◌, IfOk};
 ghost use Rattle.feed_text.specs.SinkEvents.{timed_event, told_by};
-ghost use Rattle.replay_reports.specs.spans.SpanEvents.{is_told_in};
+ghost use Rattle.replay_reports.specs.spans.SpanEvents.{is_before, is_told_in};
 
 use crate::periods::period_counts::ends_all;
+use crate::spans::spanned_sink::SpannedSink;
 use crate::text::StatsSink;
 use feed_text::{Event, EventSink, SinkStop};
 use run_settings::{StatsFormat, TimeSpan};
 use std::alloc::{AllocError, Global};
 
-/// A sink that is told of the events of a replay those whose times lie in a span, and that the
-/// capture is over.
+/// A sink that is told of the events of a replay those whose times lie in a span, those before it
+/// as such, and that the capture is over.
 #[derive(Drop)]
 pub struct SpanSink<K> {
     pub sink: K,
@@ -25,7 +26,19 @@ fn is_told_in(span: &TimeSpan, time: Option<u64>, event: &Event<'_>) -> bool
     span.has(time) || ends_all(event)
 }
 
-impl<K: EventSink> EventSink for SpanSink<K> {
+/// Returns whether a time lies before the span that begins at `from`.
+#[inline(always)]
+fn is_before(from: Option<u64>, time: Option<u64>) -> bool
+    ensures { result ≡ is_before from time }
+{
+    match (from, time) {
+        (Some(from), Some(time)) => time < from,
+        (Some(_), None) => false,
+        (None, _) => false,
+    }
+}
+
+impl<K: SpannedSink> EventSink for SpanSink<K> {
     ghost use Rattle.replay_reports.specs.spans.SpanEvents.{FailsSpan, TakesSpan};
     ghost use Rattle.replay_reports.specs.spans.SpanLaws.{fails_after_span, fails_longer_span, takes_more_span, takes_no_span};
 
@@ -46,10 +59,12 @@ impl<K: EventSink> EventSink for SpanSink<K> {
     #[inline(always)]
     fn take(&mut self, time: Option<u64>, event: &Event<'_>) -> Result<(), SinkStop> {
         if is_told_in(&self.span, time, event) {
-            self.sink.take(time, event)
-        } else {
-            Ok(())
+            return self.sink.take(time, event);
         }
+        if is_before(self.span.from, time) {
+            self.sink.take_before(event);
+        }
+        Ok(())
     }
 
     fn show(&mut self) -> Result<(), SinkStop> {
@@ -57,15 +72,11 @@ impl<K: EventSink> EventSink for SpanSink<K> {
     }
 }
 
-impl<K: StatsSink> StatsSink for SpanSink<K> {
-    ghost use Rattle.replay_reports.specs.spans.SpanEvents.{events_in};
-
-    ghost is_text = { λ s format text. K.is_text s.sink format text };
-
-    ghost never_fails = { λ s t events failed.
-        K.never_fails s.sink t.sink (events_in s.span events) failed };
-
-    fn text(&self, alloc: Global, format: StatsFormat) -> Result<Vec<u8>, AllocError> {
+impl<K: StatsSink> SpanSink<K> {
+    /// Returns what the sink keeps as a text in the format. Fails where memory is refused.
+    pub fn text(&self, alloc: Global, format: StatsFormat) -> Result<Vec<u8>, AllocError>
+        ensures { IfOk result (λ text. K.is_text self.now.sink format text.items) }
+    {
         self.sink.text(alloc, format)
     }
 }

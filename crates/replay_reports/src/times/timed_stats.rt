@@ -1,6 +1,8 @@
 //! The sink of events that counts them and says how their packets run in time.
-ghost use Rattle.std.specs.Prelude.{◌≡◌, ◌<◌, [], IfOk, length};
+ghost use Rattle.std.specs.Prelude.{◌≡◌, ◌<◌, [], ◌∷◌, IfOk, None, length};
+ghost use Rattle.feed_text.specs.SinkEvents.{told_before, told_by, timed_event};
 ghost use Rattle.replay_reports.specs.counts.Stats.{nothing_counted};
+ghost use Rattle.replay_reports.specs.times.TimedSinks.{TakesTimed};
 ghost use Rattle.replay_reports.specs.times.Timing.{IsTimed};
 
 use crate::counts::stats::Stats;
@@ -42,8 +44,18 @@ impl TimedStats {
     }
 }
 
+impl TimedStats {
+    /// Takes an event before all that is told: by it numbers that come are known as those that come
+    /// next, and what was told of before isn't missing.
+    pub(crate) fn begin(&mut self, event: &Event<'_>)
+        ensures { TakesTimed self.old
+            (timed_event None (told_before (told_by event.now)) ∷ []) self.new }
+    {
+        self.stats.begin(event);
+    }
+}
+
 impl EventSink for TimedStats {
-    ghost use Rattle.replay_reports.specs.times.TimedSinks.{TakesTimed};
     ghost use Rattle.replay_reports.specs.times.TimedLaws.{takes_more_timed, takes_none_timed};
 
     ghost takes = { TakesTimed };

@@ -1,5 +1,5 @@
 use Rattle.replay_reports.specs.best_times.BestTimeTexts.{best_time_csv}
-use Rattle.replay_reports.proofs.Appending.{appends_more}
+use Rattle.best_rows.specs.AppendLaws.{appends_more}
 use Rattle.replay_reports.proofs.best_times.best_time_row.put_csv.Goals as goal
 
 pub returns : goal.returns

@@ -1,7 +1,7 @@
 use Rattle.std.proofs.Common.{ℕ, List, ap}
 use Rattle.replay_reports.specs.best_times.BestTimeTexts.{best_time_json}
-use Rattle.replay_reports.specs.rows.Quoting.{quoted}
-use Rattle.replay_reports.proofs.Appending.{appends_as, appends_more}
+use Rattle.best_rows.specs.Quoting.{quoted}
+use Rattle.best_rows.specs.AppendLaws.{appends_as, appends_more}
 use Rattle.replay_reports.proofs.best_times.best_time_row.put_json.Goals as goal
 
 pub returns : goal.returns

@@ -1,4 +1,4 @@
-use Rattle.replay_reports.proofs.Appending.{appends_more}
+use Rattle.best_rows.specs.AppendLaws.{appends_more}
 use Rattle.replay_reports.proofs.gaps.gap_texts.put_began.Goals as goal
 
 pub returns : goal.returns

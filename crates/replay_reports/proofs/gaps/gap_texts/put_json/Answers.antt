@@ -1,5 +1,5 @@
 use Rattle.replay_reports.specs.gaps.GapTexts.{gap_json}
-use Rattle.replay_reports.proofs.Appending.{appends_more}
+use Rattle.best_rows.specs.AppendLaws.{appends_more}
 use Rattle.replay_reports.proofs.gaps.gap_texts.put_json.Goals as goal
 
 pub returns : goal.returns

@@ -1,6 +1,6 @@
 use Rattle.std.proofs.Common.{ℕ, [], ◌∷◌, ap}
 use Rattle.replay_reports.specs.periods.PeriodTexts.{period_json}
-use Rattle.replay_reports.proofs.Appending.{appends_as, appends_more}
+use Rattle.best_rows.specs.AppendLaws.{appends_as, appends_more}
 use Rattle.replay_reports.proofs.periods.period_row.put_json.Goals as goal
 
 pub returns : goal.returns

@@ -1,7 +1,7 @@
 use Rattle.std.proofs.Common.{ap}
 use Rattle.replay_reports.specs.declared.periods.period_row.PeriodRow.{PeriodRow}
 use Rattle.replay_reports.specs.periods.PeriodTexts.{period_row_text}
-use Rattle.replay_reports.proofs.Appending.{appends_as, appends_more}
+use Rattle.best_rows.specs.AppendLaws.{appends_as, appends_more}
 use Rattle.replay_reports.proofs.periods.period_row.put_venue.Goals as goal
 
 pub returns : goal.returns

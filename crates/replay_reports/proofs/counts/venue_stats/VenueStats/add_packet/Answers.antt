@@ -6,7 +6,7 @@ returns-in-A c = λ venue.
     packet_a c.args.self.now c.args.line venue c.args.number c.args.count
     c.args.answer.now c.add_packet.new.self
     c.add_packet-2.new.self c.add_packet-in-A.new.self c.in-A.is
-    (c.add_packet.ensures c.args.line venue c.args.number c.args.count)
+    (c.add_packet.ensures c.args.line venue)
     (c.add_packet-2.ensures venue)
     (c.add_packet-in-A.ensures c.args.line venue c.args.number c.args.count)
 
@@ -15,7 +15,7 @@ returns-in-B c = λ venue.
     packet_b c.args.self.now c.args.line venue c.args.number c.args.count
     c.args.answer.now c.add_packet.new.self
     c.add_packet-2.new.self c.add_packet-in-B.new.self c.in-B.is
-    (c.add_packet.ensures c.args.line venue c.args.number c.args.count)
+    (c.add_packet.ensures c.args.line venue)
     (c.add_packet-2.ensures venue)
     (c.add_packet-in-B.ensures c.args.line venue c.args.number c.args.count)
 
@@ -24,6 +24,6 @@ returns-in-Recovery c = λ venue.
     packet_recovery c.args.self.now c.args.line venue c.args.number c.args.count
     c.args.answer.now c.add_packet.new.self
     c.add_packet-2.new.self c.add_packet-in-Recovery.new.self c.in-Recovery.is
-    (c.add_packet.ensures c.args.line venue c.args.number c.args.count)
+    (c.add_packet.ensures c.args.line venue)
     (c.add_packet-2.ensures venue)
     (c.add_packet-in-Recovery.ensures c.args.line venue c.args.number c.args.count)
