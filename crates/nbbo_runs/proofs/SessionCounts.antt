@@ -1,6 +1,6 @@
 -- Sessions that are found to be the same are equal, and a row grows as what it is over.
-use Rattle.std.proofs.Common.{◌≡◌, ℕ, ◌+◌, List, [], ◌∷◌, ◌++◌, true, false, refl, ap, ◌∙◌, arith}
-use Rattle.std.specs.Prelude.{Bool, ◌||◌, ◌==◌}
+use Rattle.std.proofs.Common.{◌≡◌, ℕ, ◌+◌, List, [], ◌∷◌, ◌++◌, true, false, refl, ap, ◌∙◌, arith, rules}
+use Rattle.std.specs.Prelude.{Bool, ◌||◌, ◌==◌, IsTrue, ◌↔◌}
 use Rattle.std.specs.List.{list_any, sum_by}
 use Rattle.std.specs.Str.{bytes_eq}
 use Rattle.std.proofs.lemmas.Slice.Eq.{bytes_eq-Decides}
@@ -33,6 +33,10 @@ session_same : (a : VenueSession) → is_same_session a a ≡ true
 session_same a =
     and_from (a.venue == a.venue) (bytes_eq a.name a.name) ((Decides-eqb a.venue a.venue).1 refl)
     ((bytes_eq-Decides a.name a.name).1 refl)
+
+-- a test whether two names are the same
+pub same_name : (a b : List ℕ) (r : Bool) → (IsTrue r ↔ (a ≡ b)) → r ≡ bytes_eq a b
+same_name a b r is = search (rules, bytes_eq-Decides)
 
 -- ---- one thing more
 

@@ -18,8 +18,8 @@ use Rattle.replay_reports.specs.best_times.BestTimeTexts.{BestTimeSetting, best_
 use Rattle.replay_reports.specs.declared.best_times.best_time_rows.BestTimeRows.{BestTimeRows}
 use Rattle.replay_reports.specs.declared.gaps.gap_rows.GapRows.{GapRows}
 use Rattle.replay_reports.specs.declared.periods.period_rows.PeriodRows.{PeriodRows}
-use Rattle.replay_reports.specs.declared.rows.row_sink.BestRows.{BestRows}
-use Rattle.replay_reports.specs.declared.rows.style.RowStyle.{RowStyle}
+use Rattle.replay_reports.specs.declared.row_sink.BestRows.{BestRows}
+use Rattle.best_rows.specs.declared.style.RowStyle.{RowStyle}
 use Rattle.replay_reports.specs.declared.spans.span_sink.SpanSink.{SpanSink}
 use Rattle.replay_reports.specs.gaps.GapLaws.{gap_rows_are_written, gap_rows_failed}
 use Rattle.replay_reports.specs.gaps.GapSinks.{FailsGaps, IsNewGapRows, TakesGaps}

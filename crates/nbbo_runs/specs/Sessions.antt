@@ -49,7 +49,7 @@ sightings_of sessions records = flat_map (λ r. sightings_in sessions r.what) re
 -- what was seen after a step
 abbrev pub sighted_by : {F : Type 0} → List (List ℕ) → List SessionSighting → Step F
     → List SessionSighting
-sighted_by sessions seen (Came r time len) = seen ++ sightings_in sessions (record_of r)
+sighted_by sessions seen (Came len time r) = seen ++ sightings_in sessions (record_of r)
 sighted_by sessions seen _ = seen
 
 -- ---- the rows

@@ -34,7 +34,7 @@ watched_after ws (r ∷ rs) = watched_after (watched_with ws r.what) rs
 
 -- after a step
 abbrev pub watched_by : {F : Type 0} → List VenueWatch → Step F → List VenueWatch
-watched_by ws (Came r len time) = watched_with ws (record_of r)
+watched_by ws (Came len time r) = watched_with ws (record_of r)
 watched_by ws _ = ws
 
 -- ---- a format that is watched

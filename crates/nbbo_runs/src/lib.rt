@@ -28,6 +28,7 @@ mod noted_errors;
 mod printing;
 mod program_run;
 mod runs;
+mod session_name;
 mod session_report;
 mod session_row;
 mod session_table;

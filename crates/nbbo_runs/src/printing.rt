@@ -15,13 +15,14 @@ ghost use Rattle.nbbo_runs.specs.Printing.{IsTextOfSink, PrintsAsked, PrintsCoun
 use crate::config::{RunConfig, config_of};
 use crate::lacks::is_packet_input;
 use crate::watched_sink::{Missing, replay_watched};
+use best_rows::RowStyle;
 use feed_text::{
     CaptureIn, LineBuffer, RecordFormat, ReplayStop, Replayed, TextOut, TextPage, TextSink,
     write_all,
 };
 use replay_reports::{
-    BestRows, BestTimeRows, GapRows, PeriodCounts, PeriodRows, RowStyle, SpanSink, StatsSink,
-    TimedStats, new_times,
+    BestRows, BestTimeRows, GapRows, PeriodCounts, PeriodRows, SpanSink, StatsSink, TimedStats,
+    new_times,
 };
 use run_settings::{PeriodStyle, RowFormat, RunOutput, RunSettings, StatsFormat};
 use std::alloc::{AllocError, Global};

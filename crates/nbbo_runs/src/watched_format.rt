@@ -1,10 +1,11 @@
 //! A format of captures whose datagrams are watched.
-ghost use Rattle.std.specs.Prelude.{◌≡◌, ◌++◌, IfNone, IfSome, None, Some, length, slice_get, slice_index_or};
+ghost use Rattle.std.specs.Prelude.{◌≡◌, [], ◌∷◌, ◌++◌, IfNone, IfSome, None, Some, length, slice_get, slice_index_or};
 ghost use Rattle.feed_text.specs.StandardError.{SaysEach};
-ghost use Rattle.nbbo_runs.specs.Sessions.{datagram_sightings, is_first, name_in, sighted_by};
+ghost use Rattle.nbbo_runs.specs.Sessions.{datagram_sightings, is_first, name_in, sighted_by, sighting_of};
 ghost use Rattle.nbbo_runs.specs.Watches.{IsWatched, WatchedReads, first_venues_texts, seen_texts, silent_texts, unwatched, venue_texts, watch_texts, watched_by, watched_texts};
 ghost use Rattle.nbbo_runs.specs.WatchLaws.{watched_longer, watched_more, watched_none};
 
+use crate::session_name::is_same_name;
 use crate::session_report::write_sessions;
 use crate::session_row::{SessionSighting, VenueSession};
 use crate::session_table::SessionTable;
@@ -67,9 +68,22 @@ fn is_first(sessions: &[[u8; 10]], venue: VenueId, name: &[u8; 10]) -> bool
     ensures { result ≡ is_first (slice_get sessions.now venue) name.now }
 {
     match sessions.get(venue.index()) {
-        Some(first) => first == name,
+        Some(first) => is_same_name(first, name),
         None => false,
     }
+}
+
+/// Notes that a datagram of a session came at a venue, or a renewal that names it.
+// Few datagrams need it: in the loop over records room would be cleared for what it makes.
+#[cold]
+#[inline(never)]
+fn note_seen(seen: &mut SessionTable, venue: VenueId, name: &[u8; 10], is_renewal: bool)
+    ensures { seen.new ≡ seen.old ++ sighting_of venue name.now is_renewal ∷ [] }
+{
+    seen.count(&SessionSighting {
+        session: VenueSession { venue, name: *name },
+        is_renewal,
+    });
 }
 
 /// Notes a datagram of another session than the venue's first.
@@ -84,10 +98,7 @@ fn note_datagram(seen: &mut SessionTable, sessions: &[[u8; 10]], venue: VenueId,
     if is_first(sessions, venue, name) {
         return;
     }
-    seen.count(&SessionSighting {
-        session: VenueSession { venue, name: *name },
-        is_renewal: false,
-    });
+    note_seen(seen, venue, name, false);
 }
 
 /// Notes what a record shows of sessions that aren't their venue's first.
@@ -103,13 +114,7 @@ fn note_session<F>(seen: &mut SessionTable, sessions: &[[u8; 10]], step: &Step<'
         Step::Came {
             record: Record::Renewal { venue, session },
             ..
-        } => seen.count(&SessionSighting {
-            session: VenueSession {
-                venue: *venue,
-                name: *session,
-            },
-            is_renewal: true,
-        }),
+        } => note_seen(seen, *venue, session, true),
         _ => {}
     }
 }

@@ -4,7 +4,7 @@ use Rattle.feed_text.specs.Devices.{Reading, Writing}
 use Rattle.feed_text.specs.Formats.{Parsing}
 use Rattle.replay_run.specs.Printed.{facts_of_run}
 use Rattle.replay_reports.specs.rows.RowSinks.{text_of_rows}
-use Rattle.replay_reports.specs.declared.rows.row_sink.BestRows.{BestRows}
+use Rattle.replay_reports.specs.declared.row_sink.BestRows.{BestRows}
 use Rattle.replay_reports.specs.declared.spans.span_sink.SpanSink.{SpanSink}
 use Rattle.replay_reports.specs.spans.SpanEvents.{events_in}
 use Rattle.nbbo_runs.proofs.SinkPrints.{rows_taking, rows_write, in_span, sink_printed, span_writes}
