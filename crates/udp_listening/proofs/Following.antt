@@ -1,23 +1,22 @@
 -- What was printed of a log, as it grows and as more of it is printed.
-use Rattle.std.proofs.Common.{◌≡◌, ℕ, ◌+◌, ◌-◌, ◌≤◌, List, [], ◌∷◌, ◌++◌, length, drop, take, min, sym, ap, ◌∙◌, subst, arith, length-append, length-drop, append_assoc, append-nil}
-use Rattle.std.proofs.lemmas.List.{take-append-drop, take-append-le, take_min, take_all}
-use Rattle.std.proofs.lemmas.Grind.{flat_map-append}
+use Rattle.std.proofs.Common.{◌≡◌, ℕ, ◌+◌, ◌-◌, ◌≤◌, List, [], ◌∷◌, ◌++◌, length, drop, take, min, refl, sym, ap, ◌∙◌, subst, arith, length-append, length-drop, append_assoc, append-nil}
+use Rattle.std.proofs.lemmas.List.{map-append, take-append-drop, take-append-le, take_min, take_all}
 use Rattle.std.proofs.Math.Seq.{take-append-add}
+use Rattle.std.specs.Prelude.{Result, Ok, Err, Option, Some, None, flat_map}
 use Rattle.feed_types.specs.Prefix.{IsPrefix}
+use Rattle.feed_types.specs.declared.journal.Notice.{Notice}
 use Rattle.feed_text.specs.Devices.{Writing, Wrote}
-use Rattle.feed_text.specs.Lines.{best_line}
-use Rattle.std.specs.Prelude.{Result, Ok, Err, Option, Some, None}
+use Rattle.best_rows.specs.NoticeRowLaws.{text_of_more}
+use Rattle.best_rows.specs.NoticeRows.{IsTextOf, notice_row}
+use Rattle.best_rows.specs.declared.style.RowStyle.{RowStyle}
 use Rattle.filter_terms.specs.declared.advice.Advice.{Advice}
 use Rattle.live_feed.specs.declared.subscriber.logged.Logged.{Logged}
 use Rattle.live_feed.specs.declared.subscriber.logged.PollFault.{PollFault}
 use Rattle.live_feed.specs.declared.subscriber.logged.PollFault.TheVariants.{NoMemory, LogFull}
 use Rattle.live_feed.specs.subscriber.Logs.{SubscriberLogState, Polls, logged}
-use Rattle.udp_listening.specs.Listening.{HasPrinted, HasFollowed, log_lines}
+use Rattle.udp_listening.specs.Listening.{HasFailed, HasFollowed, HasPrinted, log_rows, notices_of}
 use Rattle.udp_listening.specs.declared.console.LiveOutput.{LiveOutput}
 use Rattle.udp_listening.specs.declared.console.LiveOutput.TheVariants.{On, Off, Failed}
-
-abbrev pub logged_line : Logged → List ℕ
-logged_line logged = best_line logged.notice
 
 -- a part of a text is a part of a longer one
 pub grow_part : {W : Type 0} (adds : W → List ℕ → W → Type 0) (first now : W) (xs ys : List ℕ)
@@ -43,119 +42,148 @@ part_after adds more first mid now xs ys front w =
           (more first mid now xs (take w.count ys) front w.taken);
     }
 
--- the lines of a log are those of its first notices, and then the others
-pub lines_split : (n : ℕ) (log : List Logged)
-    → log_lines log ≡ log_lines (take n log) ++ log_lines (drop n log)
-lines_split n log =
-    ap (λ l. log_lines l) (sym (take-append-drop n log))
-    ∙ flat_map-append logged_line (take n log) (drop n log)
+abbrev pub More : {W : Type 0} → Writing W → Type 0
+More {W} writing =
+    (s t u : W) (xs ys : List ℕ) → writing.adds s xs t → writing.adds t ys u
+    → writing.adds s (xs ++ ys) u
 
--- a log that has grown
-pub printed_of_longer : {W : Type 0} (writing : Writing W) (first : W) (log longer : List Logged)
-    (printed : ℕ) (now : W)
-    → IsPrefix log longer → HasPrinted writing first log printed now
-    → HasPrinted writing first longer printed now
-printed_of_longer writing first log longer printed now grown h =
-    let same : take printed longer ≡ take printed log
-    = ap (λ l. take printed l) grown.is ∙ take-append-le printed log grown.rest h.few in
-    let long : length longer ≡ length log + length grown.rest
-    = ap (λ l. length l) grown.is ∙ length-append log grown.rest in
-    record {
-      few = omega (arith, h.few, long);
-      lines = subst (λ l. writing.adds first (log_lines l) now) (sym same) h.lines;
-      sound = h.sound;
-    }
+-- the rows of a log are those of its notices
+pub rows_of_notices : (style : RowStyle) (time : Option ℕ) (log : List Logged)
+    → log_rows style time log ≡ flat_map (notice_row style time) (notices_of log)
+rows_of_notices style time [] = refl
+rows_of_notices style time (logged ∷ log) =
+    ap (λ (t : List ℕ). notice_row style time logged.notice ++ t) (rows_of_notices style time log)
 
-pub part_of_longer : {W : Type 0} (writing : Writing W) (first : W)
-    (log longer : List Logged) (now : W)
-    → IsPrefix log longer → Wrote writing.adds first (log_lines log) now
-    → Wrote writing.adds first (log_lines longer) now
-part_of_longer writing first log longer now grown w =
-    let same : log_lines longer ≡ log_lines log ++ log_lines grown.rest
-    = ap (λ l. log_lines l) grown.is ∙ flat_map-append logged_line log grown.rest in
-    subst (λ t. Wrote writing.adds first t now) (sym same)
-    (grow_part writing.adds first now (log_lines log) (log_lines grown.rest) w)
+-- the notices of a log are its first ones, and then the others
+pub notices_split : (n : ℕ) (log : List Logged)
+    → notices_of (take n log) ++ notices_of (drop n log) ≡ notices_of log
+notices_split n log =
+    sym (map-append (λ logged. logged.notice) (take n log) (drop n log))
+    ∙ ap (λ l. notices_of l) (take-append-drop n log)
 
--- the rest is printed
-pub printed_all : {W : Type 0} (writing : Writing W)
-    → ((s t u : W) (xs ys : List ℕ) → writing.adds s xs t → writing.adds t ys u
-    → writing.adds s (xs ++ ys) u)
-    → (first mid now : W) (log : List Logged) (printed : ℕ)
-    → HasPrinted writing first log printed mid → writing.adds mid (log_lines (drop printed log)) now
-    → writing.failures now ≡ writing.failures mid
-    → HasPrinted writing first log (length log) now
-printed_all writing more first mid now log printed h written sound =
-    let all : take (length log) log ≡ log = take_all (length log) log (omega arith) in
-    let same : log_lines (take (length log) log) ≡ log_lines (take printed log)
-    ++ log_lines (drop printed log)
-    = ap (λ l. log_lines l) all ∙ lines_split printed log in
-    record {
-      few = omega arith;
-      lines = subst (λ t. writing.adds first t now) (sym same)
-          (more first mid now (log_lines (take printed log)) (log_lines (drop printed log)) h.lines
-          written);
-      sound = sound ∙ h.sound;
-    }
+-- a text with the rows of the rest of a log
+pub told_rest : (style : RowStyle) (time : Option ℕ) (n : ℕ) (log : List Logged) (text : List ℕ)
+    → IsTextOf style (notices_of (take n log)) text
+    → IsTextOf style (notices_of log) (text ++ log_rows style time (drop n log))
+told_rest style time n log text told =
+    subst (λ (t : List ℕ). IsTextOf style (notices_of log) (text ++ t))
+    (sym (rows_of_notices style time (drop n log)))
+    (subst (λ (l : List Notice). IsTextOf style l
+    (text ++ flat_map (notice_row style time) (notices_of (drop n log)))) (notices_split n log)
+    (text_of_more style time (notices_of (take n log)) (notices_of (drop n log)) text told))
 
--- a part of the rest is
-pub printed_part : {W : Type 0} (writing : Writing W)
-    → ((s t u : W) (xs ys : List ℕ) → writing.adds s xs t → writing.adds t ys u
-    → writing.adds s (xs ++ ys) u)
-    → (first mid now : W) (log : List Logged) (printed : ℕ)
-    → HasPrinted writing first log printed mid
-    → Wrote writing.adds mid (log_lines (drop printed log)) now
-    → Wrote writing.adds first (log_lines log) now
-printed_part writing more first mid now log printed h written =
-    subst (λ t. Wrote writing.adds first t now) (sym (lines_split printed log))
-    (part_after writing.adds more first mid now (log_lines (take printed log))
-    (log_lines (drop printed log))
-    h.lines written)
+module _ {W : Type 0} (writing : Writing W) (style : RowStyle) (first : W) where
+  -- a log that has grown
+  pub printed_of_longer : (log longer : List Logged) (printed : ℕ) (now : W)
+      → IsPrefix log longer → HasPrinted writing style first log printed now
+      → HasPrinted writing style first longer printed now
+  printed_of_longer log longer printed now grown h =
+      let same : take printed longer ≡ take printed log
+      = ap (λ l. take printed l) grown.is ∙ take-append-le printed log grown.rest h.few in
+      let long : length longer ≡ length log + length grown.rest
+      = ap (λ l. length l) grown.is ∙ length-append log grown.rest in
+      record {
+        few = omega (arith, h.few, long);
+        text = h.text;
+        told = subst (λ l. IsTextOf style (notices_of l) h.text) (sym same) h.told;
+        wrote = h.wrote;
+        sound = h.sound;
+      }
 
--- where all is forgotten that is left
-pub all_forgotten : {W : Type 0} (writing : Writing W) (first mid now : W)
-    (old new : SubscriberLogState) (count : ℕ)
-    → HasPrinted writing first old.lines old.forgotten mid
-    → count ≡ length (drop old.forgotten old.lines)
-    → new ≡ record old { forgotten = old.forgotten + count }
-    → HasPrinted writing first old.lines (length old.lines) now
-    → HasPrinted writing first new.lines new.forgotten now
-all_forgotten writing first mid now old new count before counted is after =
-    let left : length (drop old.forgotten old.lines) ≡ length old.lines - old.forgotten
-    = length-drop old.forgotten old.lines in
-    let all : old.forgotten + count ≡ length old.lines = omega (arith, before.few) in
-    subst (λ (s : SubscriberLogState). HasPrinted writing first s.lines s.forgotten now) (sym is)
-    (subst (λ (n : ℕ). HasPrinted writing first old.lines n now) (sym all) after)
+  pub failed_of_longer : (log longer : List Logged) (now : W)
+      → IsPrefix log longer → HasFailed writing style first log now
+      → HasFailed writing style first longer now
+  failed_of_longer log longer now grown h =
+      let rows = flat_map (notice_row style None) (notices_of grown.rest) in
+      let same : notices_of log ++ notices_of grown.rest ≡ notices_of longer
+      = sym (map-append (λ logged. logged.notice) log grown.rest)
+      ∙ ap (λ l. notices_of l) (sym grown.is) in
+      record {
+        text = h.text ++ rows;
+        told =
+            subst (λ l. IsTextOf style l (h.text ++ rows)) same
+            (text_of_more style None (notices_of log) (notices_of grown.rest) h.text h.told);
+        wrote = grow_part writing.adds first now h.text rows h.wrote;
+        failed = h.failed;
+      }
 
--- what is shown of a log is so of one that has grown
-pub followed_longer : {W : Type 0} (writing : Writing W) (first : W) (log longer : List Logged)
-    (following : LiveOutput)
-    (printed : ℕ) (now : W) → IsPrefix log longer
-    → HasFollowed writing first log following printed now
-    → HasFollowed writing first longer following printed now
-followed_longer writing first log longer On printed now grown h =
-    printed_of_longer writing first log longer printed now grown h
-followed_longer writing first log longer Off printed now grown h =
-    printed_of_longer writing first log longer printed now grown h
-followed_longer writing first log longer Failed printed now grown h =
-    (part_of_longer writing first log longer now grown h.0, h.1)
+  -- the rest is printed
+  pub printed_all : More writing → (mid now : W) (log : List Logged) (printed : ℕ)
+      (time : Option ℕ)
+      → HasPrinted writing style first log printed mid
+      → writing.adds mid (log_rows style time (drop printed log)) now
+      → writing.failures now ≡ writing.failures mid
+      → HasPrinted writing style first log (length log) now
+  printed_all more mid now log printed time h written sound =
+      let rows = log_rows style time (drop printed log) in
+      let all : take (length log) log ≡ log = take_all (length log) log (omega arith) in
+      record {
+        few = omega arith;
+        text = h.text ++ rows;
+        told =
+            subst (λ l. IsTextOf style (notices_of l) (h.text ++ rows)) (sym all)
+            (told_rest style time printed log h.text h.told);
+        wrote = more first mid now h.text rows h.wrote written;
+        sound = sound ∙ h.sound;
+      }
 
--- where lines are printed as they come
-pub printed_where_on : {W : Type 0} (writing : Writing W) (first : W) (log : List Logged)
-    (following : LiveOutput)
-    (printed : ℕ) (now : W) → following ≡ On → HasFollowed writing first log following printed now
-    → HasPrinted writing first log printed now
-printed_where_on writing first log following printed now on h =
-    subst (λ (f : LiveOutput). HasFollowed writing first log f printed now) on h
+  -- a part of the rest is, and the output has failed
+  pub printed_part : More writing → (mid now : W) (log : List Logged) (printed : ℕ)
+      (time : Option ℕ)
+      → HasPrinted writing style first log printed mid
+      → Wrote writing.adds mid (log_rows style time (drop printed log)) now
+      → writing.failures now ≡ writing.failures mid + 1
+      → HasFailed writing style first log now
+  printed_part more mid now log printed time h part failed =
+      let rows = log_rows style time (drop printed log) in
+      record {
+        text = h.text ++ rows;
+        told = told_rest style time printed log h.text h.told;
+        wrote = part_after writing.adds more first mid now h.text rows h.wrote part;
+        failed = failed ∙ ap (λ n. n + 1) h.sound;
+      }
 
--- and so it is where nothing more is forgotten
-pub polled_longer : {W : Type 0} (writing : Writing W) (first : W) (log longer : SubscriberLogState)
-    (following : LiveOutput) (now : W) → IsPrefix log.lines longer.lines
-    → longer.forgotten ≡ log.forgotten
-    → HasFollowed writing first log.lines following log.forgotten now
-    → HasFollowed writing first longer.lines following longer.forgotten now
-polled_longer writing first log longer following now grown same h =
-    subst (λ (n : ℕ). HasFollowed writing first longer.lines following n now) (sym same)
-    (followed_longer writing first log.lines longer.lines following log.forgotten now grown h)
+  -- where all is forgotten that is left
+  pub all_forgotten : (mid now : W) (old new : SubscriberLogState) (count : ℕ)
+      → HasPrinted writing style first old.lines old.forgotten mid
+      → count ≡ length (drop old.forgotten old.lines)
+      → new ≡ record old { forgotten = old.forgotten + count }
+      → HasPrinted writing style first old.lines (length old.lines) now
+      → HasPrinted writing style first new.lines new.forgotten now
+  all_forgotten mid now old new count before counted is after =
+      let left : length (drop old.forgotten old.lines) ≡ length old.lines - old.forgotten
+      = length-drop old.forgotten old.lines in
+      let all : old.forgotten + count ≡ length old.lines = omega (arith, before.few) in
+      subst (λ (s : SubscriberLogState). HasPrinted writing style first s.lines s.forgotten now)
+      (sym is)
+      (subst (λ (n : ℕ). HasPrinted writing style first old.lines n now) (sym all) after)
+
+  -- what is shown of a log is so of one that has grown
+  pub followed_longer : (log longer : List Logged) (following : LiveOutput) (printed : ℕ) (now : W)
+      → IsPrefix log longer → HasFollowed writing style first log following printed now
+      → HasFollowed writing style first longer following printed now
+  followed_longer log longer On printed now grown h =
+      printed_of_longer log longer printed now grown h
+  followed_longer log longer Off printed now grown h =
+      printed_of_longer log longer printed now grown h
+  followed_longer log longer Failed printed now grown h =
+      failed_of_longer log longer now grown h
+
+  -- where lines are printed as they come
+  pub printed_where_on : (log : List Logged) (following : LiveOutput) (printed : ℕ) (now : W)
+      → following ≡ On → HasFollowed writing style first log following printed now
+      → HasPrinted writing style first log printed now
+  printed_where_on log following printed now on h =
+      subst (λ (f : LiveOutput). HasFollowed writing style first log f printed now) on h
+
+  -- and so it is where nothing more is forgotten
+  pub polled_longer : (log longer : SubscriberLogState) (following : LiveOutput) (now : W)
+      → IsPrefix log.lines longer.lines → longer.forgotten ≡ log.forgotten
+      → HasFollowed writing style first log.lines following log.forgotten now
+      → HasFollowed writing style first longer.lines following longer.forgotten now
+  polled_longer log longer following now grown same h =
+      subst (λ (n : ℕ). HasFollowed writing style first longer.lines following n now) (sym same)
+      (followed_longer log.lines longer.lines following log.forgotten now grown h)
 
 -- ---- a log that is polled
 

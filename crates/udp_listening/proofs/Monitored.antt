@@ -3,6 +3,7 @@ use Rattle.std.proofs.Common.{◌≡◌, inl, inr, ◌∙◌, ℕ, List, [], ◌
 use Rattle.std.specs.Prelude.{true, IfOk, Result, Ok, Err, take, vec_len}
 use Rattle.feed_types.specs.declared.line.LineId.{LineId}
 use Rattle.feed_text.specs.Devices.{Writing}
+use Rattle.best_rows.specs.declared.style.RowStyle.{RowStyle}
 use Rattle.live_feed.specs.Lanes.{FeedLanes}
 use Rattle.live_feed.specs.declared.run.line.LineEnd.{LineEnd}
 use Rattle.live_feed.specs.declared.run.whole.FeedReport.{FeedReport}
@@ -13,7 +14,7 @@ use Rattle.live_feed.specs.run.Wholes.{HasAttended, IsBegun, IsWholeRun, line_re
 use Rattle.live_feed.specs.settle.Settlements.{IsSettlement, SettlementState}
 use Rattle.live_feed.specs.subscriber.Logs.{SubscriberLogState}
 use Rattle.live_feed.specs.venue.Seats.{SeatState, new_seat}
-use Rattle.udp_listening.specs.Listening.{HasFollowed, HasListened, IsUnprinted, settled_forgotten, settled_log}
+use Rattle.udp_listening.specs.Listening.{HasListenedOn, IsFollowing, IsUnprinted, settled_forgotten, settled_log}
 use Rattle.udp_listening.specs.Monitors.{HasMonitored}
 use Rattle.run_settings.specs.declared.listen_settings.ListenSettings.{ListenSettings}
 use Rattle.udp_listening.specs.Reports.{IsListened, IsReportOfFeed, IsReportOfRun, any_lines, reported_line, seat_line, task_line}
@@ -21,35 +22,26 @@ use Rattle.run_watches.specs.RunLines.{listened_lines, watched_run}
 use Rattle.run_watches.specs.RunNews.{SaysOfRun}
 use Rattle.udp_listening.specs.Settings.{feed_setting}
 use Rattle.udp_listening.specs.UdpLines.{UdpLineState}
-use Rattle.udp_listening.specs.declared.console.LiveOutput.{LiveOutput}
+use Rattle.udp_listening.specs.declared.console.Console.{Console}
 use Rattle.udp_listening.specs.declared.listen_report.ListenReport.{ListenReport}
 use Rattle.udp_listening.specs.declared.listening.ListenFault.{ListenFault}
 use Rattle.udp_listening.specs.declared.run_monitor.RunMonitor.{RunMonitor}
 use Rattle.run_watches.specs.RunNewsLaws.{nothing_of_run}
 use Rattle.udp_listening.proofs.Wholes.{settled_forgotten_of, settled_log_of}
 
--- what the program has printed of a log
+-- What is printed of a log by the end: from whichever output on there was only the header.
 abbrev pub Shows : {C W E : Type 0} → Writing W → RunMonitor C W E → RunMonitor C W E
-    → SubscriberLogState → Type 0
-Shows writing before after log =
-    HasFollowed writing before.console.output log.lines after.console.live_output log.forgotten
-    after.console.output
-
--- of a log that has forgotten nothing nothing was printed
-fresh : {C W E : Type 0} (writing : Writing W) (before : RunMonitor C W E)
-    (log : SubscriberLogState) → log.forgotten ≡ 0
-    → IsUnprinted writing before.console.live_output before.console.output
-    → Shows writing before before log
-fresh writing before log none unprinted =
-    subst (λ n. HasFollowed writing before.console.output log.lines before.console.live_output n
-    before.console.output) (sym none) (unprinted log.lines)
+    → List Logged → ℕ → Type 0
+Shows {C} {W} writing before after log printed =
+    (style : RowStyle) (first : W) → IsUnprinted writing style first before.console
+    → IsFollowing writing style first log printed after.console
 
 -- the one log of a run that was monitored, and what was printed of it
 pub record Monitored {C W E : Type 0} (writing : Writing W) (telling : Writing E)
     (before after : RunMonitor C W E) (logs : List SubscriberLogState) : Type 0 where
   pub log : SubscriberLogState
   pub one : logs ≡ log ∷ []
-  pub shows : Shows writing before after log
+  pub shows : Shows writing before after log.lines log.forgotten
   pub says : SaysOfRun telling (watched_run before.watches) before.console.errors
       after.console.errors
 
@@ -62,46 +54,43 @@ alone log (other ∷ others) none = absurd (omega (arith, none))
 pub monitored : {C W E : Type 0} (writing : Writing W) (telling : Writing E)
     (before after : RunMonitor C W E) (log later : Option SubscriberLogState)
     (others : List SubscriberLogState)
-    → IsUnprinted writing before.console.live_output before.console.output
     → IsBegun true log → HasMonitored writing telling before log after later → length others ≡ 0
     → Monitored writing telling before after (logs_with later others)
-monitored writing telling before after None later others unprinted begun attended none =
-    absurd cc
-monitored writing telling before after (Some log) None others unprinted begun attended none =
-    absurd attended
-monitored writing telling before after (Some log) (Some later) others unprinted begun attended
-    none = record {
-      log = later;
-      one = alone later others none;
-      shows =
-          attended.0 before.console.output (fresh writing before log begun.2 unprinted);
-      says = attended.1;
-    }
+monitored writing telling before after None later others begun attended none = absurd cc
+monitored writing telling before after (Some log) None others begun attended none = absurd attended
+monitored writing telling before after (Some log) (Some later) others begun attended none = record {
+  log = later;
+  one = alone later others none;
+  shows =
+      λ style first unprinted.
+      attended.0 style first
+      (subst (λ n. IsFollowing writing style first log.lines n before.console) (sym begun.2)
+      (unprinted log.lines));
+  says = attended.1;
+}
 
 -- What a monitor has printed and said that attended a run, or none.
 pub record MonitoredIfRun {C W E : Type 0} (writing : Writing W) (telling : Writing E)
     (before after : RunMonitor C W E) : Type 0 where
   pub lines : List Logged
   pub printed : ℕ
-  pub shows : HasFollowed writing before.console.output lines after.console.live_output printed
-      after.console.output
+  pub shows : Shows writing before after lines printed
   pub says : SaysOfRun telling (watched_run before.watches) before.console.errors
       after.console.errors
 
 pub monitored_if_run : {C W E : Type 0} (writing : Writing W) (telling : Writing E)
     (before after : RunMonitor C W E)
-    → IsUnprinted writing before.console.live_output before.console.output
     → HasAttended (HasMonitored writing telling) true before after
     → MonitoredIfRun writing telling before after
-monitored_if_run writing telling before after unprinted (inl same) =
+monitored_if_run writing telling before after (inl same) =
     subst (λ m. MonitoredIfRun writing telling before m) (sym same) (record {
       lines = [];
       printed = 0;
-      shows = unprinted [];
+      shows = λ style first unprinted. unprinted [];
       says = nothing_of_run telling (watched_run before.watches) before.console.errors;
     })
-monitored_if_run writing telling before after unprinted (inr ran) =
-    let m = monitored writing telling before after ran.0 ran.1 [] unprinted ran.2 ran.3 refl
+monitored_if_run writing telling before after (inr ran) =
+    let m = monitored writing telling before after ran.0 ran.1 [] ran.2 ran.3 refl
     in record {
       lines = m.log.lines;
       printed = m.log.forgotten;
@@ -136,12 +125,11 @@ module _ {G N C W E : Type 0} (settings : ListenSettings) (writing : Writing W)
     (brings : UdpLineState → List (List ℕ) → UdpLineState → Type 0) (failures : UdpLineState → ℕ)
     (tasks : List (LineTask UdpLineState)) (count : ℕ) (none : count ≡ 0)
     (before after : RunMonitor C W E) (whole : FeedReport UdpLineState) (report : ListenReport)
-    (unprinted : IsUnprinted writing before.console.live_output before.console.output)
     (w : IsWholeRun G N any_lines lanes (λ l. l.venue) brings failures
     (HasMonitored writing telling) tasks true count before after whole)
     (tells : IsReportOfFeed settings whole report) where
   ended : Monitored writing telling before after (logs_with w.later w.others)
-  ended = monitored writing telling before after w.log w.later w.others unprinted w.begun w.attended
+  ended = monitored writing telling before after w.log w.later w.others w.begun w.attended
       (w.all ∙ none)
 
   seated : map seat_line (map (λ e. e.seat) w.ends) ≡ map task_line tasks
@@ -161,19 +149,16 @@ module _ {G N C W E : Type 0} (settings : ListenSettings) (writing : Writing W)
     tells = tells;
   }
 
-  -- and of its settled log the forgotten lines were printed
-  pub printed_of : HasListened writing before.console.output (Ok report) after.console.live_output
-      after.console.output
+  -- and of its settled log the forgotten rows were printed
+  pub printed_of : HasListenedOn writing before.console (Ok report) after.console
   printed_of =
-      let first = before.console.output in
-      let live = after.console.live_output in
-      let now = after.console.output in
+      λ style first unprinted.
       let log = settled_log_of ended.log ended.one w.settled in
       let forgotten = settled_forgotten_of ended.log ended.one w.settled in
-      subst (λ (s : SettlementState). HasFollowed writing first (settled_log s) live
-      (settled_forgotten s) now) (sym tells.settlement)
-      (subst (λ (x : List Logged × ℕ). HasFollowed writing first x.0 live x.1 now)
-      (λ i. (sym log i, sym forgotten i)) ended.shows)
+      subst (λ (s : SettlementState). IsFollowing writing style first (settled_log s)
+      (settled_forgotten s) after.console) (sym tells.settlement)
+      (subst (λ (x : List Logged × ℕ). IsFollowing writing style first x.0 x.1 after.console)
+      (λ i. (sym log i, sym forgotten i)) (ended.shows style first unprinted))
 
 -- a report of a run is one of the settings' feed, where the run's lanes and lines are theirs
 pub listened_if_run : (settings : ListenSettings) (sockets : ℕ) (lanes : FeedLanes)
@@ -191,13 +176,13 @@ listened_if_run settings sockets lanes lines (Ok report) setting venues same run
 listened_if_run settings sockets lanes lines (Err fault) setting venues same run = tt
 
 -- what was printed, by cases on whether there is a report
-pub listened_by : {W : Type 0} (writing : Writing W) (first : W) (live : LiveOutput) (now : W)
+pub listened_by : {W E : Type 0} (writing : Writing W) (before after : Console W E)
     (P : ListenReport → Type 0) (outcome : Result ListenReport ListenFault)
-    → ((report : ListenReport) → P report → HasListened writing first (Ok report) live now)
-    → ((fault : ListenFault) → HasListened writing first (Err fault) live now)
-    → IfOk outcome P → HasListened writing first outcome live now
-listened_by writing first live now P (Ok report) told failed is = told report is
-listened_by writing first live now P (Err fault) told failed is = failed fault
+    → ((report : ListenReport) → P report → HasListenedOn writing before (Ok report) after)
+    → ((fault : ListenFault) → HasListenedOn writing before (Err fault) after)
+    → IfOk outcome P → HasListenedOn writing before outcome after
+listened_by writing before after P (Ok report) told failed is = told report is
+listened_by writing before after P (Err fault) told failed is = failed fault
 
 -- what is so of each report that this is so of
 pub told_by : {P Q : ListenReport → Type 0} (outcome : Result ListenReport ListenFault)

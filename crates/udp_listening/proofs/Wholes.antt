@@ -1,21 +1,27 @@
 -- What was printed while a run went on, and then its end, are together the whole text.
-use Rattle.std.proofs.Common.{◌≡◌, inl, inr, ℕ, zero, suc, ◌+◌, ◌≤◌, List, [], ◌∷◌, ◌++◌, length, drop, take, refl, sym, ap, ◌∙◌, subst, arith, append_assoc}
-use Rattle.std.specs.Prelude.{Result, Ok, Err, Some, flat_map, slice_get}
+use Rattle.std.proofs.Common.{◌≡◌, inl, inr, ℕ, ◌+◌, List, [], ◌∷◌, ◌++◌, length, drop, take, refl, sym, ap, ◌∙◌, subst, arith, append-nil, append_assoc}
+use Rattle.std.specs.Prelude.{None, Result, Ok, Err, Some, flat_map, slice_get}
+use Rattle.std.proofs.lemmas.Grind.{flat_map-append}
 use Rattle.std.proofs.lemmas.List.{take-append-le, take_all}
 use Rattle.feed_text.specs.Devices.{Writing, Wrote}
-use Rattle.feed_text.specs.Lines.{best_line}
-use Rattle.live_feed.specs.declared.subscriber.logged.Logged.{Logged}
 use Rattle.feed_types.specs.declared.genuine.Genuine.{Ghosts as Genuine}
+use Rattle.feed_types.specs.declared.journal.Notice.{Notice}
+use Rattle.best_rows.specs.NoticeRowLaws.{text_of_more, text_of_none}
+use Rattle.best_rows.specs.NoticeRows.{IsTextOf, notice_row}
+use Rattle.best_rows.specs.RowTexts.{header_of}
+use Rattle.best_rows.specs.declared.style.RowStyle.{RowStyle}
+use Rattle.live_feed.specs.declared.subscriber.logged.Logged.{Logged}
 use Rattle.live_feed.specs.Lanes.{FeedLanes}
 use Rattle.live_feed.specs.venue.Seats.{SeatState}
 use Rattle.live_feed.specs.settle.Settlements.{IsSettlement, SettlementState, ShowsSubscriber, SubscriberEndState}
 use Rattle.live_feed.specs.subscriber.Logs.{SubscriberLogState}
-use Rattle.udp_listening.specs.Listening.{HasFollowed, HasListened, HasPrinted, ListensToEnd, PrintsAll, PrintsEnd, PrintsFailedReport, PrintsReport, PrintsRest, PrintsWhole, end_lines, first_count, first_lines, log_lines, settled_forgotten, settled_log, subscriber_lines, summary_text}
+use Rattle.udp_listening.specs.Listening.{HasFailed, HasFollowed, HasListened, HasPrinted, IsSummary, ListensToEnd, PrintsAll, PrintsEnd, PrintsFailedReport, PrintsReport, PrintsRest, PrintsWhole, ending_text, first_count, first_lines, log_rows, notices_of, rest_text, settled_forgotten, settled_log, subscriber_notices, subscriber_rows}
+use Rattle.udp_listening.specs.declared.console.Console.{Console}
 use Rattle.udp_listening.specs.declared.console.LiveOutput.{LiveOutput}
 use Rattle.udp_listening.specs.declared.console.LiveOutput.TheVariants.{On, Off, Failed}
 use Rattle.udp_listening.specs.declared.listening.ListenFault.{ListenFault}
 use Rattle.udp_listening.specs.declared.listen_report.ListenReport.{ListenReport}
-use Rattle.udp_listening.proofs.Following.{grow_part, lines_split, part_after}
+use Rattle.udp_listening.proofs.Following.{More, grow_part, part_after, told_rest}
 
 -- the front of a text was written, so a part of it was
 pub part_of_front : {W : Type 0} (adds : W → List ℕ → W → Type 0) (first now : W) (xs ys : List ℕ)
@@ -29,165 +35,213 @@ part_of_front adds first now xs ys written =
           written;
     }
 
--- four texts
-regroup : (a b r e : List ℕ) → a ++ (((b ++ r) ++ []) ++ e) ≡ (((a ++ b) ++ r) ++ []) ++ e
-regroup a b r e =
-    sym (append_assoc a ((b ++ r) ++ []) e)
-    ∙ ap (λ l. l ++ e) (sym (append_assoc a (b ++ r) []))
-    ∙ ap (λ l. (l ++ []) ++ e) (sym (append_assoc a b r))
+-- the rows of the first subscriber, but for the log's first ones, after the text of these
+rows_by : (style : RowStyle) (xs : List SubscriberEndState) (text : List ℕ)
+    → IsTextOf style
+    (notices_of (take (first_count (λ x. x.forgotten) xs) (first_lines (λ x. x.log) xs))) text
+    → IsTextOf style (flat_map subscriber_notices (take 1 xs))
+    (text ++ flat_map (λ x. subscriber_rows style x.forgotten x) (take 1 xs))
+rows_by style [] text told =
+    subst (λ (t : List ℕ). IsTextOf style [] t) (sym (append-nil text)) told
+rows_by style (x ∷ xs) text told =
+    let row : Notice → List ℕ = notice_row style None in
+    let log = log_rows style None (drop x.forgotten x.log) in
+    let queued = flat_map row x.queued in
+    let unoffered = flat_map row x.unoffered in
+    let notices = notices_of x.log ++ (x.queued ++ x.unoffered) in
+    let logged = told_rest style None x.forgotten x.log text told in
+    let all = text_of_more style None (notices_of x.log) (x.queued ++ x.unoffered) (text ++ log)
+    logged in
+    let same : (text ++ log) ++ flat_map row (x.queued ++ x.unoffered)
+    ≡ text ++ ((log ++ (queued ++ unoffered)) ++ [])
+    = ap (λ (t : List ℕ). (text ++ log) ++ t) (flat_map-append row x.queued x.unoffered)
+    ∙ append_assoc text log (queued ++ unoffered)
+    ∙ ap (λ (t : List ℕ). text ++ t) (sym (append-nil (log ++ (queued ++ unoffered)))) in
+    subst (λ (l : List Notice). IsTextOf style l (text ++ ((log ++ (queued ++ unoffered)) ++ [])))
+    (sym (append-nil notices))
+    (subst (λ (t : List ℕ). IsTextOf style notices t) same all)
 
-abbrev pub rest_of : SubscriberEndState → List ℕ
-rest_of x = flat_map best_line x.queued ++ flat_map best_line x.unoffered
-
--- the printed lines, then the rest of the first subscriber's, then more
-whole_by : (printed : SubscriberEndState → ℕ) (xs : List SubscriberEndState) (e : List ℕ)
-    → log_lines (take (first_count printed xs) (first_lines (λ x. x.log) xs))
-    ++ (flat_map (λ x. subscriber_lines (printed x) x) (take 1 xs) ++ e)
-    ≡ flat_map (λ x. subscriber_lines 0 x) (take 1 xs) ++ e
-whole_by printed [] e = refl
-whole_by printed (x ∷ xs) e =
-    regroup (log_lines (take (printed x) x.log)) (log_lines (drop (printed x) x.log)) (rest_of x) e
-    ∙ ap (λ l. ((l ++ rest_of x) ++ []) ++ e) (sym (lines_split (printed x) x.log))
-
--- the forgotten lines and the rest of the summary
-pub whole_text : (s : SettlementState)
-    → log_lines (take (settled_forgotten s) (settled_log s)) ++ summary_text (λ x. x.forgotten) s
-    ≡ summary_text (λ x. 0) s
-whole_text s = whole_by (λ x. x.forgotten) s.subscribers
-    (end_lines s.journal.entries 0 (take 16 s.venues))
-
-all_of_log : (xs : List SubscriberEndState)
-    → take (first_count (λ x. length x.log) xs) (first_lines (λ x. x.log) xs) ≡ first_lines
-    (λ x. x.log) xs
-all_of_log [] = refl
-all_of_log (x ∷ xs) = take_all (length x.log) x.log (omega arith)
-
--- the lines of the log are the front of the summary
-pub front_text : (s : SettlementState)
-    → (rest : List ℕ) × (log_lines (settled_log s) ++ rest ≡ summary_text (λ x. 0) s)
-front_text s =
-    let rest : List ℕ = summary_text (λ x. length x.log) s in (
-      rest,
-      ap (λ l. log_lines l ++ rest) (sym (all_of_log s.subscribers))
-          ∙ whole_by (λ x. length x.log) s.subscribers
-          (end_lines s.journal.entries 0 (take 16 s.venues)),
-    )
-
-abbrev pub More : {W : Type 0} → Writing W → Type 0
-More {W} writing =
-    (s t u : W) (xs ys : List ℕ) → writing.adds s xs t → writing.adds t ys u
-    → writing.adds s (xs ++ ys) u
-
-all_of_rest : {W E : Type 0} (writing : Writing W) (telling : Writing E) → More writing
-    → (report : ListenReport) (first mid after : W) (said told : E) (status : ℕ)
-    → HasPrinted writing first (settled_log report.settlement) (settled_forgotten report.settlement)
-    mid
-    → PrintsRest writing telling report mid after said told status
-    → PrintsWhole writing telling report first after said told status
-all_of_rest writing telling more report first mid after said told status h (inl r) =
-    let s : SettlementState = report.settlement in
-    let front : List ℕ = log_lines (take (settled_forgotten s) (settled_log s)) in
-    inl (
-      subst (λ (t : List ℕ). writing.adds first t after) (whole_text s)
-          (more first mid after front (summary_text (λ x. x.forgotten) s) h.lines r.0),
-      r.1 ∙ h.sound,
-      r.2,
-      r.3,
-    )
-all_of_rest writing telling more report first mid after said told status h (inr (inl r)) =
-    let s : SettlementState = report.settlement in
-    let front : List ℕ = log_lines (take (settled_forgotten s) (settled_log s)) in
-    let part : Wrote writing.adds first (summary_text (λ x. 0) s) mid
-    = subst (λ (t : List ℕ). Wrote writing.adds first t mid) (whole_text s)
-    (part_of_front writing.adds first mid front (summary_text (λ x. x.forgotten) s) h.lines) in
-    inr (inl (
-      subst (λ w. Wrote writing.adds first (summary_text (λ x. 0) s) w) (sym r.0) part,
-      ap (λ w. writing.failures w) r.0 ∙ h.sound,
-      r.1,
-      r.2,
-    ))
-all_of_rest writing telling more report first mid after said told status h (inr (inr r)) =
-    let s : SettlementState = report.settlement in
-    let front : List ℕ = log_lines (take (settled_forgotten s) (settled_log s)) in
-    inr (inr (
-      subst (λ (t : List ℕ). Wrote writing.adds first t after) (whole_text s)
-          (part_after writing.adds more first mid after front (summary_text (λ x. x.forgotten) s)
-          h.lines r.0),
-      r.1 ∙ ap (λ n. n + 1) h.sound,
-      r.2,
-      r.3,
-    ))
-
--- a report after lines that were printed
-of_printed : {W E : Type 0} (writing : Writing W) (telling : Writing E) → More writing
-    → (report : ListenReport) (first mid after : W) (silent told : E) (status : ℕ)
-    → HasPrinted writing first (settled_log report.settlement) (settled_forgotten report.settlement)
-    mid
-    → PrintsReport writing telling report mid after silent told status
-    → PrintsAll writing telling report first after silent told status
-of_printed writing telling more report first mid after silent told status h r = record {
-  said = r.said;
-  says = r.says;
-  prints = all_of_rest writing telling more report first mid after r.said told status h r.prints;
-}
-
--- a report after the output has failed
-of_failed : {W E : Type 0} (writing : Writing W) (telling : Writing E)
-    (report : ListenReport) (first mid after : W) (silent told : E) (status : ℕ)
-    → Wrote writing.adds first (log_lines (settled_log report.settlement)) mid
-    → writing.failures mid ≡ writing.failures first + 1
-    → after ≡ mid → PrintsFailedReport telling report silent told status
-    → PrintsAll writing telling report first after silent told status
-of_failed writing telling report first mid after silent told status part failed same r =
-    let s : SettlementState = report.settlement in
-    let front = front_text s in
-    let of_all : Wrote writing.adds first (summary_text (λ x. 0) s) mid
-    = subst (λ (t : List ℕ). Wrote writing.adds first t mid) front.1
-    (grow_part writing.adds first mid (log_lines (settled_log s)) front.0 part) in
+-- what is written of a log, and then the rest, is the summary
+pub whole_text : (style : RowStyle) (s : SettlementState) (text : List ℕ)
+    → IsTextOf style (notices_of (take (settled_forgotten s) (settled_log s))) text
+    → IsSummary style s (text ++ rest_text style s)
+whole_text style s text told =
+    let rows = flat_map (λ x. subscriber_rows style x.forgotten x) (take 1 s.subscribers) in
     record {
-      said = r.said;
-      says = r.says;
-      prints = inr (inr (
-        subst (λ w. Wrote writing.adds first (summary_text (λ x. 0) s) w) (sym same) of_all,
-        ap (λ w. writing.failures w) same ∙ failed,
-        r.fails,
-        r.ends,
-      ));
+      rows = text ++ rows;
+      told = rows_by style s.subscribers text told;
+      all = sym (append_assoc text rows (ending_text style.format s));
     }
+
+-- more rows, after all of the first subscriber's log
+more_by : (style : RowStyle) (xs : List SubscriberEndState) (text : List ℕ)
+    → IsTextOf style (notices_of (first_lines (λ x. x.log) xs)) text
+    → (more : List ℕ) × IsTextOf style (flat_map subscriber_notices (take 1 xs)) (text ++ more)
+more_by style [] text told =
+    ([], subst (λ (t : List ℕ). IsTextOf style [] t) (sym (append-nil text)) told)
+more_by style (x ∷ xs) text told =
+    let rest = x.queued ++ x.unoffered in
+    let more = flat_map (notice_row style None) rest in (
+      more,
+      subst (λ (l : List Notice). IsTextOf style l (text ++ more))
+          (sym (append-nil (notices_of x.log ++ rest)))
+          (text_of_more style None (notices_of x.log) rest text told),
+    )
+
+-- the text of a log is the front of a summary
+pub front_text : (style : RowStyle) (s : SettlementState) (text : List ℕ)
+    → IsTextOf style (notices_of (settled_log s)) text
+    → (rest : List ℕ) × IsSummary style s (text ++ rest)
+front_text style s text told =
+    let rows = more_by style s.subscribers text told in
+    let ending = ending_text style.format s in (
+      rows.0 ++ ending,
+      record {
+        rows = text ++ rows.0;
+        told = rows.1;
+        all = sym (append_assoc text rows.0 ending);
+      },
+    )
+
+module _ {W E : Type 0} (writing : Writing W) (telling : Writing E) (more : More writing)
+    (style : RowStyle) (report : ListenReport) (first mid after : W) where
+  all_of_rest : (said told : E) (status : ℕ)
+      → (h : HasPrinted writing style first (settled_log report.settlement)
+      (settled_forgotten report.settlement) mid)
+      → PrintsRest writing telling style report mid after said told status
+      → PrintsWhole writing telling report (h.text ++ rest_text style report.settlement) first after
+      said told status
+  all_of_rest said told status h (inl r) =
+      inl (
+        more first mid after h.text (rest_text style report.settlement) h.wrote r.0,
+        r.1 ∙ h.sound,
+        r.2,
+        r.3,
+      )
+  all_of_rest said told status h (inr (inl r)) =
+      let rest = rest_text style report.settlement in
+      inr (inl (
+        subst (λ w. Wrote writing.adds first (h.text ++ rest) w) (sym r.0)
+            (part_of_front writing.adds first mid h.text rest h.wrote),
+        ap (λ w. writing.failures w) r.0 ∙ h.sound,
+        r.1,
+        r.2,
+      ))
+  all_of_rest said told status h (inr (inr r)) =
+      inr (inr (
+        part_after writing.adds more first mid after h.text (rest_text style report.settlement)
+            h.wrote r.0,
+        r.1 ∙ ap (λ n. n + 1) h.sound,
+        r.2,
+        r.3,
+      ))
+
+  -- a report after rows that were printed
+  of_printed : (silent told : E) (status : ℕ)
+      → HasPrinted writing style first (settled_log report.settlement)
+      (settled_forgotten report.settlement) mid
+      → PrintsReport writing telling style report mid after silent told status
+      → PrintsAll writing telling style report first after silent told status
+  of_printed silent told status h r = record {
+    said = r.said;
+    says = r.says;
+    text = h.text ++ rest_text style report.settlement;
+    whole = whole_text style report.settlement h.text h.told;
+    prints = all_of_rest r.said told status h r.prints;
+  }
+
+  -- a report after the output has failed
+  of_failed : (silent told : E) (status : ℕ)
+      → HasFailed writing style first (settled_log report.settlement) mid
+      → after ≡ mid → PrintsFailedReport telling report silent told status
+      → PrintsAll writing telling style report first after silent told status
+  of_failed silent told status h same r =
+      let front = front_text style report.settlement h.text h.told in
+      let text = h.text ++ front.0 in
+      record {
+        said = r.said;
+        says = r.says;
+        text = text;
+        whole = front.1;
+        prints = inr (inr (
+          subst (λ w. Wrote writing.adds first text w) (sym same)
+              (grow_part writing.adds first mid h.text front.0 h.wrote),
+          ap (λ w. writing.failures w) same ∙ h.failed,
+          r.fails,
+          r.ends,
+        ));
+      }
+
+  -- by how the output is
+  of_followed : (following : LiveOutput) (silent told : E) (status : ℕ)
+      → HasFollowed writing style first (settled_log report.settlement) following
+      (settled_forgotten report.settlement) mid
+      → PrintsEnd writing telling style (Ok report) following mid after silent told status
+      → PrintsAll writing telling style report first after silent told status
+  of_followed On silent told status h e = of_printed silent told status h e
+  of_followed Off silent told status h e = of_printed silent told status h e
+  of_followed Failed silent told status h e = of_failed silent told status h e.0 e.1
 
 -- what was printed while a run went on, then its end
 pub listened : {W E : Type 0} (writing : Writing W) (telling : Writing E) → More writing
-    → (outcome : Result ListenReport ListenFault) (following : LiveOutput)
-    → (first mid after : W) (silent told : E) (status : ℕ)
-    → HasListened writing first outcome following mid
-    → PrintsEnd writing telling outcome following mid after silent told status
-    → ListensToEnd writing telling outcome first after silent told status
-listened writing telling more (Ok report) On first mid after silent told status h e =
-    of_printed writing telling more report first mid after silent told status h e
-listened writing telling more (Ok report) Off first mid after silent told status h e =
-    of_printed writing telling more report first mid after silent told status h e
-listened writing telling more (Ok report) Failed first mid after silent told status h e =
-    of_failed writing telling report first mid after silent told status h.0 h.1 e.0 e.1
-listened writing telling more (Err fault) following first mid after silent told status h e = (
+    → (style : RowStyle) (outcome : Result ListenReport ListenFault) (first : W)
+    → (console : Console W E) (after : W) (silent told : E) (status : ℕ)
+    → HasListened writing style first outcome console
+    → PrintsEnd writing telling console.style outcome console.live_output console.output after
+    silent told status
+    → ListensToEnd writing telling style outcome first after silent told status
+listened writing telling more style (Ok report) first console after silent told status h e =
+    of_followed writing telling more style report first console.output after console.live_output
+    silent told status h.1
+    (subst (λ st. PrintsEnd writing telling st (Ok report) console.live_output console.output after
+    silent told status) h.0 e)
+listened writing telling more style (Err fault) first console after silent told status h e = (
   (
     h.0,
-    following,
+    console.live_output,
     h.1,
-    subst (λ w. HasFollowed writing first h.0 following h.1 w) (sym e.0) h.2,
+    subst (λ w. HasFollowed writing style first h.0 console.live_output h.1 w) (sym e.0) h.2.1,
   ),
   e.1,
   e.2,
 )
 
--- before anything was printed
-pub nothing_printed : {W : Type 0} (writing : Writing W) → ((s : W) → writing.adds s [] s)
-    → (log : List Logged) (following : LiveOutput) (now : W)
-    → (following ≡ Failed → ⊥) → HasFollowed writing now log following 0 now
-nothing_printed writing none log On now working =
-    record { few = omega arith; lines = none now; sound = refl }
-nothing_printed writing none log Off now working =
-    record { few = omega arith; lines = none now; sound = refl }
-nothing_printed writing none log Failed now working = absurd (working refl)
+-- before any row was printed
+pub header_printed : {W : Type 0} (writing : Writing W) (style : RowStyle) (first now : W)
+    → writing.adds first (header_of style.format style.timed) now
+    → writing.failures now ≡ writing.failures first
+    → (log : List Logged) (following : LiveOutput) → (following ≡ Failed → ⊥)
+    → HasFollowed writing style first log following 0 now
+header_printed writing style first now wrote sound log On working = record {
+  few = omega arith;
+  text = header_of style.format style.timed;
+  told = text_of_none style;
+  wrote = wrote;
+  sound = sound;
+}
+header_printed writing style first now wrote sound log Off working = record {
+  few = omega arith;
+  text = header_of style.format style.timed;
+  told = text_of_none style;
+  wrote = wrote;
+  sound = sound;
+}
+header_printed writing style first now wrote sound log Failed working = absurd (working refl)
+
+-- or where that has failed
+pub header_failed : {W : Type 0} (writing : Writing W) (style : RowStyle) (first now : W)
+    → Wrote writing.adds first (header_of style.format style.timed) now
+    → writing.failures now ≡ writing.failures first + 1
+    → (log : List Logged) → HasFailed writing style first log now
+header_failed writing style first now wrote failed log =
+    let header = header_of style.format style.timed in
+    let rows = flat_map (notice_row style None) (notices_of log) in
+    record {
+      text = header ++ rows;
+      told = text_of_more style None [] (notices_of log) header (text_of_none style);
+      wrote = grow_part writing.adds first now header rows wrote;
+      failed = failed;
+    }
 
 -- what is left of a feed's one subscriber
 of_one : {X : Type 0} (shown : List SubscriberEndState → X) (value : X)

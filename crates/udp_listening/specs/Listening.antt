@@ -1,12 +1,15 @@
 -- `nbbo listen`: what it prints of what came, and how it ends. The texts are this project's own.
-use Rattle.std.specs.Prelude.{◌≡◌, ◌⊎◌, ℕ, ◌+◌, ◌≤◌, ◌==◌, ◌&&◌, Bool, true, false, List, [], ◌∷◌, ◌++◌, length, drop, flat_map, take, IfOk, Option, Some, None, Result, Ok, Err, codes, if◌then◌else◌}
+use Rattle.std.specs.Prelude.{◌≡◌, ◌⊎◌, ℕ, ◌+◌, ◌≤◌, ◌==◌, ◌&&◌, Bool, true, false, List, [], ◌∷◌, ◌++◌, length, drop, flat_map, map, take, IfOk, Option, Some, None, Result, Ok, Err, codes, if◌then◌else◌}
 use Rattle.feed_types.specs.declared.journal.Entry.{Entry}
+use Rattle.feed_types.specs.declared.journal.Notice.{Notice}
 use Rattle.feed_types.specs.declared.line.LineId.{LineId}
 use Rattle.feed_types.specs.PerLines.{on_line}
 use Rattle.feed_text.specs.Devices.{Writing, Wrote}
 use Rattle.feed_text.specs.LackTexts.{lack_texts}
 use Rattle.feed_text.specs.declared.lack.Lack.{Lack}
-use Rattle.feed_text.specs.Lines.{best_line, venue_line}
+use Rattle.feed_text.specs.Lines.{venue_line}
+use Rattle.best_rows.specs.NoticeRows.{IsTextOf, notice_row}
+use Rattle.best_rows.specs.declared.style.RowStyle.{RowStyle}
 use Rattle.live_feed.specs.declared.run.report.Stop.{Stop}
 use Rattle.live_feed.specs.declared.run.report.Stop.TheVariants as stops
 use Rattle.live_feed.specs.declared.subscriber.logged.Logged.{Logged}
@@ -19,9 +22,12 @@ use Rattle.run_watches.specs.News.{line_end_texts}
 use Rattle.run_watches.specs.RunLines.{listened_run}
 use Rattle.run_watches.specs.RunNews.{SaysOfRun}
 use Rattle.udp_listening.specs.Reports.{IsListened}
+use Rattle.udp_listening.specs.Settings.{row_style}
 use Rattle.udp_listening.specs.declared.console.Console.{Console}
 use Rattle.udp_listening.specs.declared.console.LiveOutput.{LiveOutput}
 use Rattle.udp_listening.specs.declared.console.LiveOutput.TheVariants.{On, Off, Failed}
+use Rattle.run_settings.specs.declared.formats.BestFormat.{BestFormat}
+use Rattle.run_settings.specs.declared.formats.BestFormat.TheVariants.{Text, Csv, Json}
 use Rattle.run_settings.specs.declared.listen_settings.ListenSettings.{ListenSettings}
 use Rattle.run_watches.specs.declared.line_news.LineChange.TheVariants as changes
 use Rattle.udp_listening.specs.declared.listening.ListenFault.{ListenFault}
@@ -31,17 +37,21 @@ use Rattle.udp_listening.specs.declared.listen_report.ListenReport.{ListenReport
 
 -- ---- what is printed on the output
 
--- the best lines of the notices of a log
-abbrev pub log_lines : List Logged → List ℕ
-log_lines log = flat_map (λ logged. best_line logged.notice) log
+-- the notices of a log
+abbrev pub notices_of : List Logged → List Notice
+notices_of log = map (λ logged. logged.notice) log
 
--- of a subscriber: the best lines of the notices that it took, after the first ones, which are
--- printed already, then of those that were still in its lane, and then of those that were not
--- offered
-abbrev pub subscriber_lines : ℕ → SubscriberEndState → List ℕ
-subscriber_lines printed x =
-    log_lines (drop printed x.log)
-    ++ (flat_map best_line x.queued ++ flat_map best_line x.unoffered)
+-- the rows of the notices of a log, all of one look
+abbrev pub log_rows : RowStyle → Option ℕ → List Logged → List ℕ
+log_rows style time log = flat_map (λ logged. notice_row style time logged.notice) log
+
+-- of a subscriber, without moments: the rows of the notices that it took, after the first ones,
+-- which are printed already, then of those that were still in its lane, and then of those that were
+-- not offered
+abbrev pub subscriber_rows : RowStyle → ℕ → SubscriberEndState → List ℕ
+subscriber_rows style printed x =
+    log_rows style None (drop printed x.log)
+    ++ (flat_map (notice_row style None) x.queued ++ flat_map (notice_row style None) x.unoffered)
 
 -- the last line of a venue: how many of its items were consumed, and how many numbers each line
 -- brought first
@@ -54,12 +64,30 @@ abbrev pub end_lines : List Entry → ℕ → List VenueEndState → List ℕ
 end_lines entries venue [] = []
 end_lines entries venue (v ∷ vs) = end_line entries venue v ++ end_lines entries (venue + 1) vs
 
--- the text of a feed that was settled: the lines of its first subscriber, after as many as are
--- printed already, and then the last lines of its venues, of which it has 16 at most
-abbrev pub summary_text : (SubscriberEndState → ℕ) → SettlementState → List ℕ
-summary_text printed s =
-    flat_map (λ x. subscriber_lines (printed x) x) (take 1 s.subscribers)
-    ++ end_lines s.journal.entries 0 (take 16 s.venues)
+-- what is after the rows of a feed that was settled: after best lines the last lines of its venues,
+-- of which it has 16 at most; after other rows nothing
+abbrev pub ending_text : BestFormat → SettlementState → List ℕ
+ending_text Text s = end_lines s.journal.entries 0 (take 16 s.venues)
+ending_text Csv s = []
+ending_text Json s = []
+
+-- what is left to print of it: the rows of its first subscriber that aren't printed yet, and then
+-- its ending
+abbrev pub rest_text : RowStyle → SettlementState → List ℕ
+rest_text style s =
+    flat_map (λ x. subscriber_rows style x.forgotten x) (take 1 s.subscribers)
+    ++ ending_text style.format s
+
+-- all notices of a subscriber
+abbrev pub subscriber_notices : SubscriberEndState → List Notice
+subscriber_notices x = notices_of x.log ++ (x.queued ++ x.unoffered)
+
+-- The text of a feed that was settled, from its beginning on: the header and the row of each notice
+-- of its first subscriber, at the moment of the look that took it, and then its ending.
+pub record IsSummary (style : RowStyle) (s : SettlementState) (text : List ℕ) : Type 0 where
+  pub rows : List ℕ
+  pub told : IsTextOf style (flat_map subscriber_notices (take 1 s.subscribers)) rows
+  pub all : text ≡ rows ++ ending_text style.format s
 
 -- ---- what is printed while a run goes on
 
@@ -73,35 +101,52 @@ abbrev pub first_count : {S : Type 0} → (S → ℕ) → List S → ℕ
 first_count count [] = 0
 first_count count (s ∷ more) = count s
 
--- From this output on the best lines of the log's first notices were written, as many as are
--- counted, and no call failed.
-pub record HasPrinted {W : Type 0} (writing : Writing W) (first : W) (log : List Logged)
-    (printed : ℕ) (now : W) : Type 0 where
+-- From this output on the header was written and the rows of the log's first notices, as many as
+-- are counted, each at the moment of the look that took it; and no call failed.
+pub record HasPrinted {W : Type 0} (writing : Writing W) (style : RowStyle) (first : W)
+    (log : List Logged) (printed : ℕ) (now : W) : Type 0 where
   pub few : printed ≤ length log
-  pub lines : writing.adds first (log_lines (take printed log)) now
+  pub text : List ℕ
+  pub told : IsTextOf style (notices_of (take printed log)) text
+  pub wrote : writing.adds first text now
   pub sound : writing.failures now ≡ writing.failures first
 
--- The same, or where the output has failed a part of the log's best lines, by calls of which the
+-- From this output on a part of such a text of the whole log was written, by calls of which the
 -- last one failed.
-abbrev pub HasFollowed : {W : Type 0} → Writing W → W → List Logged → LiveOutput → ℕ → W → Type 0
-HasFollowed writing first log On printed now = HasPrinted writing first log printed now
-HasFollowed writing first log Off printed now = HasPrinted writing first log printed now
-HasFollowed writing first log Failed printed now =
-    Wrote writing.adds first (log_lines log) now
-    × (writing.failures now ≡ writing.failures first + 1)
+pub record HasFailed {W : Type 0} (writing : Writing W) (style : RowStyle) (first : W)
+    (log : List Logged) (now : W) : Type 0 where
+  pub text : List ℕ
+  pub told : IsTextOf style (notices_of log) text
+  pub wrote : Wrote writing.adds first text now
+  pub failed : writing.failures now ≡ writing.failures first + 1
+
+-- The one, or where the output has failed the other.
+abbrev pub HasFollowed : {W : Type 0} → Writing W → RowStyle → W → List Logged → LiveOutput → ℕ → W
+    → Type 0
+HasFollowed writing style first log On printed now = HasPrinted writing style first log printed now
+HasFollowed writing style first log Off printed now = HasPrinted writing style first log printed now
+HasFollowed writing style first log Failed printed now = HasFailed writing style first log now
+
+-- So it is of the output of a console that writes rows in this style.
+abbrev pub IsFollowing : {W E : Type 0} → Writing W → RowStyle → W → List Logged → (printed : ℕ)
+    → Console W E → Type 0
+IsFollowing writing style first log printed console =
+    (console.style ≡ style)
+    × HasFollowed writing style first log console.live_output printed console.output
 
 -- The log has grown, and the console has gone on: from whichever output on the console had printed
 -- what the log has forgotten before, it has printed what the longer log has forgotten now.
 abbrev pub KeepsFollowing : {W E : Type 0} → Writing W → SubscriberLogState → Console W E
     → SubscriberLogState → Console W E → Type 0
 KeepsFollowing {W} writing log before longer after =
-    (first : W) → HasFollowed writing first log.lines before.live_output log.forgotten before.output
-    → HasFollowed writing first longer.lines after.live_output longer.forgotten after.output
+    (style : RowStyle) (first : W)
+    → IsFollowing writing style first log.lines log.forgotten before
+    → IsFollowing writing style first longer.lines longer.forgotten after
 
--- nothing is printed yet, of whatever log, and the output hasn't failed
-abbrev pub IsUnprinted : {W : Type 0} → Writing W → LiveOutput → W → Type 0
-IsUnprinted writing following now =
-    (log : List Logged) → HasFollowed writing now log following 0 now
+-- From this output on no row is printed yet, of whatever log: only the header.
+abbrev pub IsUnprinted : {W E : Type 0} → Writing W → RowStyle → W → Console W E → Type 0
+IsUnprinted writing style first console =
+    (log : List Logged) → IsFollowing writing style first log 0 console
 
 -- the log of the first subscriber of a settled feed, if it has one
 abbrev pub settled_log : SettlementState → List Logged
@@ -111,16 +156,23 @@ settled_log s = first_lines (λ x. x.log) s.subscribers
 abbrev pub settled_forgotten : SettlementState → ℕ
 settled_forgotten s = first_count (λ x. x.forgotten) s.subscribers
 
--- The end of a run: from the output `first` on the best lines that the settled log has forgotten
--- were
+-- The end of a run: from the output `first` on the rows that the settled log has forgotten were
 -- written; or where there is no report, those of some log's first notices.
-abbrev pub HasListened : {W : Type 0} → Writing W → W → Result ListenReport ListenFault
-    → LiveOutput → W → Type 0
-HasListened writing first (Ok report) following now =
-    HasFollowed writing first (settled_log report.settlement) following
-    (settled_forgotten report.settlement) now
-HasListened writing first (Err fault) following now =
-    (log : List Logged) × (printed : ℕ) × HasFollowed writing first log following printed now
+abbrev pub HasListened : {W E : Type 0} → Writing W → RowStyle → W
+    → Result ListenReport ListenFault → Console W E → Type 0
+HasListened writing style first (Ok report) console =
+    IsFollowing writing style first (settled_log report.settlement)
+    (settled_forgotten report.settlement) console
+HasListened writing style first (Err fault) console =
+    (log : List Logged) × (printed : ℕ) × IsFollowing writing style first log printed console
+
+-- A run went on with a console: from whichever output on there was only the header, it has come to
+-- this end.
+abbrev pub HasListenedOn : {W E : Type 0} → Writing W → Console W E
+    → Result ListenReport ListenFault → Console W E → Type 0
+HasListenedOn {W} writing before outcome after =
+    (style : RowStyle) (first : W) → IsUnprinted writing style first before
+    → HasListened writing style first outcome after
 
 -- ---- texts on standard error
 
@@ -163,25 +215,26 @@ abbrev pub report_status : List (ℕ × LineId) → Option Stop → ℕ
 report_status [] None = 0
 report_status failed stopped = 1
 
--- The summary's lines that aren't printed yet are written, and no call fails; or memory for them is
--- refused; or the output fails within them. Standard error says so.
+-- What isn't printed yet is written, and no call fails; or memory for it is refused; or the output
+-- fails within it. Standard error says so.
 abbrev pub PrintsRest : {W E : Type 0} (writing : Writing W) (telling : Writing E)
-    (report : ListenReport) (before after : W) (said told : E) → ℕ → Type 0
-PrintsRest writing telling report before after said told status =
-    (writing.adds before (summary_text (λ x. x.forgotten) report.settlement) after
+    (style : RowStyle) (report : ListenReport) (before after : W) (said told : E) → ℕ → Type 0
+PrintsRest writing telling style report before after said told status =
+    (writing.adds before (rest_text style report.settlement) after
     × (writing.failures after ≡ writing.failures before) × (told ≡ said)
     × (status ≡ report_status report.failed.items report.stopped))
     ⊎ ((after ≡ before) × Says telling (codes "nbbo: no memory\n") said told × (status ≡ 1))
-    ⊎ (Wrote writing.adds before (summary_text (λ x. x.forgotten) report.settlement) after
+    ⊎ (Wrote writing.adds before (rest_text style report.settlement) after
     × (writing.failures after ≡ writing.failures before + 1)
     × Says telling (codes "nbbo: write failed\n") said told × (status ≡ 1))
 
 -- A report is printed: its texts are on standard error, and then the summary's rest on the output.
 pub record PrintsReport {W E : Type 0} (writing : Writing W) (telling : Writing E)
-    (report : ListenReport) (before after : W) (silent told : E) (status : ℕ) : Type 0 where
+    (style : RowStyle) (report : ListenReport) (before after : W) (silent told : E) (status : ℕ)
+    : Type 0 where
   pub said : E
   pub says : SaysEach telling (report_texts report) silent said
-  pub prints : PrintsRest writing telling report before after said told status
+  pub prints : PrintsRest writing telling style report before after said told status
 
 abbrev pub listen_fault_text : ListenFault → List ℕ
 listen_fault_text NoMemory = codes "nbbo: no memory\n"
@@ -196,58 +249,62 @@ pub record PrintsFailedReport {E : Type 0} (telling : Writing E) (report : Liste
   pub fails : Says telling (codes "nbbo: write failed\n") said told
   pub ends : status ≡ 1
 
--- The end is printed: a report, after the best lines that were printed before, if the output hasn't
+-- The end is printed: a report, after the rows that were printed before, if the output hasn't
 -- failed at these; or with none, which standard error says.
 abbrev pub PrintsEnd : {W E : Type 0} (writing : Writing W) (telling : Writing E)
-    (outcome : Result ListenReport ListenFault) (following : LiveOutput)
+    (style : RowStyle) (outcome : Result ListenReport ListenFault) (following : LiveOutput)
     (before after : W) (silent told : E) → ℕ → Type 0
-PrintsEnd writing telling (Ok report) Failed before after silent told status =
+PrintsEnd writing telling style (Ok report) Failed before after silent told status =
     (after ≡ before) × PrintsFailedReport telling report silent told status
-PrintsEnd writing telling (Ok report) On before after silent told status =
-    PrintsReport writing telling report before after silent told status
-PrintsEnd writing telling (Ok report) Off before after silent told status =
-    PrintsReport writing telling report before after silent told status
-PrintsEnd writing telling (Err fault) following before after silent told status =
+PrintsEnd writing telling style (Ok report) On before after silent told status =
+    PrintsReport writing telling style report before after silent told status
+PrintsEnd writing telling style (Ok report) Off before after silent told status =
+    PrintsReport writing telling style report before after silent told status
+PrintsEnd writing telling style (Err fault) following before after silent told status =
     (after ≡ before) × Says telling (listen_fault_text fault) silent told × (status ≡ 1)
 
--- From the beginning of the run on the whole summary is written; or a part of it, where memory is
+-- From the beginning of the run on this whole text is written; or a part of it, where memory is
 -- refused; and no call fails. Or the output fails within it. Standard error says so.
 abbrev pub PrintsWhole : {W E : Type 0} (writing : Writing W) (telling : Writing E)
-    (report : ListenReport) (before after : W) (said told : E) → ℕ → Type 0
-PrintsWhole writing telling report before after said told status =
-    (writing.adds before (summary_text (λ x. 0) report.settlement) after
+    (report : ListenReport) (text : List ℕ) (before after : W) (said told : E) → ℕ → Type 0
+PrintsWhole writing telling report text before after said told status =
+    (writing.adds before text after
     × (writing.failures after ≡ writing.failures before) × (told ≡ said)
     × (status ≡ report_status report.failed.items report.stopped))
-    ⊎ (Wrote writing.adds before (summary_text (λ x. 0) report.settlement) after
+    ⊎ (Wrote writing.adds before text after
     × (writing.failures after ≡ writing.failures before)
     × Says telling (codes "nbbo: no memory\n") said told × (status ≡ 1))
-    ⊎ (Wrote writing.adds before (summary_text (λ x. 0) report.settlement) after
+    ⊎ (Wrote writing.adds before text after
     × (writing.failures after ≡ writing.failures before + 1)
     × Says telling (codes "nbbo: write failed\n") said told × (status ≡ 1))
 
 -- A report is printed, and all that its lines came to: its texts are on standard error, and the
 -- whole summary on the output, of which some may be there before.
 pub record PrintsAll {W E : Type 0} (writing : Writing W) (telling : Writing E)
-    (report : ListenReport) (before after : W) (silent told : E) (status : ℕ) : Type 0 where
+    (style : RowStyle) (report : ListenReport) (before after : W) (silent told : E) (status : ℕ)
+    : Type 0 where
   pub said : E
   pub says : SaysEach telling (report_texts report) silent said
-  pub prints : PrintsWhole writing telling report before after said told status
+  pub text : List ℕ
+  pub whole : IsSummary style report.settlement text
+  pub prints : PrintsWhole writing telling report text before after said told status
 
--- From the output `first` on the best lines of some log's first notices were written, and no call
--- failed; or a part of a log's best lines, by calls of which the last one failed.
-abbrev pub PrintsSome : {W : Type 0} → Writing W → (first now : W) → Type 0
-PrintsSome writing first now =
+-- From the output `first` on the header and the rows of some log's first notices were written, and
+-- no call failed; or a part of these, by calls of which the last one failed.
+abbrev pub PrintsSome : {W : Type 0} → Writing W → RowStyle → (first now : W) → Type 0
+PrintsSome writing style first now =
     (log : List Logged) × (following : LiveOutput) × (printed : ℕ)
-    × HasFollowed writing first log following printed now
+    × HasFollowed writing style first log following printed now
 
 -- Listening ends with a report, of which all is printed; or with none, which standard error says,
--- after best lines that were printed meanwhile.
+-- after rows that were printed meanwhile.
 abbrev pub ListensToEnd : {W E : Type 0} (writing : Writing W) (telling : Writing E)
-    (outcome : Result ListenReport ListenFault) (before after : W) (silent told : E) → ℕ → Type 0
-ListensToEnd writing telling (Ok report) before after silent told status =
-    PrintsAll writing telling report before after silent told status
-ListensToEnd writing telling (Err fault) before after silent told status =
-    PrintsSome writing before after
+    (style : RowStyle) (outcome : Result ListenReport ListenFault) (before after : W)
+    (silent told : E) → ℕ → Type 0
+ListensToEnd writing telling style (Ok report) before after silent told status =
+    PrintsAll writing telling style report before after silent told status
+ListensToEnd writing telling style (Err fault) before after silent told status =
+    PrintsSome writing style before after
     × Says telling (listen_fault_text fault) silent told × (status ≡ 1)
 
 -- a venue lacks messages
@@ -273,5 +330,5 @@ pub record Listens {W E : Type 0} (writing : Writing W) (telling : Writing E)
   pub said : E
   pub says : SaysOfRun telling (listened_run settings sockets) silent said
   pub ended : ℕ
-  pub ends : ListensToEnd writing telling outcome before after said told ended
+  pub ends : ListensToEnd writing telling (row_style settings) outcome before after said told ended
   pub status_is : status ≡ complete_status settings.complete outcome ended

@@ -1,6 +1,7 @@
 -- The settings of `nbbo listen`, as a feed and its lines take them.
-use Rattle.std.specs.Prelude.{◌≡◌, ℕ, false, None, Some, slice_get, if◌then◌else◌}
+use Rattle.std.specs.Prelude.{◌≡◌, ℕ, false, true, None, Some, slice_get, if◌then◌else◌}
 use Rattle.feed_types.specs.declared.config.FeedConfig.{FeedConfig}
+use Rattle.best_rows.specs.declared.style.RowStyle.{RowStyle}
 use Rattle.live_feed.specs.Lanes.{FeedSetting}
 use Rattle.run_settings.specs.Senders.{senders_of}
 use Rattle.run_settings.specs.declared.listen_settings.ListenSettings.{ListenSettings}
@@ -10,6 +11,10 @@ use Rattle.udp_listening.specs.UdpLines.{UdpLineState}
 -- and forgotten
 abbrev pub most_logged : ListenSettings → ℕ
 most_logged settings = if settings.follow then 4294967295 else settings.feed.journal
+
+-- how rows are written: in the format of the settings, with times where it has any
+abbrev pub row_style : ListenSettings → RowStyle
+row_style settings = record { format = settings.format; timed = true }
 
 -- the settings as a feed takes them: a lane holds 1,024 items
 pub record IsFeedOf (settings : ListenSettings) (config : FeedConfig) : Type 0 where

@@ -1,12 +1,15 @@
 //! Where the program prints while a run goes on.
-ghost use Rattle.std.specs.Prelude.{◌≡◌, ◌≢◌, drop};
+ghost use Rattle.std.specs.Prelude.{◌≡◌, ◌≢◌, drop, Option, ℕ};
 ghost use Rattle.feed_types.specs.Prefix.{IsPrefix};
-ghost use Rattle.udp_listening.specs.Listening.{IsUnprinted, KeepsFollowing, log_lines};
+ghost use Rattle.udp_listening.specs.Listening.{IsUnprinted, KeepsFollowing, log_rows};
 
+use crate::run_time::RunTime;
 use crate::summary::put_log;
+use best_rows::{RowStyle, header_line};
 use feed_text::{LineBuffer, TextOut, write_all};
 use live_feed::{FeedName, SubscriberLog};
 use std::sync::Wait;
+use std::time::Clock;
 
 /// The most notices that are taken before their lines are written.
 const MOST: usize = 1_024;
@@ -30,6 +33,8 @@ pub struct Console<W, E> {
     pub output: W,
     pub errors: E,
     pub live_output: LiveOutput,
+    /// How rows are written.
+    pub style: RowStyle,
     /// How many changes of the national best were taken of the log.
     pub changes: u64,
 }
@@ -78,34 +83,36 @@ fn last_number<N: FeedName>(log: &SubscriberLog<N>) -> Option<u64> {
 }
 
 impl<W: TextOut, E> Console<W, E> {
-    /// Where nothing was printed yet, and the output hasn't failed.
-    pub fn new(output: W, errors: E, live_output: LiveOutput) -> Console<W, E>
+    /// Prints what stands before the first row.
+    pub fn new(output: W, errors: E, live_output: LiveOutput, style: RowStyle) -> Console<W, E>
         requires { live_output ≢ LiveOutput.Failed }
-        ensures console { result ≡ record {
-          output = output;
-          errors = errors;
-          live_output = live_output;
-          changes = 0;
-        } }
+        ensures errors { result.errors ≡ errors }
         ensures unprinted { IsUnprinted (record { adds = W.adds; failures = W.failures })
-            result.live_output result.output }
+            style output result }
     {
+        let mut output = output;
+        let live_output = match write_all(header_line(style).as_bytes(), &mut output) {
+            Ok(()) => live_output,
+            Err(_) => LiveOutput::Failed,
+        };
         Console {
             output,
             errors,
             live_output,
+            style,
             changes: 0,
         }
     }
 
     /// Takes what the log's subscriber is offered, 1,024 notices at most, and where lines are
-    /// printed as they come prints those of the log that aren't printed yet, and has the log forget
-    /// them. Returns whether it took anything.
+    /// printed as they come prints those of the log that aren't printed yet, with this moment, and
+    /// has the log forget them. Returns whether it took anything.
     ///
     /// Where memory for the lines is refused they are printed at the end, with all that follow.
-    pub fn follow<N: FeedName, R: Wait>(
+    pub fn follow<N: FeedName, R: Wait, C: Clock>(
         &mut self,
         rt: &R,
+        time: &RunTime<C>,
         text: &mut LineBuffer,
         log: &mut SubscriberLog<N>,
     ) -> bool
@@ -117,13 +124,19 @@ impl<W: TextOut, E> Console<W, E> {
         let has_taken = poll_some(rt, log);
         self.changes = last_number(log).unwrap_or(self.changes);
         if self.live_output == LiveOutput::On {
-            self.print_rest(text, log);
+            self.print_rest(time.nanoseconds(), text, log);
         }
         has_taken
     }
 
-    /// Prints the best lines of the log that aren't printed yet, and has the log forget them.
-    fn print_rest<N: FeedName>(&mut self, text: &mut LineBuffer, log: &mut SubscriberLog<N>)
+    /// Prints the rows of the log that aren't printed yet, with this time, and has the log forget
+    /// them.
+    fn print_rest<N: FeedName>(
+        &mut self,
+        time: Option<u64>,
+        text: &mut LineBuffer,
+        log: &mut SubscriberLog<N>,
+    )
         requires { self.old.live_output ≡ LiveOutput.On }
         ensures log { log.new.lines ≡ log.old.lines }
         ensures shows { KeepsFollowing (record { adds = W.adds; failures = W.failures })
@@ -134,18 +147,19 @@ impl<W: TextOut, E> Console<W, E> {
             return;
         }
         text.clear();
-        if put_log(text, log.log()).is_err() {
+        if put_log(text, self.style, time, log.log()).is_err() {
             self.live_output = LiveOutput::Off;
             return;
         }
         self.write_rest(text.as_slice(), log);
     }
 
-    /// Writes the text of the log's best lines that aren't printed yet, and has the log forget
-    /// them.
+    /// Writes the text of the log's rows that aren't printed yet, those of one look, and has the
+    /// log forget them.
     fn write_rest<N: FeedName>(&mut self, text: &[u8], log: &mut SubscriberLog<N>)
         requires on { self.old.live_output ≡ LiveOutput.On }
-        requires text { text.now ≡ log_lines (drop log.old.forgotten log.old.lines) }
+        requires text { (time : Option ℕ)
+            × (text.now ≡ log_rows self.old.style time (drop log.old.forgotten log.old.lines)) }
         ensures log { log.new.lines ≡ log.old.lines }
         ensures shows { KeepsFollowing (record { adds = W.adds; failures = W.failures })
             log.old self.old log.new self.new }

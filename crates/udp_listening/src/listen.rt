@@ -2,6 +2,7 @@
 ghost use Rattle.std.specs.Prelude.{◌≡◌, ◌≢◌, length};
 ghost use Rattle.feed_text.specs.Devices.{Writing};
 ghost use Rattle.feed_text.specs.StandardError.{Says};
+ghost use Rattle.udp_listening.specs.Settings.{row_style};
 ghost use Rattle.udp_listening.specs.Listening.{Listens, PrintsEnd, PrintsFailedReport, PrintsReport, complete_status, lacks_any, listen_fault_text, report_status};
 
 use crate::console::{Console, LiveOutput};
@@ -13,6 +14,7 @@ use crate::run_monitor::RunMonitor;
 use crate::run_time::RunTime;
 use crate::sources::lines_over;
 use crate::summary::summary_of;
+use best_rows::RowStyle;
 use feed_text::{Lack, TextOut, write_all, write_stderr};
 use feed_types::{LineId, VenueId};
 use live_feed::Stop;
@@ -52,10 +54,11 @@ fn fail<E: TextOut>(text: &str, errors: &mut E) -> u8
     1
 }
 
-/// Prints the report of listening, after the best lines that were printed while it went on, and
-/// returns the status of the program.
+/// Prints the report of listening, after the rows that were printed while it went on, and returns
+/// the status of the program.
 fn print_report<W: TextOut, E: TextOut>(
     alloc: Global,
+    style: RowStyle,
     report: &ListenReport,
     output: &mut W,
     errors: &mut E,
@@ -63,10 +66,10 @@ fn print_report<W: TextOut, E: TextOut>(
     ensures { PrintsReport
         (record { adds = W.adds; failures = W.failures })
         (record { adds = E.adds; failures = E.failures })
-        report.now output.old output.new errors.old errors.new result }
+        style report.now output.old output.new errors.old errors.new result }
 {
     write_report_lines(report, errors);
-    let Ok(text) = summary_of(alloc, &report.settlement) else {
+    let Ok(text) = summary_of(alloc, style, &report.settlement) else {
         return fail(NO_MEMORY, errors);
     };
     if write_all(text.as_slice(), output).is_err() {
@@ -105,15 +108,22 @@ fn print_end<W: TextOut, E: TextOut>(
     ensures { PrintsEnd
         (record { adds = W.adds; failures = W.failures })
         (record { adds = E.adds; failures = E.failures })
-        outcome.now console.old.live_output console.old.output console.new.output
-        console.old.errors console.new.errors result }
+        console.old.style outcome.now console.old.live_output
+        console.old.output console.new.output console.old.errors console.new.errors result }
 {
     match outcome {
         Ok(report) => {
             if console.live_output == LiveOutput::Failed {
                 print_failed_report(report, &mut console.errors)
             } else {
-                print_report(alloc, report, &mut console.output, &mut console.errors)
+                let style = console.style;
+                print_report(
+                    alloc,
+                    style,
+                    report,
+                    &mut console.output,
+                    &mut console.errors,
+                )
             }
         }
         Err(fault) => fail(fault_line(*fault), &mut console.errors),
@@ -149,17 +159,27 @@ fn live_output_of(settings: &ListenSettings) -> LiveOutput
     }
 }
 
+/// How rows are written in a run of these settings.
+fn style_of(settings: &ListenSettings) -> RowStyle
+    ensures { result ≡ row_style settings.now }
+{
+    RowStyle {
+        format: settings.format,
+        timed: true,
+    }
+}
+
 /// Listens on these sockets, in the order of the settings' lines, until all have ended or the
 /// settings end the run; then prints the report for a subscriber that wants every change. Returns
 /// the status of the program: 0, or 1 where a line failed, the run stopped early, or not all was
 /// printed; and 3 in place of 0 where the settings ask for a complete run and a venue lacks
 /// messages.
 ///
-/// Where the settings ask for it, best lines are printed as they come, and counts on standard
-/// error; and metrics are served where there is a socket for them. Standard error has also what is
-/// news of the lines, as it comes, and which gaps were given up, as the settings say, and at the
-/// end what was counted of the lines; where the settings have further options also with which
-/// sessions lines ended, what the system dropped, and which symbols never came.
+/// Where the settings ask for it, best lines or rows are printed as they come, and counts on
+/// standard error; and metrics are served where there is a socket for them. Standard error has also
+/// what is news of the lines, as it comes, and which gaps were given up, as the settings say, and
+/// at the end what was counted of the lines; where the settings have further options also with
+/// which sessions lines ended, what the system dropped, and which symbols never came.
 pub fn listen_with<R, C, W, E>(
     rt: &R,
     clock: &C,
@@ -180,7 +200,8 @@ where
         (record { adds = E.adds; failures = E.failures })
         settings.now (length sockets.lines.items) output result.1 errors result.2 result.0 }
 {
-    let mut console = Console::new(output, errors, live_output_of(settings));
+    let live_output = live_output_of(settings);
+    let mut console = Console::new(output, errors, live_output, style_of(settings));
     let clock_copy: Result<C, AllocError> = clock.clone();
     let (Ok(feed), Ok(lines), Ok(gaps), Ok(clock)) = (
         feed_of(alloc, settings),

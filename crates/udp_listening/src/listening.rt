@@ -1,7 +1,7 @@
 //! Listening on live lines, until all have ended.
 ghost use Rattle.std.specs.Prelude.{◌≡◌, IfOk, length, map, vec_len};
 ghost use Rattle.feed_text.specs.Devices.{Writing};
-ghost use Rattle.udp_listening.specs.Listening.{HasListened, IsUnprinted};
+ghost use Rattle.udp_listening.specs.Listening.{HasListenedOn};
 ghost use Rattle.udp_listening.specs.Reports.{IsReportOfRun, task_line};
 ghost use Rattle.run_watches.specs.RunLines.{watched_run};
 ghost use Rattle.run_watches.specs.RunNews.{SaysOfRun};
@@ -119,10 +119,8 @@ where
     W: TextOut + Drop,
     E: TextOut + Drop,
     requires lanes { feed ≡ N.lanes }
-    requires unprinted { IsUnprinted (record { adds = W.adds; failures = W.failures })
-        monitor.console.live_output monitor.console.output }
-    ensures listened { HasListened (record { adds = W.adds; failures = W.failures })
-        monitor.console.output result.outcome result.console.live_output result.console.output }
+    ensures listened { HasListenedOn (record { adds = W.adds; failures = W.failures })
+        monitor.console result.outcome result.console }
     ensures run { IfOk result.outcome
         (IsReportOfRun settings.now N.lanes (map task_line lines.items)) }
     ensures says { SaysOfRun (record { adds = E.adds; failures = E.failures })

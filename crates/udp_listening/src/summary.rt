@@ -1,30 +1,37 @@
 //! The text of a settled feed.
-ghost use Rattle.std.specs.Prelude.{◌≡◌, ◌++◌, ◌<◌, flat_map, length, IfOk, IfSome, OnOk, slice_get, take};
-ghost use Rattle.feed_text.specs.Lines.{best_line};
-ghost use Rattle.udp_listening.specs.Listening.{end_line, end_lines, subscriber_lines, summary_text};
+ghost use Rattle.std.specs.Prelude.{◌≡◌, ◌++◌, ◌<◌, flat_map, length, IfOk, IfSome, None, OnOk, slice_get, take};
+ghost use Rattle.best_rows.specs.NoticeRows.{notice_row};
+ghost use Rattle.udp_listening.specs.Listening.{end_line, end_lines, ending_text, log_rows, rest_text, subscriber_rows};
 
-use feed_text::{LineBuffer, put_best, put_venue};
+use best_rows::{RowStyle, put_notice};
+use feed_text::{LineBuffer, put_venue};
 use feed_types::{LineId, Notice, SubscriberId, VenueId};
 use live_feed::{Logged, Settlement};
+use run_settings::BestFormat;
 use std::alloc::{AllocError, Global};
 
-/// Appends the best lines of the notices.
-fn put_notices(text: &mut LineBuffer, notices: &[Notice]) -> Result<(), AllocError>
-    ensures { OnOk result (text.new.items ≡ text.old.items ++ flat_map best_line notices.now) }
+/// Appends the rows of the notices, without times.
+fn put_notices(text: &mut LineBuffer, style: RowStyle, notices: &[Notice]) -> Result<(), AllocError>
+    ensures { OnOk result (text.new.items
+        ≡ text.old.items ++ flat_map (notice_row style None) notices.now) }
 {
     for notice in notices {
-        put_best(text, notice)?;
+        put_notice(text, style, None, notice)?;
     }
     Ok(())
 }
 
-/// Appends the best lines of the notices that a subscriber took.
-pub fn put_log(text: &mut LineBuffer, log: &[Logged]) -> Result<(), AllocError>
-    ensures { OnOk result (text.new.items
-        ≡ text.old.items ++ flat_map (λ logged. best_line logged.notice) log.now) }
+/// Appends the rows of the notices that a subscriber took, with this time.
+pub fn put_log(
+    text: &mut LineBuffer,
+    style: RowStyle,
+    time: Option<u64>,
+    log: &[Logged],
+) -> Result<(), AllocError>
+    ensures { OnOk result (text.new.items ≡ text.old.items ++ log_rows style time log.now) }
 {
     for logged in log {
-        put_best(text, &logged.notice)?;
+        put_notice(text, style, time, &logged.notice)?;
     }
     Ok(())
 }
@@ -43,34 +50,40 @@ fn put_end(text: &mut LineBuffer, settlement: &Settlement, venue: VenueId) -> Re
     put_venue(text, venue, sent, a, b, recovery)
 }
 
-/// Appends the best lines of everything that the subscriber wanted: what it took, but for what its
-/// log has forgotten, what was still in its lane, and what was not offered. The id is below the
-/// number of subscribers.
+/// Appends the rows of everything that the subscriber wanted: what it took, but for what its log
+/// has forgotten, what was still in its lane, and what was not offered. The id is below the number
+/// of subscribers.
 fn put_bests(
     text: &mut LineBuffer,
+    style: RowStyle,
     settlement: &Settlement,
     id: SubscriberId,
 ) -> Result<(), AllocError>
     requires { id < length settlement.now.subscribers }
     ensures { OnOk result (IfSome (slice_get settlement.now.subscribers id)
-        (λ x. text.new.items ≡ text.old.items ++ subscriber_lines x.forgotten x)) }
+        (λ x. text.new.items ≡ text.old.items ++ subscriber_rows style x.forgotten x)) }
 {
-    put_log(text, settlement.log(id))?;
-    put_notices(text, settlement.queued(id))?;
-    put_notices(text, settlement.unoffered(id))
+    put_log(text, style, None, settlement.log(id))?;
+    put_notices(text, style, settlement.queued(id))?;
+    put_notices(text, style, settlement.unoffered(id))
 }
 
-/// Appends the best lines of the first subscriber, if there is one, but for those that its log has
+/// Appends the rows of the first subscriber, if there is one, but for those that its log has
 /// forgotten.
-fn put_first_bests(text: &mut LineBuffer, settlement: &Settlement) -> Result<(), AllocError>
+fn put_first_bests(
+    text: &mut LineBuffer,
+    style: RowStyle,
+    settlement: &Settlement,
+) -> Result<(), AllocError>
     ensures { OnOk result (text.new.items ≡ text.old.items
-        ++ flat_map (λ x. subscriber_lines x.forgotten x) (take 1 settlement.now.subscribers)) }
+        ++ flat_map (λ x. subscriber_rows style x.forgotten x)
+        (take 1 settlement.now.subscribers)) }
 {
     if settlement.subscriber_count() == 0 {
         return Ok(());
     }
     match SubscriberId::new(0) {
-        Some(id) => put_bests(text, settlement, id),
+        Some(id) => put_bests(text, style, settlement, id),
         None => unreachable!(),
     }
 }
@@ -89,14 +102,33 @@ fn put_ends(text: &mut LineBuffer, settlement: &Settlement) -> Result<(), AllocE
     Ok(())
 }
 
-/// The text that is printed once all lines have ended: the best lines of the first subscriber, but
-/// for those that its log has forgotten, and then a line for each venue.
-pub fn summary_of(alloc: Global, settlement: &Settlement) -> Result<LineBuffer, AllocError>
-    ensures { IfOk result (λ text. text.items
-        ≡ summary_text (λ x. x.forgotten) settlement.now) }
+/// Appends what is after the rows: a line for each venue after best lines, after others nothing.
+fn put_ending(
+    text: &mut LineBuffer,
+    format: BestFormat,
+    settlement: &Settlement,
+) -> Result<(), AllocError>
+    ensures { OnOk result (text.new.items
+        ≡ text.old.items ++ ending_text format settlement.now) }
+{
+    match format {
+        BestFormat::Text => put_ends(text, settlement),
+        BestFormat::Csv | BestFormat::Json => Ok(()),
+    }
+}
+
+/// The text that is printed once all lines have ended: the rows of the first subscriber, but for
+/// those that its log has forgotten, without times, and then a line for each venue after best
+/// lines.
+pub fn summary_of(
+    alloc: Global,
+    style: RowStyle,
+    settlement: &Settlement,
+) -> Result<LineBuffer, AllocError>
+    ensures { IfOk result (λ text. text.items ≡ rest_text style settlement.now) }
 {
     let mut text = LineBuffer::new(alloc);
-    put_first_bests(&mut text, settlement)?;
-    put_ends(&mut text, settlement)?;
+    put_first_bests(&mut text, style, settlement)?;
+    put_ending(&mut text, style.format, settlement)?;
     Ok(text)
 }

@@ -1,6 +1,7 @@
 use Rattle.std.proofs.Common.{[], ◌≡◌, ◌∙◌, Err, ap, length, map, refl, subst, sym}
 use Rattle.std.specs.Prelude.{is_some}
 use Rattle.feed_text.specs.Devices.{Writing}
+use Rattle.best_rows.specs.declared.style.RowStyle.{RowStyle}
 use Rattle.udp_listening.specs.Listening.{IsUnprinted, ListensToEnd}
 use Rattle.udp_listening.specs.Reports.{task_line}
 use Rattle.run_watches.specs.RunLines.{heard_lines, listened_run, told_gaps, watched_gaps, watched_run}
@@ -11,15 +12,6 @@ use Rattle.udp_listening.proofs.Monitored.{listened_if_run}
 use Rattle.run_watches.specs.RunNewsLaws.{nothing_of_run}
 use Rattle.udp_listening.proofs.Wholes.{listened}
 use Rattle.udp_listening.proofs.listen.listen_with.Goals as goal
-
-pub run_feed-outcome-requires-clause-unprinted : goal.run_feed-outcome-requires-clause-unprinted
-run_feed-outcome-requires-clause-unprinted g c κs within =
-    let writing : Writing g.row.W.Denot = record {
-      adds = g.W.TextOut.adds;
-      failures = g.W.TextOut.failures;
-    } in
-    subst (λ (k : Console g.row.W.Denot g.row.E.Denot). IsUnprinted writing k.live_output k.output)
-    (sym c.new-monitor.ensures.console) c.new-console.ensures.unprinted
 
 pub returns-in_default : goal.returns-in_default
 returns-in_default g c =
@@ -33,26 +25,25 @@ returns-in_default g c =
     } in
     let console = c.new-console.result in
     let printed = c.print_end-status in
-    let output : console.output ≡ c.args.output = ap (λ d. d.output) c.new-console.ensures.console
-    in
+    let style = c.style_of.result in
     let run = listened_run c.args.settings.now (length c.args.sockets.lines.items) in
+    let ended : ListensToEnd writing telling style (Err NoMemory) c.args.output
+    printed.new.console.output console.errors printed.new.console.errors printed.result
+    = listened writing telling g.met.W.TextOut.adds_more style (Err NoMemory) c.args.output console
+    printed.new.console.output console.errors printed.new.console.errors printed.result
+    ([], 0, c.new-console.ensures.unprinted []) printed.ensures in
     record {
       outcome = Err NoMemory;
       listened = tt;
       said = console.errors;
       says =
           subst (λ (said : g.row.E.Denot). SaysOfRun telling run c.args.errors said)
-          (sym (ap (λ d. d.errors) c.new-console.ensures.console))
-          (nothing_of_run telling run c.args.errors);
+          (sym c.new-console.ensures.errors) (nothing_of_run telling run c.args.errors);
       ended = printed.result;
       ends =
-          subst (λ (first : g.row.W.Denot). ListensToEnd writing telling (Err NoMemory) first
+          subst (λ (s : RowStyle). ListensToEnd writing telling s (Err NoMemory) c.args.output
           printed.new.console.output console.errors printed.new.console.errors printed.result)
-          output
-          (listened writing telling g.met.W.TextOut.adds_more (Err NoMemory) console.live_output
-          console.output console.output printed.new.console.output console.errors
-          printed.new.console.errors printed.result
-          ([], 0, c.new-console.ensures.unprinted []) printed.ensures);
+          c.style_of.ensures ended;
       status_is = refl;
     }
 
@@ -74,7 +65,11 @@ returns g c =
     let outcome = ran.result.outcome in
     let console = ran.result.console in
     let printed = c.print_end-ended in
-    let new = c.new-monitor.ensures.console ∙ c.new-console.ensures.console in
+    let style = c.style_of.result in
+    let new : monitor.console ≡ c.new-console.result = c.new-monitor.ensures.console in
+    let unprinted : IsUnprinted writing style c.args.output monitor.console =
+    subst (λ (k : Console g.row.W.Denot g.row.E.Denot). IsUnprinted writing style c.args.output k)
+    (sym new) c.new-console.ensures.unprinted in
     let lines = heard_lines settings sockets in
     let run : watched_run monitor.watches ≡ listened_run settings sockets =
     ap (λ w. watched_run w) c.new-monitor.ensures.watches ∙ c.new-watches.ensures
@@ -98,16 +93,16 @@ returns g c =
       said = console.errors;
       says =
           subst (λ (first : g.row.E.Denot). SaysOfRun telling (listened_run settings sockets) first
-          console.errors) (ap (λ k. k.errors) new)
+          console.errors) (ap (λ k. k.errors) new ∙ c.new-console.ensures.errors)
           (subst (λ watched. SaysOfRun telling watched monitor.console.errors console.errors) run
           ran.ensures.says);
       ended = printed.result;
       ends =
-          subst (λ (first : g.row.W.Denot). ListensToEnd writing telling outcome first
+          subst (λ (s : RowStyle). ListensToEnd writing telling s outcome c.args.output
           printed.new.console.output console.errors printed.new.console.errors printed.result)
-          (ap (λ k. k.output) new)
-          (listened writing telling g.met.W.TextOut.adds_more outcome console.live_output
-          monitor.console.output console.output printed.new.console.output console.errors
-          printed.new.console.errors printed.result ran.ensures.listened printed.ensures);
+          c.style_of.ensures
+          (listened writing telling g.met.W.TextOut.adds_more style outcome c.args.output console
+          printed.new.console.output console.errors printed.new.console.errors printed.result
+          (ran.ensures.listened style c.args.output unprinted) printed.ensures);
       status_is = c.complete_status-status.ensures;
     }

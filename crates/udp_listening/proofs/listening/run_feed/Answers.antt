@@ -2,7 +2,7 @@ use Rattle.std.proofs.Common.{◌≡◌, map, subst, sym}
 use Rattle.std.specs.Prelude.{Err, IfOk}
 use Rattle.std.proofs.lemmas.Result.{IfOk-at_ok}
 use Rattle.feed_text.specs.Devices.{Writing}
-use Rattle.udp_listening.specs.Listening.{HasListened}
+use Rattle.udp_listening.specs.Listening.{HasListenedOn}
 use Rattle.udp_listening.specs.Reports.{IsReportOfFeed, IsReportOfRun, task_line}
 use Rattle.udp_listening.specs.declared.listening.ListenFault.{ListenFault}
 use Rattle.udp_listening.proofs.Monitored.{listened_by, monitored_if_run, printed_of, run_of, told_by}
@@ -20,8 +20,7 @@ returns-clause-says g c =
       failures = g.E.TextOut.failures;
     } in
     let ran = c.run_whole-outcome in
-    (monitored_if_run out w c.args.monitor ran.result.attendant c.requires.unprinted
-    ran.ensures.attendant).says
+    (monitored_if_run out w c.args.monitor ran.result.attendant ran.ensures.attendant).says
 
 pub returns-clause-listened : goal.returns-clause-listened
 returns-clause-listened g c =
@@ -36,25 +35,23 @@ returns-clause-listened g c =
     let ran = c.run_whole-outcome in
     let before = c.args.monitor in
     let after = ran.result.attendant in
-    let first = before.console.output in
-    let live = after.console.live_output in
-    let now = after.console.output in
-    let told = monitored_if_run out w before after c.requires.unprinted ran.ensures.attendant in
-    let failed : (fault : ListenFault) → HasListened out first (Err fault) live now
-    = λ fault. (told.lines, told.printed, told.shows) in
+    let told = monitored_if_run out w before after ran.ensures.attendant in
+    let failed : (fault : ListenFault)
+    → HasListenedOn out before.console (Err fault) after.console
+    = λ fault style first unprinted.
+    (told.lines, told.printed, told.shows style first unprinted) in
     elim c.match-outcome.branch [
       | in-Ok w' ↦
-          subst (λ o. HasListened out first o live now) (sym w'.outcome-is)
-          (listened_by out first live now (IsReportOfFeed c.args.settings.now w'.in-Ok.whole)
+          subst (λ o. HasListenedOn out before.console o after.console) (sym w'.outcome-is)
+          (listened_by out before.console after.console
+          (IsReportOfFeed c.args.settings.now w'.in-Ok.whole)
           w'.report_of-outcome.result
           (λ report tells.
           printed_of c.args.settings.now out w _ _ _ _ _ c.new.ensures.len before after
-          w'.in-Ok.whole report
-          c.requires.unprinted
-          (IfOk-at_ok _ w'.in-Ok.is ran.ensures.whole) tells)
+          w'.in-Ok.whole report (IfOk-at_ok _ w'.in-Ok.is ran.ensures.whole) tells)
           failed w'.report_of-outcome.ensures)
       | in-Err w' ↦
-          subst (λ o. HasListened out first o live now) (sym w'.outcome-is)
+          subst (λ o. HasListenedOn out before.console o after.console) (sym w'.outcome-is)
           (failed w'.fault_of.result)
     ]
 
@@ -78,7 +75,7 @@ returns-clause-run g c =
           (λ report tells.
           run_of c.args.settings.now out w _ _ _ _ _ c.new.ensures.len c.args.monitor
           ran.result.attendant
-          w'.in-Ok.whole report c.requires.unprinted
+          w'.in-Ok.whole report
           (IfOk-at_ok _ w'.in-Ok.is ran.ensures.whole) tells)
           w'.report_of-outcome.ensures)
       | in-Err w' ↦ subst (λ o. IfOk o run) (sym w'.outcome-is) tt

@@ -1,7 +1,7 @@
-use Rattle.std.proofs.Common.{◌≡◌, ◌++◌, flat_map, take}
-use Rattle.feed_text.specs.Lines.{best_line}
+use Rattle.std.proofs.Common.{◌≡◌, ◌++◌, None, flat_map, take}
+use Rattle.best_rows.specs.NoticeRows.{notice_row}
 use Rattle.udp_listening.proofs.summary.put_notices.Given as goal
 
 abbrev pub invariant-loop-notice : goal.invariant-loop-notice
 invariant-loop-notice l = l.text.items ≡ l.fn.text.items
-    ++ flat_map best_line (take l.notice-index l.notices)
+    ++ flat_map (notice_row l.style None) (take l.notice-index l.notices)

@@ -11,11 +11,12 @@ returns-then-eq-clause-shows g c =
     } in
     let console = c.args.self.now in
     let polled = c.poll_some-has_taken in
-    λ first h.
-    c.print_rest.ensures.shows first
-    (polled_longer w first c.args.log.now polled.new.log console.live_output
-    console.output polled.ensures.lines
-    polled.ensures.forgotten h)
+    λ style first h.
+    c.print_rest.ensures.shows style first (
+      h.0,
+      polled_longer w style first c.args.log.now polled.new.log console.live_output console.output
+          polled.ensures.lines polled.ensures.forgotten h.1,
+    )
 
 pub returns-else-eq-clause-shows : goal.returns-else-eq-clause-shows
 returns-else-eq-clause-shows g c =
@@ -26,7 +27,8 @@ returns-else-eq-clause-shows g c =
     } in
     let console = c.args.self.now in
     let polled = c.poll_some-has_taken in
-    λ first h.
-    polled_longer w first c.args.log.now polled.new.log console.live_output
-    console.output polled.ensures.lines
-    polled.ensures.forgotten h
+    λ style first h. (
+      h.0,
+      polled_longer w style first c.args.log.now polled.new.log console.live_output console.output
+          polled.ensures.lines polled.ensures.forgotten h.1,
+    )

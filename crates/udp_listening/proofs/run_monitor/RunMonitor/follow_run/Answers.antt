@@ -38,7 +38,7 @@ loop-init g c =
     let s = c.args.self in (
       tt,
       tt,
-      λ first h. h,
+      λ style first h. h,
       refl,
       no_run_news w (watched_run s.watches) s.console.errors,
     )
@@ -51,7 +51,7 @@ loop-preserved g c =
     } in (
       tt,
       tt,
-      λ first h. c.turn.ensures.shows first (c.loop.invariant.2 first h),
+      λ style first h. c.turn.ensures.shows style first (c.loop.invariant.2 style first h),
       c.turn.ensures.run ∙ c.loop.invariant.3,
       turned w (watched_run c.args.self.watches) (watched_run c.loop.monitor.watches)
           c.args.self.console.errors c.loop.monitor.console.errors c.turn.new.self.console.errors
