@@ -1,6 +1,6 @@
 //! Packet captures, of which the datagrams to some lines are records.
-ghost use Rattle.std.specs.Prelude.{◌≡◌, ◌<◌, ℕ, [], ◌∷◌, IfNone, IfSome, length};
-ghost use Rattle.packet_capture.specs.Captures.{piece_of};
+ghost use Rattle.std.specs.Prelude.{◌≡◌, ◌<◌, ℕ, [], ◌∷◌, IfNone, IfSome, Some, length};
+ghost use Rattle.packet_capture.specs.Captures.{IsPiece, piece_of};
 ghost use Rattle.packet_capture.specs.Datagrams.{CarriesDatagram, datagram_content};
 ghost use Rattle.packet_capture.specs.Frames.{FrameContent, frame_of};
 ghost use Rattle.feed_text.specs.Capture.{record_of};
@@ -131,11 +131,8 @@ fn line_datagram<'b>(
     }
 }
 
-/// Returns the datagram that a frame of any kind carries to a line, if it carries one, and counts
-/// the frame.
-#[cold]
-#[inline(never)]
-fn any_datagram_in<'b>(
+/// Returns the datagram that a frame carries to a line, if it carries one, and counts the frame.
+fn datagram_in<'b>(
     lines: &[CapturedLine],
     frame: Frame<'b>,
     counts: &mut FrameCounts,
@@ -155,32 +152,7 @@ fn any_datagram_in<'b>(
     }
 }
 
-/// Returns the datagram that a frame carries to a line, if it carries one, and counts the frame.
-// Plain datagrams have a way of their own, in which the address is known to be of IPv4. What the
-// other way returns is taken apart, so that it needn't lie in memory.
-#[inline(always)]
-fn datagram_in<'b>(
-    lines: &[CapturedLine],
-    frame: Frame<'b>,
-    counts: &mut FrameCounts,
-) -> Option<LineDatagram<'b>>
-    ensures some { IfSome result (λ d.
-        AreOfFrame lines.now (frame_of frame.entry) (record_of (record_on_line d) ∷ [])) }
-    ensures of_line { IfSome result (λ d. IsOfLine lines.now (record_of (record_on_line d))) }
-    ensures none { IfNone result (AreOfFrame lines.now (frame_of frame.entry) []) }
-    ensures counts { CountsFrame lines.now (frame_of frame.entry) counts.old counts.new }
-{
-    match read_plain_datagram(frame.link, frame.bytes) {
-        Some(datagram) => line_datagram(lines, datagram, counts),
-        None => match any_datagram_in(lines, frame, counts) {
-            Some(datagram) => Some(datagram),
-            None => None,
-        },
-    }
-}
-
 /// Returns the step of a piece, and counts the piece.
-#[inline(always)]
 fn step_of<'b>(lines: &[CapturedLine], piece: Piece<'b>, progress: &mut Progress) -> PieceStep<'b>
     ensures step { IsStepOf lines.now (piece_of piece.entry) (step_from result) }
     ensures counts { CountsPieces lines.now progress.old (piece_of piece.entry ∷ []) progress.new }
@@ -239,8 +211,69 @@ fn any_step<'b>(
     }
 }
 
+/// A packet, its frame, and the datagram that the frame carries.
+#[derive(Clone, Copy, Debug)]
+struct PlainPacket<'a> {
+    piece: Piece<'a>,
+    frame: Frame<'a>,
+    datagram: Datagram<'a>,
+}
+
+/// Returns the packet at the front of some bytes where it carries a plain datagram, as nearly all
+/// pieces of most captures do. The reader is past it already.
+#[inline(always)]
+fn plain_packet<'b>(capture: &CaptureReader, bytes: &'b [u8]) -> Option<PlainPacket<'b>>
+    ensures piece { IfSome result (λ p.
+        IsPiece capture.now bytes.now (piece_of p.piece) capture.now) }
+    ensures framed { IfSome result (λ p. p.piece.frame ≡ Some p.frame) }
+    ensures carried { IfSome result (λ p.
+        CarriesDatagram p.frame.link p.frame.bytes.now (datagram_content p.datagram)) }
+    ensures short { IfSome result (λ p. length p.datagram.bytes.now < 65536) }
+{
+    let piece = capture.next_packet(bytes)?;
+    let frame = piece.frame?;
+    let datagram = read_plain_datagram(frame.link, frame.bytes)?;
+    Some(PlainPacket {
+        piece,
+        frame,
+        datagram,
+    })
+}
+
+/// Returns the step of a packet with a plain datagram, and counts the packet.
+#[inline(always)]
+fn plain_step<'b>(
+    lines: &[CapturedLine],
+    packet: PlainPacket<'b>,
+    progress: &mut Progress,
+) -> PieceStep<'b>
+    requires framed { packet.piece.frame ≡ Some packet.frame }
+    requires carried { CarriesDatagram packet.frame.link packet.frame.bytes.now
+        (datagram_content packet.datagram) }
+    requires short { length packet.datagram.bytes.now < 65536 }
+    ensures step { IsStepOf lines.now (piece_of packet.entry.piece) (step_from result) }
+    ensures counts { CountsPieces lines.now progress.old (piece_of packet.entry.piece ∷ [])
+        progress.new }
+    ensures came { (venues : ℕ) → AreOfVenues venues lines.now
+        → CameOf venues (step_from result) }
+{
+    progress.add_piece(&packet.piece);
+    progress.add_time(packet.frame.time);
+    match line_datagram(lines, packet.datagram, &mut progress.counts) {
+        Some(found) => PieceStep::Came {
+            len: packet.piece.len,
+            venue: found.venue,
+            line: found.line,
+            bytes: found.bytes,
+            time: packet.frame.time,
+        },
+        None => PieceStep::Passed(packet.piece.len),
+    }
+}
+
 /// Returns the step at the front of some bytes, as a replay takes it, and counts the piece, if
-/// there is one. Packets have a way of their own; what the call returns is taken apart.
+/// there is one. Packets with plain datagrams have a way of their own, in which the address is
+/// known to be of IPv4; what the other way returns is taken apart.
 #[inline(always)]
 fn front_step<'b>(
     capture: &mut CaptureReader,
@@ -254,8 +287,8 @@ fn front_step<'b>(
     ensures came { (venues : ℕ) → AreOfVenues venues lines.now → CameOf venues result }
 {
     read_as_bytes_come();
-    match capture.next_packet(bytes) {
-        Some(piece) => step_of(lines, piece, progress).into_step(),
+    match plain_packet(capture, bytes) {
+        Some(packet) => plain_step(lines, packet, progress).into_step(),
         None => any_step(capture, lines, progress, bytes)
             .apart()
             .into_step(),

@@ -1,14 +1,15 @@
 -- What a block of a section is read as.
-use Rattle.std.proofs.Common.{◌≡◌, ℕ, ◌≤◌, List, length, refl, ap, subst, ◌∙◌, inl, inr}
+use Rattle.std.proofs.Common.{◌≡◌, ℕ, ◌≤◌, List, Some, length, refl, subst, inl, inr}
 use Rattle.packet_capture.specs.declared.fields.ByteOrder.{ByteOrder}
 use Rattle.packet_capture.specs.declared.fault.CaptureFault.{CaptureFault}
 use Rattle.packet_capture.specs.declared.interface.Interface.{Interface}
 use Rattle.packet_capture.specs.declared.reader.Format.TheVariants.{InSection}
 use Rattle.packet_capture.specs.declared.stop.Stop.TheVariants.{Bad}
 use Rattle.packet_capture.specs.Blocks.{IsBlock}
-use Rattle.packet_capture.specs.Contents.{BlockEvent, BlockSays, HasBlockFault}
+use Rattle.packet_capture.specs.Contents.{BlockEvent, BlockSays, HasBlockFault, frame_came}
+use Rattle.packet_capture.specs.Frames.{FrameContent}
 use Rattle.packet_capture.specs.DropReports.{report_of}
-use Rattle.packet_capture.specs.Captures.{Context, PieceContent, frame_in_event, interfaces_after, IsBlockPiece, IsOneTooMany, StopsInSection}
+use Rattle.packet_capture.specs.Captures.{Context, PieceContent, IsBlockPiece, IsOneTooMany, StopsInSection}
 
 pub stops_in_block : (section : ByteOrder) (before : Context) (bytes : List ℕ) (order : ByteOrder)
     (block : List ℕ) (is : List Interface) (fault : CaptureFault) → is ≡ before.interfaces
@@ -42,28 +43,27 @@ stops_one_too_many section before bytes order block is event fault same whole sa
       why = inr (event, subst P same says, subst Q same many);
     })
 
-pub is_block_piece : (section : ByteOrder) (before : Context) (bytes : List ℕ) (order : ByteOrder)
-    (block : List ℕ) (is later : List Interface) (event : BlockEvent) (piece : PieceContent)
-    → is ≡ before.interfaces → IsBlock section bytes order block → BlockSays is order block event
-    → later ≡ interfaces_after is event → length later ≤ 256 → piece.len ≡ length block
-    → piece.frame ≡ frame_in_event event → piece.dropped ≡ report_of order block
-    → IsBlockPiece section before bytes piece
-    (record { format = InSection order; interfaces = later })
-is_block_piece section before bytes order block is later event piece same whole
-    says after few len frame dropped =
-    let P : List Interface → Type 0 = λ x. BlockSays x order block event in
-    let next : later ≡ interfaces_after before.interfaces event = after
-    ∙ ap (λ (x : List Interface). interfaces_after x event) same in
+-- a packet of a section says nothing of the next block
+pub is_packet_piece : (section : ByteOrder) (before : Context) (bytes block : List ℕ)
+    (is : List Interface) (frame : FrameContent) (piece : PieceContent)
+    → is ≡ before.interfaces → before.format ≡ InSection section
+    → IsBlock section bytes section block → BlockSays is section block (frame_came frame)
+    → length is ≤ 256 → piece.len ≡ length block → piece.frame ≡ Some frame
+    → piece.dropped ≡ report_of section block
+    → IsBlockPiece section before bytes piece before
+is_packet_piece section before bytes block is frame piece same format whole says few len framed
+    dropped =
+    let P : List Interface → Type 0 = λ x. BlockSays x section block (frame_came frame) in
     let Q : List Interface → Type 0 = λ x. length x ≤ 256 in
     record {
-      order = order;
+      order = section;
       block = block;
       is_block = whole;
-      event = event;
+      event = frame_came frame;
       says = subst P same says;
-      few = subst Q next few;
+      few = subst Q same few;
       len = len;
-      frame = frame;
+      frame = framed;
       dropped = dropped;
-      after_is = λ i. record { format = InSection order; interfaces = next i };
+      after_is = λ i. record { format = format i; interfaces = before.interfaces };
     }

@@ -1,5 +1,5 @@
 //! The blocks of a pcapng file, whatever their content.
-ghost use Rattle.std.specs.Prelude.{◌≡◌, ◌≤◌, IfSome, IfOk, IfErr, ◌-◌, length, take};
+ghost use Rattle.std.specs.Prelude.{◌≡◌, ◌≤◌, IfSome, IfOk, IfErr, Some, true, ◌-◌, length, take};
 ghost use Rattle.packet_capture.specs.Fields.{u32_in};
 ghost use Rattle.packet_capture.specs.declared.fields.ByteOrder.{ByteOrder};
 ghost use Rattle.packet_capture.specs.Blocks.{order_at, BeginsSection, IsBlockLen, IsBlock};
@@ -92,32 +92,43 @@ fn read_len(order: ByteOrder, bytes: &[u8]) -> Result<&[u8], Stop>
 /// The number of bytes of an enhanced packet's block beside its frame.
 const BESIDE_FRAME: usize = 32;
 
-/// Returns the block at the front where it is a whole one, of an enhanced packet with no room for
-/// an option, as nearly all blocks are.
+/// Whether no section's header is at the front, so that the order of the block's numbers is that of
+/// the section.
 #[inline(always)]
-pub(crate) fn read_plain_block(section: ByteOrder, bytes: &[u8]) -> Option<Block<'_>>
-    ensures block { IfSome result (λ b. IsBlock section bytes.now b.order b.bytes.now) }
-    ensures room { IfSome result (λ b. HasNoOption b.order b.bytes.now) }
+fn is_of_section(section: ByteOrder, bytes: &[u8]) -> bool
+    requires { 12 ≤ length bytes.now }
+    ensures { result ≡ true → order_at section bytes.now ≡ Some section }
 {
-    // The type is looked at first: no section's header stands there then, so that the order of the
-    // block's numbers is known.
-    if bytes.len() < BLOCK_FRONT || read_u32(section, bytes, 0) != ENHANCED_PACKET {
+    if read_u32(ByteOrder::Big, bytes, 0) == SECTION_HEADER {
+        return false;
+    }
+    true
+}
+
+/// Returns the block at the front of bytes of a section where it is a whole one, of an enhanced
+/// packet with no room for an option, as nearly all blocks are.
+#[inline(always)]
+pub(crate) fn read_plain_block(section: ByteOrder, bytes: &[u8]) -> Option<&[u8]>
+    ensures block { IfSome result (λ b. IsBlock section bytes.now section b.now) }
+    ensures room { IfSome result (λ b. HasNoOption section b.now) }
+{
+    // No section's header has this type, so that the third test takes no step.
+    if bytes.len() < BLOCK_FRONT
+        || read_u32(section, bytes, 0) != ENHANCED_PACKET
+        || !is_of_section(section, bytes)
+    {
         return None;
     }
-    let order = order_at(section, bytes)?;
-    let len = read_u32(order, bytes, 4) as usize;
+    let len = read_u32(section, bytes, 4) as usize;
     if len < BESIDE_FRAME || len > LONGEST as usize || bytes.len() < len {
         return None;
     }
     let block = &bytes[..len];
-    let frame = (read_u32(order, block, 20) as usize + 3) / 4 * 4;
-    if len != BESIDE_FRAME + frame || read_u32(order, bytes, len - 4) as usize != len {
+    let frame = (read_u32(section, block, 20) as usize + 3) / 4 * 4;
+    if len != BESIDE_FRAME + frame || read_u32(section, bytes, len - 4) as usize != len {
         return None;
     }
-    Some(Block {
-        order,
-        bytes: block,
-    })
+    Some(block)
 }
 
 /// Returns the block at the front, in a section of this order.

@@ -252,16 +252,17 @@ fn read_without_option<'a>(
 /// Returns the frame of an enhanced packet's block with no room for an option, or `None` where it
 /// is another, or its interface isn't described.
 #[inline(always)]
-pub(crate) fn read_enhanced<'a>(interfaces: &[Interface], block: Block<'a>) -> Option<Frame<'a>>
-    requires { HasNoOption block.order block.bytes.now }
-    ensures frame { IfSome result
-        (λ f. HasFrame interfaces.now block.entry.order block.entry.bytes.now (frame_of f)) }
-    ensures silent { IfSome result
-        (λ f. report_of block.entry.order block.entry.bytes.now ≡ Silent) }
+pub(crate) fn read_enhanced<'a>(
+    interfaces: &[Interface],
+    order: ByteOrder,
+    block: &'a [u8],
+) -> Option<Frame<'a>>
+    requires { HasNoOption order block.now }
+    ensures frame { IfSome result (λ f. HasFrame interfaces.now order block.now (frame_of f)) }
+    ensures silent { IfSome result (λ f. report_of order block.now ≡ Silent) }
 {
-    let Block { order, bytes } = block;
-    match kind_of(read_u32(order, bytes, 0)) {
-        BlockKind::Enhanced => read_without_option(interfaces, order, bytes),
+    match kind_of(read_u32(order, block, 0)) {
+        BlockKind::Enhanced => read_without_option(interfaces, order, block),
         _ => None,
     }
 }

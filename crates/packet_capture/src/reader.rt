@@ -214,16 +214,15 @@ impl CaptureReader {
     }
 
     /// Returns the piece at the front where it is a whole packet record of a savefile, or a whole
-    /// block of an enhanced packet with no fault and no option, as nearly all pieces are, and goes
-    /// past it. Of any other bytes nothing is read, and [`next_piece`](Self::next_piece) says what
-    /// they begin with.
+    /// block of an enhanced packet with no fault and no option, as nearly all pieces are; the
+    /// reader is past it already, since such a piece says nothing of the next one. Of any other
+    /// bytes nothing is read, and [`next_piece`](Self::next_piece) says what they begin with.
     ///
     /// The numbers of the capture have their lowest byte first, as nearly all captures do, so that
     /// the order is known where they are read.
     #[inline(always)]
-    pub fn next_packet<'a>(&mut self, bytes: &'a [u8]) -> Option<Piece<'a>>
-        ensures piece { IfSome result (λ p. IsPiece self.old bytes.now (piece_of p) self.new) }
-        ensures kept { IfNone result (self.new ≡ self.old) }
+    pub fn next_packet<'a>(&self, bytes: &'a [u8]) -> Option<Piece<'a>>
+        ensures { IfSome result (λ p. IsPiece self.now bytes.now (piece_of p) self.now) }
     {
         match self.format {
             Format::InSavefile(
@@ -246,24 +245,23 @@ impl CaptureReader {
         }
     }
 
-    /// Reads the next block where it is a whole one of an enhanced packet with no fault and no
-    /// option, as nearly all blocks are. Where it isn't, nothing changes.
+    /// Reads the next block of a section of this order where it is a whole one of an enhanced
+    /// packet with no fault and no option, as nearly all blocks are.
     #[inline(always)]
-    fn read_packet<'a>(&mut self, section: ByteOrder, bytes: &'a [u8]) -> Option<Piece<'a>>
-        ensures piece { IfSome result (λ p.
-            IsBlockPiece section self.old bytes.now (piece_of p) self.new) }
-        ensures kept { IfNone result (self.new ≡ self.old) }
+    fn read_packet<'a>(&self, section: ByteOrder, bytes: &'a [u8]) -> Option<Piece<'a>>
+        requires { self.now.format ≡ Format.InSection section }
+        ensures { IfSome result (λ p.
+            IsBlockPiece section self.now bytes.now (piece_of p) self.now) }
     {
         let Some(block) = read_plain_block(section, bytes) else {
             return None;
         };
-        match read_enhanced(self.interfaces.as_slice(), block) {
+        match read_enhanced(self.interfaces.as_slice(), section, block) {
             Some(frame) => {
-                self.format = Format::InSection(block.order);
                 Some(Piece {
                     frame: Some(frame),
                     dropped: DropReport::Silent,
-                    len: block.bytes.len(),
+                    len: block.len(),
                 })
             }
             None => None,
