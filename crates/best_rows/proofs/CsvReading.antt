@@ -1,5 +1,5 @@
 -- A row of comma-separated values is what csv's writer writes of its fields.
-use Rattle.std.proofs.Common.{◌≡◌, ◌==◌, ℕ, ◌+◌, ◌<◌, ◌/◌, ◌%◌, ◌^◌, Bool, true, false, List, [], ◌∷◌, ◌++◌, append_assoc, append-nil, codes, decimal, refl, sym, ap, ◌∙◌, arith, inl, inr, Option, Some, None}
+use Rattle.std.proofs.Common.{◌≡◌, ◌==◌, ℕ, zero, suc, ◌+◌, ◌<◌, ◌/◌, ◌%◌, ◌^◌, Bool, true, false, List, [], ◌∷◌, ◌++◌, append_assoc, append-nil, codes, decimal, refl, sym, ap, ◌∙◌, arith, inl, inr, Option, Some, None}
 use Rattle.std.specs.Prelude.{◌||◌, ◌≤◌, IfSome, IsTrue, flat_map, nat_le}
 use Rattle.std.specs.List.{list_all, list_any}
 use Rattle.std.proofs.lemmas.Bool.{and_parts, cases_Bool, leb-true, ne_eqb}
@@ -15,14 +15,18 @@ use Rattle.csv.specs.Machine.{next_record}
 use Rattle.csv.specs.Reading.{default_config}
 use Rattle.csv.specs.Writing.{default_writer, escaped, field_text, fields_text, is_blank, needs_byte, row_text}
 use Rattle.csv.specs.declared.parser.State.TheVariants as st
+use Rattle.jiff_fmt.specs.Text.{pad2, pad4, places}
 use Rattle.run_settings.specs.declared.formats.BestFormat.TheVariants.{Csv}
+use Rattle.run_settings.specs.declared.formats.TimeStyle.{TimeStyle}
+use Rattle.run_settings.specs.declared.formats.TimeStyle.TheVariants.{Seconds, Utc}
 use Rattle.feed_types.specs.Nationals.{state_of}
 use Rattle.best_rows.specs.Quoting.{csv_text, escaped_byte, needs_quotes, quoted}
 use Rattle.best_rows.specs.declared.row_time.RowTime.{RowTime}
 use Rattle.best_rows.specs.declared.row_time.RowTime.TheVariants.{Absent, Given}
 use Rattle.best_rows.specs.CsvFields.{HasWords, IsSideOfWords, ReadsBack, csv_fields, csv_names, side_fields, time_fields}
 use Rattle.best_rows.specs.RowTexts.{csv_row, csv_side, header_of}
-use Rattle.best_rows.specs.Times.{csv_time, nine_digits, seconds_text}
+use Rattle.best_rows.specs.Times.{csv_time, nine_digits, seconds_text, time_text}
+use Rattle.best_rows.specs.UtcTexts.{CalendarDate, clock_digits, date_digits, date_of, utc_text}
 
 or_parts : (a b : Bool) → (a || b) ≡ false → (a ≡ false) × (b ≡ false)
 or_parts false b e = (refl, e)
@@ -42,13 +46,16 @@ plain_both (x ∷ a) b p q =
     let h = or_parts _ _ p in
     or_from _ _ h.0 (plain_both a b h.1 q)
 
-plain_digit : (n : ℕ) → n < 10 → IsPlain ((48 + n) ∷ [])
-plain_digit n small =
+plain_from_48 : (n : ℕ) → IsPlain ((48 + n) ∷ [])
+plain_from_48 n =
     let c = ne_eqb (48 + n) 44 (λ e. omega (arith, e)) in
     let q = ne_eqb (48 + n) 34 (λ e. omega (arith, e)) in
     let r = ne_eqb (48 + n) 13 (λ e. omega (arith, e)) in
     let f = ne_eqb (48 + n) 10 (λ e. omega (arith, e)) in
     rw (c, q, r, f) refl
+
+plain_digit : (n : ℕ) → n < 10 → IsPlain ((48 + n) ∷ [])
+plain_digit n small = plain_from_48 n
 
 pub plain_decimal : (n : ℕ) → n < 2 ^ 64 → IsPlain (decimal n)
 plain_decimal n fits =
@@ -90,6 +97,52 @@ pub plain_seconds : (t : ℕ) → t < 2 ^ 64 → IsPlain (seconds_text t)
 plain_seconds t fits =
     plain_three (decimal (t / 1000000000)) (codes ".") (nine_digits t)
     (plain_decimal (t / 1000000000) (omega (arith, fits))) refl (plain_nine t)
+
+plain_two : (n : ℕ) → IsPlain (pad2 n)
+plain_two n =
+    plain_both ((48 + n / 10) ∷ []) ((48 + n % 10) ∷ []) (plain_from_48 (n / 10))
+    (plain_from_48 (n % 10))
+
+plain_four : (n : ℕ) → IsPlain (pad4 n)
+plain_four n =
+    plain_both (pad2 (n / 100)) (pad2 (n % 100)) (plain_two (n / 100)) (plain_two (n % 100))
+
+plain_places : (k whole n : ℕ) → IsPlain (places k whole n)
+unfolding places
+plain_places zero whole n = refl
+plain_places (suc k) whole n =
+    plain_both ((48 + n / (whole / 10)) ∷ []) (places k (whole / 10) (n % (whole / 10)))
+    (plain_from_48 (n / (whole / 10))) (plain_places k (whole / 10) (n % (whole / 10)))
+
+plain_date : (date : CalendarDate) → IsPlain (date_digits date)
+plain_date date =
+    plain_three (pad4 date.year ++ codes "-" ++ pad2 date.month) (codes "-") (pad2 date.day)
+    (plain_three (pad4 date.year) (codes "-") (pad2 date.month) (plain_four date.year) refl
+    (plain_two date.month)) refl (plain_two date.day)
+
+plain_clock : (t : ℕ) → IsPlain (clock_digits t)
+plain_clock t =
+    let hour = pad2 (t / 3600000000000 % 24) in
+    let minute = pad2 (t / 60000000000 % 60) in
+    let second = pad2 (t / 1000000000 % 60) in
+    plain_three (hour ++ codes ":" ++ minute ++ codes ":" ++ second) (codes ".")
+    (places 9 1000000000 (t % 1000000000))
+    (plain_three (hour ++ codes ":" ++ minute) (codes ":") second
+    (plain_three hour (codes ":") minute (plain_two (t / 3600000000000 % 24)) refl
+    (plain_two (t / 60000000000 % 60))) refl (plain_two (t / 1000000000 % 60))) refl
+    (plain_places 9 1000000000 (t % 1000000000))
+
+pub plain_utc : (t : ℕ) → IsPlain (utc_text t)
+unfolding utc_text
+plain_utc t =
+    let date = date_digits (date_of (t / 86400000000000)) in
+    plain_both (date ++ codes "T" ++ clock_digits t) (codes "Z")
+    (plain_three date (codes "T") (clock_digits t) (plain_date (date_of (t / 86400000000000)))
+    refl (plain_clock t)) refl
+
+plain_time : (style : TimeStyle) (t : ℕ) → t < 2 ^ 64 → IsPlain (time_text style t)
+plain_time Seconds t fits = plain_seconds t fits
+plain_time Utc t fits = plain_utc t
 
 pub plain_state : (s : NationalState) → IsPlain (state_text s)
 plain_state Empty = refl
@@ -173,12 +226,14 @@ one_field : (x : List ℕ) → IsPlain x → fields_text default_writer (x ∷ [
 unfolding fields_text
 one_field x a = rw (plain_field x a, append-nil x) refl
 
-time_text : (time : RowTime) → ((t : ℕ) → time ≡ Given (Some t) → t < 2 ^ 64)
-    → fields_text default_writer (time_fields time) ≡ csv_time time
+time_written : (style : TimeStyle) (time : RowTime)
+    → ((t : ℕ) → time ≡ Given (Some t) → t < 2 ^ 64)
+    → fields_text default_writer (time_fields style time) ≡ csv_time style time
 unfolding fields_text
-time_text Absent fits = refl
-time_text (Given None) fits = refl
-time_text (Given (Some t)) fits = one_field (seconds_text t) (plain_seconds t (fits t refl))
+time_written style Absent fits = refl
+time_written style (Given None) fits = refl
+time_written style (Given (Some t)) fits =
+    one_field (time_text style t) (plain_time style t (fits t refl))
 
 row_joined : (c e n p s b o w t : List ℕ)
     → n ++ c ++ p ++ c ++ s ++ c ++ b ++ c ++ o ++ c ++ w ++ t ++ e
@@ -208,24 +263,25 @@ row_written n p s word b o t name bid offer time pn pp es eb eo ps et =
       et,
     ) (row_joined (codes ",") (codes "\n") n p name bid offer word time)
 
-pub row_is_written : (time : RowTime) (n : Notice) → HasWords time n
-    → csv_row time n ≡ row_text default_writer (csv_fields time n)
+pub row_is_written : (style : TimeStyle) (time : RowTime) (n : Notice) → HasWords time n
+    → csv_row style time n ≡ row_text default_writer (csv_fields style time n)
 unfolding csv_row
-row_is_written time n fits =
+row_is_written style time n fits =
     row_written (decimal n.number) (decimal n.position) (name_of n.symbol)
     (state_text (state_of n.national))
-    (side_fields n.national.bid) (side_fields n.national.offer) (time_fields time)
+    (side_fields n.national.bid) (side_fields n.national.offer) (time_fields style time)
     (csv_text (name_of n.symbol)) (csv_side n.national.bid)
-    (csv_side n.national.offer) (csv_time time)
+    (csv_side n.national.offer) (csv_time style time)
     (plain_decimal n.number fits.number) (plain_decimal n.position fits.position)
     (name_field (name_of n.symbol) (field_name n.symbol fits.symbol))
     (side_text n.national.bid fits.bid) (side_text n.national.offer fits.offer)
-    (plain_state (state_of n.national)) (time_text time fits.at)
+    (plain_state (state_of n.national)) (time_written style time fits.at)
 
-header_is_written : (timed : Bool) → header_of Csv timed ≡ row_text default_writer (csv_names timed)
+header_is_written : (style : TimeStyle) (timed : Bool)
+    → header_of (Csv style) timed ≡ row_text default_writer (csv_names timed)
 unfolding is_blank fields_text
-header_is_written false = refl
-header_is_written true = refl
+header_is_written style false = refl
+header_is_written style true = refl
 
 -- what csv's writer writes, its reader reads back
 pub reads_written : (text : List ℕ) (x y : List ℕ) (ys : List (List ℕ))
@@ -234,9 +290,12 @@ reads_written text x y ys e rest =
     ap (λ (t : List ℕ). next_record default_config st.StartRecord [] [] (t ++ rest)) e
     ∙ read-write-many x y ys rest
 
-pub header_reads_back : (timed : Bool) → ReadsBack (header_of Csv timed) (csv_names timed)
-header_reads_back timed = reads_written (header_of Csv timed) _ _ _ (header_is_written timed)
+pub header_reads_back : (style : TimeStyle) (timed : Bool)
+    → ReadsBack (header_of (Csv style) timed) (csv_names timed)
+header_reads_back style timed =
+    reads_written (header_of (Csv style) timed) _ _ _ (header_is_written style timed)
 
-pub row_reads_back : (time : RowTime) (n : Notice) → HasWords time n
-    → ReadsBack (csv_row time n) (csv_fields time n)
-row_reads_back time n fits = reads_written (csv_row time n) _ _ _ (row_is_written time n fits)
+pub row_reads_back : (style : TimeStyle) (time : RowTime) (n : Notice) → HasWords time n
+    → ReadsBack (csv_row style time n) (csv_fields style time n)
+row_reads_back style time n fits =
+    reads_written (csv_row style time n) _ _ _ (row_is_written style time n fits)

@@ -1,2 +1,4 @@
 pub mod Quoted
 pub mod CsvReading
+pub mod Days
+pub mod UtcReading

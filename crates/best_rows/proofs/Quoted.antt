@@ -6,7 +6,8 @@ use Rattle.feed_text.specs.Pages.{Appends, BufferedText, memory_of}
 use Rattle.best_rows.specs.Quoting.{escaped_byte, quoted}
 
 -- a text that became longer at its end, within its memory
-appends_from : (old new : BufferedText) (bytes : List ℕ) (most : ℕ) → new.items ≡ old.items ++ bytes
+pub appends_from : (old new : BufferedText) (bytes : List ℕ) (most : ℕ)
+    → new.items ≡ old.items ++ bytes
     → length new.items ≤ length old.items + most → memory_of new ≡ memory_of old
     → Appends old bytes most new
 appends_from old new bytes most items short size =

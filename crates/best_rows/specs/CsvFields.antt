@@ -8,24 +8,25 @@ use Rattle.feed_types.specs.Text.{price_text, state_text}
 use Rattle.csv.specs.Machine.{next_record}
 use Rattle.csv.specs.Reading.{default_config}
 use Rattle.csv.specs.declared.parser.State.TheVariants as st
+use Rattle.run_settings.specs.declared.formats.TimeStyle.{TimeStyle}
 use Rattle.best_rows.specs.declared.row_time.RowTime.{RowTime}
 use Rattle.best_rows.specs.declared.row_time.RowTime.TheVariants.{Absent, Given}
-use Rattle.best_rows.specs.Times.{seconds_text}
+use Rattle.best_rows.specs.Times.{time_text}
 
 abbrev pub side_fields : Option Best → List (List ℕ)
 side_fields None = [] ∷ [] ∷ [] ∷ []
 side_fields (Some b) = decimal b.venue ∷ price_text b.price ∷ decimal b.size ∷ []
 
-abbrev pub time_fields : RowTime → List (List ℕ)
-time_fields Absent = []
-time_fields (Given None) = [] ∷ []
-time_fields (Given (Some time)) = seconds_text time ∷ []
+abbrev pub time_fields : TimeStyle → RowTime → List (List ℕ)
+time_fields style Absent = []
+time_fields style (Given None) = [] ∷ []
+time_fields style (Given (Some time)) = time_text style time ∷ []
 
-abbrev pub csv_fields : RowTime → Notice → List (List ℕ)
-csv_fields time n =
+abbrev pub csv_fields : TimeStyle → RowTime → Notice → List (List ℕ)
+csv_fields style time n =
     decimal n.number ∷ decimal n.position ∷ name_of n.symbol
     ∷ ((side_fields n.national.bid ++ side_fields n.national.offer)
-    ++ (state_text (state_of n.national) ∷ time_fields time))
+    ++ (state_text (state_of n.national) ∷ time_fields style time))
 
 -- the names of the columns
 abbrev pub csv_names : Bool → List (List ℕ)

@@ -1,4 +1,5 @@
 pub mod Quoting
+pub mod UtcTexts
 pub mod Times
 pub mod RowTexts
 pub mod CsvFields

@@ -7,6 +7,7 @@ use Rattle.feed_types.specs.Symbols.{name_of}
 use Rattle.feed_types.specs.Text.{price_text, state_text}
 use Rattle.run_settings.specs.declared.formats.BestFormat.{BestFormat}
 use Rattle.run_settings.specs.declared.formats.BestFormat.TheVariants.{Text, Csv, Json}
+use Rattle.run_settings.specs.declared.formats.TimeStyle.{TimeStyle}
 use Rattle.feed_text.specs.Lines.{best_line}
 use Rattle.feed_text.specs.SinkEvents.{SinkEvent, TimedEvent, told_best}
 use Rattle.best_rows.specs.declared.row_time.RowTime.{RowTime}
@@ -22,11 +23,11 @@ csv_side None = codes ",,"
 csv_side (Some b) =
     decimal b.venue ++ codes "," ++ price_text b.price ++ codes "," ++ decimal b.size
 
-unfoldable pub csv_row : RowTime → Notice → List ℕ
-csv_row time n =
+unfoldable pub csv_row : TimeStyle → RowTime → Notice → List ℕ
+csv_row style time n =
     decimal n.number ++ codes "," ++ decimal n.position ++ codes "," ++ csv_text (name_of n.symbol)
     ++ codes "," ++ csv_side n.national.bid ++ codes "," ++ csv_side n.national.offer
-    ++ codes "," ++ state_text (state_of n.national) ++ csv_time time ++ codes "\n"
+    ++ codes "," ++ state_text (state_of n.national) ++ csv_time style time ++ codes "\n"
 
 -- ---- JSON
 
@@ -51,7 +52,7 @@ json_row time n =
 -- whether rows can have times
 abbrev pub has_times : BestFormat → Bool
 has_times Text = false
-has_times Csv = true
+has_times (Csv style) = true
 has_times Json = true
 
 -- the name of the times' column
@@ -62,7 +63,7 @@ time_name true = codes ",time"
 -- what stands before the first row, and whether the rows have times
 abbrev pub header_of : BestFormat → Bool → List ℕ
 header_of Text timed = []
-header_of Csv timed =
+header_of (Csv style) timed =
     codes "notice,position,symbol," ++ codes "bid_venue,bid_price,bid_size,"
     ++ codes "offer_venue,offer_price,offer_size,state" ++ time_name timed ++ codes "\n"
 header_of Json timed = []
@@ -70,7 +71,7 @@ header_of Json timed = []
 -- a notice as a row
 abbrev pub row_of : BestFormat → RowTime → Notice → List ℕ
 row_of Text time notice = best_line notice
-row_of Csv time notice = csv_row time notice
+row_of (Csv style) time notice = csv_row style time notice
 row_of Json time notice = json_row time notice
 
 -- the row of an event, if a national best changed

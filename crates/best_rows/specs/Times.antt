@@ -1,5 +1,8 @@
--- The times of rows: the seconds from 1970 on at which a row's record came.
+-- The times of rows, at which a row's record came: seconds from 1970 on, or dates.
 use Rattle.std.specs.Prelude.{ℕ, ◌/◌, ◌%◌, Bool, true, false, List, [], ◌++◌, codes, decimal, Option, Some, None}
+use Rattle.run_settings.specs.declared.formats.TimeStyle.{TimeStyle}
+use Rattle.run_settings.specs.declared.formats.TimeStyle.TheVariants.{Seconds, Utc}
+use Rattle.best_rows.specs.UtcTexts.{utc_text}
 use Rattle.best_rows.specs.declared.row_time.RowTime.{RowTime}
 use Rattle.best_rows.specs.declared.row_time.RowTime.TheVariants.{Absent, Given}
 
@@ -19,11 +22,16 @@ nine_digits n =
 abbrev pub seconds_text : ℕ → List ℕ
 seconds_text time = decimal (time / 1000000000) ++ codes "." ++ nine_digits time
 
+-- a time in a style
+abbrev pub time_text : TimeStyle → ℕ → List ℕ
+time_text Seconds time = seconds_text time
+time_text Utc time = utc_text time
+
 -- one more value of a row of comma-separated values, empty where the time isn't known
-abbrev pub csv_time : RowTime → List ℕ
-csv_time Absent = []
-csv_time (Given None) = codes ","
-csv_time (Given (Some time)) = codes "," ++ seconds_text time
+abbrev pub csv_time : TimeStyle → RowTime → List ℕ
+csv_time style Absent = []
+csv_time style (Given None) = codes ","
+csv_time style (Given (Some time)) = codes "," ++ time_text style time
 
 -- two more members of an object, in seconds and in nanoseconds
 abbrev pub json_known_time : ℕ → List ℕ

@@ -8,10 +8,11 @@ ghost use Rattle.best_rows.specs.Times.{csv_time};
 use crate::quoting::put_csv_name;
 use crate::row_time::RowTime;
 use crate::rows::put_state;
-use crate::seconds::put_seconds;
+use crate::time_styles::put_time;
 use feed_text::{LineBuffer, put_bytes, put_number, put_price};
 use feed_types::Best;
 use nbbo_book::Change;
+use run_settings::TimeStyle;
 
 /// Appends the venue, the price and the size of a side, each empty where there is none.
 fn put_csv_side(text: &mut LineBuffer, side: &Option<Best>)
@@ -30,25 +31,26 @@ fn put_csv_side(text: &mut LineBuffer, side: &Option<Best>)
     }
 }
 
-/// Appends a time as one more value.
-fn put_csv_time(text: &mut LineBuffer, time: RowTime)
+/// Appends a time as one more value, in the style.
+fn put_csv_time(text: &mut LineBuffer, style: TimeStyle, time: RowTime)
     requires { 31 ≤ text.old.room }
-    ensures { Appends text.old (csv_time time) 31 text.new }
+    ensures { Appends text.old (csv_time style time) 31 text.new }
 {
     match time {
         RowTime::Absent => {}
         RowTime::Given(None) => put_bytes(text, *b","),
         RowTime::Given(Some(time)) => {
             put_bytes(text, *b",");
-            put_seconds(text, time);
+            put_time(text, style, time);
         }
     }
 }
 
-/// Appends the row of a change of the national best, under this number.
-pub fn put_csv(text: &mut LineBuffer, time: RowTime, number: u64, change: &Change)
+/// Appends the row of a change of the national best, under this number, with its time in the
+/// style.
+pub fn put_csv(text: &mut LineBuffer, style: TimeStyle, time: RowTime, number: u64, change: &Change)
     requires { 214 ≤ text.old.room }
-    ensures { Appends text.old (csv_row time (notice_of number change.now)) 214 text.new }
+    ensures { Appends text.old (csv_row style time (notice_of number change.now)) 214 text.new }
 {
     put_number(text, number);
     put_bytes(text, *b",");
@@ -61,6 +63,6 @@ pub fn put_csv(text: &mut LineBuffer, time: RowTime, number: u64, change: &Chang
     put_csv_side(text, &change.national.offer);
     put_bytes(text, *b",");
     put_state(text, change.national.state());
-    put_csv_time(text, time);
+    put_csv_time(text, style, time);
     put_bytes(text, *b"\n");
 }

@@ -18,6 +18,6 @@ pub fn header_line(style: RowStyle) -> &'static str
 {
     match style.format {
         BestFormat::Text | BestFormat::Json => "",
-        BestFormat::Csv => { if style.timed { TIMED_NAMES } else { NAMES } }
+        BestFormat::Csv(_) => { if style.timed { TIMED_NAMES } else { NAMES } }
     }
 }

@@ -2,6 +2,7 @@
 ghost use Rattle.std.specs.Prelude.{Bool};
 ghost use Rattle.feed_types.specs.declared.journal.Notice.{Notice};
 ghost use Rattle.run_settings.specs.declared.formats.BestFormat.TheVariants.{Csv};
+ghost use Rattle.run_settings.specs.declared.formats.TimeStyle.{TimeStyle};
 ghost use Rattle.best_rows.specs.declared.row_time.RowTime.{RowTime};
 ghost use Rattle.best_rows.specs.CsvFields.{HasWords, ReadsBack, csv_fields, csv_names};
 ghost use Rattle.best_rows.specs.RowTexts.{csv_row, header_of};
@@ -9,7 +10,8 @@ ghost use Rattle.best_rows.specs.RowTexts.{csv_row, header_of};
 /// Says that the kit's reader of comma-separated values gives back the names of the columns, and
 /// the fields of each row, whatever follows.
 pub fn csv_reads_back()
-    ensures header { (timed : Bool) → ReadsBack (header_of Csv timed) (csv_names timed) }
-    ensures row { (time : RowTime) (n : Notice) → HasWords time n
-        → ReadsBack (csv_row time n) (csv_fields time n) }
+    ensures header { (style : TimeStyle) (timed : Bool)
+        → ReadsBack (header_of (Csv style) timed) (csv_names timed) }
+    ensures row { (style : TimeStyle) (time : RowTime) (n : Notice) → HasWords time n
+        → ReadsBack (csv_row style time n) (csv_fields style time n) }
 {}

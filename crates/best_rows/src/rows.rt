@@ -46,7 +46,7 @@ pub fn put_row(
     let time = RowTime::of(style.timed, time);
     match style.format {
         BestFormat::Text => put_change(text, number, change),
-        BestFormat::Csv => put_csv(text, time, number, change),
+        BestFormat::Csv(style) => put_csv(text, style, time, number, change),
         BestFormat::Json => put_json(text, time, number, change),
     }
 }

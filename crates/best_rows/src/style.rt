@@ -20,7 +20,7 @@ pub fn has_times(format: BestFormat) -> bool
 {
     match format {
         BestFormat::Text => false,
-        BestFormat::Csv | BestFormat::Json => true,
+        BestFormat::Csv(_) | BestFormat::Json => true,
     }
 }
 
@@ -41,7 +41,7 @@ pub fn put_header(text: &mut LineBuffer, style: RowStyle)
 {
     match style.format {
         BestFormat::Text | BestFormat::Json => {}
-        BestFormat::Csv => {
+        BestFormat::Csv(_) => {
             put_bytes(text, *b"notice,position,symbol,");
             put_bytes(text, *b"bid_venue,bid_price,bid_size,");
             put_bytes(text, *b"offer_venue,offer_price,offer_size,state");

@@ -1,12 +1,21 @@
 //! The forms in which what a replay prints is passed on.
 
+/// How comma-separated values have times.
+#[derive(Clone, Copy, Debug, PartialEq, Eq)]
+pub enum TimeStyle {
+    /// In seconds from 1970 on, with nine decimals.
+    Seconds,
+    /// As a date and a time of day in UTC, with nine decimals of a second.
+    Utc,
+}
+
 /// The form of the best lines, where they alone are passed on.
 #[derive(Clone, Copy, Debug, PartialEq, Eq)]
 pub enum BestFormat {
     /// The lines as they are.
     Text,
     /// A header line, and then a row of comma-separated values for each.
-    Csv,
+    Csv(TimeStyle),
     /// A JSON object for each, on a line of its own.
     Json,
 }
@@ -24,7 +33,7 @@ pub enum StatsFormat {
 #[derive(Clone, Copy, Debug, PartialEq, Eq)]
 pub enum RowFormat {
     /// A header line, and then a row of comma-separated values for each.
-    Csv,
+    Csv(TimeStyle),
     /// A JSON object for each, on a line of its own.
     Json,
 }
