@@ -30,7 +30,7 @@ tells_at window gaps (datagram_record venue line bytes) old are = elim (read_or_
   | inl read ↦
       let given = every_answer old.present.name window (last_sent old) old.present.packets read.0 in
       let new : History = after_input old (arrival_of line read.0 given.0) in (
-        packet_answered venue line read.0.number (length read.0.messages) given.0
+        packet_answered venue line read.0.number (length read.0.messages) (length bytes) given.0
             ∷ items_emitted venue old new.present.packets ++ gap_emitted window gaps venue new,
         new,
         inr (record {

@@ -60,8 +60,9 @@ one_packet window gaps venue line bytes old n1 n2 l1 l2 one a b =
     let G : Content → Result Outcome LineFault
     → History = λ p x. after_input old (arrival_of line p x) in
     let F : Content → Result Outcome LineFault → History
-    → List ReplayEvent = λ q x h. packet_answered venue line q.number (length q.messages) x
-    ∷ items_emitted venue old h.present.packets ++ gap_emitted window gaps venue h in
+    → List ReplayEvent = λ q x h. packet_answered venue line q.number (length q.messages)
+    (length bytes) x ∷ items_emitted venue old h.present.packets
+    ++ gap_emitted window gaps venue h in
     let p : a.packet ≡ b.packet = one.packet bytes a.packet b.packet a.rest b.rest a.spells b.spells
     in
     let first : IsOutcome old.present.name window (last_sent old) old.present.packets b.packet

@@ -73,7 +73,8 @@ passed_part {K} {taking} laws venue from to items stream answered t0 t1 t2 stop 
 -- a next packet was taken, and then everything that is ready was emitted
 pub passed_told : {K : Type 0} {taking : SinkTaking K}
     → (width place : ℕ) (h : History) (v : ReplayVenue) (mid new : State) (line : LineId)
-    (p : Content) (o : Outcome) (t0 t1 : ReplayState K) (done : Result (Unit {0}) PublishStop)
+    (p : Content) (bytes : ℕ) (o : Outcome) (t0 t1 : ReplayState K)
+    (done : Result (Unit {0}) PublishStop)
     → Follows width place v h
     → ((packets : List Input) → Fits v.arbiter packets → BringsNext v.arbiter.session
     v.arbiter.window v.arbiter.sent packets line p)
@@ -83,16 +84,16 @@ pub passed_told : {K : Type 0} {taking : SinkTaking K}
     → mid.sent ≡ last_number p
     → KeepsItsSession v.arbiter mid
     → ((from : ℕ) (packets : List Input) → Fits mid packets → SendsPacket from mid.sent p packets
-    → EmitsInto taking t0 (packet_answered place line p.number (length p.messages) (Ok o)
+    → EmitsInto taking t0 (packet_answered place line p.number (length p.messages) bytes (Ok o)
     ∷ map (item_taken place) (drop (place_of packets from) (stream_of packets))) t1 done)
     → OnOk done (SendsReady mid new)
-    → EmitsOutcome taking width place line p h t0 t1 (record {
+    → EmitsOutcome taking width place line p bytes h t0 t1 (record {
       arbiter = new;
       sent_before =
           v.sent_before;
       opens_after = v.opens_after;
     }) done
-passed_told {K} {taking} width place h v mid new line p o t0 t1 done f brings is fits
+passed_told {K} {taking} width place h v mid new line p bytes o t0 t1 done f brings is fits
     sent kept emits ready =
     let P = h.present.packets in
     let Q = P ++ arrival_of line p (Ok o) ∷ [] in
@@ -105,9 +106,9 @@ passed_told {K} {taking} width place h v mid new line p o t0 t1 done f brings is
     let outcome : IsOutcome v.arbiter.session v.arbiter.window v.arbiter.sent P p (Ok o) =
     subst (λ (x : Outcome). IsOutcome v.arbiter.session v.arbiter.window v.arbiter.sent P p (Ok x))
     (sym is) b.answer in
-    outcome_told width place h v new line p (Ok o) t0 t1 done f outcome
+    outcome_told width place h v new line p bytes (Ok o) t0 t1 done f outcome
     (tells_as taking t0 t1 done (ap (λ (n : ℕ). packet_answered place line p.number
-    (length p.messages) (Ok o) ∷ map (item_taken place) (drop n (stream_of Q)))
+    (length p.messages) bytes (Ok o) ∷ map (item_taken place) (drop n (stream_of Q)))
     (place_same P (record { line = line; packet = p; answer = Ok o }) v.arbiter.sent))
     (emits v.arbiter.sent Q there sends))
     (left_ready v Q mid new done there kept ready)

@@ -97,12 +97,12 @@ on_ok (Err e) p = tt
 pub packet_told : {K : Type 0} {taking : SinkTaking K}
     → (width place : ℕ) (h : History) (v : ReplayVenue) (line : LineId) (bytes rest : List ℕ)
     (p : Content) (t0 t1 : ReplayState K) (done : Result (Unit {0}) PublishStop)
-    → Spells bytes p rest → EmitsOutcome taking width place line p h t0 t1 v done
+    → Spells bytes p rest → EmitsOutcome taking width place line p (length bytes) h t0 t1 v done
     → EmitsOne taking width false (datagram_record place line bytes) h t0 t1 v done
 packet_told {K} {taking} width place h v line bytes rest p t0 t1 done spells x =
     let Q : List Input = h.present.packets ++ arrival_of line p x.answer ∷ [] in
     record {
-      emitted = packet_answered place line p.number (length p.messages) x.answer
+      emitted = packet_answered place line p.number (length p.messages) (length bytes) x.answer
           ∷ items_emitted place h Q ++ [];
       after = after_input h (arrival_of line p x.answer);
       at = inr (record {
@@ -115,8 +115,8 @@ packet_told {K} {taking} width place h v line bytes rest p t0 t1 done spells x =
         emitted_is = refl;
       });
       emits = tells_as taking t0 t1 done (ap (λ (hs : List ReplayEvent). packet_answered place line
-          p.number (length p.messages) x.answer ∷ hs) (sym (append-nil (items_emitted place h Q))))
-          x.emits;
+          p.number (length p.messages) (length bytes) x.answer ∷ hs)
+          (sym (append-nil (items_emitted place h Q)))) x.emits;
       follows = x.follows;
     }
 
@@ -160,7 +160,7 @@ gap_at width place gaps line bytes h after emitted (inr a) =
       taken = a.taken;
       emitted_is = ap (λ (hs : List ReplayEvent). hs ++ G) a.emitted_is
           ∙ ap (λ (hs : List ReplayEvent). packet_answered place line a.packet.number
-          (length a.packet.messages) a.answer ∷ hs ++ G) (append-nil items);
+          (length a.packet.messages) (length bytes) a.answer ∷ hs ++ G) (append-nil items);
     })
 
 -- and then the gap was emitted
@@ -259,27 +259,28 @@ left_follows width place h v new a f x = record {
 -- a packet was answered, and the items that it made ready were emitted after it
 pub outcome_told : {K : Type 0} {taking : SinkTaking K}
     → (width place : ℕ) (h : History) (v : ReplayVenue) (new : State) (line : LineId) (p : Content)
-    (answer : Result Outcome LineFault) (t0 t1 : ReplayState K)
+    (bytes : ℕ) (answer : Result Outcome LineFault) (t0 t1 : ReplayState K)
     (done : Result (Unit {0}) PublishStop)
     → Follows width place v h
     → IsOutcome v.arbiter.session v.arbiter.window v.arbiter.sent h.present.packets p answer
-    → EmitsInto taking t0 (packet_answered place line p.number (length p.messages) answer
+    → EmitsInto taking t0 (packet_answered place line p.number (length p.messages) bytes answer
     ∷ map (item_taken place) (drop (place_of h.present.packets v.arbiter.sent)
     (stream_of (h.present.packets ++ arrival_of line p answer ∷ [])))) t1 done
     → OnOk done (Left v (h.present.packets ++ arrival_of line p answer ∷ []) new)
-    → EmitsOutcome taking width place line p h t0 t1 (record {
+    → EmitsOutcome taking width place line p bytes h t0 t1 (record {
       arbiter = new;
       sent_before =
           v.sent_before;
       opens_after = v.opens_after;
     }) done
-outcome_told {K} {taking} width place h v new line p answer t0 t1 done f outcome emits left =
+outcome_told {K} {taking} width place h v new line p bytes answer t0 t1 done f outcome emits left =
     let Q = h.present.packets ++ arrival_of line p answer ∷ [] in
     record {
       answer = answer;
       outcome = rw (← f.window, ← sent_is h f) (outcome_in h p answer f.history outcome);
       emits = tells_as taking t0 t1 done (ap (λ (n : ℕ). packet_answered place line p.number
-          (length p.messages) answer ∷ map (item_taken place) (drop n (stream_of Q))) f.sent) emits;
+          (length p.messages) bytes answer ∷ map (item_taken place) (drop n (stream_of Q))) f.sent)
+          emits;
       follows = on_ok_weaker done (left_follows width place h v new
           (record { line = line; packet = p; answer = answer }) f) left;
     }
@@ -287,7 +288,7 @@ outcome_told {K} {taking} width place h v new line p answer t0 t1 done f outcome
 -- a packet was answered, and then everything that is ready was emitted
 pub answered_told : {K : Type 0} {taking : SinkTaking K}
     → (width place : ℕ) (h : History) (v : ReplayVenue) (mid new : State) (line : LineId)
-    (p : Content) (answer : Result Outcome LineFault) (t0 t1 : ReplayState K)
+    (p : Content) (bytes : ℕ) (answer : Result Outcome LineFault) (t0 t1 : ReplayState K)
     (done : Result (Unit {0}) PublishStop)
     → Follows width place v h
     → ((packets : List Input) → Fits v.arbiter packets → IsOutcome v.arbiter.session
@@ -296,22 +297,22 @@ pub answered_told : {K : Type 0} {taking : SinkTaking K}
     → Fits mid (packets ++ arrival_of line p answer ∷ []))
     → KeepsItsPlace v.arbiter mid
     → ((packets : List Input) → Fits mid packets → EmitsInto taking t0 (packet_answered place line
-    p.number (length p.messages) answer
+    p.number (length p.messages) bytes answer
     ∷ map (item_taken place) (drop (place_of packets mid.sent) (stream_of packets))) t1 done)
     → OnOk done (SendsReady mid new)
-    → EmitsOutcome taking width place line p h t0 t1 (record {
+    → EmitsOutcome taking width place line p bytes h t0 t1 (record {
       arbiter = new;
       sent_before =
           v.sent_before;
       opens_after = v.opens_after;
     }) done
-answered_told {K} {taking} width place h v mid new line p answer t0 t1 done f outcome
+answered_told {K} {taking} width place h v mid new line p bytes answer t0 t1 done f outcome
     fits kept emits sends =
     let Q = h.present.packets ++ arrival_of line p answer ∷ [] in
-    outcome_told width place h v new line p answer t0 t1 done f
+    outcome_told width place h v new line p bytes answer t0 t1 done f
     (outcome h.present.packets f.history.present)
     (tells_as taking t0 t1 done (ap (λ (n : ℕ). packet_answered place line p.number
-    (length p.messages) answer ∷ map (item_taken place) (drop n (stream_of Q)))
+    (length p.messages) bytes answer ∷ map (item_taken place) (drop n (stream_of Q)))
     (ap (place_of Q) kept.sent ∙ place_same h.present.packets (record {
       line = line;
       packet = p;

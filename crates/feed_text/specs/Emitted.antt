@@ -60,7 +60,7 @@ pub record EmitsPacket (window : ℕ) (gaps : Bool) (venue : ℕ) (line : LineId
   pub spells : Spells bytes packet rest
   pub taken : AddsArrival window (last_sent old) line packet old answer new
   pub emitted_is : emitted
-      ≡ packet_answered venue line packet.number (length packet.messages) answer
+      ≡ packet_answered venue line packet.number (length packet.messages) (length bytes) answer
       ∷ items_emitted venue old new.present.packets ++ gap_emitted window gaps venue new
 
 -- a renewal emits its answer, and where that is Ok the next session begins

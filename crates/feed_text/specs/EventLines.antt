@@ -5,7 +5,7 @@ use Rattle.feed_text.specs.Lines.{packet_line, fault_line, item_line, best_line,
 use Rattle.feed_text.specs.SinkEvents.{SinkEvent, TimedEvent, told_packet, told_refusal, told_item, told_best, told_gap, told_renewal, told_skip, told_declaration, told_last, told_before}
 
 abbrev pub event_line : SinkEvent → List ℕ
-event_line (told_packet venue line number count answer) = packet_line venue line answer
+event_line (told_packet venue line number count bytes answer) = packet_line venue line answer
 event_line (told_refusal venue line fault) = fault_line venue line (code_of fault)
 event_line (told_item venue numbered) = item_line venue numbered
 event_line (told_best notice) = best_line notice

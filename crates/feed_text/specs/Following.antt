@@ -61,25 +61,25 @@ pub record TakesReady {K : Type 0} (taking : SinkTaking K) (venue : ℕ) (from t
       new done
   pub sent : OnOk done (SendsReady from to)
 
--- A packet's answer and then the items that it made ready were emitted. Where all of them were, the
--- venue follows the history with this packet.
+-- The answer of a packet, whose datagram has this many bytes, and then the items that it made ready
+-- were emitted. Where all of them were, the venue follows the history with this packet.
 pub record EmitsOutcome {K : Type 0} (taking : SinkTaking K) (width place : ℕ) (line : LineId)
-    (packet : Content) (h : History) (old new : ReplayState K) (v : ReplayVenue)
+    (packet : Content) (bytes : ℕ) (h : History) (old new : ReplayState K) (v : ReplayVenue)
     (done : Result (Unit {0}) PublishStop) : Type 0 where
   pub answer : Result Outcome LineFault
   pub outcome : IsOutcome h.present.name width (last_sent h) h.present.packets packet answer
   pub emits : EmitsInto taking old
-      (packet_answered place line packet.number (length packet.messages) answer
+      (packet_answered place line packet.number (length packet.messages) bytes answer
       ∷ items_emitted place h (h.present.packets ++ arrival_of line packet answer ∷ []))
       new done
   pub follows : OnOk done (Follows width place v (after_input h (arrival_of line packet answer)))
 
 -- The same, whatever history the venue followed.
-abbrev pub PublishesPacket : {K : Type 0} → SinkTaking K → ℕ → LineId → Content → ReplayVenue
+abbrev pub PublishesPacket : {K : Type 0} → SinkTaking K → ℕ → LineId → Content → ℕ → ReplayVenue
     → ReplayState K → ReplayVenue → ReplayState K → Result (Unit {0}) PublishStop → Type 0
-PublishesPacket taking place line packet old before new after done =
+PublishesPacket taking place line packet bytes old before new after done =
     (width : ℕ) (h : History) → Follows width place old h
-    → EmitsOutcome taking width place line packet h before after new done
+    → EmitsOutcome taking width place line packet bytes h before after new done
 
 -- A renewal was answered, and the venue follows the history after it.
 pub record Renews (width place : ℕ) (name : List ℕ) (h : History) (v : ReplayVenue)

@@ -12,11 +12,12 @@ use Rattle.line_arbiter.specs.declared.faults.RenewFault.{RenewFault}
 use Rattle.line_arbiter.specs.declared.faults.SkipFault.{SkipFault}
 use Rattle.nbbo_book.specs.Eligible.{is_so}
 
--- A packet of this many messages, with this number first, was answered, a datagram was no packet,
--- an item was ready and taken, a run of messages is to be asked for, a renewal was answered, a skip
--- to a number was answered, or self-help was declared or withdrawn: each at a venue.
+-- A packet of this many messages, with this number first, was answered, and its datagram had this
+-- many bytes; a datagram was no packet, an item was ready and taken, a run of messages is to be
+-- asked for, a renewal was answered, a skip to a number was answered, or self-help was declared or
+-- withdrawn: each at a venue.
 pub data ReplayEvent : Type 0 where
-  packet_answered : (venue : ℕ) (line : LineId) (number count : ℕ)
+  packet_answered : (venue : ℕ) (line : LineId) (number count bytes : ℕ)
       (answer : Result Outcome LineFault) → ReplayEvent
   packet_refused : (venue : ℕ) (line : LineId) (fault : PacketFault) → ReplayEvent
   item_taken : (venue : ℕ) (numbered : Numbered) → ReplayEvent
@@ -28,7 +29,7 @@ pub data ReplayEvent : Type 0 where
 -- The journal after one more event: an item adds its entry, a declaration adds one unless that is
 -- declared already, and other events add none.
 abbrev pub entries_after : List Entry → ReplayEvent → List Entry
-entries_after entries (packet_answered venue line number count answer) = entries
+entries_after entries (packet_answered venue line number count bytes answer) = entries
 entries_after entries (packet_refused venue line fault) = entries
 entries_after entries (item_taken venue numbered) = entries ++ Consumed venue numbered ∷ []
 entries_after entries (gap_left venue request) = entries

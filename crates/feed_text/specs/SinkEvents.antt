@@ -13,13 +13,14 @@ use Rattle.journal_book.specs.Changes.{notice_of}
 use Rattle.feed_text.specs.declared.event.Event.{Event}
 use Rattle.feed_text.specs.declared.event.Event.TheVariants.{Packet, Refusal, Item, Best, Gap, Renewal, Skip, Declaration, Last}
 
--- A packet was answered, with its messages' first number and their count; a datagram was no packet,
--- an item was taken, a national best changed, messages are to be asked for, a renewal or a skip was
--- answered, self-help was declared or withdrawn, or the capture is over: the venue's last state.
--- What came before all that is told is told as such, to a sink that asks for it.
+-- A packet was answered, with its messages' first number, their count and the length of its
+-- datagram in bytes; a datagram was no packet, an item was taken, a national best changed, messages
+-- are to be asked for, a renewal or a skip was answered, self-help was declared or withdrawn, or
+-- the capture is over: the venue's last state. What came before all that is told is told as such,
+-- to a sink that asks for it.
 pub data SinkEvent : Type 0 where
-  told_packet : (venue : ℕ) (line : LineId) (number count : ℕ) (answer : Result Outcome LineFault)
-      → SinkEvent
+  told_packet : (venue : ℕ) (line : LineId) (number count bytes : ℕ)
+      (answer : Result Outcome LineFault) → SinkEvent
   told_refusal : (venue : ℕ) (line : LineId) (fault : PacketFault) → SinkEvent
   told_item : (venue : ℕ) (numbered : Numbered) → SinkEvent
   told_best : (notice : Notice) → SinkEvent
@@ -44,7 +45,8 @@ at_time time events = map (timed_event time) events
 
 -- what an event says
 abbrev pub told_by : Event → SinkEvent
-told_by (Packet venue line number count answer) = told_packet venue line number count answer.now
+told_by (Packet venue line number count bytes answer) =
+    told_packet venue line number count bytes answer.now
 told_by (Refusal venue line fault) = told_refusal venue line fault
 told_by (Item venue item) = told_item venue item.now
 told_by (Best number change) = told_best (notice_of number change.now)

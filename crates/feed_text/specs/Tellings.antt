@@ -16,8 +16,8 @@ position_of entries venue on =
 
 -- an event of the machine, after these entries
 abbrev pub own_told : List Entry → ReplayEvent → SinkEvent
-own_told entries (packet_answered venue line number count answer) =
-    told_packet venue line number count answer
+own_told entries (packet_answered venue line number count bytes answer) =
+    told_packet venue line number count bytes answer
 own_told entries (packet_refused venue line fault) = told_refusal venue line fault
 own_told entries (item_taken venue numbered) = told_item venue numbered
 own_told entries (gap_left venue request) = told_gap venue request

@@ -9,12 +9,13 @@ use nbbo_book::Change;
 #[derive(Clone, Copy, Debug)]
 pub enum Event<'a> {
     /// A packet was answered. Its messages have the numbers from `number` on; a heartbeat and an
-    /// end of session have none.
+    /// end of session have none. `bytes` is the length of its datagram.
     Packet {
         venue: VenueId,
         line: LineId,
         number: u64,
         count: u16,
+        bytes: u64,
         answer: &'a Result<Outcome, LineFault>,
     },
     /// A datagram was no packet.

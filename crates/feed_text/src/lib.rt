@@ -72,7 +72,7 @@ pub use laws::{
     every_capture_tells, items_are_the_streams, one_reading, one_telling,
     rules_put_in_skips_that_are_made,
 };
-pub use lines::{put_best, put_change, put_venue};
+pub use lines::{put_change, put_venue};
 pub use memory::{MemoryIn, MemoryOut};
 pub use output::write_all;
 pub use own_format::OwnFormat;

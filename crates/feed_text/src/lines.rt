@@ -15,14 +15,11 @@ use crate::fields::{
     place_word,
 };
 use crate::page::LineBuffer;
-use feed_types::{Best, Item, LineId, NationalState, Notice, Numbered, VenueId};
+use feed_types::{Best, Item, LineId, NationalState, Numbered, VenueId};
 use line_arbiter::{LineFault, Outcome, RenewFault, SkipFault};
 use mold_packet::Request;
 use nbbo_book::Change;
 use std::alloc::AllocError;
-
-/// Room for a best line.
-const BEST_LINE: usize = 192;
 
 /// Room for a venue's last line.
 const VENUE_LINE: usize = 128;
@@ -288,22 +285,6 @@ pub fn put_change(text: &mut LineBuffer, number: u64, change: &Change)
     let at = place_side(room, at, &change.national.offer);
     let at = place_state(room, at, change.national.state());
     text.end = at;
-}
-
-/// Appends the line of a notice to a text that grows.
-pub fn put_best(text: &mut LineBuffer, notice: &Notice) -> Result<(), AllocError>
-    ensures line { OnOk result (text.new.items ≡ text.old.items ++ best_line notice.now) }
-    ensures part { OnErr result (text.new.items ≡ text.old.items) }
-    ensures room { KeepsRoom text.old text.new result }
-{
-    text.make_room(BEST_LINE)?;
-    let change = Change {
-        position: notice.position,
-        symbol: notice.symbol,
-        national: notice.national,
-    };
-    put_change(text, notice.number, &change);
-    Ok(())
 }
 
 /// Appends the line of the run of messages to ask for.

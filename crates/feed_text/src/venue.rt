@@ -144,18 +144,19 @@ fn look_ahead<K: EventSink>(venue: VenueId, packet: &Packet<'_>, output: &mut Re
     }
 }
 
-/// Tells the sink a packet's answer.
+/// Tells the sink the answer of a packet, whose datagram has this many bytes.
 #[inline(always)]
 fn tell_answer<K: EventSink>(
     venue: VenueId,
     line: LineId,
     packet: &Packet<'_>,
+    bytes: u64,
     answer: &Result<Outcome, LineFault>,
     output: &mut ReplaySink<K>,
 ) -> Result<(), PublishStop>
     ensures { EmitsInto (record { takes = K.takes; fails = K.fails })
         (state_of_replay output.old)
-        (packet_answered venue line packet.now.number (length packet.now.messages) answer.now
+        (packet_answered venue line packet.now.number (length packet.now.messages) bytes answer.now
         ∷ [])
         (state_of_replay output.new) result }
 {
@@ -164,17 +165,20 @@ fn tell_answer<K: EventSink>(
         line,
         number: packet.number(),
         count: packet.count(),
+        bytes,
         answer,
     })
 }
 
-/// Publishes the answer of a packet that was the next one, its items, and what is ready after them.
+/// Publishes the answer of a packet that was the next one, whose datagram has this many bytes, its
+/// items, and what is ready after them.
 #[inline(always)]
 fn publish_next<K: EventSink>(
     arbiter: &mut Arbiter<Anything>,
     venue: VenueId,
     line: LineId,
     packet: &Packet<'_>,
+    bytes: u64,
     outcome: Outcome,
     output: &mut ReplaySink<K>,
 ) -> Result<(), PublishStop>
@@ -183,23 +187,25 @@ fn publish_next<K: EventSink>(
         → SendsPacket from arbiter.old.sent packet.now packets
         → EmitsInto (record { takes = K.takes; fails = K.fails })
         (state_of_replay output.old)
-        (packet_answered venue line packet.now.number (length packet.now.messages) (Ok outcome)
+        (packet_answered venue line packet.now.number (length packet.now.messages) bytes
+        (Ok outcome)
         ∷ map (item_taken venue) (drop (place_of packets from) (stream_of packets)))
         (state_of_replay output.new) result }
     ensures sent { OnOk result (SendsReady arbiter.old arbiter.new) }
 {
-    tell_answer(venue, line, packet, &Ok(outcome), output)?;
+    tell_answer(venue, line, packet, bytes, &Ok(outcome), output)?;
     publish_messages(venue, packet, output)?;
     publish_ready(arbiter, venue, output)
 }
 
-/// Publishes the answer of a packet, and what is ready then.
+/// Publishes the answer of a packet, whose datagram has this many bytes, and what is ready then.
 #[inline(always)]
 fn publish_answer<K: EventSink>(
     arbiter: &mut Arbiter<Anything>,
     venue: VenueId,
     line: LineId,
     packet: &Packet<'_>,
+    bytes: u64,
     answer: &Result<Outcome, LineFault>,
     output: &mut ReplaySink<K>,
 ) -> Result<(), PublishStop>
@@ -207,12 +213,12 @@ fn publish_answer<K: EventSink>(
     ensures emits { (packets : List Input) → Fits arbiter.old packets
         → EmitsInto (record { takes = K.takes; fails = K.fails })
         (state_of_replay output.old)
-        (packet_answered venue line packet.now.number (length packet.now.messages) answer.now
+        (packet_answered venue line packet.now.number (length packet.now.messages) bytes answer.now
         ∷ map (item_taken venue) (drop (place_of packets arbiter.old.sent) (stream_of packets)))
         (state_of_replay output.new) result }
     ensures sent { OnOk result (SendsReady arbiter.old arbiter.new) }
 {
-    tell_answer(venue, line, packet, answer, output)?;
+    tell_answer(venue, line, packet, bytes, answer, output)?;
     publish_ready(arbiter, venue, output)
 }
 
@@ -247,50 +253,75 @@ impl VenueReplay {
         self.sent_before.saturating_add(in_part)
     }
 
-    /// Takes any packet, and publishes its outcome and each item that is ready then.
+    /// Takes any packet, whose datagram has this many bytes, and publishes its outcome and each
+    /// item that is ready then.
     #[inline(never)]
     fn take_any<K: EventSink>(
         &mut self,
         venue: VenueId,
         line: LineId,
         packet: &Packet<'_>,
+        bytes: u64,
         output: &mut ReplaySink<K>,
     ) -> Result<(), PublishStop>
         requires { venue < output.old.journal.venues }
         ensures { PublishesPacket (record { takes = K.takes; fails = K.fails }) venue line
-            packet.now self.old (state_of_replay output.old) self.new
+            packet.now bytes self.old (state_of_replay output.old) self.new
             (state_of_replay output.new) result }
     {
         let answer = self.arbiter.take(line, packet);
-        publish_answer(&mut self.arbiter, venue, line, packet, &answer, output)
+        publish_answer(
+            &mut self.arbiter,
+            venue,
+            line,
+            packet,
+            bytes,
+            &answer,
+            output,
+        )
     }
 
-    /// Takes a packet, and publishes its outcome and each item that is ready then. Most go past the
-    /// window.
+    /// Takes a packet, whose datagram has this many bytes, and publishes its outcome and each item
+    /// that is ready then. Most go past the window.
     #[inline(always)]
     fn take_packet<K: EventSink>(
         &mut self,
         venue: VenueId,
         line: LineId,
         packet: &Packet<'_>,
+        bytes: u64,
         output: &mut ReplaySink<K>,
     ) -> Result<(), PublishStop>
         requires { venue < output.old.journal.venues }
         ensures { PublishesPacket (record { takes = K.takes; fails = K.fails }) venue line
-            packet.now self.old (state_of_replay output.old) self.new
+            packet.now bytes self.old (state_of_replay output.old) self.new
             (state_of_replay output.new) result }
     {
         if !self.arbiter.is_next(packet) {
             return match self.arbiter.repeat(packet) {
-                Some(outcome) => {
-                    publish_answer(&mut self.arbiter, venue, line, packet, &Ok(outcome), output)
-                }
-                None => self.take_any(venue, line, packet, output),
+                Some(outcome) => publish_answer(
+                    &mut self.arbiter,
+                    venue,
+                    line,
+                    packet,
+                    bytes,
+                    &Ok(outcome),
+                    output,
+                ),
+                None => self.take_any(venue, line, packet, bytes, output),
             };
         }
         let outcome = self.arbiter.take_next(line, packet);
         look_ahead(venue, packet, output);
-        publish_next(&mut self.arbiter, venue, line, packet, outcome, output)
+        publish_next(
+            &mut self.arbiter,
+            venue,
+            line,
+            packet,
+            bytes,
+            outcome,
+            output,
+        )
     }
 
     /// Takes a datagram of a line, and publishes its outcome and each item that is ready then.
@@ -308,7 +339,7 @@ impl VenueReplay {
             (state_of_replay output.old) (state_of_replay output.new) self.new result }
     {
         match read_packet(bytes) {
-            Ok(packet) => self.take_packet(venue, line, &packet, output),
+            Ok(packet) => self.take_packet(venue, line, &packet, bytes.len() as u64, output),
             Err(fault) => output.tell(&Event::Refusal { venue, line, fault }),
         }
     }

@@ -42,7 +42,10 @@ use Rattle.feed_text.specs.laws.Entries.{entries_more}
 use Rattle.feed_core.specs.VenueHalf.{BringsOnly, BringOnly}
 use Rattle.replay_run.specs.Events.{event_of, consumed_all, world_of, outcomes_of, IsReplayRun}
 use Rattle.replay_run.specs.Moving.{ComesThrough}
-use Rattle.replay_run.proofs.Runs.{get_map, get_set_here, items_len, events_only, replay_run}
+use Rattle.replay_run.proofs.ListPlaces.{get_map, get_set_here}
+use Rattle.replay_run.proofs.RecordRuns.{items_len}
+use Rattle.replay_run.proofs.RunSessions.{events_only}
+use Rattle.replay_run.proofs.Runs.{replay_run}
 
 -- ---- the packets
 
@@ -333,7 +336,8 @@ record Reaches (s : Session) (window place k : ℕ) (ms : List (List ℕ))
 -- a packet that is answered, and makes items ready
 abbrev told_of : ℕ → Session → List Input → Arrival → List ReplayEvent
 told_of place s P a =
-    packet_answered place A a.packet.number (length a.packet.messages) a.answer
+    packet_answered place A a.packet.number (length a.packet.messages)
+    (length (spelling a.packet)) a.answer
     ∷ items_emitted place (came s P) (P ++ Arrived a ∷ []) ++ []
 
 tells_one : (s : Session) (window place : ℕ) (P : List Input) (p : Content)
@@ -357,7 +361,7 @@ tells_one s window place P p hs a is there content none answer =
         spells = spells p content none;
         taken = record { right = answer; is = ap (λ (x : Input). came s (P ++ x ∷ [])) is };
         emitted_is = ap (λ (q : Content). packet_answered place A q.number
-            (length q.messages) a.answer
+            (length q.messages) (length (spelling q)) a.answer
             ∷ items_emitted place (came s P) (P ++ Arrived a ∷ []) ++ []) same;
       });
       others = refl;

@@ -40,7 +40,13 @@ use Rattle.line_arbiter.specs.laws.AnsweredHistories.{IsAnsweredThroughout}
 use Rattle.feed_text.specs.laws.VenueItemsLaw.{Each, items_same, items_other, new_each, all_kept, taken_are_streams}
 use Rattle.replay_run.specs.Events.{slice_of, drains, outcomes_by, outcomes_of, replay_setting, consumed_all, world_of, event_of}
 use Rattle.replay_run.specs.Full.{StopsAt, IsRunToFull}
-use Rattle.replay_run.proofs.Runs.{at, venue_at, venue_more, at_venue, get_map, get_set_here, push_step, drain, items_len, packet_begins, ready_behind, skip_begins, skip_behind, outcomes_more, run_more, RanAll, all_ran, begins, with_venues, all_more, drains_only, events_only, notices_all}
+use Rattle.replay_run.proofs.ListPlaces.{get_map, get_set_here}
+use Rattle.replay_run.proofs.EmittedEvents.{at_venue, outcomes_more, run_more}
+use Rattle.replay_run.proofs.Drains.{at, venue_at, venue_more, push_step, drain, with_venues}
+use Rattle.replay_run.proofs.RecordRuns.{items_len, packet_begins, ready_behind, skip_begins, skip_behind}
+use Rattle.replay_run.proofs.RunSessions.{all_more, drains_only, events_only}
+use Rattle.replay_run.proofs.RunNotices.{notices_all}
+use Rattle.replay_run.proofs.Runs.{RanAll, all_ran, begins}
 
 -- ---- the event that finds no room
 
@@ -328,7 +334,8 @@ module _ (s : Setting) (gaps : Bool) (lane : 1 ≤ s.lane) (hs : List History) (
   packet_stops line bytes first others next new t room short =
       ready_stops (datagram_record venue line bytes) (Packet venue line (slice_of bytes))
       (parts.packet_done t.answer)
-      (packet_answered venue line t.packet.number (length t.packet.messages) t.answer)
+      (packet_answered venue line t.packet.number (length t.packet.messages) (length bytes)
+      t.answer)
       (drop (stream_length h) (stream_of new.present.packets)) gaps first others
       next new (packet_begins s gaps lane hs E venue h there kept line bytes (first
       ++ next ∷ others) new t)

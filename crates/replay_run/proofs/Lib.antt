@@ -1,3 +1,11 @@
+pub mod ListPlaces
+pub mod EmittedEvents
+pub mod Drains
+pub mod RecordRuns
+pub mod RunSessions
+pub mod RunSkips
+pub mod RunItems
+pub mod RunNotices
 pub mod Runs
 pub mod FullRuns
 mod Coming

@@ -49,7 +49,7 @@ AreEvents (r ∷ rs) events =
 
 -- the outcomes of a replay's event, after these entries
 abbrev pub outcomes_by : List Entry → ReplayEvent → List Done
-outcomes_by entries (packet_answered venue line number count answer) = packet_done answer ∷ []
+outcomes_by entries (packet_answered venue line number count bytes answer) = packet_done answer ∷ []
 outcomes_by entries (packet_refused venue line fault) = done.Refused (code_of fault) ∷ []
 outcomes_by entries (item_taken venue numbered) =
     done.Pushed numbered.number ∷ done.Consumed (length entries + 1) ∷ []

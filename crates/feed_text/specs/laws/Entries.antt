@@ -17,7 +17,7 @@ if_grows true old e = omega arith
 if_grows false old e = let n = length-append old (e ∷ []) in omega arith
 
 after_grows : (old : List Entry) (h : ReplayEvent) → length old ≤ length (entries_after old h)
-after_grows old (packet_answered venue line number count answer) = omega arith
+after_grows old (packet_answered venue line number count bytes answer) = omega arith
 after_grows old (packet_refused venue line fault) = omega arith
 after_grows old (item_taken venue numbered) =
     let n = length-append old (Consumed venue numbered ∷ []) in omega arith

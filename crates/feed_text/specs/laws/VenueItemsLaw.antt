@@ -74,11 +74,11 @@ no_gap_items place window true venue h =
 
 -- of a packet's events
 packet_items : (place window : ℕ) (gaps : Bool) (venue : ℕ) (line : LineId)
-    (number count : ℕ) (answer : Result Outcome LineFault) (xs : List Numbered) (h : History)
-    → items_taken place (packet_answered venue line number count answer
+    (number count bytes : ℕ) (answer : Result Outcome LineFault) (xs : List Numbered) (h : History)
+    → items_taken place (packet_answered venue line number count bytes answer
     ∷ map (item_taken venue) xs ++ gap_emitted window gaps venue h)
     ≡ items_taken place (map (item_taken venue) xs)
-packet_items place window gaps venue line number count answer xs h =
+packet_items place window gaps venue line number count bytes answer xs h =
     flat_map-append (taken_by place) (map (item_taken venue) xs) (gap_emitted window gaps venue h)
     ∙ ap (λ (ys : List Numbered). items_taken place (map (item_taken venue) xs) ++ ys)
     (no_gap_items place window gaps venue h)
@@ -111,7 +111,7 @@ module _ (window : ℕ) (gaps : Bool) (venue : ℕ) where
       let ready : List Numbered = drop (stream_length old) (stream_of new.present.packets) in
       ap (items_taken venue) t.emitted_is
       ∙ packet_items venue window gaps venue line t.packet.number
-      (length t.packet.messages) t.answer ready new ∙ items_same venue ready
+      (length t.packet.messages) (length bytes) t.answer ready new ∙ items_same venue ready
 
   -- the items that a skip made ready
   pub skip_items : (number : ℕ) (old new : History) (emitted : List ReplayEvent)
@@ -212,7 +212,7 @@ no_items window gaps place (datagram_record venue line bytes) old new emitted aw
   | inl f ↦ ap (items_taken place) f.emitted_is ∙ no_gap_items place window gaps venue new
   | inr p ↦ ap (items_taken place) p.emitted_is
       ∙ packet_items place window gaps venue line p.packet.number
-      (length p.packet.messages) p.answer
+      (length p.packet.messages) (length bytes) p.answer
       (drop (stream_length old) (stream_of new.present.packets)) new
       ∙ items_other place venue (drop (stream_length old) (stream_of new.present.packets)) away
 ]

@@ -16,7 +16,7 @@ laws_of g = laws_by g.met.K.EventSink.takes_none g.met.K.EventSink.takes_more
 pub returns-clause-emits : goal.returns-clause-emits
 returns-clause-emits g c = λ packets f.
     let answered : ReplayEvent = packet_answered c.args.venue c.args.line c.args.packet.now.number
-    (length c.args.packet.now.messages) c.args.answer.now in
+    (length c.args.packet.now.messages) c.args.bytes c.args.answer.now in
     tells_more (laws_of g) (state_of_replay c.publish_ready.new.output) (answered ∷ [])
     (map (item_taken c.args.venue) (drop (place_of packets c.args.arbiter.now.sent)
     (stream_of packets))) c.publish_ready.result
@@ -29,7 +29,7 @@ publish_ready-requires g c = rw c.in_ok-tell_answer.ensures.venues c.requires
 pub returns-in_err-tell_answer-clause-emits : goal.returns-in_err-tell_answer-clause-emits
 returns-in_err-tell_answer-clause-emits g c = λ packets f.
     let answered : ReplayEvent = packet_answered c.args.venue c.args.line c.args.packet.now.number
-    (length c.args.packet.now.messages) c.args.answer.now in
+    (length c.args.packet.now.messages) c.args.bytes c.args.answer.now in
     let p = err_from_is_err_and c.from_residual.result c.from_residual.ensures.1 in
     rw (p.1, p.2)
     (tells_stop (record { takes = g.K.EventSink.takes; fails = g.K.EventSink.fails })

@@ -19,7 +19,7 @@ laws_of g = laws_by g.met.K.EventSink.takes_none g.met.K.EventSink.takes_more
 pub returns-clause-emits : goal.returns-clause-emits
 returns-clause-emits g c = λ from packets f sends.
     let answered : ReplayEvent = packet_answered c.args.venue c.args.line c.args.packet.now.number
-    (length c.args.packet.now.messages) (Ok c.args.outcome) in
+    (length c.args.packet.now.messages) c.args.bytes (Ok c.args.outcome) in
     passed_all (laws_of g) c.args.venue (place_of packets from)
     (place_of packets c.args.arbiter.now.sent) (numbered_from c.args.packet.now.number
     (map item_of c.args.packet.now.messages)) (stream_of packets) answered
@@ -33,7 +33,7 @@ returns-clause-emits g c = λ from packets f sends.
 pub returns-in_err-publish_messages-clause-emits : goal.returns-in_err-publish_messages-clause-emits
 returns-in_err-publish_messages-clause-emits g c = λ from packets f sends.
     let answered : ReplayEvent = packet_answered c.args.venue c.args.line c.args.packet.now.number
-    (length c.args.packet.now.messages) (Ok c.args.outcome) in
+    (length c.args.packet.now.messages) c.args.bytes (Ok c.args.outcome) in
     let p = err_from_is_err_and c.from_residual-in_err-publish_messages.result
     c.from_residual-in_err-publish_messages.ensures.1 in
     rw (p.1, p.2)
@@ -56,7 +56,7 @@ publish_ready-requires g c = rw (c.in_ok-publish_messages.ensures.venues
 pub returns-in_err-tell_answer-clause-emits : goal.returns-in_err-tell_answer-clause-emits
 returns-in_err-tell_answer-clause-emits g c = λ from packets f sends.
     let answered : ReplayEvent = packet_answered c.args.venue c.args.line c.args.packet.now.number
-    (length c.args.packet.now.messages) (Ok c.args.outcome) in
+    (length c.args.packet.now.messages) c.args.bytes (Ok c.args.outcome) in
     let p = err_from_is_err_and c.from_residual.result c.from_residual.ensures.1 in
     rw (p.1, p.2)
     (tells_stop (record { takes = g.K.EventSink.takes; fails = g.K.EventSink.fails })

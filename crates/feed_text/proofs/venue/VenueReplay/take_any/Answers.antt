@@ -13,7 +13,7 @@ returns g c = λ width h f.
       opens_after = c.self.inside.opens_after;
     })
     c.take-answer.new.self c.publish_answer.new.arbiter c.args.line
-    c.args.packet.now c.take-answer.result
+    c.args.packet.now c.args.bytes c.take-answer.result
     (state_of_replay c.args.output.now) (state_of_replay c.publish_answer.new.output)
     c.publish_answer.result
     (subst (λ (v : ReplayVenue). Follows width c.args.venue v h) (sym c.self.view_is) f)

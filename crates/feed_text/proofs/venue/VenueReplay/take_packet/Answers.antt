@@ -12,7 +12,7 @@ returns g c = λ width h f.
     subst (λ (r : ReplaySink g.row.K.Denot). EmitsOutcome (record {
       takes = g.K.EventSink.takes;
       fails = g.K.EventSink.fails;
-    }) width c.args.venue c.args.line c.args.packet.now h
+    }) width c.args.venue c.args.line c.args.packet.now c.args.bytes h
     (state_of_replay r) (state_of_replay c.publish_next.new.output)
     (record {
       arbiter = c.publish_next.new.arbiter;
@@ -26,7 +26,7 @@ returns g c = λ width h f.
       opens_after = c.self.inside.opens_after;
     })
     c.take_next-outcome.new.self c.publish_next.new.arbiter c.args.line c.args.packet.now
-    c.take_next-outcome.result
+    c.args.bytes c.take_next-outcome.result
     (state_of_replay c.look_ahead.new.output) (state_of_replay c.publish_next.new.output)
     c.publish_next.result
     (subst (λ (v : ReplayVenue). Follows width c.args.venue v h) (sym c.self.view_is) f)
@@ -45,7 +45,7 @@ returns-in-Some g c = λ width h f.
       opens_after = c.self.inside.opens_after;
     })
     c.self.inside.arbiter c.publish_answer.new.arbiter c.args.line
-    c.args.packet.now (Ok c.in-Some.outcome)
+    c.args.packet.now c.args.bytes (Ok c.in-Some.outcome)
     (state_of_replay c.args.output.now) (state_of_replay c.publish_answer.new.output)
     c.publish_answer.result
     (subst (λ (v : ReplayVenue). Follows width c.args.venue v h) (sym c.self.view_is) f)
