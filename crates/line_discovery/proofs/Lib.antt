@@ -2,3 +2,4 @@ pub mod SameKeys
 pub mod Growth
 pub mod Reading
 pub mod Putting
+pub mod SecondLines

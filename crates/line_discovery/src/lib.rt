@@ -21,6 +21,7 @@ mod line_key;
 mod line_row;
 mod pieces;
 mod place;
+mod plain_name;
 mod rest;
 mod sighting;
 mod span;

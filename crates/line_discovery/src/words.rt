@@ -1,11 +1,12 @@
 //! The words by which `nbbo` reads the lines of a capture.
-ghost use Rattle.std.specs.Prelude.{◌≡◌, ◌==◌, ◌++◌, OnOk, flat_map};
-ghost use Rattle.std.specs.List.{list_any};
-ghost use Rattle.line_discovery.specs.LineWords.{are_lines, has_third, is_at_place, is_first_at, is_first_of, is_of_session, is_unlisted, lines_word_of, lines_by, lines_word, other_of, second_line_of, session_word_of, session_by, session_word, words_by, words_of, words_with};
+ghost use Rattle.std.specs.Prelude.{◌≡◌, ◌==◌, ◌++◌, IfOk, OnOk, flat_map, take};
+ghost use Rattle.feed_types.specs.Symbols.{name_of};
+ghost use Rattle.line_discovery.specs.LineWords.{are_lines, is_at_place, is_first_at, is_of_session, lines_word_of, lines_by, lines_word, second_line_of, second_line, session_lines, session_word_of, session_by, session_word, words_by, words_of, words_with};
 
 use crate::line_key::{LineKey, is_same, is_same_session};
 use crate::line_row::LineRow;
 use crate::place::place_text;
+use crate::plain_name::{front_of, is_plain_name};
 use crate::text::{other_key, session_name};
 use std::alloc::{AllocError, Global};
 
@@ -35,75 +36,67 @@ fn is_of_session(row: &LineRow, one: &LineRow) -> bool
     is_same_session(&one.key.session, &row.key.session)
 }
 
-/// Returns whether no row before this one has its session.
-fn is_first_of(rows: &[LineRow], row: &LineRow) -> bool
-    ensures { result ≡ is_first_of rows.now row.now }
+/// Returns the first rows of a row's session, in order, at most three. Fails where memory is
+/// refused.
+fn session_lines(alloc: Global, rows: &[LineRow], row: &LineRow) -> Result<Vec<LineRow>, AllocError>
+    ensures { IfOk result (λ lines. lines.items ≡ take 3 (session_lines rows.now row.now)) }
 {
-    for one in rows {
-        if is_of_session(row, one) {
-            return is_same(&one.key, &row.key);
+    rows.iter()
+        .copied()
+        .filter(|one| is_of_session(row, one))
+        .take(3)
+        .collect(alloc)
+}
+
+/// Returns the second of two rows, where a row is the first of them.
+fn second_line(row: &LineRow, lines: &[LineRow]) -> Option<LineRow>
+    ensures { result ≡ second_line row.now lines.now }
+{
+    match lines {
+        [first, second] => {
+            if is_same(&first.key, &row.key) {
+                return Some(*second);
+            }
+            None
         }
+        _ => None,
     }
-    false
 }
 
-/// Returns the first other row of a row's session, if there is one.
-fn other_of(rows: &[LineRow], row: &LineRow) -> Option<LineRow>
-    ensures { result ≡ other_of rows.now row.now }
+/// Returns the second row of a row's session, where there are two and this row is the first. Fails
+/// where memory is refused.
+fn other_line(alloc: Global, rows: &[LineRow], row: &LineRow) -> Result<Option<LineRow>, AllocError>
+    ensures { IfOk result (λ other. other ≡ second_line row.now (session_lines rows.now row.now)) }
 {
-    for one in rows {
-        if is_of_session(row, one) && !is_same(&one.key, &row.key) {
-            return Some(*one);
-        }
-    }
-    None
+    let lines = session_lines(alloc, rows, row)?;
+    Ok(second_line(row, lines.as_slice()))
 }
 
-/// Returns whether a row's session has one beside this row and another one.
-fn has_third(rows: &[LineRow], row: &LineRow, other: &LineRow) -> bool
-    ensures { result ≡ has_third rows.now row.now other.now }
-{
-    for one in rows {
-        if is_of_session(row, one)
-            && !is_same(&one.key, &row.key)
-            && !is_same(&one.key, &other.key)
-        {
-            return true;
-        }
-    }
-    false
-}
-
-/// Returns whether a name can't stand in a list in quotation marks.
-fn is_unlisted(name: &[u8]) -> bool
-    ensures { result ≡ list_any is_unlisted name.now }
-{
-    name.iter()
-        .any(|b| *b < b' ' || *b > b'~' || *b == b',' || *b == b'\'')
-}
-
-/// Returns whether two rows are the lines of a venue.
+/// Returns whether two rows of a session can be written as the lines of a venue.
 fn are_lines(rows: &[LineRow], row: &LineRow, other: &LineRow) -> bool
     ensures { result ≡ are_lines rows.now row.now other.now }
 {
-    is_first_of(rows, row)
+    is_plain_name(session_name(&row.key.session))
         && is_first_at(rows, row)
         && is_first_at(rows, other)
-        && !has_third(rows, row, other)
-        && !is_unlisted(session_name(&row.key.session))
 }
 
-/// Returns the second line of the venue whose first line this row is, if it is one.
-fn second_line_of(rows: &[LineRow], row: &LineRow) -> Option<LineRow>
-    ensures { result ≡ second_line_of rows.now row.now }
+/// Returns the second line of the venue whose first line this row is, if it is one. Fails where
+/// memory is refused.
+fn second_line_of(
+    alloc: Global,
+    rows: &[LineRow],
+    row: &LineRow,
+) -> Result<Option<LineRow>, AllocError>
+    ensures { IfOk result (λ second. second ≡ second_line_of rows.now row.now) }
 {
-    match other_of(rows, row) {
-        None => None,
+    match other_line(alloc, rows, row)? {
+        None => Ok(None),
         Some(other) => {
             if are_lines(rows, row, &other) {
-                return Some(other);
+                return Ok(Some(other));
             }
-            None
+            Ok(None)
         }
     }
 }
@@ -129,12 +122,17 @@ fn put_lines(alloc: Global, text: &mut Vec<u8>, a: &LineKey, b: &LineKey) -> Res
 }
 
 /// Appends the session of the venue whose first line this row is, if it is one.
-fn put_session_at(text: &mut Vec<u8>, rows: &[LineRow], row: &LineRow) -> Result<(), AllocError>
+fn put_session_at(
+    alloc: Global,
+    text: &mut Vec<u8>,
+    rows: &[LineRow],
+    row: &LineRow,
+) -> Result<(), AllocError>
     ensures { OnOk result (text.new.items ≡ text.old.items ++ session_word_of rows.now row.now) }
 {
-    match second_line_of(rows, row) {
+    match second_line_of(alloc, rows, row)? {
         None => Ok(()),
-        Some(_) => put_session(text, session_name(&row.key.session)),
+        Some(_) => put_session(text, front_of(session_name(&row.key.session))),
     }
 }
 
@@ -147,19 +145,19 @@ fn put_lines_at(
 ) -> Result<(), AllocError>
     ensures { OnOk result (text.new.items ≡ text.old.items ++ lines_word_of rows.now row.now) }
 {
-    match second_line_of(rows, row) {
+    match second_line_of(alloc, rows, row)? {
         None => Ok(()),
         Some(other) => put_lines(alloc, text, &row.key, &other.key),
     }
 }
 
 /// Appends the sessions of all venues, each after a comma.
-fn put_sessions(text: &mut Vec<u8>, rows: &[LineRow]) -> Result<(), AllocError>
+fn put_sessions(alloc: Global, text: &mut Vec<u8>, rows: &[LineRow]) -> Result<(), AllocError>
     ensures { OnOk result (text.new.items
         ≡ text.old.items ++ flat_map (session_word_of rows.now) rows.now) }
 {
     for row in rows {
-        put_session_at(text, rows, row)?;
+        put_session_at(alloc, text, rows, row)?;
     }
     Ok(())
 }
@@ -179,9 +177,9 @@ fn put_all_lines(alloc: Global, text: &mut Vec<u8>, rows: &[LineRow]) -> Result<
 fn put_with(text: &mut Vec<u8>, sessions: &[u8], lines: &[u8]) -> Result<(), AllocError>
     ensures { OnOk result (text.new.items ≡ text.old.items ++ words_with sessions.now lines.now) }
 {
-    text.extend_from_slice(b"\nsessions at two addresses and ports:\n--sessions='")?;
+    text.extend_from_slice(b"\nsessions at two addresses and ports:\n--sessions=")?;
     text.extend_from_slice(sessions)?;
-    text.extend_from_slice(b"' --lines=")?;
+    text.extend_from_slice(b" --lines=")?;
     text.extend_from_slice(lines)?;
     text.extend_from_slice(b"\n")
 }
@@ -205,7 +203,7 @@ pub(crate) fn put_words(
     ensures { OnOk result (text.new.items ≡ text.old.items ++ words_of rows.now) }
 {
     let mut sessions = Vec::new(alloc);
-    put_sessions(&mut sessions, rows)?;
+    put_sessions(alloc, &mut sessions, rows)?;
     let mut lines = Vec::new(alloc);
     put_all_lines(alloc, &mut lines, rows)?;
     put_both(text, sessions.as_slice(), lines.as_slice())
