@@ -21,11 +21,11 @@ use Rattle.replay_reports.specs.counts.Stats.{Counted, bid_led, counted_after, e
 
 -- ---- a packet of a line
 
-module _ (old : VenueStats) (line : LineId) (venue number count : ℕ)
+module _ (old : VenueStats) (line : LineId) (venue number count bytes : ℕ)
     (answer : Result Outcome LineFault)
     (session : SessionStats) (gaps : GapStats) (l : LineStats) where
   abbrev Told : LineId → SinkEvent
-  Told on = told_packet venue on number count answer
+  Told on = told_packet venue on number count bytes answer
 
   abbrev Adds : (LineStats → SessionStats → GapStats → VenueStats) → LineStats → LineId → Type 0
   Adds put was on = session ≡ session_after old.session (Told on)

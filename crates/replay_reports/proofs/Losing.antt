@@ -28,7 +28,7 @@ messages_more messages (suc count) = omega arith
 
 brings_none : (line on : LineId) (number count : ℕ) (outcome : Outcome)
     → is_same_line on line ≡ false
-    → brings_on line (told_packet 0 on number count (Ok outcome)) ≡ false
+    → brings_on line (told_packet 0 on number count 0 (Ok outcome)) ≡ false
 brings_none line on number count (Taken new repeated) apart =
     and_left (is_same_line on line) (has_numbers number count) apart
 brings_none line on number count Heartbeat apart = refl
@@ -36,17 +36,17 @@ brings_none line on number count Ended apart = refl
 brings_none line on number count Ahead apart =
     and_left (is_same_line on line) (has_numbers number count) apart
 
-brings_same : (line on : LineId) (venue number count : ℕ) (outcome : Outcome)
-    → brings_on line (told_packet 0 on number count (Ok outcome))
-    ≡ brings_on line (told_packet venue on number count (Ok outcome))
-brings_same line on venue number count (Taken new repeated) = refl
-brings_same line on venue number count Heartbeat = refl
-brings_same line on venue number count Ended = refl
-brings_same line on venue number count Ahead = refl
+brings_same : (line on : LineId) (venue number count bytes : ℕ) (outcome : Outcome)
+    → brings_on line (told_packet 0 on number count 0 (Ok outcome))
+    ≡ brings_on line (told_packet venue on number count bytes (Ok outcome))
+brings_same line on venue number count bytes (Taken new repeated) = refl
+brings_same line on venue number count bytes Heartbeat = refl
+brings_same line on venue number count bytes Ended = refl
+brings_same line on venue number count bytes Ahead = refl
 
 -- a packet of another line brings none
 pub hears_none : (line on : LineId) (number count : ℕ) (outcome : Outcome) (n : LineNumbers)
-    → is_same_line on line ≡ false → HearsOn line (told_packet 0 on number count (Ok outcome)) n n
+    → is_same_line on line ≡ false → HearsOn line (told_packet 0 on number count 0 (Ok outcome)) n n
 hears_none line on number count outcome n apart = λ window messages brought came are.
     subst (λ (b : Bool). AreNumbersAfter b window came number count messages brought n)
     (sym (brings_none line on number count outcome apart)) are
@@ -61,33 +61,33 @@ heard_by : (heard : Bool) (window number count messages brought : ℕ) (came : L
 heard_by true window number count messages brought came n are = are
 heard_by false window number count messages brought came n are = are
 
-module _ (window venue : ℕ) (on : LineId) (number count : ℕ) (outcome : Outcome)
+module _ (window venue : ℕ) (on : LineId) (number count bytes : ℕ) (outcome : Outcome)
     (time : Option ℕ) (events : List TimedEvent) where
-  abbrev Told : ℕ → SinkEvent
-  Told at = told_packet at on number count (Ok outcome)
+  abbrev Told : ℕ → ℕ → SinkEvent
+  Told at size = told_packet at on number count size (Ok outcome)
 
-  accepted : is_accepted venue (Told venue) ≡ true
+  accepted : is_accepted venue (Told venue bytes) ≡ true
   accepted = eq-eqb venue venue refl
 
-  line_heard : (line : LineId) (old new : LineNumbers) → HearsOn line (Told 0) old new
+  line_heard : (line : LineId) (old new : LineNumbers) → HearsOn line (Told 0 0) old new
       → AreLineNumbers window line venue events old
-      → AreLineNumbers window line venue (timed_event time (Told venue) ∷ events) new
+      → AreLineNumbers window line venue (timed_event time (Told venue bytes) ∷ events) new
   line_heard line old new hears are =
       let came = brought_at line venue events in
       let messages = messages_brought line venue events in
       let brought = new_told window line venue events in
-      let brings : brings_on line (Told 0) ≡ brings_at line venue (Told venue) =
-      brings_same line on venue number count outcome
-      ∙ sym (ap (λ (b : Bool). b && brings_on line (Told venue)) accepted) in
+      let brings : brings_on line (Told 0 0) ≡ brings_at line venue (Told venue bytes) =
+      brings_same line on venue number count bytes outcome
+      ∙ sym (ap (λ (b : Bool). b && brings_on line (Told venue bytes)) accepted) in
       subst (λ (b : Bool). AreNumbersOf window (if b then numbers_from number count came else came)
       (if b then count + messages else messages)
       (if b then new_after window number count came brought else brought) new) brings
-      (heard_by (brings_on line (Told 0)) window number count messages brought came new
+      (heard_by (brings_on line (Told 0 0)) window number count messages brought came new
       (hears window messages brought came are))
 
-  pub numbers_heard : (old new : VenueNumbers) → HearsNumbers (Told 0) old new
+  pub numbers_heard : (old new : VenueNumbers) → HearsNumbers (Told 0 0) old new
       → AreVenueNumbers window venue events old
-      → AreVenueNumbers window venue (timed_event time (Told venue) ∷ events) new
+      → AreVenueNumbers window venue (timed_event time (Told venue bytes) ∷ events) new
   numbers_heard old new hears are = record {
     a = line_heard A old.a new.a hears.a are.a;
     b = line_heard B old.b new.b hears.b are.b;

@@ -1,6 +1,6 @@
 -- How the packets of venues run in time, after one event more.
 use Rattle.std.proofs.Common.{◌≡◌, ℕ, zero, suc, ◌+◌, ◌/◌, ◌<◌, ◌==◌, ◌⊎◌, inl, inr, Bool, true, false, cond, List, [], ◌∷◌, ◌++◌, Option, None, Some, Result, Ok, Err, length, replicate, reverse, slice_index_or, refl, sym, ap, subst, ◌∙◌, arith, eq-eqb}
-use Rattle.std.specs.Prelude.{◌&&◌, flat_map, nat_lt, slice_get, slice_set}
+use Rattle.std.specs.Prelude.{◌&&◌, flat_map, is_some, nat_lt, slice_get, slice_set}
 use Rattle.std.proofs.lemmas.Bool.{and_left, cases_eq, ne_eqb}
 use Rattle.std.proofs.lemmas.List.{map-append, reverse-append}
 use Rattle.std.proofs.lemmas.Option.{slice_get_within}
@@ -109,7 +109,7 @@ same_way true x = refl
 same_way false x = refl
 
 pub came_untimed : (line : LineId) (number count : ℕ) (outcome : Outcome) (came : List MessageOn)
-    → came_after 0 None (told_packet 0 line number count (Ok outcome)) came ≡ came
+    → came_after 0 None (told_packet 0 line number count 0 (Ok outcome)) came ≡ came
 came_untimed line number count (Taken new repeated) came =
     same_way ((0 == 0) && has_numbers number count) came
 came_untimed line number count Heartbeat came = refl
@@ -117,12 +117,19 @@ came_untimed line number count Ended came = refl
 came_untimed line number count Ahead came =
     same_way ((0 == 0) && has_numbers number count) came
 
-module _ (venue : ℕ) (line : LineId) (number count : ℕ) where
-  abbrev pub Heard : ℕ → Outcome → SinkEvent
-  Heard at outcome = told_packet at line number count (Ok outcome)
+-- where its time isn't known nothing is noted, whatever is missing
+noted_by : (time : Option ℕ) (line : LineId) (is_missing lacks : Bool)
+    → (is_some time ≡ true → is_missing ≡ lacks)
+    → note_by time line is_missing ≡ note_by time line lacks
+noted_by None line is_missing lacks same = refl
+noted_by (Some clock) line is_missing lacks same = ap (note_by (Some clock) line) (same refl)
+
+module _ (venue : ℕ) (line : LineId) (number count bytes : ℕ) where
+  abbrev pub Heard : ℕ → ℕ → Outcome → SinkEvent
+  Heard at size outcome = told_packet at line number count size (Ok outcome)
 
   came_elsewhere : (n : ℕ) (time : Option ℕ) (outcome : Outcome) (came : List MessageOn)
-      → (venue == n) ≡ false → came_after n time (Heard venue outcome) came ≡ came
+      → (venue == n) ≡ false → came_after n time (Heard venue bytes outcome) came ≡ came
   came_elsewhere n time (Taken new repeated) came apart =
       ap (λ (b : Bool). cond b (come_by line number count time came) came)
       (and_left (venue == n) (has_numbers number count) apart)
@@ -134,7 +141,7 @@ module _ (venue : ℕ) (line : LineId) (number count : ℕ) where
 
   pub heard_elsewhere : (n : ℕ) (time : Option ℕ) (outcome : Outcome) (events : List TimedEvent)
       → (n ≡ venue → ⊥)
-      → IsElsewhere n (timed_event time (Heard venue outcome)) events
+      → IsElsewhere n (timed_event time (Heard venue bytes outcome)) events
   heard_elsewhere n time outcome events apart =
       let not : (venue == n) ≡ false = ne_eqb venue n (λ e. apart (sym e)) in
       record {
@@ -144,8 +151,8 @@ module _ (venue : ℕ) (line : LineId) (number count : ℕ) where
       }
 
   came_here : (time : Option ℕ) (outcome : Outcome) (came : List MessageOn)
-      → came_after 0 time (Heard 0 outcome) came ≡ came_after venue time
-      (Heard venue outcome) came
+      → came_after 0 time (Heard 0 0 outcome) came ≡ came_after venue time
+      (Heard venue bytes outcome) came
   came_here time (Taken new repeated) came =
       ap (λ (b : Bool). cond (b && has_numbers number count) (come_by line number count time came)
       came)
@@ -160,25 +167,26 @@ module _ (venue : ℕ) (line : LineId) (number count : ℕ) where
   pub heard_here : (window : ℕ) (time : Option ℕ) (outcome : Outcome)
       (events : List TimedEvent)
       (old new : VenueTiming) (is_missing : Bool)
-      → nat_lt 0 (missing_after venue (timed_event time (Heard venue outcome)
-      ∷ events)) ≡ is_missing
+      → (is_some time ≡ true → is_missing
+      ≡ nat_lt 0 (missing_after venue (timed_event time (Heard venue bytes outcome) ∷ events)))
       → ((window : ℕ) (came : List MessageOn) (a b : List ℕ) → AreLeadsOf window came a b old.leads
-      → AreLeadsOf window (came_after 0 time (Heard 0 outcome) came) a b new.leads)
+      → AreLeadsOf window (came_after 0 time (Heard 0 0 outcome) came) a b new.leads)
       → ((notes : List MissingAt) → AreSpellsOf notes old.missing
       → AreSpellsOf (note_by time line is_missing ++ notes) new.missing)
       → ((notes : List MissingAt) → AreLastHeard notes old.heard
       → AreLastHeard (note_by time line is_missing ++ notes) new.heard)
-      → HearsNumbers (Heard 0 outcome) old.numbers new.numbers
+      → HearsNumbers (Heard 0 0 outcome) old.numbers new.numbers
       → IsVenueTimed window venue events old
-      → IsVenueTimed window venue (timed_event time (Heard venue outcome) ∷ events) new
+      → IsVenueTimed window venue (timed_event time (Heard venue bytes outcome) ∷ events) new
   heard_here window time outcome events old new is_missing lacks leads missing heard numbers timed =
-      let e = timed_event time (Heard venue outcome) in
-      let came : came_after 0 time (Heard 0 outcome) (came_at venue events) ≡ came_at venue (e
+      let e = timed_event time (Heard venue bytes outcome) in
+      let came : came_after 0 time (Heard 0 0 outcome) (came_at venue events) ≡ came_at venue (e
       ∷ events) =
       came_here time outcome (came_at venue events) in
       let notes : note_by time line is_missing
       ++ notes_told venue events ≡ notes_told venue (e ∷ events) =
-      ap (λ (b : Bool). note_by time line b ++ notes_told venue events) (sym lacks)
+      ap (λ (ns : List MissingAt). ns ++ notes_told venue events)
+      (noted_by time line is_missing (nat_lt 0 (missing_after venue (e ∷ events))) lacks)
       ∙ ap (λ (b : Bool). cond b (note_by time line
       (nat_lt 0 (missing_after venue (e ∷ events)))) []
       ++ notes_told venue events) (sym (eq-eqb venue venue refl)) in
@@ -192,7 +200,7 @@ module _ (venue : ℕ) (line : LineId) (number count : ℕ) where
             (missing (notes_told venue events) timed.missing);
         heard = subst (λ (ns : List MissingAt). AreLastHeard ns new.heard) notes
             (heard (notes_told venue events) timed.heard);
-        numbers = numbers_heard window venue line number count outcome time events
+        numbers = numbers_heard window venue line number count bytes outcome time events
             old.numbers new.numbers numbers timed.numbers;
       }
 
@@ -296,6 +304,7 @@ pub timed_more : (window : ℕ) (events : List TimedEvent) (e : TimedEvent)
     (old new : TimedStats) (is_missing : Bool)
     → IsTimed window events old → new.stats ≡ counted_after old.stats (e.event ∷ [])
     → ((venue : ℕ) → venue < length new.stats.venues → is_accepted venue e.event ≡ true
+    → is_some e.time ≡ true
     → is_missing ≡ nat_lt 0 (missing_in (slice_index_or new.stats.venues venue nothing_at)))
     → length new.times.venues.items ≡ length old.times.venues.items
     → (IsLacking (length old.times.venues.items) is_missing e events
@@ -311,8 +320,8 @@ timed_more window events e old new is_missing timed counted lacks kept takes =
           (untimed (reverse (e ∷ events))))
           (sym kept) counts;
       times = takes
-          (λ venue within accepted.
-          lacks venue (subst (λ (k : ℕ). venue < k) (sym venues) within) accepted
+          (λ venue within accepted known.
+          lacks venue (subst (λ (k : ℕ). venue < k) (sym venues) within) accepted known
           ∙ ap (nat_lt 0) (missing_counted n venue new.stats (e ∷ events) counts within))
           timed.times;
     }
@@ -381,44 +390,33 @@ rate_more length time count messages old new same more came is =
 
 -- ---- venues after a packet, or after a renewal, by its answer
 
-pub heard_answered : (window venue : ℕ) (line : LineId) (number count : ℕ) (time : Option ℕ)
-    (events : List TimedEvent)
-    (is_missing : Bool) (old new : List VenueTiming) (answer : Result Outcome LineFault)
-    (outcome : Outcome)
-    → answer ≡ Ok outcome
-    → IsLacking (length old) is_missing
-    (timed_event time (told_packet venue line number count answer)) events
-    → (IsLacking (length old) is_missing
-    (timed_event time (told_packet venue line number count (Ok outcome))) events
-    → AreVenuesTimed window events old
-    → AreVenuesTimed window (timed_event time (told_packet venue line number count (Ok outcome))
-    ∷ events) new)
-    → AreVenuesTimed window events old
-    → AreVenuesTimed window (timed_event time (told_packet venue line number count answer) ∷ events)
-    new
-heard_answered window venue line number count time events is_missing old new answer outcome
-    is lacking more timed =
-    subst (λ (a : Result Outcome LineFault).
-    AreVenuesTimed window (timed_event time (told_packet venue line number count a) ∷ events) new)
-    (sym is)
-    (more (subst (λ (a : Result Outcome LineFault).
-    IsLacking (length old) is_missing (timed_event time (told_packet venue line number count a))
-    events) is lacking) timed)
+module _ (window venue : ℕ) (line : LineId) (number count bytes : ℕ) (time : Option ℕ)
+    (events : List TimedEvent) where
+  abbrev Answered : Result Outcome LineFault → TimedEvent
+  Answered answer = timed_event time (told_packet venue line number count bytes answer)
 
-pub refused_timed : (window venue : ℕ) (line : LineId) (number count : ℕ) (time : Option ℕ)
-    (events : List TimedEvent)
-    (vs : List VenueTiming) (answer : Result Outcome LineFault) (fault : LineFault)
-    → answer ≡ Err fault
-    → AreVenuesTimed window events vs
-    → AreVenuesTimed window (timed_event time (told_packet venue line number count answer) ∷ events)
-    vs
-refused_timed window venue line number count time events vs answer fault is timed =
-    subst (λ (a : Result Outcome LineFault).
-    AreVenuesTimed window (timed_event time (told_packet venue line number count a) ∷ events) vs)
-    (sym is)
-    (all_untouched window (timed_event time (told_packet venue line number count (Err fault)))
-    events vs
-    (λ n within. record { came = refl; begins = refl; accepted = refl }) timed)
+  pub heard_answered : (is_missing : Bool) (old new : List VenueTiming)
+      (answer : Result Outcome LineFault) (outcome : Outcome) → answer ≡ Ok outcome
+      → IsLacking (length old) is_missing (Answered answer) events
+      → (IsLacking (length old) is_missing (Answered (Ok outcome)) events
+      → AreVenuesTimed window events old
+      → AreVenuesTimed window (Answered (Ok outcome) ∷ events) new)
+      → AreVenuesTimed window events old
+      → AreVenuesTimed window (Answered answer ∷ events) new
+  heard_answered is_missing old new answer outcome is lacking more timed =
+      subst (λ (a : Result Outcome LineFault). AreVenuesTimed window (Answered a ∷ events) new)
+      (sym is)
+      (more (subst (λ (a : Result Outcome LineFault).
+      IsLacking (length old) is_missing (Answered a) events) is lacking) timed)
+
+  pub refused_timed : (vs : List VenueTiming) (answer : Result Outcome LineFault)
+      (fault : LineFault) → answer ≡ Err fault → AreVenuesTimed window events vs
+      → AreVenuesTimed window (Answered answer ∷ events) vs
+  refused_timed vs answer fault is timed =
+      subst (λ (a : Result Outcome LineFault). AreVenuesTimed window (Answered a ∷ events) vs)
+      (sym is)
+      (all_untouched window (Answered (Err fault)) events vs
+      (λ n within. record { came = refl; begins = refl; accepted = refl }) timed)
 
 pub renewal_refused : (window venue : ℕ) (time : Option ℕ) (events : List TimedEvent)
     (vs : List VenueTiming)

@@ -4,6 +4,7 @@ use Rattle.feed_types.specs.Symbols.{name_of}
 use Rattle.feed_text.specs.SinkEvents.{TimedEvent}
 use Rattle.run_settings.specs.declared.formats.RowFormat.{RowFormat}
 use Rattle.run_settings.specs.declared.formats.RowFormat.TheVariants.{Csv, Json}
+use Rattle.run_settings.specs.declared.formats.TimeStyle.{TimeStyle}
 use Rattle.run_settings.specs.declared.period_style.PeriodStyle.{PeriodStyle}
 use Rattle.replay_reports.specs.declared.best_times.best_time_row.BestTimeRow.{BestTimeRow}
 use Rattle.replay_reports.specs.best_times.BestShares.{best_time_row}
@@ -13,13 +14,14 @@ use Rattle.replay_reports.specs.gaps.GapTexts.{seconds_or}
 use Rattle.replay_reports.specs.periods.Periods.{period_ended}
 use Rattle.replay_reports.specs.periods.RowHistories.{rows_told}
 use Rattle.best_rows.specs.Quoting.{csv_text, quoted}
-use Rattle.best_rows.specs.Times.{json_known_time, seconds_text}
+use Rattle.best_rows.specs.Times.{json_known_time, seconds_text, time_text}
 
 -- ---- a row: shares and the spread with nine places
 
-unfoldable pub best_time_csv : BestTimeRow → List ℕ
-best_time_csv r =
-    seconds_text r.begin ++ codes "," ++ csv_text (name_of r.symbol) ++ codes "," ++ decimal r.venue
+unfoldable pub best_time_csv : TimeStyle → BestTimeRow → List ℕ
+best_time_csv style r =
+    time_text style r.begin ++ codes "," ++ csv_text (name_of r.symbol)
+    ++ codes "," ++ decimal r.venue
     ++ codes "," ++ seconds_text r.bid ++ codes "," ++ seconds_text r.offer
     ++ codes "," ++ seconds_text r.normal ++ codes "," ++ seconds_text r.locked
     ++ codes "," ++ seconds_text r.crossed ++ codes "," ++ seconds_or [] r.spread ++ codes "\n"
@@ -35,12 +37,12 @@ best_time_json r =
     ++ json_known_time r.begin ++ codes "}\n"
 
 abbrev pub best_time_text : RowFormat → BestTimeRow → List ℕ
-best_time_text Csv r = best_time_csv r
+best_time_text (Csv style) r = best_time_csv style r
 best_time_text Json r = best_time_json r
 
 -- what stands before the first row
 abbrev pub best_time_header : RowFormat → List ℕ
-best_time_header Csv = codes "time,symbol,venue,bid,offer,normal,locked,crossed,spread\n"
+best_time_header (Csv style) = codes "time,symbol,venue,bid,offer,normal,locked,crossed,spread\n"
 best_time_header Json = []
 
 -- ---- the rows of a period

@@ -24,39 +24,44 @@ use Rattle.replay_reports.specs.declared.counts.venue_stats.VenueStats.{VenueSta
 
 -- it is a datagram of the line
 abbrev pub is_on_line : LineId → SinkEvent → Bool
-is_on_line line (told_packet venue on number count answer) = is_same_line on line
+is_on_line line (told_packet venue on number count bytes answer) = is_same_line on line
 is_on_line line (told_refusal venue on fault) = is_same_line on line
 is_on_line line _ = false
 
 abbrev pub is_taken_packet : SinkEvent → Bool
-is_taken_packet (told_packet venue on number count (Ok (Taken new repeated))) = true
+is_taken_packet (told_packet venue on number count bytes (Ok (Taken new repeated))) = true
 is_taken_packet _ = false
 
 abbrev pub is_heartbeat : SinkEvent → Bool
-is_heartbeat (told_packet venue on number count (Ok Heartbeat)) = true
+is_heartbeat (told_packet venue on number count bytes (Ok Heartbeat)) = true
 is_heartbeat _ = false
 
 abbrev pub is_end_packet : SinkEvent → Bool
-is_end_packet (told_packet venue on number count (Ok Ended)) = true
+is_end_packet (told_packet venue on number count bytes (Ok Ended)) = true
 is_end_packet _ = false
 
 abbrev pub is_ahead_packet : SinkEvent → Bool
-is_ahead_packet (told_packet venue on number count (Ok Ahead)) = true
+is_ahead_packet (told_packet venue on number count bytes (Ok Ahead)) = true
 is_ahead_packet _ = false
 
 -- how many messages came first with it
 abbrev pub first_in : SinkEvent → ℕ
-first_in (told_packet venue on number count (Ok (Taken new repeated))) = new
+first_in (told_packet venue on number count bytes (Ok (Taken new repeated))) = new
 first_in _ = 0
 
 -- how many of its messages had come before
 abbrev pub repeated_in : SinkEvent → ℕ
-repeated_in (told_packet venue on number count (Ok (Taken new repeated))) = repeated
+repeated_in (told_packet venue on number count bytes (Ok (Taken new repeated))) = repeated
 repeated_in _ = 0
+
+-- how many bytes its datagram has, where it is a packet
+abbrev pub bytes_in : SinkEvent → ℕ
+bytes_in (told_packet venue on number count bytes answer) = bytes
+bytes_in _ = 0
 
 -- the code of the fault for which it was refused, 0 where it wasn't
 abbrev pub refusal_code : SinkEvent → ℕ
-refusal_code (told_packet venue on number count (Err fault)) = line_fault_code fault
+refusal_code (told_packet venue on number count bytes (Err fault)) = line_fault_code fault
 refusal_code (told_refusal venue on fault) = code_of fault
 refusal_code _ = 0
 
@@ -77,6 +82,7 @@ refused_after s codes = record {
 abbrev pub line_after : LineStats → List SinkEvent → LineStats
 line_after s datagrams = record {
   packets = count_after s.packets (length datagrams);
+  bytes = count_after s.bytes (sum_by bytes_in datagrams);
   taken = count_after s.taken (count_by is_taken_packet datagrams);
   first = count_after s.first (sum_by first_in datagrams);
   repeated = count_after s.repeated (sum_by repeated_in datagrams);
@@ -150,7 +156,7 @@ new_past before number count new = min new (count - min count (before + 1 - numb
 -- for those that were given up, and with a next session numbers begin anew. Of messages that were
 -- told of before, none counts.
 abbrev pub session_told : SessionStats → SinkEvent → SessionStats
-session_told s (told_packet venue on number count (Ok (Taken new repeated))) =
+session_told s (told_packet venue on number count bytes (Ok (Taken new repeated))) =
     record s { come = count_after s.come (new_past s.before number count new) }
 session_told s (told_item venue numbered) = record s {
   last = numbered.number;
@@ -163,7 +169,7 @@ session_told s _ = s
 
 -- the same after an event before all that is counted: what it tells of was told of before
 abbrev pub session_begun : SessionStats → SinkEvent → SessionStats
-session_begun s (told_packet venue on number count (Ok outcome)) =
+session_begun s (told_packet venue on number count bytes (Ok outcome)) =
     record s { before = highest_after outcome s.before (count_after (number - 1) count) }
 session_begun s (told_skip venue number (Ok done)) =
     record s { before = max s.before (number - 1) }
@@ -198,7 +204,7 @@ sequence_heard s number count outcome = record {
 -- The sequence after one more event. A packet that is refused tells nothing, a next session begins
 -- at 1, and after a skip to a number a sequence of which nothing came begins there.
 abbrev pub sequence_told : SequenceStats → SinkEvent → SequenceStats
-sequence_told s (told_packet venue on number count (Ok outcome)) =
+sequence_told s (told_packet venue on number count bytes (Ok outcome)) =
     sequence_heard s number count outcome
 sequence_told s (told_renewal venue (Ok ordinal)) = record s { begun = false; highest = 0 }
 sequence_told s (told_skip venue number (Ok done)) =
@@ -214,14 +220,14 @@ sequence_begun s number count outcome = record s {
 
 -- the same after an event that is counted, or is one before
 abbrev pub sequence_after : SequenceStats → SinkEvent → SequenceStats
-sequence_after s (told_before (told_packet venue on number count (Ok outcome))) =
+sequence_after s (told_before (told_packet venue on number count bytes (Ok outcome))) =
     sequence_begun s number count outcome
 sequence_after s (told_before event) = sequence_told s event
 sequence_after s event = sequence_told s event
 
 -- it is no packet of another line
 abbrev pub concerns_line : LineId → SinkEvent → Bool
-concerns_line line (told_packet venue on number count answer) = is_same_line on line
+concerns_line line (told_packet venue on number count bytes answer) = is_same_line on line
 concerns_line line (told_before event) = concerns_line line event
 concerns_line line _ = true
 

@@ -1,11 +1,11 @@
 -- The counts as JSON (RFC 8259): one object, its numbers as numbers.
-use Rattle.std.specs.Prelude.{ℕ, ◌==◌, List, [], ◌∷◌, ◌++◌, codes, length, if◌then◌else◌}
+use Rattle.std.specs.Prelude.{ℕ, List, [], ◌∷◌, ◌++◌, codes, length}
 use Rattle.replay_reports.specs.declared.counts.gap_stats.SequenceStats.{SequenceStats}
 use Rattle.replay_reports.specs.declared.counts.line_stats.LineStats.{LineStats}
 use Rattle.replay_reports.specs.declared.counts.stats.StateStats.{StateStats}
 use Rattle.replay_reports.specs.declared.counts.venue_stats.VenueStats.{VenueStats}
 use Rattle.replay_reports.specs.counts.Counts.{missing_in}
-use Rattle.replay_reports.specs.counts.Pieces.{first_texts, pieces_text}
+use Rattle.replay_reports.specs.counts.Pieces.{first_texts, pieces_text, venue_label}
 use Rattle.replay_reports.specs.counts.Stats.{Counted, nothing_at}
 
 -- a line's counts, its packets after this label
@@ -13,6 +13,7 @@ abbrev pub line_json : List ℕ → LineStats → List ℕ
 line_json label s =
     pieces_text 0 (
     (label, s.packets)
+    ∷ (codes ",\"bytes\":", s.bytes)
     ∷ (codes ",\"taken\":", s.taken)
     ∷ (codes ",\"first\":", s.first)
     ∷ (codes ",\"repeated\":", s.repeated)
@@ -88,7 +89,7 @@ counts_json s =
 -- a venue's counts, after a comma where it isn't the first
 abbrev pub venue_json : ℕ → VenueStats → List ℕ
 venue_json place s =
-    pieces_text 0 ((if place == 0 then codes "{\"venue\":" else codes ",{\"venue\":", place) ∷ [])
+    pieces_text 0 ((venue_label place, place) ∷ [])
     ++ (lines_json s ++ (taken_json s ++ counts_json s))
 
 abbrev pub venues_json : List VenueStats → ℕ → List ℕ

@@ -56,7 +56,7 @@ states_after s events = record {
 
 -- it is counted of this venue
 abbrev pub is_at_venue : ℕ → SinkEvent → Bool
-is_at_venue venue (told_packet at line number count answer) = at == venue
+is_at_venue venue (told_packet at line number count bytes answer) = at == venue
 is_at_venue venue (told_refusal at line fault) = at == venue
 is_at_venue venue (told_item at numbered) = at == venue
 is_at_venue venue (told_renewal at answer) = at == venue
@@ -138,6 +138,7 @@ none_refused = record {
 abbrev pub no_packets : LineStats
 no_packets = record {
   packets = 0;
+  bytes = 0;
   taken = 0;
   first = 0;
   repeated = 0;

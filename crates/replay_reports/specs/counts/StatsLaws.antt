@@ -16,7 +16,7 @@ use Rattle.replay_reports.specs.declared.counts.line_stats.Refusals.{Refusals}
 use Rattle.replay_reports.specs.declared.counts.stats.StateStats.{StateStats}
 use Rattle.replay_reports.specs.declared.counts.venue_stats.ItemStats.{ItemStats}
 use Rattle.replay_reports.specs.declared.counts.venue_stats.VenueStats.{VenueStats}
-use Rattle.replay_reports.specs.counts.Counts.{concerns_line, first_in, gaps_after, is_ahead_packet, is_already_so, is_declared, is_end_item, is_end_packet, is_granted_skip, is_halt_item, is_heartbeat, is_item, is_on_line, is_other_item, is_quote_item, is_refused_renewal, is_refused_skip, is_renewal, is_taken_packet, is_trading_item, is_withdrawn, items_after, last_number_after, line_after, line_sequence_after, own_after, refusal_code, refused_after, repeated_in, sequence_after, session_after}
+use Rattle.replay_reports.specs.counts.Counts.{bytes_in, concerns_line, first_in, gaps_after, is_ahead_packet, is_already_so, is_declared, is_end_item, is_end_packet, is_granted_skip, is_halt_item, is_heartbeat, is_item, is_on_line, is_other_item, is_quote_item, is_refused_renewal, is_refused_skip, is_renewal, is_taken_packet, is_trading_item, is_withdrawn, items_after, last_number_after, line_after, line_sequence_after, own_after, refusal_code, refused_after, repeated_in, sequence_after, session_after}
 use Rattle.replay_reports.specs.counts.Sinks.{TakesCounts}
 use Rattle.replay_reports.specs.counts.Stats.{Counted, counted_after, each_venue, is_at_venue, is_change, is_crossed, is_empty_state, is_locked, is_normal, is_one_sided, leads_bid, leads_offer, states_after, untimed, venue_after}
 
@@ -77,6 +77,7 @@ line_twice : (s : LineStats) (xs ys : List SinkEvent)
 line_twice s xs ys =
     let a = raised_twice s.packets (length xs) (length ys)
     ∙ ap (count_after s.packets) (sym (length-append xs ys)) in
+    let i = summed bytes_in s.bytes xs ys in
     let b = counted is_taken_packet s.taken xs ys in
     let c = summed first_in s.first xs ys in
     let d = summed repeated_in s.repeated xs ys in

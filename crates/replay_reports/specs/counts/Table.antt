@@ -19,6 +19,7 @@ abbrev pub packets_rows : LineStats → LineStats → LineStats → List ℕ
 packets_rows a b r =
     rows_text (
     (codes "\n  packets                     ", a.packets, b.packets, r.packets)
+    ∷ (codes "\n    bytes                     ", a.bytes, b.bytes, r.bytes)
     ∷ (codes "\n    with messages taken       ", a.taken, b.taken, r.taken)
     ∷ (codes "\n    heartbeats                ", a.heartbeats, b.heartbeats, r.heartbeats)
     ∷ (codes "\n    ends of session           ", a.ends, b.ends, r.ends)

@@ -2,6 +2,7 @@
 use Rattle.std.specs.Prelude.{ℕ, List, [], ◌∷◌, ◌++◌, codes, decimal, replicate, slice_index_or, Option, None, Some}
 use Rattle.run_settings.specs.declared.formats.RowFormat.{RowFormat}
 use Rattle.run_settings.specs.declared.formats.RowFormat.TheVariants.{Csv, Json}
+use Rattle.run_settings.specs.declared.formats.TimeStyle.{TimeStyle}
 use Rattle.feed_text.specs.SinkEvents.{SinkEvent, TimedEvent}
 use Rattle.replay_reports.specs.declared.gaps.gap_line.GapLine.{GapLine}
 use Rattle.replay_reports.specs.declared.gaps.gap_line.GapLine.TheVariants as lines
@@ -11,7 +12,7 @@ use Rattle.replay_reports.specs.declared.gaps.open_gap.GapEnd.TheVariants as end
 use Rattle.replay_reports.specs.declared.gaps.venue_gaps.EndedGaps.{EndedGaps}
 use Rattle.replay_reports.specs.declared.gaps.venue_gaps.VenueGaps.{VenueGaps}
 use Rattle.replay_reports.specs.gaps.Gaps.{gap_venue, gaps_after_event, gaps_over, no_gaps_yet}
-use Rattle.best_rows.specs.Times.{seconds_text}
+use Rattle.best_rows.specs.Times.{seconds_text, time_text}
 
 -- ---- words
 
@@ -33,18 +34,24 @@ abbrev pub seconds_or : List ℕ → Option ℕ → List ℕ
 seconds_or none None = none
 seconds_or none (Some time) = seconds_text time
 
--- the same in nanoseconds
+-- a time in a style, or nothing where it isn't known
+abbrev pub time_or_nothing : TimeStyle → Option ℕ → List ℕ
+time_or_nothing style None = []
+time_or_nothing style (Some time) = time_text style time
+
+-- a time in nanoseconds, or what stands where it isn't known
 abbrev pub nanos_or : List ℕ → Option ℕ → List ℕ
 nanos_or none None = none
 nanos_or none (Some time) = decimal time
 
 -- ---- rows
 
-unfoldable pub gap_csv : ℕ → GapLine → EndedGap → List ℕ
-gap_csv venue line over =
+unfoldable pub gap_csv : TimeStyle → ℕ → GapLine → EndedGap → List ℕ
+gap_csv style venue line over =
     decimal venue ++ codes "," ++ gap_line_text line ++ codes "," ++ decimal over.gap.first
     ++ codes "," ++ decimal over.gap.last ++ codes "," ++ decimal over.gap.messages
-    ++ codes "," ++ seconds_or [] over.gap.began ++ codes "," ++ seconds_or [] over.ended
+    ++ codes "," ++ time_or_nothing style over.gap.began
+    ++ codes "," ++ time_or_nothing style over.ended
     ++ codes "," ++ gap_end_text over.by ++ codes "\n"
 
 -- two members of an object, a time in seconds and in nanoseconds, null where it isn't known
@@ -71,11 +78,11 @@ gap_json venue line over =
 
 -- what stands before the first row
 abbrev pub gap_header : RowFormat → List ℕ
-gap_header Csv = codes "venue,line,first,last,messages,began,ended,ended_by\n"
+gap_header (Csv style) = codes "venue,line,first,last,messages,began,ended,ended_by\n"
 gap_header Json = []
 
 abbrev pub gap_row : RowFormat → ℕ → GapLine → EndedGap → List ℕ
-gap_row Csv venue line over = gap_csv venue line over
+gap_row (Csv style) venue line over = gap_csv style venue line over
 gap_row Json venue line over = gap_json venue line over
 
 -- the row of a gap, if one is over

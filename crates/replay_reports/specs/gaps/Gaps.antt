@@ -159,7 +159,7 @@ gaps_begun v event = record v {
 
 -- what an event of the venue tells
 abbrev pub gaps_noted : VenueGaps → Option ℕ → SinkEvent → VenueGaps
-gaps_noted v time (told_packet venue line number count (Ok outcome)) =
+gaps_noted v time (told_packet venue line number count bytes (Ok outcome)) =
     gaps_heard v time line number count outcome
 gaps_noted v time (told_item venue numbered) = record v { front = numbered.number }
 gaps_noted v time (told_skip venue number (Ok done)) = gaps_skipped v number
@@ -174,7 +174,7 @@ pass_by v time by = record { front = v.front; time = time; by = by }
 -- gap whose end came before is over with the packet that shows it, and a session and the capture
 -- end what is open.
 abbrev pub pass_after : VenueGaps → Option ℕ → SinkEvent → GapPass
-pass_after v time (told_packet venue line number count answer) = pass_by v time Before
+pass_after v time (told_packet venue line number count bytes answer) = pass_by v time Before
 pass_after v time (told_renewal venue (Ok ordinal)) = pass_by v None Open
 pass_after v time (told_last venue sent a b recovery) = pass_by v None Open
 pass_after v time _ = pass_by v time v.cause
@@ -215,7 +215,7 @@ AreGapsOver (Some ended) over = ended ≡ over
 
 -- the venue that an event is of, if gaps have a part in it
 abbrev pub gap_venue : SinkEvent → Option ℕ
-gap_venue (told_packet venue line number count answer) = Some venue
+gap_venue (told_packet venue line number count bytes answer) = Some venue
 gap_venue (told_item venue numbered) = Some venue
 gap_venue (told_renewal venue answer) = Some venue
 gap_venue (told_skip venue number answer) = Some venue

@@ -10,6 +10,7 @@ use Rattle.replay_reports.specs.declared.periods.period_row.PeriodRow.{PeriodRow
 abbrev pub figures_between : LineStats → LineStats → ℕ → LineFigures
 figures_between before after missing = record {
   packets = after.packets - before.packets;
+  bytes = after.bytes - before.bytes;
   messages = count_after (after.first - before.first) (after.repeated - before.repeated);
   first = after.first - before.first;
   missing = missing;

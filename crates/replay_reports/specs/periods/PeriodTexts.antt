@@ -4,6 +4,7 @@ use Rattle.feed_types.specs.Text.{line_letter}
 use Rattle.feed_text.specs.SinkEvents.{TimedEvent}
 use Rattle.run_settings.specs.declared.formats.RowFormat.{RowFormat}
 use Rattle.run_settings.specs.declared.formats.RowFormat.TheVariants.{Csv, Json}
+use Rattle.run_settings.specs.declared.formats.TimeStyle.{TimeStyle}
 use Rattle.run_settings.specs.declared.period_style.PeriodStyle.{PeriodStyle}
 use Rattle.replay_reports.specs.declared.counts.venue_stats.VenueStats.{VenueStats}
 use Rattle.replay_reports.specs.declared.periods.period_row.PeriodRow.{PeriodRow}
@@ -12,32 +13,35 @@ use Rattle.replay_reports.specs.counts.Stats.{nothing_at}
 use Rattle.replay_reports.specs.periods.PeriodFigures.{row_of_a, row_of_b}
 use Rattle.replay_reports.specs.periods.Periods.{before_period, counts_told, period_ended}
 use Rattle.replay_reports.specs.periods.RowHistories.{rows_told}
-use Rattle.best_rows.specs.Times.{json_known_time, seconds_text}
+use Rattle.best_rows.specs.Times.{json_known_time, time_text}
 
 -- ---- a row
 
-unfoldable pub period_csv : PeriodRow → List ℕ
-period_csv r =
-    seconds_text r.begin ++ codes "," ++ decimal r.venue ++ (44 ∷ line_letter r.line ∷ 44 ∷ [])
-    ++ decimal r.figures.packets ++ codes "," ++ decimal r.figures.messages
+unfoldable pub period_csv : TimeStyle → PeriodRow → List ℕ
+period_csv style r =
+    time_text style r.begin ++ codes "," ++ decimal r.venue
+    ++ (44 ∷ line_letter r.line ∷ 44 ∷ [])
+    ++ decimal r.figures.packets ++ codes "," ++ decimal r.figures.bytes
+    ++ codes "," ++ decimal r.figures.messages
     ++ codes "," ++ decimal r.figures.first ++ codes "," ++ decimal r.figures.missing ++ codes "\n"
 
 unfoldable pub period_json : PeriodRow → List ℕ
 period_json r =
     codes "{\"venue\":" ++ decimal r.venue ++ codes ",\"line\":\"" ++ (line_letter r.line ∷ [])
     ++ codes "\",\"packets\":" ++ decimal r.figures.packets
+    ++ codes ",\"bytes\":" ++ decimal r.figures.bytes
     ++ codes ",\"messages\":" ++ decimal r.figures.messages
     ++ codes ",\"first\":" ++ decimal r.figures.first
     ++ codes ",\"missing\":" ++ decimal r.figures.missing
     ++ json_known_time r.begin ++ codes "}\n"
 
 abbrev pub period_row_text : RowFormat → PeriodRow → List ℕ
-period_row_text Csv r = period_csv r
+period_row_text (Csv style) r = period_csv style r
 period_row_text Json r = period_json r
 
 -- what stands before the first row
 abbrev pub period_header : RowFormat → List ℕ
-period_header Csv = codes "time,venue,line,packets,messages,first,missing\n"
+period_header (Csv style) = codes "time,venue,line,packets,bytes,messages,first,missing\n"
 period_header Json = []
 
 -- ---- the rows of a period

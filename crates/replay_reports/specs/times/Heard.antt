@@ -6,12 +6,12 @@ use Rattle.feed_text.specs.SinkEvents.{SinkEvent, told_packet, told_renewal}
 
 -- it is a packet of the venue that wasn't refused
 abbrev pub is_accepted : ℕ → SinkEvent → Bool
-is_accepted venue (told_packet at line number count (Ok outcome)) = at == venue
+is_accepted venue (told_packet at line number count bytes (Ok outcome)) = at == venue
 is_accepted venue _ = false
 
 -- the line of a packet
 abbrev pub line_in : SinkEvent → LineId
-line_in (told_packet venue line number count answer) = line
+line_in (told_packet venue line number count bytes answer) = line
 line_in _ = A
 
 -- a next session of the venue begins

@@ -14,18 +14,18 @@ use Rattle.replay_reports.specs.times.Extents.{extent_heard, extent_renewed, no_
 use Rattle.replay_reports.specs.times.Heard.{begins_session, has_numbers, is_accepted}
 
 abbrev pub told_number : SinkEvent → ℕ
-told_number (told_packet venue on number count answer) = number
+told_number (told_packet venue on number count bytes answer) = number
 told_number _ = 0
 
 abbrev pub told_count : SinkEvent → ℕ
-told_count (told_packet venue on number count answer) = count
+told_count (told_packet venue on number count bytes answer) = count
 told_count _ = 0
 
 -- it is a packet of the line that brings messages: that was taken, or is past the window
 abbrev pub brings_on : LineId → SinkEvent → Bool
-brings_on line (told_packet venue on number count (Ok (Taken new repeated))) =
+brings_on line (told_packet venue on number count bytes (Ok (Taken new repeated))) =
     is_same_line on line && has_numbers number count
-brings_on line (told_packet venue on number count (Ok Ahead)) =
+brings_on line (told_packet venue on number count bytes (Ok Ahead)) =
     is_same_line on line && has_numbers number count
 brings_on line _ = false
 

@@ -1,6 +1,6 @@
 -- How a replay's packets run in time, by the timed events that tell of them. Of a list of events
 -- the last one stands first. A packet whose time isn't known has no part in this.
-use Rattle.std.specs.Prelude.{◌≡◌, ℕ, ◌<◌, ◌==◌, ◌&&◌, Bool, true, List, [], ◌∷◌, ◌++◌, flat_map, length, nat_lt, reverse, slice_get, Option, None, Some, Ok, if◌then◌else◌}
+use Rattle.std.specs.Prelude.{◌≡◌, ℕ, ◌<◌, ◌==◌, ◌&&◌, Bool, true, List, [], ◌∷◌, ◌++◌, flat_map, is_some, length, nat_lt, reverse, slice_get, Option, None, Some, Ok, if◌then◌else◌}
 use Rattle.feed_types.specs.declared.line.LineId.{LineId}
 use Rattle.feed_types.specs.declared.line.LineId.TheVariants.{A, B}
 use Rattle.line_arbiter.specs.declared.outcome.Outcome.TheVariants.{Taken, Ahead}
@@ -24,7 +24,7 @@ messages_by (Some clock) count = messages_at clock count ∷ []
 
 -- the messages of a packet, at its time
 abbrev pub messages_of : Option ℕ → SinkEvent → List MessagesAt
-messages_of time (told_packet venue line number count answer) = messages_by time count
+messages_of time (told_packet venue line number count bytes answer) = messages_by time count
 messages_of time _ = []
 
 abbrev pub messages_told : TimedEvent → List MessagesAt
@@ -39,9 +39,9 @@ come_by line number count (Some clock) came = come_on line number count clock ca
 -- the messages of a venue's present session that lines A and B brought, after one more event: those
 -- of a packet that is taken, or past the window
 abbrev pub came_after : ℕ → Option ℕ → SinkEvent → List MessageOn → List MessageOn
-came_after venue time (told_packet at line number count (Ok (Taken new repeated))) came =
+came_after venue time (told_packet at line number count bytes (Ok (Taken new repeated))) came =
     if at == venue && has_numbers number count then come_by line number count time came else came
-came_after venue time (told_packet at line number count (Ok Ahead)) came =
+came_after venue time (told_packet at line number count bytes (Ok Ahead)) came =
     if at == venue && has_numbers number count then come_by line number count time came else came
 came_after venue time (told_renewal at (Ok ordinal)) came = if at == venue then [] else came
 came_after venue time _ came = came
@@ -84,10 +84,11 @@ notes_told venue (last ∷ earlier) =
     else [])
     ++ notes_told venue earlier
 
--- it is said so whether messages are missing after a packet of one of the first venues, this many
+-- it is said so whether messages are missing after a packet of one of the first venues, this many,
+-- where its time is known
 abbrev pub IsLacking : ℕ → Bool → TimedEvent → List TimedEvent → Type 0
 IsLacking venues is_missing e events =
-    (venue : ℕ) → venue < venues → is_accepted venue e.event ≡ true
+    (venue : ℕ) → venue < venues → is_accepted venue e.event ≡ true → is_some e.time ≡ true
     → is_missing ≡ nat_lt 0 (missing_after venue (e ∷ events))
 
 -- ---- what is held after these events

@@ -8,10 +8,10 @@ ghost use Rattle.replay_reports.specs.best_times.Standing.{Piece};
 
 use crate::best_times::best_figures::{BestFigures, MOST_SPREAD};
 use crate::gaps::gap_texts::{put_csv_seconds, put_json_seconds};
-use best_rows::{put_csv_name, put_known_time, put_quoted, put_seconds};
+use best_rows::{put_csv_name, put_known_time, put_quoted, put_seconds, put_time};
 use feed_text::{LineBuffer, put_bytes, put_number};
 use feed_types::SymbolName;
-use run_settings::{PeriodLength, RowFormat};
+use run_settings::{PeriodLength, RowFormat, TimeStyle};
 
 /// A billion: the shares of which rows speak.
 const WHOLE: u128 = 1_000_000_000;
@@ -92,12 +92,12 @@ impl BestTimeRow {
     }
 }
 
-/// Appends a row of comma-separated values.
-fn put_csv(text: &mut LineBuffer, row: &BestTimeRow)
+/// Appends a row of comma-separated values, with its time in the style.
+fn put_csv(text: &mut LineBuffer, style: TimeStyle, row: &BestTimeRow)
     requires { 257 ≤ text.old.room }
-    ensures { Appends text.old (best_time_csv row.now) 257 text.new }
+    ensures { Appends text.old (best_time_csv style row.now) 257 text.new }
 {
-    put_seconds(text, row.begin);
+    put_time(text, style, row.begin);
     put_bytes(text, *b",");
     put_csv_name(text, row.symbol);
     put_bytes(text, *b",");
@@ -148,7 +148,7 @@ pub(crate) fn put_best_time(text: &mut LineBuffer, format: RowFormat, row: &Best
     ensures { Appends text.old (best_time_text format row.now) 365 text.new }
 {
     match format {
-        RowFormat::Csv => put_csv(text, row),
+        RowFormat::Csv(style) => put_csv(text, style, row),
         RowFormat::Json => put_json(text, row),
     }
 }
@@ -159,7 +159,7 @@ pub(crate) fn put_best_time_header(text: &mut LineBuffer, format: RowFormat)
     ensures { Appends text.old (best_time_header format) 64 text.new }
 {
     match format {
-        RowFormat::Csv => put_bytes(
+        RowFormat::Csv(_) => put_bytes(
             text,
             *b"time,symbol,venue,bid,offer,normal,locked,crossed,spread\n",
         ),

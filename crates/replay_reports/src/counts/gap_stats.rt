@@ -129,8 +129,8 @@ impl GapStats {
         count: u16,
         answer: &Result<Outcome, LineFault>,
     )
-        ensures { (venue : ℕ) → self.new
-            ≡ gaps_after self.old (told_packet venue line number count answer.now ∷ []) }
+        ensures { (venue bytes : ℕ) → self.new
+            ≡ gaps_after self.old (told_packet venue line number count bytes answer.now ∷ []) }
     {
         match answer {
             Ok(outcome) => self.hear_on(line, number, count, outcome),
@@ -141,8 +141,8 @@ impl GapStats {
     /// Counts a packet that wasn't refused.
     #[inline(always)]
     fn hear_on(&mut self, line: LineId, number: u64, count: u16, outcome: &Outcome)
-        ensures { (venue : ℕ) → self.new
-            ≡ gaps_after self.old (told_packet venue line number count (Ok outcome.now) ∷ []) }
+        ensures { (venue bytes : ℕ) → self.new ≡ gaps_after self.old
+            (told_packet venue line number count bytes (Ok outcome.now) ∷ []) }
     {
         self.all.hear(number, count, outcome);
         match line {
@@ -154,8 +154,8 @@ impl GapStats {
 
     /// Takes a packet that wasn't refused before all that is counted.
     fn begin_on(&mut self, line: LineId, number: u64, count: u16, outcome: &Outcome)
-        ensures { (venue : ℕ) → self.new ≡ gaps_after self.old
-            (told_before (told_packet venue line number count (Ok outcome.now)) ∷ []) }
+        ensures { (venue bytes : ℕ) → self.new ≡ gaps_after self.old
+            (told_before (told_packet venue line number count bytes (Ok outcome.now)) ∷ []) }
     {
         self.all.begin(number, count, outcome);
         match line {

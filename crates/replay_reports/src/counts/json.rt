@@ -4,7 +4,7 @@ ghost use Rattle.replay_reports.specs.counts.Json.{counts_json, gaps_json, items
 
 use crate::counts::gap_stats::SequenceStats;
 use crate::counts::line_stats::LineStats;
-use crate::counts::pieces::put_pieces;
+use crate::counts::pieces::{put_pieces, venue_label};
 use crate::counts::stats::{StateStats, Stats};
 use crate::counts::venue_stats::VenueStats;
 use std::alloc::AllocError;
@@ -15,6 +15,7 @@ fn put_line(text: &mut Vec<u8>, label: &str, s: &LineStats) -> Result<(), AllocE
 {
     let pieces = [
         (label, s.packets),
+        (",\"bytes\":", s.bytes),
         (",\"taken\":", s.taken),
         (",\"first\":", s.first),
         (",\"repeated\":", s.repeated),
@@ -115,12 +116,7 @@ fn put_counts(text: &mut Vec<u8>, s: &VenueStats) -> Result<(), AllocError>
 fn put_venue(text: &mut Vec<u8>, place: usize, s: &VenueStats) -> Result<(), AllocError>
     ensures { OnOk result (text.new.items ≡ text.old.items ++ venue_json place s.now) }
 {
-    let label = if place == 0 {
-        "{\"venue\":"
-    } else {
-        ",{\"venue\":"
-    };
-    put_pieces(text, 0, &[(label, place as u64)])?;
+    put_pieces(text, 0, &[(venue_label(place), place as u64)])?;
     put_lines(text, s)?;
     put_taken(text, s)?;
     put_counts(text, s)

@@ -56,6 +56,8 @@ impl Refusals {
 pub struct LineStats {
     /// The datagrams.
     pub packets: u64,
+    /// The bytes of those that are packets.
+    pub bytes: u64,
     /// Those whose messages were taken.
     pub taken: u64,
     /// The messages that this line brought first.
@@ -71,13 +73,14 @@ pub struct LineStats {
 }
 
 impl LineStats {
-    /// Counts a packet by its answer.
+    /// Counts a packet, whose datagram has this many bytes, by its answer.
     #[inline(always)]
-    pub(crate) fn add_packet(&mut self, answer: &Result<Outcome, LineFault>)
+    pub(crate) fn add_packet(&mut self, bytes: u64, answer: &Result<Outcome, LineFault>)
         ensures { (line : LineId) (venue number count : ℕ) → self.new
-            ≡ line_after self.old (told_packet venue line number count answer.now ∷ []) }
+            ≡ line_after self.old (told_packet venue line number count bytes answer.now ∷ []) }
     {
         self.packets = raised(self.packets, 1);
+        self.bytes = raised(self.bytes, bytes);
         match answer {
             Ok(Outcome::Taken { new, repeated }) => {
                 self.taken = raised(self.taken, 1);

@@ -35,6 +35,12 @@ fn put_packets(text: &mut Vec<u8>, s: &VenueStats) -> Result<(), AllocError>
             r.packets,
         ),
         (
+            "\n    bytes                     ",
+            a.bytes,
+            b.bytes,
+            r.bytes,
+        ),
+        (
             "\n    with messages taken       ",
             a.taken,
             b.taken,

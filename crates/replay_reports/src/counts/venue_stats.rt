@@ -70,8 +70,8 @@ impl SessionStats {
     /// Counts a packet with this many messages from a number on.
     #[inline(always)]
     fn add_packet(&mut self, number: u64, count: u16, answer: &Result<Outcome, LineFault>)
-        ensures { (line : LineId) (venue : ℕ) → self.new
-            ≡ session_told self.old (told_packet venue line number count answer.now) }
+        ensures { (line : LineId) (venue bytes : ℕ) → self.new
+            ≡ session_told self.old (told_packet venue line number count bytes answer.now) }
     {
         match answer {
             Ok(Outcome::Taken { new, .. }) => {
@@ -140,8 +140,8 @@ impl SessionStats {
 
     /// Takes a packet before all that is counted.
     fn begin_past(&mut self, number: u64, count: u16, answer: &Result<Outcome, LineFault>)
-        ensures { (line : LineId) (venue : ℕ) → self.new
-            ≡ session_begun self.old (told_packet venue line number count answer.now) }
+        ensures { (line : LineId) (venue bytes : ℕ) → self.new
+            ≡ session_begun self.old (told_packet venue line number count bytes answer.now) }
     {
         match answer {
             Ok(outcome) => {
@@ -229,24 +229,25 @@ impl VenueStats {
         told.saturating_sub(self.session.come)
     }
 
-    /// Counts a packet that was answered.
+    /// Counts a packet that was answered, whose datagram has this many bytes.
     #[inline(always)]
     fn add_packet(
         &mut self,
         line: LineId,
         number: u64,
         count: u16,
+        bytes: u64,
         answer: &Result<Outcome, LineFault>,
     )
         ensures { (venue : ℕ) → self.new
-            ≡ own_after self.old (told_packet venue line number count answer.now ∷ []) }
+            ≡ own_after self.old (told_packet venue line number count bytes answer.now ∷ []) }
     {
         self.session.add_packet(number, count, answer);
         self.gaps.add_packet(line, number, count, answer);
         match line {
-            LineId::A => self.a.add_packet(answer),
-            LineId::B => self.b.add_packet(answer),
-            LineId::Recovery => self.recovery.add_packet(answer),
+            LineId::A => self.a.add_packet(bytes, answer),
+            LineId::B => self.b.add_packet(bytes, answer),
+            LineId::Recovery => self.recovery.add_packet(bytes, answer),
         }
     }
 
@@ -305,10 +306,11 @@ impl VenueStats {
                 line,
                 number,
                 count,
+                bytes,
                 answer,
                 ..
             } => {
-                self.add_packet(*line, *number, *count, answer);
+                self.add_packet(*line, *number, *count, *bytes, answer);
             }
             Event::Refusal { line, fault, .. } => self.add_refusal(*line, *fault),
             Event::Item { item, .. } => self.add_item(item),

@@ -1,15 +1,15 @@
 //! The row of a gap, in each format.
 ghost use Rattle.std.specs.Prelude.{◌≤◌, [], codes, decimal};
 ghost use Rattle.feed_text.specs.Pages.{Appends};
-ghost use Rattle.replay_reports.specs.gaps.GapTexts.{began_json, ended_json, gap_csv, gap_end_text, gap_header, gap_json, gap_line_text, gap_row_of, gap_rows_of, nanos_or, seconds_or};
+ghost use Rattle.replay_reports.specs.gaps.GapTexts.{began_json, ended_json, gap_csv, gap_end_text, gap_header, gap_json, gap_line_text, gap_row_of, gap_rows_of, nanos_or, seconds_or, time_or_nothing};
 
 use crate::gaps::gap_line::GapLine;
 use crate::gaps::open_gap::{EndedGap, GapEnd};
 use crate::gaps::venue_gaps::EndedGaps;
-use best_rows::put_seconds;
+use best_rows::{put_seconds, put_time};
 use feed_text::{LineBuffer, put_bytes, put_number};
 use feed_types::VenueId;
-use run_settings::RowFormat;
+use run_settings::{RowFormat, TimeStyle};
 
 /// Appends a venue's number.
 fn put_venue(text: &mut LineBuffer, venue: VenueId)
@@ -57,6 +57,17 @@ pub(crate) fn put_csv_seconds(text: &mut LineBuffer, time: Option<u64>)
     }
 }
 
+/// Appends a time in the style, or nothing where it isn't known.
+fn put_csv_time(text: &mut LineBuffer, style: TimeStyle, time: Option<u64>)
+    requires { 30 ≤ text.old.room }
+    ensures { Appends text.old (time_or_nothing style time) 30 text.new }
+{
+    match time {
+        None => {}
+        Some(time) => put_time(text, style, time),
+    }
+}
+
 /// Appends a time as seconds, or null where it isn't known.
 pub(crate) fn put_json_seconds(text: &mut LineBuffer, time: Option<u64>)
     requires { 30 ≤ text.old.room }
@@ -79,10 +90,10 @@ fn put_json_nanos(text: &mut LineBuffer, time: Option<u64>)
     }
 }
 
-/// Appends the row of a gap as comma-separated values.
-fn put_csv(text: &mut LineBuffer, venue: VenueId, line: GapLine, over: &EndedGap)
+/// Appends the row of a gap as comma-separated values, with its times in the style.
+fn put_csv(text: &mut LineBuffer, style: TimeStyle, venue: VenueId, line: GapLine, over: &EndedGap)
     requires { 159 ≤ text.old.room }
-    ensures { Appends text.old (gap_csv venue line over.now) 159 text.new }
+    ensures { Appends text.old (gap_csv style venue line over.now) 159 text.new }
 {
     put_venue(text, venue);
     put_bytes(text, *b",");
@@ -94,9 +105,9 @@ fn put_csv(text: &mut LineBuffer, venue: VenueId, line: GapLine, over: &EndedGap
     put_bytes(text, *b",");
     put_number(text, over.gap.messages);
     put_bytes(text, *b",");
-    put_csv_seconds(text, over.gap.began);
+    put_csv_time(text, style, over.gap.began);
     put_bytes(text, *b",");
-    put_csv_seconds(text, over.ended);
+    put_csv_time(text, style, over.ended);
     put_bytes(text, *b",");
     put_end(text, over.by);
     put_bytes(text, *b"\n");
@@ -161,7 +172,7 @@ fn put_gap(
         return;
     };
     match format {
-        RowFormat::Csv => put_csv(text, venue, line, over),
+        RowFormat::Csv(style) => put_csv(text, style, venue, line, over),
         RowFormat::Json => put_json(text, venue, line, over),
     }
 }
@@ -183,7 +194,7 @@ pub(crate) fn put_gap_header(text: &mut LineBuffer, format: RowFormat)
     ensures { Appends text.old (gap_header format) 52 text.new }
 {
     match format {
-        RowFormat::Csv => put_bytes(
+        RowFormat::Csv(_) => put_bytes(
             text,
             *b"venue,line,first,last,messages,began,ended,ended_by\n",
         ),

@@ -9,6 +9,8 @@ use crate::counts::line_stats::{LineStats, raised};
 pub struct LineFigures {
     /// The datagrams.
     pub packets: u64,
+    /// The bytes of those that are packets.
+    pub bytes: u64,
     /// The messages that were taken, or had come before.
     pub messages: u64,
     /// Those that the line brought first.
@@ -27,6 +29,7 @@ impl LineFigures {
         let repeated = after.repeated.saturating_sub(before.repeated);
         LineFigures {
             packets: after.packets.saturating_sub(before.packets),
+            bytes: after.bytes.saturating_sub(before.bytes),
             messages: raised(first, repeated),
             first,
             missing,

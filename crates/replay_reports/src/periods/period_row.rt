@@ -6,10 +6,10 @@ ghost use Rattle.replay_reports.specs.periods.PeriodTexts.{period_csv, period_he
 
 use crate::counts::venue_stats::VenueStats;
 use crate::periods::line_figures::LineFigures;
-use best_rows::{put_known_time, put_seconds};
+use best_rows::{put_known_time, put_time};
 use feed_text::{LineBuffer, put_bytes, put_number};
 use feed_types::LineId;
-use run_settings::RowFormat;
+use run_settings::{RowFormat, TimeStyle};
 
 /// The row of a line in a period.
 #[derive(Clone, Copy, Debug, PartialEq, Eq)]
@@ -50,16 +50,18 @@ impl PeriodRow {
     }
 }
 
-/// Appends a row of comma-separated values.
-fn put_csv(text: &mut LineBuffer, row: PeriodRow)
-    requires { 138 ≤ text.old.room }
-    ensures { Appends text.old (period_csv row) 138 text.new }
+/// Appends a row of comma-separated values, with its time in the style.
+fn put_csv(text: &mut LineBuffer, style: TimeStyle, row: PeriodRow)
+    requires { 159 ≤ text.old.room }
+    ensures { Appends text.old (period_csv style row) 159 text.new }
 {
-    put_seconds(text, row.begin);
+    put_time(text, style, row.begin);
     put_bytes(text, *b",");
     put_number(text, row.venue);
     put_bytes(text, [b',', row.line.letter(), b',']);
     put_number(text, row.figures.packets);
+    put_bytes(text, *b",");
+    put_number(text, row.figures.bytes);
     put_bytes(text, *b",");
     put_number(text, row.figures.messages);
     put_bytes(text, *b",");
@@ -71,8 +73,8 @@ fn put_csv(text: &mut LineBuffer, row: PeriodRow)
 
 /// Appends a row as an object on a line.
 fn put_json(text: &mut LineBuffer, row: PeriodRow)
-    requires { 234 ≤ text.old.room }
-    ensures { Appends text.old (period_json row) 234 text.new }
+    requires { 263 ≤ text.old.room }
+    ensures { Appends text.old (period_json row) 263 text.new }
 {
     put_bytes(text, *b"{\"venue\":");
     put_number(text, row.venue);
@@ -80,6 +82,8 @@ fn put_json(text: &mut LineBuffer, row: PeriodRow)
     put_bytes(text, [row.line.letter()]);
     put_bytes(text, *b"\",\"packets\":");
     put_number(text, row.figures.packets);
+    put_bytes(text, *b",\"bytes\":");
+    put_number(text, row.figures.bytes);
     put_bytes(text, *b",\"messages\":");
     put_number(text, row.figures.messages);
     put_bytes(text, *b",\"first\":");
@@ -92,11 +96,11 @@ fn put_json(text: &mut LineBuffer, row: PeriodRow)
 
 /// Appends a row in the format.
 fn put_row(text: &mut LineBuffer, format: RowFormat, row: PeriodRow)
-    requires { 234 ≤ text.old.room }
-    ensures { Appends text.old (period_row_text format row) 234 text.new }
+    requires { 263 ≤ text.old.room }
+    ensures { Appends text.old (period_row_text format row) 263 text.new }
 {
     match format {
-        RowFormat::Csv => put_csv(text, row),
+        RowFormat::Csv(style) => put_csv(text, style, row),
         RowFormat::Json => put_json(text, row),
     }
 }
@@ -110,8 +114,8 @@ pub(crate) fn put_venue(
     before: &VenueStats,
     after: &VenueStats,
 )
-    requires { 468 ≤ text.old.room }
-    ensures { Appends text.old (venue_rows format begin venue before.now after.now) 468 text.new }
+    requires { 526 ≤ text.old.room }
+    ensures { Appends text.old (venue_rows format begin venue before.now after.now) 526 text.new }
 {
     put_row(text, format, PeriodRow::of_a(begin, venue, before, after));
     put_row(text, format, PeriodRow::of_b(begin, venue, before, after));
@@ -123,7 +127,10 @@ pub(crate) fn put_period_header(text: &mut LineBuffer, format: RowFormat)
     ensures { Appends text.old (period_header format) 64 text.new }
 {
     match format {
-        RowFormat::Csv => put_bytes(text, *b"time,venue,line,packets,messages,first,missing\n"),
+        RowFormat::Csv(_) => put_bytes(
+            text,
+            *b"time,venue,line,packets,bytes,messages,first,missing\n",
+        ),
         RowFormat::Json => {}
     }
 }

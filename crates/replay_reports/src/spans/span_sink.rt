@@ -23,6 +23,9 @@ pub struct SpanSink<K> {
 fn is_told_in(span: &TimeSpan, time: Option<u64>, event: &Event<'_>) -> bool
     ensures { result ≡ is_told_in span.now (timed_event time (told_by event.now)) }
 {
+    if !span.is_bounded() {
+        return true;
+    }
     span.has(time) || ends_all(event)
 }
 

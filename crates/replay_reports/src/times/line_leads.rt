@@ -182,7 +182,7 @@ impl LineLeads {
             → AreLeadsOf window came before_a before_b self.old
             → AreLeadsOf window
             (came_after 0 (Some time)
-            (told_packet 0 packet.line packet.number packet.count (Ok outcome.now)) came)
+            (told_packet 0 packet.line packet.number packet.count 0 (Ok outcome.now)) came)
             before_a before_b self.new }
     {
         match outcome {

@@ -230,7 +230,7 @@ impl LineNumbers {
     #[inline(always)]
     pub(crate) fn hear(&mut self, number: u64, count: u16, outcome: &Outcome)
         ensures { (line : LineId)
-            → HearsOn line (told_packet 0 line number count (Ok outcome.now)) self.old self.new }
+            → HearsOn line (told_packet 0 line number count 0 (Ok outcome.now)) self.old self.new }
     {
         match outcome {
             Outcome::Taken { .. } => self.note_packet(number, count),

@@ -1,7 +1,9 @@
 //! The sink of events that counts them and says how their packets run in time.
-ghost use Rattle.std.specs.Prelude.{◌≡◌, ◌<◌, [], ◌∷◌, IfOk, None, length};
+ghost use Rattle.std.specs.Prelude.{◌≡◌, ◌<◌, ℕ, [], ◌∷◌, IfOk, None, is_some, length, nat_lt, slice_index_or, true};
 ghost use Rattle.feed_text.specs.SinkEvents.{told_before, told_by, timed_event};
-ghost use Rattle.replay_reports.specs.counts.Stats.{nothing_counted};
+ghost use Rattle.replay_reports.specs.counts.Counts.{missing_in};
+ghost use Rattle.replay_reports.specs.counts.Stats.{nothing_at, nothing_counted};
+ghost use Rattle.replay_reports.specs.times.Heard.{is_accepted};
 ghost use Rattle.replay_reports.specs.times.TimedSinks.{TakesTimed};
 ghost use Rattle.replay_reports.specs.times.Timing.{IsTimed};
 
@@ -44,6 +46,20 @@ impl TimedStats {
     }
 }
 
+/// Returns whether messages of the venue are missing to which a packet came at a time that is
+/// known; false where its time isn't known, or the event is no packet.
+#[inline(always)]
+fn lacks_in_time(stats: &Stats, time: Option<u64>, event: &Event<'_>) -> bool
+    ensures { (venue : ℕ) → venue < length stats.now.venues
+        → is_accepted venue (told_by event.now) ≡ true → is_some time ≡ true
+        → result ≡ nat_lt 0 (missing_in (slice_index_or stats.now.venues venue nothing_at)) }
+{
+    match time {
+        Some(_) => stats.lacks(event),
+        None => false,
+    }
+}
+
 impl TimedStats {
     /// Takes an event before all that is told: by it numbers that come are known as those that come
     /// next, and what was told of before isn't missing.
@@ -52,6 +68,16 @@ impl TimedStats {
             (timed_event None (told_before (told_by event.now)) ∷ []) self.new }
     {
         self.stats.begin(event);
+    }
+
+    /// Takes an event.
+    #[inline(always)]
+    fn add(&mut self, time: Option<u64>, event: &Event<'_>)
+        ensures { TakesTimed self.old (timed_event time (told_by event.now) ∷ []) self.new }
+    {
+        self.stats.add(event);
+        let is_missing = lacks_in_time(&self.stats, time, event);
+        self.times.take(time, event, is_missing);
     }
 }
 
@@ -74,9 +100,7 @@ impl EventSink for TimedStats {
 
     #[inline(always)]
     fn take(&mut self, time: Option<u64>, event: &Event<'_>) -> Result<(), SinkStop> {
-        self.stats.add(event);
-        let is_missing = self.stats.lacks(event);
-        self.times.take(time, event, is_missing);
+        self.add(time, event);
         Ok(())
     }
 

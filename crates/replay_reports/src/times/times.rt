@@ -42,7 +42,8 @@ fn new_venues(alloc: Global, count: usize, window: usize) -> Result<Vec<VenueTim
     Ok(venues)
 }
 
-/// Takes a packet of a venue that was answered so, after which messages are missing or not.
+/// Takes a packet of a venue that was answered so, after which messages are missing or not, which
+/// is looked at only where its time is known.
 #[inline(always)]
 fn hear_at(
     venues: &mut Vec<VenueTiming>,
@@ -52,12 +53,12 @@ fn hear_at(
     is_missing: bool,
 )
     ensures length { length venues.new.items ≡ length venues.old.items }
-    ensures timed { (window : ℕ) (events : List TimedEvent)
+    ensures timed { (window bytes : ℕ) (events : List TimedEvent)
         → IsLacking (length venues.old.items) is_missing (timed_event packet.time
-        (told_packet venue packet.line packet.number packet.count (Ok outcome.now))) events
+        (told_packet venue packet.line packet.number packet.count bytes (Ok outcome.now))) events
         → AreVenuesTimed window events venues.old.items
         → AreVenuesTimed window (timed_event packet.time
-        (told_packet venue packet.line packet.number packet.count (Ok outcome.now)) ∷ events)
+        (told_packet venue packet.line packet.number packet.count bytes (Ok outcome.now)) ∷ events)
         venues.new.items }
 {
     let place = venue.index();
@@ -134,12 +135,12 @@ impl Times {
         is_missing: bool,
     )
         ensures count { length self.new.venues.items ≡ length self.old.venues.items }
-        ensures times { (window : ℕ) (events : List TimedEvent)
+        ensures times { (window bytes : ℕ) (events : List TimedEvent)
             → IsLacking (length self.old.venues.items) is_missing (timed_event packet.time
-            (told_packet venue packet.line packet.number packet.count answer.now)) events
+            (told_packet venue packet.line packet.number packet.count bytes answer.now)) events
             → AreTimesOf window events self.old
             → AreTimesOf window (timed_event packet.time
-            (told_packet venue packet.line packet.number packet.count answer.now) ∷ events)
+            (told_packet venue packet.line packet.number packet.count bytes answer.now) ∷ events)
             self.new }
     {
         self.add_messages(packet.time, packet.count);
@@ -165,8 +166,8 @@ impl Times {
         }
     }
 
-    /// Takes an event. Of a packet that wasn't refused `is_missing` says whether its venue lacks
-    /// messages after it.
+    /// Takes an event. Of a packet that wasn't refused and whose time is known `is_missing` says
+    /// whether its venue lacks messages after it.
     #[inline(always)]
     pub(crate) fn take(&mut self, time: Option<u64>, event: &Event<'_>, is_missing: bool)
         ensures count { length self.new.venues.items ≡ length self.old.venues.items }
@@ -183,6 +184,7 @@ impl Times {
                 number,
                 count,
                 answer,
+                ..
             } => {
                 let packet = HeardPacket {
                     line: *line,

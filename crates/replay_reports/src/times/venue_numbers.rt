@@ -48,7 +48,7 @@ impl VenueNumbers {
     /// Takes a packet that was answered so.
     #[inline(always)]
     pub(crate) fn hear(&mut self, line: LineId, number: u64, count: u16, outcome: &Outcome)
-        ensures { HearsNumbers (told_packet 0 line number count (Ok outcome.now))
+        ensures { HearsNumbers (told_packet 0 line number count 0 (Ok outcome.now))
             self.old self.new }
     {
         self.extent.widen(number, count);

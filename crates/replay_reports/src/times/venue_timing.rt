@@ -61,7 +61,7 @@ impl VenueTiming {
             → AreLeadsOf window came before_a before_b self.old.leads
             → AreLeadsOf window
             (came_after 0 (Some time)
-            (told_packet 0 packet.line packet.number packet.count (Ok outcome.now)) came)
+            (told_packet 0 packet.line packet.number packet.count 0 (Ok outcome.now)) came)
             before_a before_b self.new.leads }
         ensures missing { (notes : List MissingAt) → AreSpellsOf notes self.old.missing
             → AreSpellsOf (missing_at time packet.line is_missing ∷ notes) self.new.missing }
@@ -81,14 +81,14 @@ impl VenueTiming {
             → AreLeadsOf window came before_a before_b self.old.leads
             → AreLeadsOf window
             (came_after 0 packet.time
-            (told_packet 0 packet.line packet.number packet.count (Ok outcome.now)) came)
+            (told_packet 0 packet.line packet.number packet.count 0 (Ok outcome.now)) came)
             before_a before_b self.new.leads }
         ensures missing { (notes : List MissingAt) → AreSpellsOf notes self.old.missing
             → AreSpellsOf (note_by packet.time packet.line is_missing ++ notes) self.new.missing }
         ensures heard { (notes : List MissingAt) → AreLastHeard notes self.old.heard
             → AreLastHeard (note_by packet.time packet.line is_missing ++ notes) self.new.heard }
         ensures numbers { HearsNumbers
-            (told_packet 0 packet.line packet.number packet.count (Ok outcome.now))
+            (told_packet 0 packet.line packet.number packet.count 0 (Ok outcome.now))
             self.old.numbers self.new.numbers }
     {
         self.numbers

@@ -11,8 +11,8 @@ returns c =
     let last = appends_more (appends_more first c.put_bytes-3.ensures) c.put_number-2.ensures in
     let messages = appends_more (appends_more last c.put_bytes-4.ensures) c.put_number-3.ensures in
     let began = appends_more (appends_more messages c.put_bytes-5.ensures)
-    c.put_csv_seconds.ensures in
+    c.put_csv_time.ensures in
     let ended = appends_more (appends_more began c.put_bytes-6.ensures)
-    c.put_csv_seconds-2.ensures in
+    c.put_csv_time-2.ensures in
     appends_more (appends_more (appends_more ended c.put_bytes-7.ensures) c.put_end.ensures)
     c.put_bytes-8.ensures

@@ -8,11 +8,11 @@ unfolding period_csv
 returns c =
     let letter = appends_as c.put_bytes-2.ensures (ap (λ (l : ℕ). 44 ∷ l ∷ 44 ∷ [])
     c.letter.ensures) in
-    let venue = appends_more (appends_more c.put_seconds.ensures c.put_bytes.ensures)
+    let venue = appends_more (appends_more c.put_time.ensures c.put_bytes.ensures)
     c.put_number.ensures in
     let packets = appends_more (appends_more venue letter) c.put_number-2.ensures in
-    let messages = appends_more (appends_more packets c.put_bytes-3.ensures) c.put_number-3.ensures
-    in
-    let first = appends_more (appends_more messages c.put_bytes-4.ensures) c.put_number-4.ensures in
-    let missing = appends_more (appends_more first c.put_bytes-5.ensures) c.put_number-5.ensures in
-    appends_more missing c.put_bytes-6.ensures
+    let bytes = appends_more (appends_more packets c.put_bytes-3.ensures) c.put_number-3.ensures in
+    let messages = appends_more (appends_more bytes c.put_bytes-4.ensures) c.put_number-4.ensures in
+    let first = appends_more (appends_more messages c.put_bytes-5.ensures) c.put_number-5.ensures in
+    let missing = appends_more (appends_more first c.put_bytes-6.ensures) c.put_number-6.ensures in
+    appends_more missing c.put_bytes-7.ensures

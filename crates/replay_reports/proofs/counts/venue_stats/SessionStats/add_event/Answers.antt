@@ -7,7 +7,7 @@ use Rattle.replay_reports.proofs.counts.venue_stats.SessionStats.add_event.Goals
 pub returns-in-Packet : goal.returns-in-Packet
 returns-in-Packet c =
     subst (λ (e : Event). c.add_packet.new.self ≡ session_told c.args.self.now (told_by e))
-    (sym c.in-Packet.is) (c.add_packet.ensures c.in-Packet.line c.in-Packet.venue)
+    (sym c.in-Packet.is) (c.add_packet.ensures c.in-Packet.line c.in-Packet.venue c.in-Packet.bytes)
 
 pub returns-in-Item : goal.returns-in-Item
 returns-in-Item c =

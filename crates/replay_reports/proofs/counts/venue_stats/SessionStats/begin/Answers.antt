@@ -7,4 +7,4 @@ use Rattle.replay_reports.proofs.counts.venue_stats.SessionStats.begin.Goals as 
 pub returns-in-Packet : goal.returns-in-Packet
 returns-in-Packet c =
     subst (λ (e : Event). c.begin_past.new.self ≡ session_begun c.args.self.now (told_by e))
-    (sym c.in-Packet.is) (c.begin_past.ensures c.in-Packet.line c.in-Packet.venue)
+    (sym c.in-Packet.is) (c.begin_past.ensures c.in-Packet.line c.in-Packet.venue c.in-Packet.bytes)

@@ -12,7 +12,7 @@ pub returns-in-Taken : goal.returns-in-Taken
 returns-in-Taken c = λ line.
     let number = c.args.number in
     let count = c.args.count in
-    subst (λ (o : Outcome). HearsOn line (told_packet 0 line number count (Ok o)) c.args.self.now
+    subst (λ (o : Outcome). HearsOn line (told_packet 0 line number count 0 (Ok o)) c.args.self.now
     c.note_packet.new.self) (sym c.in-Taken.is)
     (λ window messages brought came are.
     subst (λ (b : Bool). AreNumbersAfter (b && has_numbers number count) window came number count
@@ -23,7 +23,7 @@ pub returns-in-Ahead : goal.returns-in-Ahead
 returns-in-Ahead c = λ line.
     let number = c.args.number in
     let count = c.args.count in
-    subst (λ (o : Outcome). HearsOn line (told_packet 0 line number count (Ok o)) c.args.self.now
+    subst (λ (o : Outcome). HearsOn line (told_packet 0 line number count 0 (Ok o)) c.args.self.now
     c.note_packet-in-Ahead.new.self) (sym c.in-Ahead.is)
     (λ window messages brought came are.
     subst (λ (b : Bool). AreNumbersAfter (b && has_numbers number count) window came number count
@@ -32,12 +32,12 @@ returns-in-Ahead c = λ line.
 
 pub returns-in-Heartbeat : goal.returns-in-Heartbeat
 returns-in-Heartbeat c = λ line.
-    subst (λ (o : Outcome). HearsOn line (told_packet 0 line c.args.number c.args.count (Ok o))
+    subst (λ (o : Outcome). HearsOn line (told_packet 0 line c.args.number c.args.count 0 (Ok o))
     c.args.self.now c.args.self.now) (sym c.in-Heartbeat.is)
     (λ window messages brought came are. are)
 
 pub returns-in-Ended : goal.returns-in-Ended
 returns-in-Ended c = λ line.
-    subst (λ (o : Outcome). HearsOn line (told_packet 0 line c.args.number c.args.count (Ok o))
+    subst (λ (o : Outcome). HearsOn line (told_packet 0 line c.args.number c.args.count 0 (Ok o))
     c.args.self.now c.args.self.now) (sym c.in-Ended.is)
     (λ window messages brought came are. are)

@@ -13,6 +13,6 @@ returns c =
       times = λ window earlier timed.
           timed_more window earlier (timed_event None (told_before event)) old
           (record { stats = c.begin.new.self; times = old.times; has_times = old.has_times }) false
-          timed c.begin.ensures (λ venue within accepted. absurd cc) refl
+          timed c.begin.ensures (λ venue within accepted known. absurd cc) refl
           (λ lacking times. begun_timed window earlier old.times event times);
     }

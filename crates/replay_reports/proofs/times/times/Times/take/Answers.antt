@@ -10,7 +10,7 @@ returns-in-Packet-clause-times c = λ window events lacking timed.
     let p = c.in-Packet in
     subst (λ (e : Event). AreTimesOf window (timed_event c.args.time (told_by e) ∷ events)
     c.hear.new.self) (sym p.is)
-    (c.hear.ensures.times window events
+    (c.hear.ensures.times window p.bytes events
     (subst (λ (e : Event). IsLacking (length c.args.self.now.venues.items) c.args.is_missing
     (timed_event c.args.time (told_by e)) events) p.is lacking)
     timed)

@@ -14,7 +14,7 @@ returns-in-A c =
     let o = c.args.outcome.now in
     let old = c.args.self.now in
     let new : VenueNumbers = record { a = c.hear.new.self; b = old.b; extent = c.widen.new.self } in
-    subst (λ (l : LineId). HearsNumbers (told_packet 0 l number count (Ok o)) old new)
+    subst (λ (l : LineId). HearsNumbers (told_packet 0 l number count 0 (Ok o)) old new)
     (sym c.in-A.is)
     (record {
       a = c.hear.ensures A;
@@ -33,7 +33,7 @@ returns-in-B c =
       b = c.hear-in-B.new.self;
       extent = c.widen.new.self;
     } in
-    subst (λ (l : LineId). HearsNumbers (told_packet 0 l number count (Ok o)) old new)
+    subst (λ (l : LineId). HearsNumbers (told_packet 0 l number count 0 (Ok o)) old new)
     (sym c.in-B.is)
     (record {
       a = hears_none A B number count o old.a refl;
@@ -48,7 +48,7 @@ returns-in-Recovery c =
     let o = c.args.outcome.now in
     let old = c.args.self.now in
     let new : VenueNumbers = record { a = old.a; b = old.b; extent = c.widen.new.self } in
-    subst (λ (l : LineId). HearsNumbers (told_packet 0 l number count (Ok o)) old new)
+    subst (λ (l : LineId). HearsNumbers (told_packet 0 l number count 0 (Ok o)) old new)
     (sym c.in-Recovery.is)
     (record {
       a = hears_none A Recovery number count o old.a refl;

@@ -1,10 +1,10 @@
 use Rattle.std.proofs.Common.{refl}
 use Rattle.feed_text.specs.SinkEvents.{timed_event, told_by}
 use Rattle.replay_reports.proofs.Timed.{timed_more}
-use Rattle.replay_reports.proofs.times.timed_stats.TimedStatsEventSink.take.Goals as goal
+use Rattle.replay_reports.proofs.times.timed_stats.TimedStats.add.Goals as goal
 
-pub returns-clause-took : goal.returns-clause-took
-returns-clause-took c = record {
+pub returns : goal.returns
+returns c = record {
   counts = c.add.ensures;
   same = refl;
   times = λ window earlier timed.
@@ -13,8 +13,8 @@ returns-clause-took c = record {
         stats = c.add.new.self;
         times = c.take.new.self;
         has_times = c.args.self.now.has_times;
-      }) c.lacks-is_missing.result timed
+      }) c.lacks_in_time-is_missing.result timed
       c.add.ensures
-      c.lacks-is_missing.ensures
+      c.lacks_in_time-is_missing.ensures
       c.take.ensures.count (c.take.ensures.times window earlier);
 }
