@@ -8,7 +8,7 @@ use Rattle.clap.specs.Faults.{fault_of}
 use Rattle.clap.specs.declared.error.kind.ErrorKind.{ErrorKind}
 use Rattle.clap.specs.declared.error.kind.ErrorKind.TheVariants.{DisplayHelp, DisplayVersion, OutOfMemory}
 use Rattle.command_words.specs.CapturedLines.{HasInputFault, NamesInput}
-use Rattle.command_words.specs.CommandLine.{GivesNoConversion, GivesNoDiscovery, IsAccepted, IsCommand, IsRefused, RefusesBy, format_refusal_by, lines_refusal_by, senders_refusal_by, span_refusal_by, stats_refusal_by, values_of}
+use Rattle.command_words.specs.CommandLine.{GivesNoConversion, GivesNoDiscovery, IsAccepted, IsCommand, IsRefused, RefusesBy, format_refusal_by, lines_refusal_by, senders_refusal_by, span_refusal_by, stats_refusal_by, style_refusal_by, values_of}
 use Rattle.command_words.specs.FeedRequests.{GivesFeed}
 use Rattle.command_words.specs.ListenRequests.{GivesBadListenStats, GivesListenStats, GivesNoListening, ListensInNoFormat, ListensToNoSenders}
 use Rattle.command_words.specs.declared.listen_format.ListenFormatFault.{ListenFormatFault}
@@ -16,11 +16,14 @@ use Rattle.command_words.specs.declared.listen_format.ListenFormatFault.TheVaria
 use Rattle.command_words.specs.StatsFormats.{HasListenStatsFault, NamesListenStats}
 use Rattle.run_settings.specs.declared.listen_stats.ListenStats.{ListenStats}
 use Rattle.command_words.specs.OptionValues.{IsCount, IsFlag, IsGivenCount, IsWindowOf}
-use Rattle.command_words.specs.RunRequests.{GivesBadFormat, GivesBestsAlone, GivesCounted, GivesNoRun, GivesNoSpan, GivesNoStats, GivesNoStatsOutput, GivesNone, GivesOutput, GivesSpan, GivesStatsOutput, bests_by}
+use Rattle.command_words.specs.RunRequests.{GivesBadFormat, GivesBestsAlone, GivesCounted, GivesNoRun, GivesNoSpan, GivesNoStats, GivesNoStatsOutput, GivesNoStyle, GivesNone, GivesOutput, GivesSpan, GivesStatsOutput, GivesStyled, bests_by}
 use Rattle.command_words.specs.SpanWords.{HasSpanFault, NamesSpan}
 use Rattle.command_words.specs.declared.span_words.SpanFault.{SpanFault}
 use Rattle.command_words.specs.declared.span_words.SpanFault.TheVariants as spans
 use Rattle.command_words.specs.BestFormats.{HasFormatFault, NamesFormat}
+use Rattle.command_words.specs.TimeStyles.{HasStyleFault, NamesStyle}
+use Rattle.command_words.specs.declared.time_style.TimeStyleFault.{TimeStyleFault}
+use Rattle.command_words.specs.declared.time_style.TimeStyleFault.TheVariants as styles
 use Rattle.command_words.specs.StatsOutputs.{HasStatsFault, NamesStatsOutput}
 use Rattle.command_words.specs.declared.best_format.FormatFault.{FormatFault}
 use Rattle.command_words.specs.Commands.{nbbo_app}
@@ -141,13 +144,82 @@ gives_bad_listen_stats rows seconds text (Err fault) given e told = record {
   fault = subst (λ (t : Option Text). HasListenStatsFault seconds t) e told;
 }
 
+-- the output that the options ask for, with the style of its times, and that they give none
+pub gives_style : (plain : RunOutput) (times list shown known : Option Text)
+    (r : Result RunOutput TimeStyleFault) → times ≡ shown → list ≡ known
+    → IfOk r (NamesStyle plain times list) → IfOk r (NamesStyle plain shown known)
+gives_style plain times list shown known (Ok output) t l named = rw (← t, ← l) named
+gives_style plain times list shown known (Err fault) t l named = tt
+
+pub gives_style_fault : (plain : RunOutput) (times list shown known : Option Text)
+    (r : Result RunOutput TimeStyleFault) → times ≡ shown → list ≡ known
+    → IfErr r (HasStyleFault plain times list) → IfErr r (HasStyleFault plain shown known)
+gives_style_fault plain times list shown known (Ok output) t l has = tt
+gives_style_fault plain times list shown known (Err fault) t l has = rw (← t, ← l) has
+
+-- a fault of the style is the refusal, where the settings of the feed and the output are right
+no_style : (rows : List Row) (IsPlain : RunOutput → Type 0) (plain : RunOutput)
+    (fault : TimeStyleFault) → IsPlain plain
+    → HasStyleFault plain (first_of (codes "times") rows) (first_of (codes "lines") rows) fault
+    → GivesNoStyle rows IsPlain fault
+no_style rows IsPlain plain fault prints has =
+    record { plain = plain; given = prints; has = has }
+
+pub GivesNoRun-style : (rows : List Row) (IsPlain : RunOutput → Type 0) (IsFault : Type 0)
+    (feed : FeedSettings) (plain : RunOutput) (fault : TimeStyleFault) → GivesFeed rows feed
+    → IsPlain plain
+    → HasStyleFault plain (first_of (codes "times") rows) (first_of (codes "lines") rows) fault
+    → GivesNoRun rows IsPlain IsFault (style_refusal_by fault)
+GivesNoRun-style rows IsPlain IsFault feed plain styles.BadStyle given prints has = (
+  feed.sessions.items,
+  given.sessions,
+  (
+    feed.symbols.items,
+    given.symbols,
+    no_style rows IsPlain plain styles.BadStyle prints has,
+  ),
+)
+GivesNoRun-style rows IsPlain IsFault feed plain styles.TimesWithoutCsv given prints has = (
+  feed.sessions.items,
+  given.sessions,
+  (
+    feed.symbols.items,
+    given.symbols,
+    no_style rows IsPlain plain styles.TimesWithoutCsv prints has,
+  ),
+)
+GivesNoRun-style rows IsPlain IsFault feed plain styles.TimesWithoutLines given prints has = (
+  feed.sessions.items,
+  given.sessions,
+  (
+    feed.symbols.items,
+    given.symbols,
+    no_style rows IsPlain plain styles.TimesWithoutLines prints has,
+  ),
+)
+
+pub GivesNoStats-style : (rows : List Row) (feed : FeedSettings) (plain : RunOutput)
+    (fault : TimeStyleFault) → GivesFeed rows feed → GivesStatsOutput rows plain
+    → HasStyleFault plain (first_of (codes "times") rows) (first_of (codes "lines") rows) fault
+    → GivesNoStats rows (style_refusal_by fault)
+GivesNoStats-style rows feed plain styles.BadStyle given prints has =
+    GivesNoRun-style rows (GivesStatsOutput rows) (GivesNoStatsOutput rows stats.BadFormat)
+    feed plain styles.BadStyle given prints has
+GivesNoStats-style rows feed plain styles.TimesWithoutCsv given prints has =
+    GivesNoRun-style rows (GivesStatsOutput rows) (GivesNoStatsOutput rows stats.BadFormat)
+    feed plain styles.TimesWithoutCsv given prints has
+GivesNoStats-style rows feed plain styles.TimesWithoutLines given prints has =
+    GivesNoRun-style rows (GivesStatsOutput rows) (GivesNoStatsOutput rows stats.BadFormat)
+    feed plain styles.TimesWithoutLines given prints has
+
 -- a fault of the list of lines is the refusal, where the settings of the feed and the output are
 -- right
-pub GivesNoRun-lines : (rows : List Row) (IsOutput : RunOutput → Type 0) (IsFault : Type 0)
+pub GivesNoRun-lines : (rows : List Row) (IsPlain : RunOutput → Type 0) (IsFault : Type 0)
     (feed : FeedSettings) (output : RunOutput) (fault : LinesFault) → GivesFeed rows feed
-    → IsOutput output → HasInputFault (first_of (codes "lines") rows) (length feed.sessions.items)
-    fault → GivesNoRun rows IsOutput IsFault (lines_refusal_by fault)
-GivesNoRun-lines rows IsOutput IsFault feed output lines.BadLines given prints fault = (
+    → GivesStyled rows IsPlain output
+    → HasInputFault (first_of (codes "lines") rows) (length feed.sessions.items)
+    fault → GivesNoRun rows IsPlain IsFault (lines_refusal_by fault)
+GivesNoRun-lines rows IsPlain IsFault feed output lines.BadLines given prints fault = (
   feed.sessions.items,
   given.sessions,
   (
@@ -156,7 +228,7 @@ GivesNoRun-lines rows IsOutput IsFault feed output lines.BadLines given prints f
     (output, prints, fault),
   ),
 )
-GivesNoRun-lines rows IsOutput IsFault feed output lines.NoMemory given prints fault = tt
+GivesNoRun-lines rows IsPlain IsFault feed output lines.NoMemory given prints fault = tt
 
 -- what stats prints by its options
 pub gives_stats_output : (rows : List Row) (gaps : Bool) (every format list : Option Text)
@@ -191,7 +263,7 @@ GivesNoStats-output rows feed stats.GapsWithEvery given fault =
     (feed.sessions.items, given.sessions, (feed.symbols.items, given.symbols, fault))
 
 pub GivesNoStats-lines : (rows : List Row) (feed : FeedSettings) (output : RunOutput)
-    (fault : LinesFault) → GivesFeed rows feed → GivesStatsOutput rows output
+    (fault : LinesFault) → GivesFeed rows feed → GivesStyled rows (GivesStatsOutput rows) output
     → HasInputFault (first_of (codes "lines") rows) (length feed.sessions.items) fault
     → GivesNoStats rows (lines_refusal_by fault)
 GivesNoStats-lines rows feed output lines.BadLines given prints fault =
@@ -273,38 +345,44 @@ has_no_span rows IsOutput feed output input fault given prints named has = (
   ),
 )
 
-pub GivesNoRun-span : (rows : List Row) (IsOutput : RunOutput → Type 0) (IsFault : Type 0)
+pub GivesNoRun-span : (rows : List Row) (IsPlain : RunOutput → Type 0) (IsFault : Type 0)
     (feed : FeedSettings) (output : RunOutput) (input : RunInput) (fault : SpanFault)
-    → GivesFeed rows feed → IsOutput output
+    → GivesFeed rows feed → GivesStyled rows IsPlain output
     → NamesInput (first_of (codes "lines") rows) (length feed.sessions.items) input
     → HasSpanFault output (first_of (codes "from") rows) (first_of (codes "to") rows)
     (first_of (codes "lines") rows) fault
-    → GivesNoRun rows IsOutput IsFault (span_refusal_by fault)
-GivesNoRun-span rows IsOutput IsFault feed output input spans.BadTime given prints named has =
-    has_no_span rows IsOutput feed output input spans.BadTime given prints named has
-GivesNoRun-span rows IsOutput IsFault feed output input spans.ToBeforeFrom given prints named has =
-    has_no_span rows IsOutput feed output input spans.ToBeforeFrom given prints named has
-GivesNoRun-span rows IsOutput IsFault feed output input spans.SpanOfLines given prints named has =
-    has_no_span rows IsOutput feed output input spans.SpanOfLines given prints named has
-GivesNoRun-span rows IsOutput IsFault feed output input spans.SpanWithoutLines given prints named
-    has = has_no_span rows IsOutput feed output input spans.SpanWithoutLines given prints named has
+    → GivesNoRun rows IsPlain IsFault (span_refusal_by fault)
+GivesNoRun-span rows IsPlain IsFault feed output input spans.BadTime given prints named has =
+    has_no_span rows (GivesStyled rows IsPlain) feed output input spans.BadTime given prints
+    named has
+GivesNoRun-span rows IsPlain IsFault feed output input spans.ToBeforeFrom given prints named has =
+    has_no_span rows (GivesStyled rows IsPlain) feed output input spans.ToBeforeFrom given prints
+    named has
+GivesNoRun-span rows IsPlain IsFault feed output input spans.SpanOfLines given prints named has =
+    has_no_span rows (GivesStyled rows IsPlain) feed output input spans.SpanOfLines given prints
+    named has
+GivesNoRun-span rows IsPlain IsFault feed output input spans.SpanWithoutLines given prints named
+    has = has_no_span rows (GivesStyled rows IsPlain) feed output input spans.SpanWithoutLines
+    given prints named has
 
 pub GivesNoStats-span : (rows : List Row) (feed : FeedSettings) (output : RunOutput)
-    (input : RunInput) (fault : SpanFault) → GivesFeed rows feed → GivesStatsOutput rows output
+    (input : RunInput) (fault : SpanFault) → GivesFeed rows feed
+    → GivesStyled rows (GivesStatsOutput rows) output
     → NamesInput (first_of (codes "lines") rows) (length feed.sessions.items) input
     → HasSpanFault output (first_of (codes "from") rows) (first_of (codes "to") rows)
     (first_of (codes "lines") rows) fault → GivesNoStats rows (span_refusal_by fault)
 GivesNoStats-span rows feed output input spans.BadTime given prints named has =
-    has_no_span rows (GivesStatsOutput rows) feed output input spans.BadTime given prints named has
+    has_no_span rows (GivesStyled rows (GivesStatsOutput rows)) feed output input spans.BadTime
+    given prints named has
 GivesNoStats-span rows feed output input spans.ToBeforeFrom given prints named has =
-    has_no_span rows (GivesStatsOutput rows) feed output input spans.ToBeforeFrom given prints named
-    has
+    has_no_span rows (GivesStyled rows (GivesStatsOutput rows)) feed output input spans.ToBeforeFrom
+    given prints named has
 GivesNoStats-span rows feed output input spans.SpanOfLines given prints named has =
-    has_no_span rows (GivesStatsOutput rows) feed output input spans.SpanOfLines given prints named
-    has
+    has_no_span rows (GivesStyled rows (GivesStatsOutput rows)) feed output input spans.SpanOfLines
+    given prints named has
 GivesNoStats-span rows feed output input spans.SpanWithoutLines given prints named has =
-    has_no_span rows (GivesStatsOutput rows) feed output input spans.SpanWithoutLines given prints
-    named has
+    has_no_span rows (GivesStyled rows (GivesStatsOutput rows)) feed output input
+    spans.SpanWithoutLines given prints named has
 
 -- a fault of the list of senders is the refusal, where all that is looked at before is right
 pub GivesNoListening-senders : (rows : List Row) (fault : SendersFault)
@@ -319,6 +397,8 @@ pub GivesNoListening-format : (rows : List Row) (fault : ListenFormatFault)
     → ListensInNoFormat rows fault → GivesNoListening rows (format_refusal_by fault)
 GivesNoListening-format rows formats.BadFormat has = inr has
 GivesNoListening-format rows formats.FormatUnfollowed has = has
+GivesNoListening-format rows formats.BadStyle has = has
+GivesNoListening-format rows formats.TimesWithoutCsv has = has
 
 -- one subcommand isn't another one
 not_both : (words : List Text) → IsCommand (codes "listen") words

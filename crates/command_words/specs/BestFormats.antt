@@ -3,14 +3,15 @@ use Rattle.std.specs.Prelude.{◌≡◌, ℕ, Bool, true, false, List, Option, S
 use Rattle.std.specs.Str.{bytes_eq}
 use Rattle.run_settings.specs.declared.formats.BestFormat.{BestFormat}
 use Rattle.run_settings.specs.declared.formats.BestFormat.TheVariants.{Text, Csv, Json}
+use Rattle.run_settings.specs.declared.formats.TimeStyle.TheVariants.{Seconds}
 use Rattle.run_settings.specs.declared.run_output.RunOutput.{RunOutput}
 use Rattle.run_settings.specs.declared.run_output.RunOutput.TheVariants.{Lines, Bests}
 
--- the format of this name
+-- the format of this name, with times in seconds
 abbrev pub format_named : List ℕ → Option BestFormat
 format_named name =
     if bytes_eq name (codes "text") then Some Text
-    else if bytes_eq name (codes "csv") then Some Csv
+    else if bytes_eq name (codes "csv") then Some (Csv Seconds)
     else if bytes_eq name (codes "json") then Some Json else None
 
 -- All lines are printed where the best ones alone aren't asked for, and these by the format that is

@@ -26,13 +26,15 @@ use Rattle.command_words.specs.declared.stats_output.StatsFault.{StatsFault}
 use Rattle.command_words.specs.declared.stats_output.StatsFault.TheVariants as stats
 use Rattle.command_words.specs.declared.symbols.SymbolsFault.{SymbolsFault}
 use Rattle.command_words.specs.declared.symbols.SymbolsFault.TheVariants as symbols
+use Rattle.command_words.specs.declared.time_style.TimeStyleFault.{TimeStyleFault}
+use Rattle.command_words.specs.declared.time_style.TimeStyleFault.TheVariants as styles
 use Rattle.run_settings.specs.declared.formats.StatsFormat.{StatsFormat}
 use Rattle.run_settings.specs.declared.listen_settings.ListenSettings.{ListenSettings}
 use Rattle.run_settings.specs.declared.run_settings.RunSettings.{RunSettings}
 use Rattle.command_words.specs.declared.task.Task.{Task}
 use Rattle.command_words.specs.declared.task.Task.TheVariants.{Run, Convert, Discover, Listen}
 use Rattle.command_words.specs.declared.refusal.Refusal.{Refusal}
-use Rattle.command_words.specs.declared.refusal.Refusal.TheVariants.{Shown, Usage, NotText, BadSession, TooManySessions, BadLines, BadRequest, BadFormat, BadPeriod, EveryWithoutLines, GapsWithEvery, BestsWithoutEvery, BadTime, ToBeforeFrom, SpanOfLines, SpanWithoutLines, BadEnd, KeptUnfollowed, FormatUnfollowed, BadSender, BadMetrics, BadSymbol, TooManySymbols, DuplicateSymbol, NoMemory}
+use Rattle.command_words.specs.declared.refusal.Refusal.TheVariants.{Shown, Usage, NotText, BadSession, TooManySessions, BadLines, BadRequest, BadFormat, BadPeriod, EveryWithoutLines, GapsWithEvery, BestsWithoutEvery, BadTime, ToBeforeFrom, SpanOfLines, SpanWithoutLines, BadTimeStyle, TimesWithoutCsv, TimesWithoutLines, BadEnd, KeptUnfollowed, FormatUnfollowed, BadSender, BadMetrics, BadSymbol, TooManySymbols, DuplicateSymbol, NoMemory}
 use Rattle.run_settings.specs.declared.captured_line.CapturedLine.{CapturedLine}
 use Rattle.command_words.specs.OptionValues.{lines_in, rows_of_command}
 use Rattle.command_words.specs.RunRequests.{Gives, GivesNoStats, GivesNone, GivesStats}
@@ -75,6 +77,11 @@ span_refusal_by spans.ToBeforeFrom = ToBeforeFrom
 span_refusal_by spans.SpanOfLines = SpanOfLines
 span_refusal_by spans.SpanWithoutLines = SpanWithoutLines
 
+abbrev pub style_refusal_by : TimeStyleFault → Refusal
+style_refusal_by styles.BadStyle = BadTimeStyle
+style_refusal_by styles.TimesWithoutCsv = TimesWithoutCsv
+style_refusal_by styles.TimesWithoutLines = TimesWithoutLines
+
 abbrev pub symbols_refusal_by : SymbolsFault → Refusal
 symbols_refusal_by symbols.BadSymbol = BadSymbol
 symbols_refusal_by symbols.TooManySymbols = TooManySymbols
@@ -88,6 +95,8 @@ senders_refusal_by senders.NoMemory = NoMemory
 abbrev pub format_refusal_by : ListenFormatFault → Refusal
 format_refusal_by formats.BadFormat = BadFormat
 format_refusal_by formats.FormatUnfollowed = FormatUnfollowed
+format_refusal_by formats.BadStyle = BadTimeStyle
+format_refusal_by formats.TimesWithoutCsv = TimesWithoutCsv
 
 -- a text that was asked for: help, or the version
 abbrev pub IsAsked : ErrorKind → Type 0
@@ -205,6 +214,9 @@ refusal_text BadTime = codes "nbbo: bad time\n"
 refusal_text ToBeforeFrom = codes "nbbo: --to before --from\n"
 refusal_text SpanOfLines = codes "nbbo: --from or --to without --best-only\n"
 refusal_text SpanWithoutLines = codes "nbbo: --from or --to without --lines\n"
+refusal_text BadTimeStyle = codes "nbbo: bad time style\n"
+refusal_text TimesWithoutCsv = codes "nbbo: --times without rows in csv\n"
+refusal_text TimesWithoutLines = codes "nbbo: --times without --lines\n"
 refusal_text BadEnd = codes "nbbo: bad end\n"
 refusal_text KeptUnfollowed = codes "nbbo: --kept without --follow\n"
 refusal_text FormatUnfollowed = codes "nbbo: --format without --follow\n"

@@ -20,5 +20,6 @@ pub mod StatsFormats
 pub mod PeriodWords
 pub mod StatsOutputs
 pub mod TimeWords
+pub mod TimeStyles
 pub mod SpanWords
 pub mod Symbols

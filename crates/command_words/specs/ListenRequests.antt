@@ -20,7 +20,7 @@ use Rattle.run_settings.specs.declared.listen_stats.ListenStats.{ListenStats}
 use Rattle.run_settings.specs.declared.sender.Senders.{Senders}
 use Rattle.command_words.specs.StatsFormats.{HasListenStatsFault, NamesListenStats}
 use Rattle.command_words.specs.declared.refusal.Refusal.{Refusal}
-use Rattle.command_words.specs.declared.refusal.Refusal.TheVariants.{BadSession, TooManySessions, BadLines, BadRequest, BadFormat, BadEnd, KeptUnfollowed, FormatUnfollowed, BadSender, BadMetrics, BadSymbol, TooManySymbols, DuplicateSymbol, NoMemory}
+use Rattle.command_words.specs.declared.refusal.Refusal.TheVariants.{BadSession, TooManySessions, BadLines, BadRequest, BadFormat, BadEnd, KeptUnfollowed, FormatUnfollowed, BadTimeStyle, TimesWithoutCsv, BadSender, BadMetrics, BadSymbol, TooManySymbols, DuplicateSymbol, NoMemory}
 use Rattle.std.specs.declared.net.socket_addr.SocketAddr.{SocketAddr}
 use Rattle.command_words.specs.OptionValues.{IsCount, IsFlag, IsGivenCount, lines_in, list_in, symbol_words_in}
 use Rattle.command_words.specs.FeedRequests.{GivesFeed, GivesVenues}
@@ -79,7 +79,8 @@ pub record GivesListening (rows : List Row) (settings : ListenSettings) : Type 0
   pub until_input_ends : IsFlag (one_of (codes "until-input-ends") rows) settings.until_input_ends
   pub complete : IsFlag (one_of (codes "complete") rows) settings.complete
   pub follow : IsFlag (one_of (codes "follow") rows) settings.follow
-  pub format : NamesListenFormat settings.follow (first_of (codes "format") rows) settings.format
+  pub format : NamesListenFormat settings.follow (first_of (codes "format") rows)
+      (first_of (codes "times") rows) settings.format
   pub kept : GivesKept rows settings.follow settings.kept
   pub stats : GivesListenStats rows settings.stats
   pub metrics : NamesMetrics (first_of (codes "metrics") rows) settings.metrics
@@ -159,18 +160,19 @@ pub record ListensWithoutStats (rows : List Row) : Type 0 where
   pub served : NamesMetrics (first_of (codes "metrics") rows) metrics
   pub fault : GivesBadListenStats rows
 
--- The format is wrong, where all that is looked at before is right.
+-- The format or the style of times is wrong, where all that is looked at before is right.
 pub record ListensInNoFormat (rows : List Row) (fault : ListenFormatFault) : Type 0 where
   pub before : GivesSenders rows
   pub metrics : Option SocketAddr
   pub served : NamesMetrics (first_of (codes "metrics") rows) metrics
   pub stats : Option ListenStats
   pub counted : GivesListenStats rows stats
-  pub has : HasListenFormatFault before.follow (first_of (codes "format") rows) fault
+  pub has : HasListenFormatFault before.follow (first_of (codes "format") rows)
+      (first_of (codes "times") rows) fault
 
 -- The values of the options of listen give no settings: the sessions are looked at first, then the
 -- lines, the address for requests, the symbols, the rule for ends, how many changes are kept, the
--- senders, the address of metrics, the counts, and the format.
+-- senders, the address of metrics, the counts, and the format with the style of times.
 abbrev pub GivesNoListening : List Row → Refusal → Type 0
 GivesNoListening rows BadSession = sessions_in (list_in rows) ≡ Err sessions.BadSession
 GivesNoListening rows TooManySessions = sessions_in (list_in rows) ≡ Err sessions.TooManySessions
@@ -188,5 +190,7 @@ GivesNoListening rows BadMetrics = ListensWithoutMetrics rows
 GivesNoListening rows BadFormat =
     ListensWithoutStats rows ⊎ ListensInNoFormat rows formats.BadFormat
 GivesNoListening rows FormatUnfollowed = ListensInNoFormat rows formats.FormatUnfollowed
+GivesNoListening rows BadTimeStyle = ListensInNoFormat rows formats.BadStyle
+GivesNoListening rows TimesWithoutCsv = ListensInNoFormat rows formats.TimesWithoutCsv
 GivesNoListening rows NoMemory = Unit {0}
 GivesNoListening rows _ = ⊥

@@ -45,6 +45,10 @@ gaps_rule = flag_rule (codes "gaps")
 abbrev pub format_rule : Rule
 format_rule = valued_rule (codes "format")
 
+-- --times STYLE
+abbrev pub times_rule : Rule
+times_rule = valued_rule (codes "times")
+
 -- --every PERIOD
 abbrev pub every_rule : Rule
 every_rule = valued_rule (codes "every")

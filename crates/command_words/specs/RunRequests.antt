@@ -18,7 +18,10 @@ use Rattle.command_words.specs.SpanWords.{HasSpanFault, NamesSpan}
 use Rattle.command_words.specs.declared.span_words.SpanFault.{SpanFault}
 use Rattle.command_words.specs.declared.span_words.SpanFault.TheVariants as spans
 use Rattle.command_words.specs.declared.refusal.Refusal.{Refusal}
-use Rattle.command_words.specs.declared.refusal.Refusal.TheVariants.{BadLines, BadFormat, BadPeriod, EveryWithoutLines, GapsWithEvery, BestsWithoutEvery, BadTime, ToBeforeFrom, SpanOfLines, SpanWithoutLines}
+use Rattle.command_words.specs.TimeStyles.{HasStyleFault, NamesStyle}
+use Rattle.command_words.specs.declared.time_style.TimeStyleFault.{TimeStyleFault}
+use Rattle.command_words.specs.declared.time_style.TimeStyleFault.TheVariants as styles
+use Rattle.command_words.specs.declared.refusal.Refusal.TheVariants.{BadLines, BadFormat, BadPeriod, EveryWithoutLines, GapsWithEvery, BestsWithoutEvery, BadTime, ToBeforeFrom, SpanOfLines, SpanWithoutLines, BadTimeStyle, TimesWithoutCsv, TimesWithoutLines}
 use Rattle.command_words.specs.OptionValues.{IsCount, IsFlag}
 use Rattle.command_words.specs.FeedRequests.{GivesFeed, GivesFeedOf, GivesNoFeed}
 
@@ -72,6 +75,23 @@ pub record GivesBestsAlone (rows : List Row) : Type 0 where
   pub bests_flag : IsFlag (one_of (codes "bests") rows) bests
   pub none : bests_by bests counted ≡ None
 
+-- The values of the options of replay, or of stats, ask for an output, for which IsPlain says what
+-- it is but for the times of its rows, and for these in a style.
+pub record GivesStyled (rows : List Row) (IsPlain : RunOutput → Type 0) (output : RunOutput)
+    : Type 0 where
+  pub plain : RunOutput
+  pub given : IsPlain plain
+  pub styled : NamesStyle plain (first_of (codes "times") rows) (first_of (codes "lines") rows)
+      output
+
+-- They ask for an output, and for no style of its times.
+pub record GivesNoStyle (rows : List Row) (IsPlain : RunOutput → Type 0) (fault : TimeStyleFault)
+    : Type 0 where
+  pub plain : RunOutput
+  pub given : IsPlain plain
+  pub has : HasStyleFault plain (first_of (codes "times") rows) (first_of (codes "lines") rows)
+      fault
+
 -- The values of the options of replay, or of stats, give the span of this output.
 abbrev pub GivesSpan : List Row → RunOutput → TimeSpan → Type 0
 GivesSpan rows output span =
@@ -106,7 +126,7 @@ pub record Gives (rows : List Row) (settings : RunSettings) : Type 0 where
   pub replayed : GivesReplayed rows settings
   pub journal : IsCount 1000000 (one_of (codes "journal") rows) settings.feed.journal
   pub gaps : IsFlag (one_of (codes "gaps") rows) settings.gaps
-  pub output : GivesOutput rows settings.output
+  pub output : GivesStyled rows (GivesOutput rows) settings.output
   pub span : GivesSpan rows settings.output settings.span
 
 -- The values of the options of stats give these settings: no gap lines are printed, and the journal
@@ -115,24 +135,34 @@ pub record GivesStats (rows : List Row) (settings : RunSettings) : Type 0 where
   pub replayed : GivesReplayed rows settings
   pub journal : settings.feed.journal ≡ 4294967295
   pub gaps : settings.gaps ≡ false
-  pub output : GivesStatsOutput rows settings.output
+  pub output : GivesStyled rows (GivesStatsOutput rows) settings.output
   pub span : GivesSpan rows settings.output settings.span
 
 -- The values of the options of replay, or of stats, give no settings: the sessions are looked at
--- first, then the symbols, the format, for which IsOutput says what it may ask for and IsFault that
--- it is wrong, then the list of lines, and last the span of time; or memory was refused.
-abbrev pub GivesNoRun : List Row → (IsOutput : RunOutput → Type 0) → (IsFault : Type 0) → Refusal
+-- first, then the symbols, the format, for which IsPlain says what it may ask for and IsFault that
+-- it is wrong, then the style of times, the list of lines, and last the span of time; or memory was
+-- refused.
+abbrev pub GivesNoRun : List Row → (IsPlain : RunOutput → Type 0) → (IsFault : Type 0) → Refusal
     → Type 0
-GivesNoRun rows IsOutput IsFault BadFormat = GivesFeedOf rows (λ _. IsFault)
-GivesNoRun rows IsOutput IsFault BadLines =
-    GivesFeedOf rows (λ venues. (output : RunOutput) × IsOutput output
+GivesNoRun rows IsPlain IsFault BadFormat = GivesFeedOf rows (λ _. IsFault)
+GivesNoRun rows IsPlain IsFault BadTimeStyle =
+    GivesFeedOf rows (λ _. GivesNoStyle rows IsPlain styles.BadStyle)
+GivesNoRun rows IsPlain IsFault TimesWithoutCsv =
+    GivesFeedOf rows (λ _. GivesNoStyle rows IsPlain styles.TimesWithoutCsv)
+GivesNoRun rows IsPlain IsFault TimesWithoutLines =
+    GivesFeedOf rows (λ _. GivesNoStyle rows IsPlain styles.TimesWithoutLines)
+GivesNoRun rows IsPlain IsFault BadLines =
+    GivesFeedOf rows (λ venues. (output : RunOutput) × GivesStyled rows IsPlain output
     × HasInputFault (first_of (codes "lines") rows) venues lines.BadLines)
-GivesNoRun rows IsOutput IsFault BadTime = GivesNoSpan rows IsOutput spans.BadTime
-GivesNoRun rows IsOutput IsFault ToBeforeFrom = GivesNoSpan rows IsOutput spans.ToBeforeFrom
-GivesNoRun rows IsOutput IsFault SpanOfLines = GivesNoSpan rows IsOutput spans.SpanOfLines
-GivesNoRun rows IsOutput IsFault SpanWithoutLines =
-    GivesNoSpan rows IsOutput spans.SpanWithoutLines
-GivesNoRun rows IsOutput IsFault refusal = GivesNoFeed rows refusal
+GivesNoRun rows IsPlain IsFault BadTime =
+    GivesNoSpan rows (GivesStyled rows IsPlain) spans.BadTime
+GivesNoRun rows IsPlain IsFault ToBeforeFrom =
+    GivesNoSpan rows (GivesStyled rows IsPlain) spans.ToBeforeFrom
+GivesNoRun rows IsPlain IsFault SpanOfLines =
+    GivesNoSpan rows (GivesStyled rows IsPlain) spans.SpanOfLines
+GivesNoRun rows IsPlain IsFault SpanWithoutLines =
+    GivesNoSpan rows (GivesStyled rows IsPlain) spans.SpanWithoutLines
+GivesNoRun rows IsPlain IsFault refusal = GivesNoFeed rows refusal
 
 abbrev pub GivesNone : List Row → Refusal → Type 0
 GivesNone rows refusal = GivesNoRun rows (GivesOutput rows) (GivesBadFormat rows) refusal

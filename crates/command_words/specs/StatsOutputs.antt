@@ -4,6 +4,7 @@ use Rattle.std.specs.Prelude.{◌≡◌, ℕ, Bool, true, false, List, Option, S
 use Rattle.std.specs.Str.{bytes_eq}
 use Rattle.run_settings.specs.declared.formats.RowFormat.{RowFormat}
 use Rattle.run_settings.specs.declared.formats.RowFormat.TheVariants.{Csv, Json}
+use Rattle.run_settings.specs.declared.formats.TimeStyle.TheVariants.{Seconds}
 use Rattle.run_settings.specs.declared.run_output.RunOutput.{RunOutput}
 use Rattle.run_settings.specs.declared.run_output.RunOutput.TheVariants.{Stats, Gaps, Periods}
 use Rattle.command_words.specs.declared.stats_output.StatsFault.{StatsFault}
@@ -11,15 +12,15 @@ use Rattle.command_words.specs.declared.stats_output.StatsFault.TheVariants.{Bad
 use Rattle.command_words.specs.PeriodWords.{SpellsPeriod}
 use Rattle.command_words.specs.StatsFormats.{NamesNoStatsFormat, NamesStatsFormat}
 
--- the form of rows of this name
+-- the form of rows of this name, with times in seconds
 abbrev pub row_format_named : List ℕ → Option RowFormat
 row_format_named name =
-    if bytes_eq name (codes "csv") then Some Csv
+    if bytes_eq name (codes "csv") then Some (Csv Seconds)
     else if bytes_eq name (codes "json") then Some Json else None
 
 -- rows have the form that is named, or are comma-separated values
 abbrev pub NamesRowFormat : Option (List ℕ) → RowFormat → Type 0
-NamesRowFormat None format = format ≡ Csv
+NamesRowFormat None format = format ≡ Csv Seconds
 NamesRowFormat (Some name) format = row_format_named name ≡ Some format
 
 -- a form of rows is named that there isn't

@@ -2,7 +2,7 @@
 ghost use Rattle.std.specs.Prelude.{◌≡◌, IfErr, IfOk, option_map};
 ghost use Rattle.command_words.specs.BestFormats.{HasFormatFault, NamesFormat, format_named};
 
-use run_settings::{BestFormat, RunOutput};
+use run_settings::{BestFormat, RunOutput, TimeStyle};
 
 /// The format is none of those that there are, or is given where all lines are printed.
 #[derive(Clone, Copy)]
@@ -15,7 +15,7 @@ pub fn format_named(name: &str) -> Option<BestFormat>
     if name == "text" {
         Some(BestFormat::Text)
     } else if name == "csv" {
-        Some(BestFormat::Csv)
+        Some(BestFormat::Csv(TimeStyle::Seconds))
     } else if name == "json" {
         Some(BestFormat::Json)
     } else {

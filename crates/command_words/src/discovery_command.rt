@@ -33,7 +33,8 @@ Example:
 const END: &str = "\
 Printed, a row in the order in which each first came, up to 4096 of them:
   address and port           where the datagrams went, as --lines takes it
-  session                    the ten bytes of the name, as --sessions takes it
+  session                    the ten bytes of the name; --sessions needn't be given the spaces at
+                             its end
   packets, messages, bytes   each counted as often as it came; bytes without the UDP headers
   first, last                the lowest and the highest number of a message that came, '-' where
                              none came
@@ -43,8 +44,9 @@ Printed, a row in the order in which each first came, up to 4096 of them:
 and then the other datagrams, how many addresses and ports these went to (up to 4096), the frames
 without a UDP datagram, and the datagrams that are in no row, since there were 4096 already. The last
 line has the words --sessions and --lines for the venues whose session came at exactly two addresses
-and ports, at neither of them after another session's; it isn't there where there is none, and leaves
-out names that can't stand in it.
+and ports, at neither of them after another session's. It is there to be pasted, and so leaves out
+sessions whose names have other bytes than letters, digits and %+-./:@_ before the spaces at their
+ends; where none is left there is no such line.
 
 A datagram is a packet where its bytes spell one of MoldUDP64 and the session's name is printable
 ASCII (bytes 20 to 7e). Datagrams of another kind may look like one, as a heartbeat of no session.
@@ -54,7 +56,7 @@ where nothing is known.
 
 Examples:
   nbbo lines < day.pcap
-  eval \"nbbo stats $(nbbo lines < day.pcap | tail -1)\" < day.pcap
+  nbbo stats $(nbbo lines < day.pcap | tail -1) < day.pcap
   zcat day.pcap.gz | nbbo lines --format json | jq -r 'select(.session) | .address'
 
 Status:

@@ -7,8 +7,8 @@
 //! `specs/ListenRequests.antt`) and the definitions of each kind of value (`specs/Sessions.antt`,
 //! `specs/Symbols.antt`, `specs/Addresses.antt`, `specs/CapturedLines.antt`,
 //! `specs/BestFormats.antt`, `specs/StatsFormats.antt`, `specs/StatsOutputs.antt`,
-//! `specs/PeriodWords.antt`, `specs/SkipRules.antt`, `specs/EndRules.antt`,
-//! `specs/SenderLists.antt`).
+//! `specs/PeriodWords.antt`, `specs/TimeStyles.antt`, `specs/SkipRules.antt`,
+//! `specs/EndRules.antt`, `specs/SenderLists.antt`).
 //!
 //! Begin with `command_line.rt`, then `commands.rt` and a command, as `listen_command.rt`. An
 //! option stands with its texts in `options.rt` if commands share it, else in `listen_options.rt`,
@@ -47,6 +47,7 @@ mod stats_format;
 mod stats_output;
 mod symbols;
 mod task;
+mod time_style;
 mod time_words;
 
 pub use command_line::settings;

@@ -2,7 +2,7 @@
 ghost use Rattle.std.specs.Prelude.{◌≡◌, IfOk, false, codes};
 ghost use Rattle.clap.specs.Simple.{app_of, new_app};
 ghost use Rattle.clap.specs.declared.builder.command.Command.TheViews.{out-Command as fields_of};
-ghost use Rattle.command_words.specs.Commands.{counting_meanwhile_app, counts_app, ends_app, lines_app, listen_app, meanwhile_app, waits_app};
+ghost use Rattle.command_words.specs.Commands.{listen_app, listen_ends_app, listen_follow_app, listen_form_app, listen_lines_app, listen_peers_app, listen_room_app, listen_sockets_app, listen_stats_app, listen_stops_app, listen_waits_app};
 
 use crate::command_texts::{CommandTexts, texts_command};
 use crate::listen_format::listen_format_option;
@@ -13,6 +13,7 @@ use crate::listen_options::{
     which_end_option,
 };
 use crate::options::{sessions_option, symbols_argument, window_option};
+use crate::time_style::times_option;
 use clap::Command;
 use std::alloc::{AllocError, Global};
 
@@ -99,7 +100,9 @@ Status:
        line V L ended with session NAME
                         with an end of that session, of the venue's or of another: see --end
        symbol S never came, N more symbols never came
-                        no item in sequence was of it; with --follow that isn't told
+                        no item in sequence was of it
+       symbol S never had a best, N more symbols never had a best
+                        in place of that with --follow: no change of its best was printed
   1  standard error says what went wrong:
        line V L failed  the line's socket gave a fault, and that line ended there; the others
                         went on, and what they brought was printed
@@ -121,7 +124,8 @@ Status:
      changes are kept; 'bad sender': --from isn't IP addresses, with or without a port; 'bad
      metrics address': --metrics isn't an IP address and a port; 'bad format': --stats-format is
      neither table nor json, or --stats isn't given, or --format is neither text nor csv nor json;
-     '--format without --follow'
+     '--format without --follow'; 'bad time style': --times is neither seconds nor utc;
+     '--times without rows in csv'
   3  with --complete: as 0, and a venue lacks messages
 
 While it runs standard error says when a line ends or fails, and at its first request that can't
@@ -152,72 +156,104 @@ fn listen_texts<'a>(alloc: Global) -> Command<'a>
     texts_command(alloc, "listen", texts)
 }
 
-/// `listen` with its options that say where.
-fn lines_command<'a>(alloc: Global) -> Result<Command<'a>, AllocError>
-    ensures app { IfOk result (λ c. app_of c ≡ lines_app) }
+/// `listen` with its options that say what is received, and where.
+fn listen_lines_command<'a>(alloc: Global) -> Result<Command<'a>, AllocError>
+    ensures app { IfOk result (λ c. app_of c ≡ listen_lines_app) }
     ensures local { IfOk result (λ c. (fields_of c).has_globals ≡ false) }
 {
     listen_texts(alloc)
         .arg(sessions_option(alloc))?
-        .arg(lines_option(alloc))?
+        .arg(lines_option(alloc))
+}
+
+/// `listen` with its options that say with whom it speaks, too.
+fn listen_peers_command<'a>(alloc: Global) -> Result<Command<'a>, AllocError>
+    ensures app { IfOk result (λ c. app_of c ≡ listen_peers_app) }
+    ensures local { IfOk result (λ c. (fields_of c).has_globals ≡ false) }
+{
+    listen_lines_command(alloc)?
         .arg(request_option(alloc))?
         .arg(from_option(alloc))
 }
 
 /// `listen` with its options that say how long a gap is waited for, too.
-fn waits_command<'a>(alloc: Global) -> Result<Command<'a>, AllocError>
-    ensures app { IfOk result (λ c. app_of c ≡ waits_app) }
+fn listen_waits_command<'a>(alloc: Global) -> Result<Command<'a>, AllocError>
+    ensures app { IfOk result (λ c. app_of c ≡ listen_waits_app) }
     ensures local { IfOk result (λ c. (fields_of c).has_globals ≡ false) }
 {
-    lines_command(alloc)?
+    listen_peers_command(alloc)?
         .arg(live_join_flag(alloc))?
         .arg(skip_after_option(alloc))
 }
 
-/// `listen` with its options that say how much, too.
-fn counts_command<'a>(alloc: Global) -> Result<Command<'a>, AllocError>
-    ensures app { IfOk result (λ c. app_of c ≡ counts_app) }
+/// `listen` with its options that say how much is kept, too.
+fn listen_room_command<'a>(alloc: Global) -> Result<Command<'a>, AllocError>
+    ensures app { IfOk result (λ c. app_of c ≡ listen_room_app) }
     ensures local { IfOk result (λ c. (fields_of c).has_globals ≡ false) }
 {
-    waits_command(alloc)?
+    listen_waits_command(alloc)?
         .arg(window_option(alloc))?
-        .arg(live_journal_option(alloc))?
-        .arg(datagrams_option(alloc))
+        .arg(live_journal_option(alloc))
 }
 
-/// `listen` with its options that say when it ends, and how, too.
-fn ends_command<'a>(alloc: Global) -> Result<Command<'a>, AllocError>
-    ensures app { IfOk result (λ c. app_of c ≡ ends_app) }
+/// `listen` with its options that say how much a line's socket reads and holds, too.
+fn listen_sockets_command<'a>(alloc: Global) -> Result<Command<'a>, AllocError>
+    ensures app { IfOk result (λ c. app_of c ≡ listen_sockets_app) }
     ensures local { IfOk result (λ c. (fields_of c).has_globals ≡ false) }
 {
-    counts_command(alloc)?
+    listen_room_command(alloc)?
+        .arg(datagrams_option(alloc))?
+        .arg(buffer_option(alloc))
+}
+
+/// `listen` with its options that say what ends a line, and what a lack at the end is, too.
+fn listen_ends_command<'a>(alloc: Global) -> Result<Command<'a>, AllocError>
+    ensures app { IfOk result (λ c. app_of c ≡ listen_ends_app) }
+    ensures local { IfOk result (λ c. (fields_of c).has_globals ≡ false) }
+{
+    listen_sockets_command(alloc)?
         .arg(which_end_option(alloc))?
-        .arg(seconds_option(alloc))?
-        .arg(until_input_ends_flag(alloc))?
         .arg(complete_flag(alloc))
 }
 
-/// `listen` with its options for the time until then, too.
-fn meanwhile_command<'a>(alloc: Global) -> Result<Command<'a>, AllocError>
-    ensures app { IfOk result (λ c. app_of c ≡ meanwhile_app) }
+/// `listen` with its options that end the run, too.
+fn listen_stops_command<'a>(alloc: Global) -> Result<Command<'a>, AllocError>
+    ensures app { IfOk result (λ c. app_of c ≡ listen_stops_app) }
     ensures local { IfOk result (λ c. (fields_of c).has_globals ≡ false) }
 {
-    ends_command(alloc)?
-        .arg(buffer_option(alloc))?
+    listen_ends_command(alloc)?
+        .arg(seconds_option(alloc))?
+        .arg(until_input_ends_flag(alloc))
+}
+
+/// `listen` with its options that print changes as they come, too.
+fn listen_follow_command<'a>(alloc: Global) -> Result<Command<'a>, AllocError>
+    ensures app { IfOk result (λ c. app_of c ≡ listen_follow_app) }
+    ensures local { IfOk result (λ c. (fields_of c).has_globals ≡ false) }
+{
+    listen_stops_command(alloc)?
         .arg(follow_flag(alloc))?
-        .arg(listen_format_option(alloc))?
         .arg(kept_option(alloc))
 }
 
-/// `listen` with its options for counts, too.
-fn counting_command<'a>(alloc: Global) -> Result<Command<'a>, AllocError>
-    ensures app { IfOk result (λ c. app_of c ≡ counting_meanwhile_app) }
+/// `listen` with its options for the form of best lines, too.
+fn listen_form_command<'a>(alloc: Global) -> Result<Command<'a>, AllocError>
+    ensures app { IfOk result (λ c. app_of c ≡ listen_form_app) }
     ensures local { IfOk result (λ c. (fields_of c).has_globals ≡ false) }
 {
-    meanwhile_command(alloc)?
+    listen_follow_command(alloc)?
+        .arg(listen_format_option(alloc))?
+        .arg(times_option(alloc))
+}
+
+/// `listen` with its options for counts on standard error, too.
+fn listen_stats_command<'a>(alloc: Global) -> Result<Command<'a>, AllocError>
+    ensures app { IfOk result (λ c. app_of c ≡ listen_stats_app) }
+    ensures local { IfOk result (λ c. (fields_of c).has_globals ≡ false) }
+{
+    listen_form_command(alloc)?
         .arg(stats_option(alloc))?
-        .arg(stats_format_option(alloc))?
-        .arg(metrics_option(alloc))
+        .arg(stats_format_option(alloc))
 }
 
 /// The whole of `listen`.
@@ -225,5 +261,7 @@ pub fn listen_command<'a>(alloc: Global) -> Result<Command<'a>, AllocError>
     ensures app { IfOk result (λ c. app_of c ≡ listen_app) }
     ensures local { IfOk result (λ c. (fields_of c).has_globals ≡ false) }
 {
-    counting_command(alloc)?.arg(symbols_argument(alloc))
+    listen_stats_command(alloc)?
+        .arg(metrics_option(alloc))?
+        .arg(symbols_argument(alloc))
 }

@@ -1,5 +1,5 @@
 //! The lengths of periods by their words.
-ghost use Rattle.std.specs.Prelude.{◌≡◌, ◌++◌, ℕ, List, MatchOption, codes};
+ghost use Rattle.std.specs.Prelude.{◌≡◌, ◌≢◌, ◌++◌, ℕ, List, MatchOption, codes};
 ghost use Rattle.command_words.specs.PeriodWords.{IsInUnit, IsLengthOf, SpellsPeriod, milliseconds_in};
 
 use run_settings::PeriodLength;
@@ -11,11 +11,19 @@ pub enum PeriodUnit {
     Seconds,
 }
 
+/// The text before an `m` at the end of a text, if it ends in one.
+fn before_m(front: &str) -> Option<&str>
+    ensures { MatchOption result ((number : List ℕ) → front.now ≢ number ++ codes "m")
+        (λ number. front.now ≡ number.now ++ codes "m") }
+{
+    front.strip_suffix('m')
+}
+
 /// The unit whose letters stand before an `s` at the end of a text, and the text before them.
 fn unit_before(front: &str) -> (PeriodUnit, &str)
     ensures { IsInUnit result.0 result.1.now (front.now ++ codes "s") }
 {
-    match front.strip_suffix('m') {
+    match before_m(front) {
         Some(number) => (PeriodUnit::Milliseconds, number),
         None => (PeriodUnit::Seconds, front),
     }

@@ -1,6 +1,6 @@
 //! The reasons why the program has no settings.
 ghost use Rattle.std.specs.Prelude.{◌≡◌};
-ghost use Rattle.command_words.specs.CommandLine.{format_refusal_by, lines_refusal_by, refusal_by, refusal_status, refusal_text, senders_refusal_by, span_refusal_by, stats_refusal_by, symbols_refusal_by};
+ghost use Rattle.command_words.specs.CommandLine.{format_refusal_by, lines_refusal_by, refusal_by, refusal_status, refusal_text, senders_refusal_by, span_refusal_by, stats_refusal_by, style_refusal_by, symbols_refusal_by};
 ghost use Rattle.command_words.specs.declared.refusal.Refusal.TheVariants.{BadEnd, BadFormat, BestsWithoutEvery, BadMetrics, BadRequest, KeptUnfollowed, NoMemory};
 
 use crate::addresses::{LinesFault, MetricsFault, RequestFault};
@@ -13,6 +13,7 @@ use crate::sessions::SessionsFault;
 use crate::span_words::SpanFault;
 use crate::stats_output::{BestsFault, StatsFault};
 use crate::symbols::SymbolsFault;
+use crate::time_style::TimeStyleFault;
 use std::alloc::AllocError;
 
 /// Why there are no settings.
@@ -51,6 +52,12 @@ pub enum Refusal {
     SpanOfLines,
     /// A span of time is asked for, and the input has no times.
     SpanWithoutLines,
+    /// The style of times is none of those that there are.
+    BadTimeStyle,
+    /// The style of times is said where no comma-separated values are printed.
+    TimesWithoutCsv,
+    /// The style of times is said, and the input has no times.
+    TimesWithoutLines,
     /// The rule by which an end of session ends a line is none of those that there are.
     BadEnd,
     /// How many changes are kept is said where all are, since best lines aren't printed as they
@@ -86,6 +93,7 @@ impl Refusal {
             Refusal::BadFormat | Refusal::BadPeriod | Refusal::EveryWithoutLines => 2,
             Refusal::BestsWithoutEvery | Refusal::BadTime | Refusal::ToBeforeFrom => 2,
             Refusal::SpanOfLines | Refusal::SpanWithoutLines => 2,
+            Refusal::BadTimeStyle | Refusal::TimesWithoutCsv | Refusal::TimesWithoutLines => 2,
             Refusal::GapsWithEvery | Refusal::BadEnd | Refusal::KeptUnfollowed => 2,
             Refusal::FormatUnfollowed | Refusal::BadSender | Refusal::BadMetrics => 2,
             Refusal::BadSymbol | Refusal::TooManySymbols | Refusal::DuplicateSymbol => 2,
@@ -113,6 +121,9 @@ impl Refusal {
             Refusal::ToBeforeFrom => "nbbo: --to before --from\n",
             Refusal::SpanOfLines => "nbbo: --from or --to without --best-only\n",
             Refusal::SpanWithoutLines => "nbbo: --from or --to without --lines\n",
+            Refusal::BadTimeStyle => "nbbo: bad time style\n",
+            Refusal::TimesWithoutCsv => "nbbo: --times without rows in csv\n",
+            Refusal::TimesWithoutLines => "nbbo: --times without --lines\n",
             Refusal::BadEnd => "nbbo: bad end\n",
             Refusal::KeptUnfollowed => "nbbo: --kept without --follow\n",
             Refusal::FormatUnfollowed => "nbbo: --format without --follow\n",
@@ -207,6 +218,18 @@ impl From<SpanFault> for Refusal {
     }
 }
 
+impl From<TimeStyleFault> for Refusal {
+    ghost from_gives = { λ fault refusal. refusal ≡ style_refusal_by fault };
+
+    fn from(fault: TimeStyleFault) -> Refusal {
+        match fault {
+            TimeStyleFault::BadStyle => Refusal::BadTimeStyle,
+            TimeStyleFault::TimesWithoutCsv => Refusal::TimesWithoutCsv,
+            TimeStyleFault::TimesWithoutLines => Refusal::TimesWithoutLines,
+        }
+    }
+}
+
 impl From<EndRuleFault> for Refusal {
     ghost from_gives = { λ _ refusal. refusal ≡ BadEnd };
 
@@ -230,6 +253,8 @@ impl From<ListenFormatFault> for Refusal {
         match fault {
             ListenFormatFault::BadFormat => Refusal::BadFormat,
             ListenFormatFault::FormatUnfollowed => Refusal::FormatUnfollowed,
+            ListenFormatFault::BadStyle => Refusal::BadTimeStyle,
+            ListenFormatFault::TimesWithoutCsv => Refusal::TimesWithoutCsv,
         }
     }
 }

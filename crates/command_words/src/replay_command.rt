@@ -2,7 +2,7 @@
 ghost use Rattle.std.specs.Prelude.{◌≡◌, IfOk, false, codes};
 ghost use Rattle.clap.specs.Simple.{app_of, new_app};
 ghost use Rattle.clap.specs.declared.builder.command.Command.TheViews.{out-Command as fields_of};
-ghost use Rattle.command_words.specs.Commands.{choices_app, choices_span_app, options_app, replay_app, skipping_app};
+ghost use Rattle.command_words.specs.Commands.{replay_app, replay_choices_app, replay_form_app, replay_input_app, replay_room_app, replay_skips_app, replay_span_app};
 
 use crate::command_texts::{CommandTexts, texts_command};
 use crate::limits::text;
@@ -11,6 +11,7 @@ use crate::options::{
     skip_gaps_flag, symbols_argument, to_time_option, window_option,
 };
 use crate::replay_options::{best_only_flag, format_option, gaps_flag};
+use crate::time_style::times_option;
 use clap::Command;
 use std::alloc::{AllocError, Global};
 
@@ -140,7 +141,8 @@ Status:
      'bad format': --format isn't text, csv or json, or --best-only isn't given;
      'bad lines': --lines isn't two addresses for each session, or names one twice; 'bad time': the
      text of --from or --to is none; '--to before --from'; '--from or --to without --best-only';
-     '--from or --to without --lines'");
+     '--from or --to without --lines'; 'bad time style': --times is neither seconds nor utc;
+     '--times without rows in csv'; '--times without --lines'");
 
 /// The texts of `replay`, without its options.
 fn replay_texts<'a>(alloc: Global) -> Command<'a>
@@ -157,46 +159,64 @@ fn replay_texts<'a>(alloc: Global) -> Command<'a>
     texts_command(alloc, "replay", texts)
 }
 
-/// `replay` with its options that have a value.
-fn options_command<'a>(alloc: Global) -> Result<Command<'a>, AllocError>
-    ensures app { IfOk result (λ c. app_of c ≡ options_app) }
+/// `replay` with its options that say what is read.
+fn replay_input_command<'a>(alloc: Global) -> Result<Command<'a>, AllocError>
+    ensures app { IfOk result (λ c. app_of c ≡ replay_input_app) }
     ensures local { IfOk result (λ c. (fields_of c).has_globals ≡ false) }
 {
     replay_texts(alloc)
         .arg(sessions_option(alloc))?
+        .arg(captured_lines_option(alloc))
+}
+
+/// `replay` with its options that say how much is kept, too.
+fn replay_room_command<'a>(alloc: Global) -> Result<Command<'a>, AllocError>
+    ensures app { IfOk result (λ c. app_of c ≡ replay_room_app) }
+    ensures local { IfOk result (λ c. (fields_of c).has_globals ≡ false) }
+{
+    replay_input_command(alloc)?
         .arg(window_option(alloc))?
         .arg(journal_option(alloc))
 }
 
 /// `replay` with its options that say which gaps are given up, too.
-fn skipping_command<'a>(alloc: Global) -> Result<Command<'a>, AllocError>
-    ensures app { IfOk result (λ c. app_of c ≡ skipping_app) }
+fn replay_skips_command<'a>(alloc: Global) -> Result<Command<'a>, AllocError>
+    ensures app { IfOk result (λ c. app_of c ≡ replay_skips_app) }
     ensures local { IfOk result (λ c. (fields_of c).has_globals ≡ false) }
 {
-    options_command(alloc)?
+    replay_room_command(alloc)?
         .arg(join_flag(alloc))?
         .arg(skip_gaps_flag(alloc))
 }
 
-/// `replay` with its options that say what is read, and which lines are printed, too.
-fn choices_command<'a>(alloc: Global) -> Result<Command<'a>, AllocError>
-    ensures app { IfOk result (λ c. app_of c ≡ choices_app) }
+/// `replay` with its options that say which lines are printed, too.
+fn replay_choices_command<'a>(alloc: Global) -> Result<Command<'a>, AllocError>
+    ensures app { IfOk result (λ c. app_of c ≡ replay_choices_app) }
     ensures local { IfOk result (λ c. (fields_of c).has_globals ≡ false) }
 {
-    skipping_command(alloc)?
-        .arg(captured_lines_option(alloc))?
+    replay_skips_command(alloc)?
         .arg(gaps_flag(alloc))?
         .arg(best_only_flag(alloc))
 }
 
 /// `replay` with its options that say of which time it prints, too.
-fn choices_span_command<'a>(alloc: Global) -> Result<Command<'a>, AllocError>
-    ensures app { IfOk result (λ c. app_of c ≡ choices_span_app) }
+fn replay_span_command<'a>(alloc: Global) -> Result<Command<'a>, AllocError>
+    ensures app { IfOk result (λ c. app_of c ≡ replay_span_app) }
     ensures local { IfOk result (λ c. (fields_of c).has_globals ≡ false) }
 {
-    choices_command(alloc)?
+    replay_choices_command(alloc)?
         .arg(from_time_option(alloc))?
         .arg(to_time_option(alloc))
+}
+
+/// `replay` with its options that say in which form it prints, too.
+fn replay_form_command<'a>(alloc: Global) -> Result<Command<'a>, AllocError>
+    ensures app { IfOk result (λ c. app_of c ≡ replay_form_app) }
+    ensures local { IfOk result (λ c. (fields_of c).has_globals ≡ false) }
+{
+    replay_span_command(alloc)?
+        .arg(format_option(alloc))?
+        .arg(times_option(alloc))
 }
 
 /// The whole of `replay`.
@@ -204,7 +224,5 @@ pub fn replay_command<'a>(alloc: Global) -> Result<Command<'a>, AllocError>
     ensures app { IfOk result (λ c. app_of c ≡ replay_app) }
     ensures local { IfOk result (λ c. (fields_of c).has_globals ≡ false) }
 {
-    choices_span_command(alloc)?
-        .arg(format_option(alloc))?
-        .arg(symbols_argument(alloc))
+    replay_form_command(alloc)?.arg(symbols_argument(alloc))
 }

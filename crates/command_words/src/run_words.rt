@@ -8,6 +8,7 @@ ghost use Rattle.run_settings.specs.RunInputs.{captured_lines_in};
 ghost use Rattle.command_words.specs.RunRequests.{Gives, GivesBadFormat, GivesBestsAlone, GivesCounted, GivesNone, GivesNoStats, GivesNoStatsOutput, GivesOutput, GivesSpan, GivesStats, GivesStatsOutput};
 ghost use Rattle.command_words.specs.SpanWords.{HasSpanFault};
 ghost use Rattle.command_words.specs.StatsFormats.{NamesNoStatsFormat, NamesStatsFormat};
+ghost use Rattle.command_words.specs.TimeStyles.{HasStyleFault, NamesStyle};
 
 use crate::addresses::LinesFault;
 use crate::best_format::{FormatFault, read_output};
@@ -19,6 +20,7 @@ use crate::skip_words::skips_of;
 use crate::span_words::{SpanFault, read_span};
 use crate::stats_format::read_stats_format;
 use crate::stats_output::{BestsFault, StatsFault, bests_by, read_stats_output};
+use crate::time_style::{TimeStyleFault, read_style};
 use clap::ArgMatches;
 use run_settings::{RunInput, RunOutput, RunSettings, StatsFormat, TimeSpan};
 use std::alloc::Global;
@@ -76,6 +78,18 @@ fn bests_of(stats: &ArgMatches<'_>, counted: RunOutput) -> Result<RunOutput, Bes
     bests_by(flag_of(stats, "bests"), counted)
 }
 
+/// This output, with the times of its rows in the style that the option gives.
+fn styled_of(run: &ArgMatches<'_>, plain: RunOutput) -> Result<RunOutput, TimeStyleFault>
+    ensures ok { IfOk result (NamesStyle plain
+        (first_of (codes "times") (rows_of (found_of run.now)))
+        (first_of (codes "lines") (rows_of (found_of run.now)))) }
+    ensures err { IfErr result (HasStyleFault plain
+        (first_of (codes "times") (rows_of (found_of run.now)))
+        (first_of (codes "lines") (rows_of (found_of run.now)))) }
+{
+    read_style(plain, run.get_str("times"), run.get_str("lines"))
+}
+
 /// The span of time in which events lie that this output is of.
 fn span_of(run: &ArgMatches<'_>, output: &RunOutput) -> Result<TimeSpan, SpanFault>
     ensures ok { IfOk result (GivesSpan (rows_of (found_of run.now)) output.now) }
@@ -98,7 +112,8 @@ pub fn replay_of(alloc: Global, replay: &ArgMatches<'_>) -> Result<RunSettings, 
     ensures err { IfErr result (GivesNone (rows_of (found_of replay.now))) }
 {
     let feed = feed_of(alloc, replay, count_of(replay, "journal", DEFAULT_COUNT))?;
-    let output = output_of(replay)?;
+    let plain = output_of(replay)?;
+    let output = styled_of(replay, plain)?;
     let input = input_of(alloc, replay, feed.sessions.len())?;
     let span = span_of(replay, &output)?;
     Ok(RunSettings {
@@ -119,7 +134,8 @@ pub fn stats_of(alloc: Global, stats: &ArgMatches<'_>) -> Result<RunSettings, Re
 {
     let feed = feed_of(alloc, stats, u32::MAX)?;
     let counted = stats_output_of(stats)?;
-    let output = bests_of(stats, counted)?;
+    let plain = bests_of(stats, counted)?;
+    let output = styled_of(stats, plain)?;
     let input = input_of(alloc, stats, feed.sessions.len())?;
     let span = span_of(stats, &output)?;
     Ok(RunSettings {

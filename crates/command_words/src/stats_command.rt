@@ -3,7 +3,7 @@ ghost use Rattle.std.specs.Prelude.{◌≡◌, IfOk, false, codes};
 ghost use Rattle.clap.specs.Simple.{app_of, new_app};
 ghost use Rattle.clap.specs.Walk.{rule_of};
 ghost use Rattle.clap.specs.declared.builder.command.Command.TheViews.{out-Command as fields_of};
-ghost use Rattle.command_words.specs.Commands.{counting_app, stats_app, stats_rows_app, stats_skips_app, stats_span_app};
+ghost use Rattle.command_words.specs.Commands.{stats_app, stats_form_app, stats_gaps_app, stats_input_app, stats_periods_app, stats_skips_app, stats_span_app, stats_window_app};
 ghost use Rattle.command_words.specs.Options.{bests_rule, every_rule, format_rule, gaps_rule, symbols_rule};
 
 use crate::command_texts::{CommandTexts, texts_command};
@@ -13,6 +13,7 @@ use crate::options::{
     captured_lines_option, from_time_option, join_flag, sessions_option, skip_gaps_flag,
     symbol_words, to_time_option, window_option,
 };
+use crate::time_style::times_option;
 use clap::{Arg, Command};
 use std::alloc::{AllocError, Global};
 
@@ -38,9 +39,10 @@ Examples:
 /// The part of the long help after the options.
 const END: &str = "\
 Printed for each venue, from 0:
-  packets                    a line's datagrams, by the answer to each: 'with messages taken', new
-                             or again; 'past the window', of which nothing was taken; and those
-                             refused, by the fault, in rows that stand there only if there are any
+  packets                    a line's datagrams; the bytes of those that are packets; and by the
+                             answer to each: 'with messages taken', new or again; 'past the
+                             window', of which nothing was taken; and those refused, by the fault,
+                             in rows that stand there only if there are any
   messages                   those that the line brought first, and those that had come before
   items in sequence          of all lines together, by kind, with an end for each session that was
                              taken to its end, and the number of the last item
@@ -70,11 +72,12 @@ last heard. A frame without a time has no part in this.
 
 With --every there are rows in place of all these: of each period in which a frame to any line came,
 for each venue a row of line A and one of line B, with the time at which the period began, a whole
-multiple of its length from 1970 on (UTC); the line's datagrams; the messages in them that were
-taken, or had come before; those that the line brought first; and how many messages the numbers of
-its packets passed over. A period without a frame has no row. A frame without a time counts with
-those before it; and where times go back, as in captures that were joined, a period can come again.
-The rows of the last period are printed at the end of a whole capture alone.
+multiple of its length from 1970 on (UTC); the line's datagrams; the bytes of those that are
+packets; the messages in these that were taken, or had come before; those that the line brought
+first; and how many messages the numbers of its packets passed over. A period without a frame has no
+row. A frame without a time counts with those before it; and where times go back, as in captures
+that were joined, a period can come again. The rows of the last period are printed at the end of a
+whole capture alone.
 
 With --every and --bests a row has the time at which the period began, the symbol and the venue; in
 which share of the period's time the best bid was the venue's, and in which the best offer; in which
@@ -227,14 +230,21 @@ fn stats_texts<'a>(alloc: Global) -> Command<'a>
 }
 
 /// `stats` with its options that say what is read.
-fn counting_command<'a>(alloc: Global) -> Result<Command<'a>, AllocError>
-    ensures app { IfOk result (λ c. app_of c ≡ counting_app) }
+fn stats_input_command<'a>(alloc: Global) -> Result<Command<'a>, AllocError>
+    ensures app { IfOk result (λ c. app_of c ≡ stats_input_app) }
     ensures local { IfOk result (λ c. (fields_of c).has_globals ≡ false) }
 {
     stats_texts(alloc)
         .arg(sessions_option(alloc))?
-        .arg(captured_lines_option(alloc))?
-        .arg(window_option(alloc))
+        .arg(captured_lines_option(alloc))
+}
+
+/// `stats` with its option that says how much is held, too.
+fn stats_window_command<'a>(alloc: Global) -> Result<Command<'a>, AllocError>
+    ensures app { IfOk result (λ c. app_of c ≡ stats_window_app) }
+    ensures local { IfOk result (λ c. (fields_of c).has_globals ≡ false) }
+{
+    stats_input_command(alloc)?.arg(window_option(alloc))
 }
 
 /// `stats` with its options that say which gaps are given up, too.
@@ -242,18 +252,25 @@ fn stats_skips_command<'a>(alloc: Global) -> Result<Command<'a>, AllocError>
     ensures app { IfOk result (λ c. app_of c ≡ stats_skips_app) }
     ensures local { IfOk result (λ c. (fields_of c).has_globals ≡ false) }
 {
-    counting_command(alloc)?
+    stats_window_command(alloc)?
         .arg(join_flag(alloc))?
         .arg(skip_gaps_flag(alloc))
 }
 
-/// `stats` with its options that ask for rows in place of counts, too.
-fn stats_rows_command<'a>(alloc: Global) -> Result<Command<'a>, AllocError>
-    ensures app { IfOk result (λ c. app_of c ≡ stats_rows_app) }
+/// `stats` with its option that asks for rows of gaps, too.
+fn stats_gaps_command<'a>(alloc: Global) -> Result<Command<'a>, AllocError>
+    ensures app { IfOk result (λ c. app_of c ≡ stats_gaps_app) }
     ensures local { IfOk result (λ c. (fields_of c).has_globals ≡ false) }
 {
-    stats_skips_command(alloc)?
-        .arg(stats_gaps_flag(alloc))?
+    stats_skips_command(alloc)?.arg(stats_gaps_flag(alloc))
+}
+
+/// `stats` with its options that ask for rows of periods, too.
+fn stats_periods_command<'a>(alloc: Global) -> Result<Command<'a>, AllocError>
+    ensures app { IfOk result (λ c. app_of c ≡ stats_periods_app) }
+    ensures local { IfOk result (λ c. (fields_of c).has_globals ≡ false) }
+{
+    stats_gaps_command(alloc)?
         .arg(every_option(alloc))?
         .arg(bests_flag(alloc))
 }
@@ -263,9 +280,19 @@ fn stats_span_command<'a>(alloc: Global) -> Result<Command<'a>, AllocError>
     ensures app { IfOk result (λ c. app_of c ≡ stats_span_app) }
     ensures local { IfOk result (λ c. (fields_of c).has_globals ≡ false) }
 {
-    stats_rows_command(alloc)?
+    stats_periods_command(alloc)?
         .arg(from_time_option(alloc))?
         .arg(to_time_option(alloc))
+}
+
+/// `stats` with its options that say in which form it prints, too.
+fn stats_form_command<'a>(alloc: Global) -> Result<Command<'a>, AllocError>
+    ensures app { IfOk result (λ c. app_of c ≡ stats_form_app) }
+    ensures local { IfOk result (λ c. (fields_of c).has_globals ≡ false) }
+{
+    stats_span_command(alloc)?
+        .arg(stats_format_option(alloc))?
+        .arg(times_option(alloc))
 }
 
 /// The whole of `stats`.
@@ -273,7 +300,5 @@ pub fn stats_command<'a>(alloc: Global) -> Result<Command<'a>, AllocError>
     ensures app { IfOk result (λ c. app_of c ≡ stats_app) }
     ensures local { IfOk result (λ c. (fields_of c).has_globals ≡ false) }
 {
-    stats_span_command(alloc)?
-        .arg(stats_format_option(alloc))?
-        .arg(counted_symbols_argument(alloc))
+    stats_form_command(alloc)?.arg(counted_symbols_argument(alloc))
 }

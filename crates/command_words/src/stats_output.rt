@@ -7,7 +7,7 @@ ghost use Rattle.command_words.specs.declared.stats_output.StatsFault.TheVariant
 use crate::best_format::FormatFault;
 use crate::period_words::read_period;
 use crate::stats_format::read_stats_format;
-use run_settings::{PeriodStyle, RowFormat, RunOutput};
+use run_settings::{PeriodStyle, RowFormat, RunOutput, TimeStyle};
 
 /// Why `nbbo stats` prints nothing.
 #[derive(Clone, Copy)]
@@ -35,7 +35,7 @@ fn row_format_named(name: &str) -> Option<RowFormat>
     ensures { result ≡ row_format_named name.now }
 {
     if name == "csv" {
-        Some(RowFormat::Csv)
+        Some(RowFormat::Csv(TimeStyle::Seconds))
     } else if name == "json" {
         Some(RowFormat::Json)
     } else {
@@ -50,7 +50,7 @@ fn read_row_format(name: Option<&str>) -> Result<RowFormat, FormatFault>
         NamesNoRowFormat (option_map (λ name. name.now) name.entry)) }
 {
     match name {
-        None => Ok(RowFormat::Csv),
+        None => Ok(RowFormat::Csv(TimeStyle::Seconds)),
         Some(name) => match row_format_named(name) {
             Some(format) => Ok(format),
             None => Err(FormatFault),

@@ -1,15 +1,8 @@
-use Rattle.std.proofs.Common.{List, ℕ, Some, None, ◌++◌, codes, ap, refl, arith}
-use Rattle.std.proofs.lemmas.Str.Pattern.{strip_suffix_char}
+use Rattle.std.proofs.Common.{List, ℕ, ◌++◌, codes, ap, refl}
 use Rattle.command_words.proofs.period_words.unit_before.Goals as goal
 
 pub returns-in-Some : goal.returns-in-Some
-returns-in-Some c =
-    ap (λ (l : List ℕ). l ++ codes "s")
-    (strip_suffix_char 109 c.args.front.now (Some c.in-Some.number) c.in-Some.ensures.cases
-    (omega arith))
+returns-in-Some c = ap (λ (l : List ℕ). l ++ codes "s") c.in-Some.ensures
 
 pub returns-in-None : goal.returns-in-None
-returns-in-None c = (
-  refl,
-  strip_suffix_char 109 c.args.front.now None c.in-None.ensures.cases (omega arith),
-)
+returns-in-None c = (refl, c.in-None.ensures)
