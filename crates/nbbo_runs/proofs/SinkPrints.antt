@@ -30,7 +30,10 @@ use Rattle.replay_reports.specs.periods.RowHistoryLaws.{history_failed, history_
 use Rattle.replay_reports.specs.rows.RowLaws.{rows_are_written, rows_failed}
 use Rattle.replay_reports.specs.rows.RowSinks.{FailsRows, IsNewRows, TakesRows, text_of_rows}
 use Rattle.replay_reports.specs.spans.SpanEvents.{FailsSpan, TakesSpan, events_in}
-use Rattle.nbbo_runs.specs.Printing.{printing}
+use Rattle.replay_run.specs.Printed.{facts_of_run}
+use Rattle.run_settings.specs.declared.time_span.TimeSpan.{TimeSpan}
+use Rattle.nbbo_runs.specs.declared.watched_sink.Missing.{Missing}
+use Rattle.nbbo_runs.specs.Printing.{LeavesMissing, PrintsWatched, printing}
 
 -- Of a sink before a writer: where it shows all that it took, the writer took the text of the
 -- events; where it failed, a front of it.
@@ -205,3 +208,27 @@ span_writes writing taking Shown writer_of text writer old new writes = record {
   written = λ told took shown. writes.written (events_in old.span told) took.takes_in shown;
   failed = λ told failed. writes.failed (events_in old.span told) failed;
 }
+
+-- ---- a replay to such a sink, of the events in a span
+
+module _ {R S F W K : Type 0} (reading : Reading R) (writing : Writing W) (parsing : Parsing S F)
+    (config : ReplayConfig) (span : TimeSpan) (taking : SinkTaking K) {Shown : K → Type 0}
+    {writer_of : K → W} {text : List TimedEvent → List ℕ} {writer : W} (sink : K)
+    (new : SpanSink K) where
+  pub span_prints : {from to : R} {start finish : S} {before after : Missing}
+      {outcome : Result (Unit {0}) (ReplayStop F)}
+      → WritesText writing taking Shown writer_of text writer sink new.sink
+      → AnswersRun reading parsing (in_span taking) (λ s. Shown s.sink) config
+      (facts_of_run config) from to start finish (record { sink = sink; span = span }) new outcome
+      → LeavesMissing reading parsing config from to start finish before after outcome
+      → PrintsWatched reading writing parsing config (λ told. text (events_in span told))
+      from to start finish writer (writer_of new.sink) before after outcome
+  span_prints writes run missing =
+      let old : SpanSink K = record { sink = sink; span = span } in
+      record {
+        prints = sink_printed reading writing parsing config (facts_of_run config)
+            (in_span taking) (λ s. Shown s.sink) (λ s. writer_of s.sink)
+            (λ told. text (events_in span told)) writer old new
+            (span_writes writing taking Shown writer_of text writer old new writes) _ _ _ _ _ run;
+        missing = missing;
+      }

@@ -1,14 +1,7 @@
-use Rattle.std.proofs.Common.{◌≡◌, ℕ, List, []}
-use Rattle.feed_text.specs.SinkEvents.{TimedEvent}
 use Rattle.feed_text.specs.Devices.{Reading, Writing}
 use Rattle.feed_text.specs.Formats.{Parsing}
-use Rattle.replay_run.specs.Printed.{facts_of_run}
 use Rattle.feed_text.specs.EventReplays.{venues_in}
-use Rattle.nbbo_runs.specs.Printing.{periods_in}
-use Rattle.replay_reports.specs.declared.periods.period_rows.PeriodRows.{PeriodRows}
-use Rattle.replay_reports.specs.declared.spans.span_sink.SpanSink.{SpanSink}
-use Rattle.replay_reports.specs.spans.SpanEvents.{events_in}
-use Rattle.nbbo_runs.proofs.SinkPrints.{periods_taking, periods_write, in_span, sink_printed, span_writes}
+use Rattle.nbbo_runs.proofs.SinkPrints.{periods_taking, periods_write, span_prints}
 use Rattle.nbbo_runs.proofs.printing.print_periods.Goals as goal
 
 pub returns-in-Ok : goal.returns-in-Ok
@@ -28,23 +21,14 @@ returns-in-Ok g c =
       is_whole = g.F.RecordFormat.is_whole;
     } in
     let config = c.args.config.now in
-    let old : SpanSink (PeriodRows g.row.W.Denot) =
-    record { sink = c.in-Ok.rows; span = config.span } in
-    let new = c.replay_watched-replayed.result.sink in
-    let text : List TimedEvent → List ℕ = periods_in config.replay c.args.style in
-    let writes = span_writes writing (periods_taking writing)
-    (λ s. s.page.text.items ≡ []) (λ s. s.page.writer) text c.args.output old new
-    (periods_write writing c.args.output
-    (record { style = c.args.style; venues = venues_in config.replay }) old.sink new.sink
-    c.in-Ok.ensures.rows) in
-    rw c.into_writer.ensures (record {
-      prints = sink_printed reading writing parsing config.replay (facts_of_run config.replay)
-          (in_span (periods_taking writing))
-          (λ s. s.sink.page.text.items ≡ []) (λ s. s.sink.page.writer)
-          (λ told. text (events_in config.span told)) c.args.output old new writes _ _ _ _
-          c.replay_watched-replayed.result.outcome c.replay_watched-replayed.ensures.headline;
-      missing = record {
-        lacks = c.replay_watched-replayed.ensures.lacks;
-        absent = c.replay_watched-replayed.ensures.absent;
-      };
-    })
+    let rows = c.in-Ok.rows in
+    let replayed = c.replay_watched-replayed in
+    let new = replayed.result.sink in
+    rw c.into_writer.ensures (span_prints reading writing parsing config.replay config.span
+    (periods_taking writing) rows new
+    (periods_write writing c.args.output (record {
+      style = c.args.style;
+      venues = venues_in config.replay;
+    }) rows new.sink
+    c.in-Ok.ensures.rows) replayed.ensures.headline
+    (record { lacks = replayed.ensures.lacks; absent = replayed.ensures.absent }))
