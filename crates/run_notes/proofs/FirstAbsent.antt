@@ -70,24 +70,27 @@ first_more {X} p xs i d n less is =
     subst (λ (zs : List X). IsFirst ys zs x n (nat_lt n 8 && p x)) (sym (filter_more p xs i d less))
     (first_by ys x n (nat_lt n 8) (p x) refl is)
 
-says_if : {S : Type 0} (w : Writing S) (x : List ℕ) (b : Bool) (s t : S)
-    → SaysEach w (texts_if b x) s t → SaysEach w (flat_map symbol_texts (cond b (x ∷ []) [])) s t
-says_if w x true s t says =
-    subst (λ (texts : List (List ℕ)). SaysEach w texts s t) (sym (append-nil (symbol_texts x))) says
-says_if w x false s t says = says
+says_if : {S : Type 0} (w : Writing S) (what x : List ℕ) (b : Bool) (s t : S)
+    → SaysEach w (texts_if b what x) s t
+    → SaysEach w (flat_map (symbol_texts what) (cond b (x ∷ []) [])) s t
+says_if w what x true s t says =
+    subst (λ (texts : List (List ℕ)). SaysEach w texts s t)
+    (sym (append-nil (symbol_texts what x))) says
+says_if w what x false s t says = says
 
 -- what is said of the first symbols, and how many these are
-abbrev pub SaysFirst : {S : Type 0} → Writing S → (List ℕ → Bool) → List (List ℕ) → ℕ → ℕ → S → S
-    → Type 0
-SaysFirst w p xs i n s t =
-    SaysEach w (flat_map symbol_texts (take 8 (filter p (take i xs)))) s t
+abbrev pub SaysFirst : {S : Type 0} → Writing S → List ℕ → (List ℕ → Bool) → List (List ℕ) → ℕ → ℕ
+    → S → S → Type 0
+SaysFirst w what p xs i n s t =
+    SaysEach w (flat_map (symbol_texts what) (take 8 (filter p (take i xs)))) s t
     × (n ≡ min 8 (length (filter p (take i xs))))
 
-pub says_first : {S : Type 0} (w : Writing S) (p : List ℕ → Bool) (xs : List (List ℕ)) (i : ℕ)
-    (x : List ℕ) (n m : ℕ) (b : Bool) (s t u : S) → i < length xs → x ≡ get_or xs i x
-    → b ≡ (nat_lt n 8 && p x) → m ≡ cond b 1 0 → SaysFirst w p xs i n s t
-    → SaysEach w (texts_if b x) t u → SaysFirst w p xs (i + 1) (n + m) s u
-says_first {S} w p xs i x n m b s t u less here due counted said one =
+pub says_first : {S : Type 0} (w : Writing S) (what : List ℕ) (p : List ℕ → Bool)
+    (xs : List (List ℕ)) (i : ℕ) (x : List ℕ) (n m : ℕ) (b : Bool) (s t u : S) → i < length xs
+    → x ≡ get_or xs i x → b ≡ (nat_lt n 8 && p x) → m ≡ cond b 1 0
+    → SaysFirst w what p xs i n s t → SaysEach w (texts_if b what x) t u
+    → SaysFirst w what p xs (i + 1) (n + m) s u
+says_first {S} w what p xs i x n m b s t u less here due counted said one =
     let at = get_or xs i x in
     let ys = take 8 (filter p (take i xs)) in
     let more = first_more p xs i x n less said.1 in
@@ -98,18 +101,19 @@ says_first {S} w p xs i x n m b s t u less here due counted said one =
     ∙ ap (λ (y : List ℕ). ys ++ cond b (y ∷ []) []) (sym here) in
     let count : min 8 (length (filter p (take (i + 1) xs))) ≡ n + m =
     more.count ∙ ap (λ (c : Bool). n + cond c 1 0) same ∙ ap (λ (k : ℕ). n + k) (sym counted) in (
-      subst (λ (zs : List (List ℕ)). SaysEach w (flat_map symbol_texts zs) s u) (sym first)
+      subst (λ (zs : List (List ℕ)). SaysEach w (flat_map (symbol_texts what) zs) s u) (sym first)
           (subst (λ (texts : List (List ℕ)). SaysEach w texts s u)
-          (sym (flat_map-append symbol_texts ys (cond b (x ∷ []) [])))
-          (says_each w (flat_map symbol_texts ys) (flat_map symbol_texts (cond b (x ∷ []) [])) s t u
-          said.0 (says_if w x b t u one))),
+          (sym (flat_map-append (symbol_texts what) ys (cond b (x ∷ []) [])))
+          (says_each w (flat_map (symbol_texts what) ys)
+          (flat_map (symbol_texts what) (cond b (x ∷ []) [])) s t u said.0
+          (says_if w what x b t u one))),
       sym count,
     )
 
 -- once all are gone through
-pub says_all : {S : Type 0} (w : Writing S) (p : List ℕ → Bool) (xs : List (List ℕ)) (i n : ℕ)
-    (s t : S) → length xs ≤ i → SaysFirst w p xs i n s t
-    → SaysEach w (flat_map symbol_texts (take 8 (filter p xs))) s t
-says_all {S} w p xs i n s t long said =
-    subst (λ (ys : List (List ℕ)). SaysEach w (flat_map symbol_texts (take 8 (filter p ys))) s t)
-    (take_all i xs long) said.0
+pub says_all : {S : Type 0} (w : Writing S) (what : List ℕ) (p : List ℕ → Bool)
+    (xs : List (List ℕ)) (i n : ℕ) (s t : S) → length xs ≤ i → SaysFirst w what p xs i n s t
+    → SaysEach w (flat_map (symbol_texts what) (take 8 (filter p xs))) s t
+says_all {S} w what p xs i n s t long said =
+    subst (λ (ys : List (List ℕ)). SaysEach w
+    (flat_map (symbol_texts what) (take 8 (filter p ys))) s t) (take_all i xs long) said.0

@@ -1,4 +1,5 @@
--- The symbols of which no item comes, and what is said of them at the end.
+-- The symbols of which no item comes, or no change of the national best, and what is said of them
+-- at the end.
 use Rattle.std.specs.Prelude.{◌≡◌, ℕ, zero, suc, ◌-◌, ◌==◌, Bool, true, false, not, nat_eq, List, [], ◌∷◌, ◌++◌, codes, decimal, filter, flat_map, length, map, take, if◌then◌else◌}
 use Rattle.std.specs.List.{list_any}
 use Rattle.feed_types.specs.Symbols.{key_of, name_of}
@@ -6,6 +7,7 @@ use Rattle.feed_types.specs.declared.item.Item.{Item}
 use Rattle.feed_types.specs.declared.item.Item.TheVariants.{Quote, Halt}
 use Rattle.feed_types.specs.declared.journal.Entry.{Entry}
 use Rattle.feed_types.specs.declared.journal.Entry.TheVariants.{Consumed}
+use Rattle.feed_types.specs.declared.journal.Notice.{Notice}
 
 -- ---- which symbols come
 
@@ -25,6 +27,15 @@ abbrev pub absent_among : List Entry → List (List ℕ) → List (List ℕ)
 absent_among entries symbols =
     filter (λ symbol. not (list_any (enters (key_of symbol)) entries)) symbols
 
+-- whether a change of the national best is one of the symbol of this key
+abbrev pub is_change_of : ℕ → Notice → Bool
+is_change_of key notice = nat_eq (key_of notice.symbol) key
+
+-- the symbols of which no change is among the notices: a symbol has no best before its first change
+abbrev pub unchanged_among : List Notice → List (List ℕ) → List (List ℕ)
+unchanged_among notices symbols =
+    filter (λ symbol. not (list_any (is_change_of (key_of symbol)) notices)) symbols
+
 -- ---- symbols by their keys
 
 abbrev pub has_key : List ℕ → ℕ → Bool
@@ -39,24 +50,33 @@ symbols_with keys symbols = filter (λ symbol. has_key keys (key_of symbol)) sym
 
 -- ---- what is said
 
-abbrev pub symbol_texts : List ℕ → List (List ℕ)
-symbol_texts symbol = codes "nbbo: symbol " ∷ name_of symbol ∷ codes " never came\n" ∷ []
+-- that this is so of a symbol
+abbrev pub symbol_texts : List ℕ → List ℕ → List (List ℕ)
+symbol_texts what symbol = codes "nbbo: symbol " ∷ name_of symbol ∷ what ∷ []
 
 abbrev pub more_symbols_text : ℕ → List ℕ
-more_symbols_text count =
-    if count == 1 then codes " more symbol never came\n" else codes " more symbols never came\n"
+more_symbols_text count = if count == 1 then codes " more symbol" else codes " more symbols"
 
--- how many symbols more than those that are named
-abbrev pub more_symbols_texts : ℕ → List (List ℕ)
-more_symbols_texts zero = []
-more_symbols_texts (suc n) = codes "nbbo: " ∷ decimal (suc n) ∷ more_symbols_text (suc n) ∷ []
+-- of how many symbols more it is than of those that are named
+abbrev pub more_symbols_texts : List ℕ → ℕ → List (List ℕ)
+more_symbols_texts what zero = []
+more_symbols_texts what (suc n) =
+    codes "nbbo: " ∷ decimal (suc n) ∷ more_symbols_text (suc n) ∷ what ∷ []
 
--- the first eight symbols, and how many more
+-- that it is so of the first eight symbols, and of how many more
+abbrev pub listed_texts : List ℕ → List (List ℕ) → List (List ℕ)
+listed_texts what symbols =
+    flat_map (symbol_texts what) (take 8 symbols) ++ more_symbols_texts what (length symbols - 8)
+
+-- of symbols of which no item came
 abbrev pub absent_texts : List (List ℕ) → List (List ℕ)
-absent_texts symbols =
-    flat_map symbol_texts (take 8 symbols) ++ more_symbols_texts (length symbols - 8)
+absent_texts symbols = listed_texts (codes " never came\n") symbols
 
--- one symbol, if it is to be named. Only private clauses cite this.
-abbrev pub texts_if : Bool → List ℕ → List (List ℕ)
-texts_if true symbol = symbol_texts symbol
-texts_if false symbol = []
+-- of symbols of which the national best never changed
+abbrev pub unchanged_texts : List (List ℕ) → List (List ℕ)
+unchanged_texts symbols = listed_texts (codes " never had a best\n") symbols
+
+-- of one symbol, if it is to be named. Only private clauses cite this.
+abbrev pub texts_if : Bool → List ℕ → List ℕ → List (List ℕ)
+texts_if true what symbol = symbol_texts what symbol
+texts_if false what symbol = []

@@ -1,17 +1,18 @@
-//! The symbols of which no item came, by their names.
-ghost use Rattle.std.specs.Prelude.{◌≡◌, [], IfOk};
+//! The symbols of which no item came, or no change of the national best, by their names.
+ghost use Rattle.std.specs.Prelude.{◌≡◌, [], ◌∷◌, IfOk};
 ghost use Rattle.feed_text.specs.Devices.{Writing};
 ghost use Rattle.feed_text.specs.StandardError.{SaysEach};
-ghost use Rattle.run_notes.specs.AbsentSymbols.{absent_among, absent_texts, symbols_with};
+ghost use Rattle.run_notes.specs.AbsentSymbols.{absent_among, absent_texts, symbols_with, unchanged_among, unchanged_texts};
 
-use crate::absent_report::write_absent;
+use crate::absent_report::{write_absent, write_unchanged};
 use crate::absent_symbols::AbsentSymbols;
 use feed_text::TextOut;
-use feed_types::{Entry, SymbolName};
+use feed_types::{Entry, Notice, SymbolName};
 use std::alloc::{AllocError, Global};
 use std::marker::Model;
 
-/// The symbols, of some, of which no item came. Contracts see these, in the order of all.
+/// The symbols, of some, of which nothing came: no item, or no change of the national best.
+/// Contracts see these, in the order of all.
 #[derive(Drop)]
 pub struct AbsentList {
     symbols: Vec<SymbolName>,
@@ -38,6 +39,26 @@ impl AbsentList {
         }
     }
 
+    /// Returns these symbols, of which nothing came yet. Fails where memory is refused.
+    pub fn of(alloc: Global, symbols: &[SymbolName]) -> Result<AbsentList, AllocError>
+        ensures { IfOk result (λ list. list ≡ symbols.now) }
+    {
+        let absent = AbsentSymbols::of(alloc, symbols)?;
+        let mut held = Vec::with_capacity(alloc, symbols.len())?;
+        held.extend_from_slice(symbols)?;
+        Ok(AbsentList {
+            symbols: held,
+            absent,
+        })
+    }
+
+    /// Takes out the symbols of the entries' items.
+    fn note_entries(&mut self, entries: &[Entry])
+        ensures { self.new ≡ absent_among entries.now self.old }
+    {
+        self.absent.note_entries(entries);
+    }
+
     /// Returns the symbols of which no item is among a journal's entries. Fails where memory is
     /// refused.
     pub fn among(
@@ -47,14 +68,25 @@ impl AbsentList {
     ) -> Result<AbsentList, AllocError>
         ensures { IfOk result (λ absent. absent ≡ absent_among entries.now symbols.now) }
     {
-        let mut absent = AbsentSymbols::of(alloc, symbols)?;
-        absent.note_entries(entries);
-        let mut held = Vec::with_capacity(alloc, symbols.len())?;
-        held.extend_from_slice(symbols)?;
-        Ok(AbsentList {
-            symbols: held,
-            absent,
-        })
+        let mut list = AbsentList::of(alloc, symbols)?;
+        list.note_entries(entries);
+        Ok(list)
+    }
+
+    /// Takes out the symbol of a change of the national best.
+    pub fn note_change(&mut self, notice: &Notice)
+        ensures { self.new ≡ unchanged_among (notice.now ∷ []) self.old }
+    {
+        self.absent.note_change(notice);
+    }
+
+    /// Takes out the symbols of changes of the national best.
+    pub fn note_changes(&mut self, notices: &[Notice])
+        ensures { self.new ≡ unchanged_among notices.now self.old }
+    {
+        for notice in notices {
+            self.note_change(notice);
+        }
     }
 
     /// Writes that these symbols never came: the names of the first of them, and how many more.
@@ -63,5 +95,14 @@ impl AbsentList {
             (absent_texts self.now) errors.old errors.new }
     {
         write_absent(self.symbols.as_slice(), &self.absent, errors);
+    }
+
+    /// Writes that these symbols never had a best: the names of the first of them, and how many
+    /// more.
+    pub fn write_unchanged<E: TextOut>(&self, errors: &mut E)
+        ensures { SaysEach (record { adds = E.adds; failures = E.failures })
+            (unchanged_texts self.now) errors.old errors.new }
+    {
+        write_unchanged(self.symbols.as_slice(), &self.absent, errors);
     }
 }

@@ -1,8 +1,9 @@
-//! What is said of symbols of which no item came, on standard error.
+//! What is said on standard error of symbols of which no item came, or no change of the national
+//! best.
 ghost use Rattle.std.specs.Prelude.{◌≡◌, ◌&&◌, flat_map, if◌then◌else◌, length, nat_lt, take};
 ghost use Rattle.feed_text.specs.StandardError.{Says, SaysEach};
 ghost use Rattle.feed_types.specs.Symbols.{key_of, name_of};
-ghost use Rattle.run_notes.specs.AbsentSymbols.{absent_texts, has_key, more_symbols_text, more_symbols_texts, symbol_texts, symbols_with, texts_if};
+ghost use Rattle.run_notes.specs.AbsentSymbols.{absent_texts, has_key, listed_texts, more_symbols_text, more_symbols_texts, symbol_texts, symbols_with, texts_if, unchanged_texts};
 
 use crate::absent_symbols::AbsentSymbols;
 use feed_text::{TextOut, write_all, write_number, write_stderr};
@@ -10,6 +11,12 @@ use feed_types::SymbolName;
 
 /// The most symbols that are named.
 const MOST: usize = 8;
+
+/// What stands after symbols of which no item came.
+const NEVER_CAME: &str = " never came\n";
+
+/// What stands after symbols of which the national best never changed.
+const NEVER_CHANGED: &str = " never had a best\n";
 
 /// Writes the name of a symbol.
 fn write_name<E: TextOut>(symbol: &SymbolName, errors: &mut E)
@@ -19,14 +26,14 @@ fn write_name<E: TextOut>(symbol: &SymbolName, errors: &mut E)
     let _ = write_all(symbol.name(), errors);
 }
 
-/// Writes that a symbol never came.
-fn write_symbol<E: TextOut>(symbol: &SymbolName, errors: &mut E)
+/// Writes that this is so of a symbol.
+fn write_symbol<E: TextOut>(what: &str, symbol: &SymbolName, errors: &mut E)
     ensures { SaysEach (record { adds = E.adds; failures = E.failures })
-        (symbol_texts symbol.now) errors.old errors.new }
+        (symbol_texts what.now symbol.now) errors.old errors.new }
 {
     write_stderr("nbbo: symbol ", errors);
     write_name(symbol, errors);
-    write_stderr(" never came\n", errors);
+    write_stderr(what, errors);
 }
 
 /// Returns whether a symbol is absent, and to be named after this many others.
@@ -36,28 +43,33 @@ fn is_named(symbol: &SymbolName, absent: &AbsentSymbols, before: usize) -> bool
     before < MOST && absent.has(*symbol)
 }
 
-/// Writes that a symbol never came, if it is to be named. Returns how many were named.
-fn write_if<E: TextOut>(is_named: bool, symbol: &SymbolName, errors: &mut E) -> usize
+/// Writes that this is so of a symbol, if it is to be named. Returns how many were named.
+fn write_if<E: TextOut>(is_named: bool, what: &str, symbol: &SymbolName, errors: &mut E) -> usize
     ensures says { SaysEach (record { adds = E.adds; failures = E.failures })
-        (texts_if is_named symbol.now) errors.old errors.new }
+        (texts_if is_named what.now symbol.now) errors.old errors.new }
     ensures count { result ≡ (if is_named then 1 else 0) }
 {
     if !is_named {
         return 0;
     }
-    write_symbol(symbol, errors);
+    write_symbol(what, symbol, errors);
     1
 }
 
-/// Writes that the first eight of the symbols that are absent never came.
-fn write_first<E: TextOut>(symbols: &[SymbolName], absent: &AbsentSymbols, errors: &mut E)
+/// Writes that this is so of the first eight of the symbols that are absent.
+fn write_first<E: TextOut>(
+    what: &str,
+    symbols: &[SymbolName],
+    absent: &AbsentSymbols,
+    errors: &mut E,
+)
     ensures { SaysEach (record { adds = E.adds; failures = E.failures })
-        (flat_map symbol_texts (take 8 (symbols_with absent.now symbols.now)))
+        (flat_map (symbol_texts what.now) (take 8 (symbols_with absent.now symbols.now)))
         errors.old errors.new }
 {
     let mut named = 0;
     for symbol in symbols {
-        named += write_if(is_named(symbol, absent, named), symbol, errors);
+        named += write_if(is_named(symbol, absent, named), what, symbol, errors);
     }
 }
 
@@ -68,21 +80,21 @@ fn count_absent(symbols: &[SymbolName], absent: &AbsentSymbols) -> usize
     symbols.iter().filter(|symbol| absent.has(**symbol)).count()
 }
 
-/// What stands after a count of symbols.
+/// What stands after a count of further symbols.
 fn more_symbols(count: u64) -> &'static str
     ensures { result.now ≡ more_symbols_text count }
 {
     if count == 1 {
-        " more symbol never came\n"
+        " more symbol"
     } else {
-        " more symbols never came\n"
+        " more symbols"
     }
 }
 
-/// Writes how many symbols more never came, if any.
-fn write_more<E: TextOut>(count: u64, errors: &mut E)
+/// Writes of how many symbols more this is so, if of any.
+fn write_more<E: TextOut>(what: &str, count: u64, errors: &mut E)
     ensures { SaysEach (record { adds = E.adds; failures = E.failures })
-        (more_symbols_texts count) errors.old errors.new }
+        (more_symbols_texts what.now count) errors.old errors.new }
 {
     if count == 0 {
         return;
@@ -90,14 +102,37 @@ fn write_more<E: TextOut>(count: u64, errors: &mut E)
     write_stderr("nbbo: ", errors);
     write_number(count, errors);
     write_stderr(more_symbols(count), errors);
+    write_stderr(what, errors);
 }
 
-/// Writes which of the symbols are absent: the names of the first of them, and how many more.
+/// Writes that this is so of the symbols that are absent: the names of the first of them, and how
+/// many more.
+fn write_listed<E: TextOut>(
+    what: &str,
+    symbols: &[SymbolName],
+    absent: &AbsentSymbols,
+    errors: &mut E,
+)
+    ensures { SaysEach (record { adds = E.adds; failures = E.failures })
+        (listed_texts what.now (symbols_with absent.now symbols.now)) errors.old errors.new }
+{
+    write_first(what, symbols, absent, errors);
+    let more = count_absent(symbols, absent).saturating_sub(MOST);
+    write_more(what, more as u64, errors);
+}
+
+/// Writes that the symbols that are absent never came.
 pub fn write_absent<E: TextOut>(symbols: &[SymbolName], absent: &AbsentSymbols, errors: &mut E)
     ensures { SaysEach (record { adds = E.adds; failures = E.failures })
         (absent_texts (symbols_with absent.now symbols.now)) errors.old errors.new }
 {
-    write_first(symbols, absent, errors);
-    let more = count_absent(symbols, absent).saturating_sub(MOST);
-    write_more(more as u64, errors);
+    write_listed(NEVER_CAME, symbols, absent, errors);
+}
+
+/// Writes that the symbols that are absent never had a best.
+pub fn write_unchanged<E: TextOut>(symbols: &[SymbolName], absent: &AbsentSymbols, errors: &mut E)
+    ensures { SaysEach (record { adds = E.adds; failures = E.failures })
+        (unchanged_texts (symbols_with absent.now symbols.now)) errors.old errors.new }
+{
+    write_listed(NEVER_CHANGED, symbols, absent, errors);
 }

@@ -1,15 +1,16 @@
-//! The symbols of which no item came.
+//! The symbols of which no item came, or no change of the national best.
 ghost use Rattle.std.specs.Prelude.{◌≡◌, ℕ, [], ◌&&◌, not, nat_eq, IfOk};
 ghost use Rattle.std.specs.List.{list_any};
 ghost use Rattle.feed_types.specs.Symbols.{key_of};
-ghost use Rattle.run_notes.specs.AbsentSymbols.{AreKeysOf, enters, has_key, is_item_of};
+ghost use Rattle.run_notes.specs.AbsentSymbols.{AreKeysOf, enters, has_key, is_change_of, is_item_of};
 
-use feed_types::{Entry, Item, SymbolName};
+use feed_types::{Entry, Item, Notice, SymbolName};
 use indexmap::IndexSet;
 use std::alloc::{AllocError, Global};
 use std::marker::Model;
 
-/// The symbols, of some, of which no item has come. Contracts see their keys.
+/// The symbols, of some, of which nothing has come: no item, or no change of the national best.
+/// Contracts see their keys.
 #[derive(Drop)]
 pub struct AbsentSymbols {
     keys: IndexSet<u64>,
@@ -54,7 +55,7 @@ impl AbsentSymbols {
         self.keys.contains(&symbol.key())
     }
 
-    /// Takes out a symbol of which an item came.
+    /// Takes out a symbol of which something came.
     fn remove(&mut self, symbol: SymbolName)
         ensures { (key : ℕ) → has_key self.new key
             ≡ (has_key self.old key && not (nat_eq (key_of symbol) key)) }
@@ -85,6 +86,17 @@ impl AbsentSymbols {
             return;
         }
         self.note_item(item);
+    }
+
+    /// Takes out the symbol of a change of the national best, if any symbol is left.
+    pub fn note_change(&mut self, notice: &Notice)
+        ensures { (key : ℕ) → has_key self.new key
+            ≡ (has_key self.old key && not (is_change_of key notice.now)) }
+    {
+        if self.keys.is_empty() {
+            return;
+        }
+        self.remove(notice.symbol);
     }
 
     /// Takes out the symbol of an entry, if that has an item.

@@ -1,9 +1,9 @@
-//! What standard error has at the end of a run of any command: which symbols never came
-//! ([`AbsentList`], [`write_absent`]), and names of sessions ([`write_session_name`]).
+//! What standard error has at the end of a run of any command: which symbols never came, or never
+//! had a best ([`AbsentList`], [`write_absent`]), and names of sessions ([`write_session_name`]).
 //!
-//! Contract: the symbols that are left are those of which no item came
-//! (`specs/AbsentSymbols.antt`); what is said of them, and of a session's name, is exactly a text
-//! of them (`specs/SessionNames.antt`).
+//! Contract: the symbols that are left are those of which no item came, or no change of the
+//! national best (`specs/AbsentSymbols.antt`); what is said of them, and of a session's name, is
+//! exactly a text of them (`specs/SessionNames.antt`).
 //!
 //! Begin with `absent_symbols.rt`.
 #![tactic(auto)]

@@ -1,5 +1,6 @@
 //! The counts of a run, served to clients that ask for them by HTTP.
 
+use crate::drop_table::DropTable;
 use crate::line_watch::LineWatches;
 use crate::metrics_client::MetricsClient;
 use feed_types::{MAX_VENUES, VenueId};
@@ -11,8 +12,31 @@ use venue_lines::VenueStatus;
 /// How many milliseconds are between two looks at the clients at least.
 const LOOK_MS: u64 = 20;
 
+/// How many milliseconds are between two reads of the system's tables at least.
+const DROPS_MS: u64 = 1_000;
+
 /// The most clients at a time; others wait until one is gone.
 const MOST_CLIENTS: usize = 16;
+
+/// What the system had dropped when its tables were last read.
+#[derive(Drop)]
+struct LastDrops {
+    table: Option<DropTable>,
+    /// How many milliseconds after the beginning of the run they are read again.
+    due_ms: u64,
+}
+
+impl LastDrops {
+    /// What the system has dropped at the sockets of these lines, where that is looked for, or what
+    /// it had less than a second ago.
+    fn at(&mut self, elapsed_ms: u64, lines: &LineWatches) -> Option<&DropTable> {
+        if elapsed_ms >= self.due_ms {
+            self.table = lines.drops();
+            self.due_ms = elapsed_ms.saturating_add(DROPS_MS);
+        }
+        self.table.as_ref()
+    }
+}
 
 /// The server of a run's metrics. It waits for nobody: a look takes what has come, and gives each
 /// client what it takes.
@@ -21,24 +45,25 @@ pub struct MetricsServer {
     alloc: Global,
     listener: TcpListener,
     clients: Vec<MetricsClient>,
+    drops: LastDrops,
     /// How many milliseconds after the beginning of the run the next look is due.
     due_ms: u64,
 }
 
-/// The figures of the venues of these lines, of which `status` returns what one has come to, or
-/// None where there is none.
+/// The figures of the venues of these lines, at whose sockets the system has dropped this, and of
+/// which `status` returns what one has come to, or None where there is none.
 fn venues_by<S: Fn(VenueId) -> Option<VenueStatus>>(
     alloc: Global,
     lines: &LineWatches,
+    drops: Option<&DropTable>,
     status: S,
 ) -> Result<Vec<VenueFigures>, AllocError>
     requires { S.IsAlwaysCallable status }
 {
-    let drops = lines.drops();
     let mut venues = Vec::new(alloc);
     for place in 0..MAX_VENUES {
         let venue = VenueId::at(place);
-        if let Some(figures) = lines.figures(venue, status(venue), drops.as_ref()) {
+        if let Some(figures) = lines.figures(venue, status(venue), drops) {
             venues.push(figures)?;
         }
     }
@@ -52,17 +77,19 @@ pub struct RunProgress {
     pub changes: u64,
 }
 
-/// The answer of a reply, of a run of these lines that has come so far.
+/// The answer of a reply, of a run of these lines that has come so far, at whose sockets the system
+/// has dropped this.
 fn answer_by<S: Fn(VenueId) -> Option<VenueStatus>>(
     alloc: Global,
     reply: Reply,
     progress: RunProgress,
     lines: &LineWatches,
+    drops: Option<&DropTable>,
     status: S,
 ) -> Result<Vec<u8>, AllocError>
     requires { S.IsAlwaysCallable status }
 {
-    let venues = venues_by(alloc, lines, status)?;
+    let venues = venues_by(alloc, lines, drops, status)?;
     let figures = RunFigures {
         seconds: progress.elapsed_ms / 1_000,
         changes: progress.changes,
@@ -79,6 +106,10 @@ impl MetricsServer {
                 alloc,
                 listener,
                 clients: Vec::new(alloc),
+                drops: LastDrops {
+                    table: None,
+                    due_ms: 0,
+                },
                 due_ms: 0,
             }),
             None => None,
@@ -109,7 +140,8 @@ impl MetricsServer {
             return;
         };
         if let Some(reply) = client.read_request() {
-            client.give(answer_by(alloc, reply, progress, lines, status));
+            let drops = self.drops.at(progress.elapsed_ms, lines);
+            client.give(answer_by(alloc, reply, progress, lines, drops, status));
         }
         client.go_on(progress.elapsed_ms);
     }

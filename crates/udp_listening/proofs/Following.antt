@@ -14,7 +14,8 @@ use Rattle.live_feed.specs.declared.subscriber.logged.Logged.{Logged}
 use Rattle.live_feed.specs.declared.subscriber.logged.PollFault.{PollFault}
 use Rattle.live_feed.specs.declared.subscriber.logged.PollFault.TheVariants.{NoMemory, LogFull}
 use Rattle.live_feed.specs.subscriber.Logs.{SubscriberLogState, Polls, logged}
-use Rattle.udp_listening.specs.Listening.{HasFailed, HasFollowed, HasPrinted, log_rows, notices_of}
+use Rattle.udp_listening.specs.Listening.{HasFailed, HasFollowed, HasPrinted, log_rows}
+use Rattle.udp_listening.specs.SettledNotices.{notices_of}
 use Rattle.udp_listening.specs.declared.console.LiveOutput.{LiveOutput}
 use Rattle.udp_listening.specs.declared.console.LiveOutput.TheVariants.{On, Off, Failed}
 

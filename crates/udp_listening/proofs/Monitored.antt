@@ -14,7 +14,8 @@ use Rattle.live_feed.specs.run.Wholes.{HasAttended, IsBegun, IsWholeRun, line_re
 use Rattle.live_feed.specs.settle.Settlements.{IsSettlement, SettlementState}
 use Rattle.live_feed.specs.subscriber.Logs.{SubscriberLogState}
 use Rattle.live_feed.specs.venue.Seats.{SeatState, new_seat}
-use Rattle.udp_listening.specs.Listening.{HasListenedOn, IsFollowing, IsUnprinted, settled_forgotten, settled_log}
+use Rattle.udp_listening.specs.Listening.{HasListenedOn, IsFollowing, IsUnprinted}
+use Rattle.udp_listening.specs.SettledNotices.{HasNoted, settled_forgotten, settled_log}
 use Rattle.udp_listening.specs.Monitors.{HasMonitored}
 use Rattle.run_settings.specs.declared.listen_settings.ListenSettings.{ListenSettings}
 use Rattle.udp_listening.specs.Reports.{IsListened, IsReportOfFeed, IsReportOfRun, any_lines, reported_line, seat_line, task_line}
@@ -27,6 +28,7 @@ use Rattle.udp_listening.specs.declared.listen_report.ListenReport.{ListenReport
 use Rattle.udp_listening.specs.declared.listening.ListenFault.{ListenFault}
 use Rattle.udp_listening.specs.declared.run_monitor.RunMonitor.{RunMonitor}
 use Rattle.run_watches.specs.RunNewsLaws.{nothing_of_run}
+use Rattle.udp_listening.proofs.Noting.{noted_new}
 use Rattle.udp_listening.proofs.Wholes.{settled_forgotten_of, settled_log_of}
 
 -- What is printed of a log by the end: from whichever output on there was only the header.
@@ -36,7 +38,8 @@ Shows {C} {W} writing before after log printed =
     (style : RowStyle) (first : W) → IsUnprinted writing style first before.console
     → IsFollowing writing style first log printed after.console
 
--- the one log of a run that was monitored, and what was printed of it
+-- the one log of a run that was monitored, what was printed of it, and which symbols are left
+-- unchanged of those that the console had at first
 pub record Monitored {C W E : Type 0} (writing : Writing W) (telling : Writing E)
     (before after : RunMonitor C W E) (logs : List SubscriberLogState) : Type 0 where
   pub log : SubscriberLogState
@@ -44,6 +47,8 @@ pub record Monitored {C W E : Type 0} (writing : Writing W) (telling : Writing E
   pub shows : Shows writing before after log.lines log.forgotten
   pub says : SaysOfRun telling (watched_run before.watches) before.console.errors
       after.console.errors
+  pub notes : (symbols : List (List ℕ)) → before.console.unchanged ≡ symbols
+      → HasNoted symbols log.lines log.forgotten after.console.unchanged
 
 -- there are no other logs
 alone : (log : SubscriberLogState) (others : List SubscriberLogState) → length others ≡ 0
@@ -67,6 +72,9 @@ monitored writing telling before after (Some log) (Some later) others begun atte
       (subst (λ n. IsFollowing writing style first log.lines n before.console) (sym begun.2)
       (unprinted log.lines));
   says = attended.1;
+  notes =
+      λ symbols same.
+      attended.2 symbols (noted_new symbols log before.console.unchanged begun.2 same);
 }
 
 -- What a monitor has printed and said that attended a run, or none.
@@ -124,10 +132,9 @@ module _ {G N C W E : Type 0} (settings : ListenSettings) (writing : Writing W)
     (telling : Writing E) (lanes : FeedLanes)
     (brings : UdpLineState → List (List ℕ) → UdpLineState → Type 0) (failures : UdpLineState → ℕ)
     (tasks : List (LineTask UdpLineState)) (count : ℕ) (none : count ≡ 0)
-    (before after : RunMonitor C W E) (whole : FeedReport UdpLineState) (report : ListenReport)
+    (before after : RunMonitor C W E) (whole : FeedReport UdpLineState)
     (w : IsWholeRun G N any_lines lanes (λ l. l.venue) brings failures
-    (HasMonitored writing telling) tasks true count before after whole)
-    (tells : IsReportOfFeed settings whole report) where
+    (HasMonitored writing telling) tasks true count before after whole) where
   ended : Monitored writing telling before after (logs_with w.later w.others)
   ended = monitored writing telling before after w.log w.later w.others w.begun w.attended
       (w.all ∙ none)
@@ -135,9 +142,20 @@ module _ {G N C W E : Type 0} (settings : ListenSettings) (writing : Writing W)
   seated : map seat_line (map (λ e. e.seat) w.ends) ≡ map task_line tasks
   seated = lines_of (HasTaken any_lines lanes) brings failures tasks w.ends w.lines
 
+  -- the forgotten notices of the settled log were noted
+  pub noted_of : (symbols : List (List ℕ)) → before.console.unchanged ≡ symbols
+      → HasNoted symbols (settled_log whole.settlement) (settled_forgotten whole.settlement)
+      after.console.unchanged
+  noted_of symbols same =
+      let log = settled_log_of ended.log ended.one w.settled in
+      let forgotten = settled_forgotten_of ended.log ended.one w.settled in
+      subst (λ (x : List Logged × ℕ). HasNoted symbols x.0 x.1 after.console.unchanged)
+      (λ i. (sym log i, sym forgotten i)) (ended.notes symbols same)
+
   -- the report is that of the run
-  pub run_of : IsReportOfRun settings lanes (map task_line tasks) report
-  run_of = record {
+  pub run_of : (report : ListenReport) → IsReportOfFeed settings whole report
+      → IsReportOfRun settings lanes (map task_line tasks) report
+  run_of report tells = record {
     seats = map (λ e. e.seat) w.ends;
     seated = seated;
     log = ended.log;
@@ -150,8 +168,9 @@ module _ {G N C W E : Type 0} (settings : ListenSettings) (writing : Writing W)
   }
 
   -- and of its settled log the forgotten rows were printed
-  pub printed_of : HasListenedOn writing before.console (Ok report) after.console
-  printed_of =
+  pub printed_of : (report : ListenReport) → IsReportOfFeed settings whole report
+      → HasListenedOn writing before.console (Ok report) after.console
+  printed_of report tells =
       λ style first unprinted.
       let log = settled_log_of ended.log ended.one w.settled in
       let forgotten = settled_forgotten_of ended.log ended.one w.settled in

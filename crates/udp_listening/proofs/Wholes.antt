@@ -15,7 +15,8 @@ use Rattle.live_feed.specs.Lanes.{FeedLanes}
 use Rattle.live_feed.specs.venue.Seats.{SeatState}
 use Rattle.live_feed.specs.settle.Settlements.{IsSettlement, SettlementState, ShowsSubscriber, SubscriberEndState}
 use Rattle.live_feed.specs.subscriber.Logs.{SubscriberLogState}
-use Rattle.udp_listening.specs.Listening.{HasFailed, HasFollowed, HasListened, HasPrinted, IsSummary, ListensToEnd, PrintsAll, PrintsEnd, PrintsFailedReport, PrintsReport, PrintsRest, PrintsWhole, ending_text, first_count, first_lines, log_rows, notices_of, rest_text, settled_forgotten, settled_log, subscriber_notices, subscriber_rows}
+use Rattle.udp_listening.specs.Listening.{HasFailed, HasFollowed, HasListened, HasPrinted, IsSummary, ListensToEnd, PrintsAll, PrintsEnd, PrintsFailedReport, PrintsReport, PrintsRest, PrintsWhole, ending_text, log_rows, rest_text, subscriber_rows}
+use Rattle.udp_listening.specs.SettledNotices.{first_count, first_lines, notices_of, settled_forgotten, settled_log, subscriber_notices}
 use Rattle.udp_listening.specs.declared.console.Console.{Console}
 use Rattle.udp_listening.specs.declared.console.LiveOutput.{LiveOutput}
 use Rattle.udp_listening.specs.declared.console.LiveOutput.TheVariants.{On, Off, Failed}

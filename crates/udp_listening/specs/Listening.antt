@@ -1,7 +1,6 @@
 -- `nbbo listen`: what it prints of what came, and how it ends. The texts are this project's own.
-use Rattle.std.specs.Prelude.{◌≡◌, ◌⊎◌, ℕ, ◌+◌, ◌≤◌, ◌==◌, ◌&&◌, Bool, true, false, List, [], ◌∷◌, ◌++◌, length, drop, flat_map, map, take, IfOk, Option, Some, None, Result, Ok, Err, codes, if◌then◌else◌}
+use Rattle.std.specs.Prelude.{◌≡◌, ◌⊎◌, ℕ, ◌+◌, ◌≤◌, ◌==◌, ◌&&◌, Bool, true, false, List, [], ◌∷◌, ◌++◌, length, drop, flat_map, take, IfOk, Option, Some, None, Result, Ok, Err, codes, if◌then◌else◌}
 use Rattle.feed_types.specs.declared.journal.Entry.{Entry}
-use Rattle.feed_types.specs.declared.journal.Notice.{Notice}
 use Rattle.feed_types.specs.declared.line.LineId.{LineId}
 use Rattle.feed_types.specs.PerLines.{on_line}
 use Rattle.feed_text.specs.Devices.{Writing, Wrote}
@@ -17,12 +16,13 @@ use Rattle.journal_book.specs.ItemsIn.{items_in}
 use Rattle.live_feed.specs.subscriber.Logs.{SubscriberLogState}
 use Rattle.live_feed.specs.settle.Settlements.{SettlementState, VenueEndState, SubscriberEndState}
 use Rattle.feed_text.specs.StandardError.{Says, SaysEach}
-use Rattle.run_notes.specs.AbsentSymbols.{absent_texts}
+use Rattle.run_notes.specs.AbsentSymbols.{absent_texts, unchanged_texts}
 use Rattle.run_watches.specs.News.{line_end_texts}
 use Rattle.run_watches.specs.RunLines.{listened_run}
 use Rattle.run_watches.specs.RunNews.{SaysOfRun}
 use Rattle.udp_listening.specs.Reports.{IsListened}
 use Rattle.udp_listening.specs.Settings.{row_style}
+use Rattle.udp_listening.specs.SettledNotices.{HasNoted, notices_of, settled_forgotten, settled_log, settled_notices}
 use Rattle.udp_listening.specs.declared.console.Console.{Console}
 use Rattle.udp_listening.specs.declared.console.LiveOutput.{LiveOutput}
 use Rattle.udp_listening.specs.declared.console.LiveOutput.TheVariants.{On, Off, Failed}
@@ -36,10 +36,6 @@ use Rattle.udp_listening.specs.declared.listen_report.EndedLine.{EndedLine}
 use Rattle.udp_listening.specs.declared.listen_report.ListenReport.{ListenReport}
 
 -- ---- what is printed on the output
-
--- the notices of a log
-abbrev pub notices_of : List Logged → List Notice
-notices_of log = map (λ logged. logged.notice) log
 
 -- the rows of the notices of a log, all of one look
 abbrev pub log_rows : RowStyle → Option ℕ → List Logged → List ℕ
@@ -68,7 +64,7 @@ end_lines entries venue (v ∷ vs) = end_line entries venue v ++ end_lines entri
 -- of which it has 16 at most; after other rows nothing
 abbrev pub ending_text : BestFormat → SettlementState → List ℕ
 ending_text Text s = end_lines s.journal.entries 0 (take 16 s.venues)
-ending_text Csv s = []
+ending_text (Csv times) s = []
 ending_text Json s = []
 
 -- what is left to print of it: the rows of its first subscriber that aren't printed yet, and then
@@ -78,28 +74,14 @@ rest_text style s =
     flat_map (λ x. subscriber_rows style x.forgotten x) (take 1 s.subscribers)
     ++ ending_text style.format s
 
--- all notices of a subscriber
-abbrev pub subscriber_notices : SubscriberEndState → List Notice
-subscriber_notices x = notices_of x.log ++ (x.queued ++ x.unoffered)
-
 -- The text of a feed that was settled, from its beginning on: the header and the row of each notice
 -- of its first subscriber, at the moment of the look that took it, and then its ending.
 pub record IsSummary (style : RowStyle) (s : SettlementState) (text : List ℕ) : Type 0 where
   pub rows : List ℕ
-  pub told : IsTextOf style (flat_map subscriber_notices (take 1 s.subscribers)) rows
+  pub told : IsTextOf style (settled_notices s) rows
   pub all : text ≡ rows ++ ending_text style.format s
 
 -- ---- what is printed while a run goes on
-
--- the lines of the first subscriber's log, if there is one
-abbrev pub first_lines : {S : Type 0} → (S → List Logged) → List S → List Logged
-first_lines lines [] = []
-first_lines lines (s ∷ more) = lines s
-
--- the count of the first subscriber, if there is one
-abbrev pub first_count : {S : Type 0} → (S → ℕ) → List S → ℕ
-first_count count [] = 0
-first_count count (s ∷ more) = count s
 
 -- From this output on the header was written and the rows of the log's first notices, as many as
 -- are counted, each at the moment of the look that took it; and no call failed.
@@ -143,18 +125,19 @@ KeepsFollowing {W} writing log before longer after =
     → IsFollowing writing style first log.lines log.forgotten before
     → IsFollowing writing style first longer.lines longer.forgotten after
 
+-- The log has grown, and of whichever symbols the console has had those that the forgotten notices
+-- of the log left unchanged, it has those that are left by what the longer log has forgotten now.
+abbrev pub KeepsNoting : {W E : Type 0} → SubscriberLogState → Console W E
+    → SubscriberLogState → Console W E → Type 0
+KeepsNoting log before longer after =
+    (symbols : List (List ℕ))
+    → HasNoted symbols log.lines log.forgotten before.unchanged
+    → HasNoted symbols longer.lines longer.forgotten after.unchanged
+
 -- From this output on no row is printed yet, of whatever log: only the header.
 abbrev pub IsUnprinted : {W E : Type 0} → Writing W → RowStyle → W → Console W E → Type 0
 IsUnprinted writing style first console =
     (log : List Logged) → IsFollowing writing style first log 0 console
-
--- the log of the first subscriber of a settled feed, if it has one
-abbrev pub settled_log : SettlementState → List Logged
-settled_log s = first_lines (λ x. x.log) s.subscribers
-
--- how many of its lines are forgotten
-abbrev pub settled_forgotten : SettlementState → ℕ
-settled_forgotten s = first_count (λ x. x.forgotten) s.subscribers
 
 -- The end of a run: from the output `first` on the rows that the settled log has forgotten were
 -- written; or where there is no report, those of some log's first notices.
@@ -203,12 +186,13 @@ stop_texts (Some stop) = stop_text stop ∷ []
 
 -- what is said of a report: the lines that failed, why it stopped early, the lines that have read
 -- as many datagrams as they may, what venues lack, with which sessions lines ended, and which
--- symbols never came
+-- symbols never came or never had a best
 abbrev pub report_texts : ListenReport → List (List ℕ)
 report_texts report =
     (flat_map failed_texts report.failed.items ++ stop_texts report.stopped)
     ++ ((flat_map read_out_texts report.read_out.items ++ flat_map lack_texts report.lacking.items)
-    ++ (flat_map ended_texts report.ended.items ++ absent_texts report.absent))
+    ++ (flat_map ended_texts report.ended.items
+    ++ (absent_texts report.absent ++ unchanged_texts report.unchanged)))
 
 -- 0 where no line failed and nothing stopped the run early
 abbrev pub report_status : List (ℕ × LineId) → Option Stop → ℕ

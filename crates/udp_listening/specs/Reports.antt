@@ -12,11 +12,12 @@ use Rattle.live_feed.specs.declared.run.whole.LineTask.{LineTask}
 use Rattle.live_feed.specs.settle.Settlements.{IsSettlement}
 use Rattle.live_feed.specs.subscriber.Logs.{SubscriberLogState}
 use Rattle.live_feed.specs.venue.Seats.{SeatState}
-use Rattle.run_notes.specs.AbsentSymbols.{absent_among}
+use Rattle.run_notes.specs.AbsentSymbols.{absent_among, unchanged_among}
 use Rattle.run_settings.specs.FurtherOptions.{has_further_options}
 use Rattle.run_settings.specs.declared.listen_settings.ListenSettings.{ListenSettings}
 use Rattle.run_watches.specs.RunLines.{listened_lines}
 use Rattle.udp_listening.specs.Settings.{feed_setting}
+use Rattle.udp_listening.specs.SettledNotices.{settled_notices}
 use Rattle.udp_listening.specs.UdpLines.{UdpLineState, is_read_out}
 use Rattle.udp_listening.specs.declared.listen_report.EndedLine.{EndedLine}
 use Rattle.udp_listening.specs.declared.listen_report.ListenReport.{ListenReport}
@@ -89,11 +90,18 @@ reported_absent settings journal =
     absent_if (tells_absent settings) (kept_of journal.kept journal.entries)
     settings.feed.symbols.items
 
+-- the symbols of which it is told at the end whether they had a best: by settings with further
+-- options, where not all entries are kept, those of the settings
+abbrev pub noted_symbols : ListenSettings → List (List ℕ)
+noted_symbols settings =
+    if has_further_options settings && is_some settings.kept then settings.feed.symbols.items
+    else []
+
 -- ---- reports
 
 -- This is told of the whole life of the settings' feed: which of its lines failed and which have
 -- read out, why it stopped early, which session's end ended which line, which symbols never came,
--- and what was settled.
+-- of which no change of the national best was told, and what was settled.
 pub record IsReportOfFeed (settings : ListenSettings) (whole : FeedReport UdpLineState)
     (told : ListenReport) : Type 0 where
   pub failed : told.failed.items ≡ failed_lines whole.lines.items
@@ -101,6 +109,8 @@ pub record IsReportOfFeed (settings : ListenSettings) (whole : FeedReport UdpLin
   pub read_out : told.read_out.items ≡ read_out_lines whole.lines.items
   pub ended : told.ended.items ≡ told_ends (has_further_options settings) whole.lines.items
   pub absent : told.absent ≡ reported_absent settings whole.settlement.journal
+  pub unchanged : told.unchanged
+      ≡ unchanged_among (settled_notices whole.settlement) (noted_symbols settings)
   pub settlement : told.settlement ≡ whole.settlement
 
 -- The settings' feed with these lanes was run over these lines, and settled: the settlement is that

@@ -1,13 +1,16 @@
 //! Where the program prints while a run goes on.
 ghost use Rattle.std.specs.Prelude.{◌≡◌, ◌≢◌, drop, Option, ℕ};
 ghost use Rattle.feed_types.specs.Prefix.{IsPrefix};
-ghost use Rattle.udp_listening.specs.Listening.{IsUnprinted, KeepsFollowing, log_rows};
+ghost use Rattle.udp_listening.specs.Listening.{IsUnprinted, KeepsFollowing, KeepsNoting, log_rows};
 
 use crate::run_time::RunTime;
 use crate::summary::put_log;
+use crate::unchanged::note_log;
 use best_rows::{RowStyle, header_line};
 use feed_text::{LineBuffer, TextOut, write_all};
 use live_feed::{FeedName, SubscriberLog};
+use run_notes::AbsentList;
+use std::alloc::Global;
 use std::sync::Wait;
 use std::time::Clock;
 
@@ -37,6 +40,9 @@ pub struct Console<W, E> {
     pub style: RowStyle,
     /// How many changes of the national best were taken of the log.
     pub changes: u64,
+    /// Of the symbols of which it is told at the end, those of which no change is among what the
+    /// log has forgotten.
+    pub unchanged: AbsentList,
 }
 
 /// Polls once, and returns whether a notice was taken. Where that is refused, a run isn't to wait
@@ -83,10 +89,18 @@ fn last_number<N: FeedName>(log: &SubscriberLog<N>) -> Option<u64> {
 }
 
 impl<W: TextOut, E> Console<W, E> {
-    /// Prints what stands before the first row.
-    pub fn new(output: W, errors: E, live_output: LiveOutput, style: RowStyle) -> Console<W, E>
+    /// Prints what stands before the first row. At the end it is told of no symbol that it never
+    /// had a best.
+    pub fn new(
+        alloc: Global,
+        output: W,
+        errors: E,
+        live_output: LiveOutput,
+        style: RowStyle,
+    ) -> Console<W, E>
         requires { live_output ≢ LiveOutput.Failed }
         ensures errors { result.errors ≡ errors }
+        ensures changes { result.changes ≡ 0 }
         ensures unprinted { IsUnprinted (record { adds = W.adds; failures = W.failures })
             style output result }
     {
@@ -101,6 +115,7 @@ impl<W: TextOut, E> Console<W, E> {
             live_output,
             style,
             changes: 0,
+            unchanged: AbsentList::none(alloc),
         }
     }
 
@@ -119,6 +134,7 @@ impl<W: TextOut, E> Console<W, E> {
         ensures log { IsPrefix log.old.lines log.new.lines }
         ensures shows { KeepsFollowing (record { adds = W.adds; failures = W.failures })
             log.old self.old log.new self.new }
+        ensures notes { KeepsNoting log.old self.old log.new self.new }
         ensures errors { self.new.errors ≡ self.old.errors }
     {
         let has_taken = poll_some(rt, log);
@@ -141,6 +157,7 @@ impl<W: TextOut, E> Console<W, E> {
         ensures log { log.new.lines ≡ log.old.lines }
         ensures shows { KeepsFollowing (record { adds = W.adds; failures = W.failures })
             log.old self.old log.new self.new }
+        ensures notes { KeepsNoting log.old self.old log.new self.new }
         ensures errors { self.new.errors ≡ self.old.errors }
     {
         if log.log().is_empty() {
@@ -155,7 +172,7 @@ impl<W: TextOut, E> Console<W, E> {
     }
 
     /// Writes the text of the log's rows that aren't printed yet, those of one look, and has the
-    /// log forget them.
+    /// log forget them, once it was noted which symbols they are of.
     fn write_rest<N: FeedName>(&mut self, text: &[u8], log: &mut SubscriberLog<N>)
         requires on { self.old.live_output ≡ LiveOutput.On }
         requires text { (time : Option ℕ)
@@ -163,11 +180,15 @@ impl<W: TextOut, E> Console<W, E> {
         ensures log { log.new.lines ≡ log.old.lines }
         ensures shows { KeepsFollowing (record { adds = W.adds; failures = W.failures })
             log.old self.old log.new self.new }
+        ensures notes { KeepsNoting log.old self.old log.new self.new }
         ensures errors { self.new.errors ≡ self.old.errors }
     {
         let count = log.log().len();
         match write_all(text, &mut self.output) {
-            Ok(()) => log.forget(count),
+            Ok(()) => {
+                note_log(&mut self.unchanged, log.log());
+                log.forget(count);
+            }
             Err(_) => self.live_output = LiveOutput::Failed,
         }
     }

@@ -33,6 +33,7 @@ mod sockets;
 mod sources;
 mod summary;
 mod udp_line;
+mod unchanged;
 
 pub use listen::{NO_MEMORY, listen_with};
 pub use listen_sockets::ListenSockets;

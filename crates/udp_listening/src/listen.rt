@@ -14,6 +14,7 @@ use crate::run_monitor::RunMonitor;
 use crate::run_time::RunTime;
 use crate::sources::lines_over;
 use crate::summary::summary_of;
+use crate::unchanged::noted_symbols;
 use best_rows::RowStyle;
 use feed_text::{Lack, TextOut, write_all, write_stderr};
 use feed_types::{LineId, VenueId};
@@ -179,7 +180,8 @@ fn style_of(settings: &ListenSettings) -> RowStyle
 /// standard error; and metrics are served where there is a socket for them. Standard error has also
 /// what is news of the lines, as it comes, and which gaps were given up, as the settings say, and
 /// at the end what was counted of the lines; where the settings have further options also with
-/// which sessions lines ended, what the system dropped, and which symbols never came.
+/// which sessions lines ended, what the system dropped, and which symbols never came, or where not
+/// all entries are kept never had a best.
 pub fn listen_with<R, C, W, E>(
     rt: &R,
     clock: &C,
@@ -201,17 +203,19 @@ where
         settings.now (length sockets.lines.items) output result.1 errors result.2 result.0 }
 {
     let live_output = live_output_of(settings);
-    let mut console = Console::new(output, errors, live_output, style_of(settings));
+    let mut console = Console::new(alloc, output, errors, live_output, style_of(settings));
     let clock_copy: Result<C, AllocError> = clock.clone();
-    let (Ok(feed), Ok(lines), Ok(gaps), Ok(clock)) = (
+    let (Ok(feed), Ok(lines), Ok(gaps), Ok(unchanged), Ok(clock)) = (
         feed_of(alloc, settings),
         lines_over(alloc, settings, sockets.lines, sockets.tables, clock),
         GapWatches::of(alloc, settings),
+        noted_symbols(alloc, settings),
         clock_copy,
     ) else {
         let status = print_end(alloc, &Err(ListenFault::NoMemory), &mut console);
         return (status, console.output, console.errors);
     };
+    console.unchanged = unchanged;
     let counts = ListenCounts::of(alloc, settings);
     let metrics = MetricsServer::of(alloc, sockets.metrics);
     let watches = RunWatches::new(lines.watches, gaps, counts, metrics);

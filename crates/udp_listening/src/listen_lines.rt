@@ -3,7 +3,7 @@ ghost use Rattle.std.specs.Prelude.{◌≡◌, ◌++◌, flat_map};
 ghost use Rattle.feed_text.specs.Devices.{Writing};
 ghost use Rattle.feed_text.specs.LackTexts.{lack_texts};
 ghost use Rattle.feed_text.specs.StandardError.{SaysEach};
-ghost use Rattle.run_notes.specs.AbsentSymbols.{absent_texts};
+ghost use Rattle.run_notes.specs.AbsentSymbols.{absent_texts, unchanged_texts};
 ghost use Rattle.udp_listening.specs.Listening.{ended_texts, failed_texts, read_out_texts, report_texts, stop_text, stop_texts};
 
 use crate::listen_report::{EndedLine, ListenReport};
@@ -85,19 +85,30 @@ fn write_each_ended<E: TextOut>(ended: &[EndedLine], errors: &mut E)
     }
 }
 
-/// Writes with which sessions lines ended, and which symbols never came.
+/// Writes which symbols never came, and which never had a best.
+fn write_symbols<E: TextOut>(report: &ListenReport, errors: &mut E)
+    ensures { SaysEach (record { adds = E.adds; failures = E.failures })
+        (absent_texts report.now.absent ++ unchanged_texts report.now.unchanged)
+        errors.old errors.new }
+{
+    report.absent.write(errors);
+    report.unchanged.write_unchanged(errors);
+}
+
+/// Writes with which sessions lines ended, and which symbols never came or never had a best.
 fn write_ends<E: TextOut>(report: &ListenReport, errors: &mut E)
     ensures { SaysEach (record { adds = E.adds; failures = E.failures })
-        (flat_map ended_texts report.now.ended.items ++ absent_texts report.now.absent)
+        (flat_map ended_texts report.now.ended.items
+        ++ (absent_texts report.now.absent ++ unchanged_texts report.now.unchanged))
         errors.old errors.new }
 {
     write_each_ended(report.ended.as_slice(), errors);
-    report.absent.write(errors);
+    write_symbols(report, errors);
 }
 
 /// Writes which lines failed, why the run stopped early, if it did, which lines have read as many
 /// datagrams as they may, what venues lack, with which sessions lines ended, and which symbols
-/// never came.
+/// never came or never had a best.
 pub fn write_report_lines<E: TextOut>(report: &ListenReport, errors: &mut E)
     ensures { SaysEach (record { adds = E.adds; failures = E.failures })
         (report_texts report.now) errors.old errors.new }

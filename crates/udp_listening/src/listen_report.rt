@@ -2,10 +2,12 @@
 ghost use Rattle.std.specs.Prelude.{◌≡◌, ◌++◌, IfOk, OnOk, flat_map};
 ghost use Rattle.journal_book.specs.Journals.{kept_of};
 ghost use Rattle.run_settings.specs.FurtherOptions.{has_further_options};
-ghost use Rattle.udp_listening.specs.Reports.{IsReportOfFeed, absent_if, ended_line, ended_lines, failed_lines, line_if, read_out_lines, tells_absent, reported_absent, told_ends};
+ghost use Rattle.udp_listening.specs.Reports.{IsReportOfFeed, absent_if, ended_line, ended_lines, failed_lines, line_if, noted_symbols, read_out_lines, tells_absent, reported_absent, told_ends};
+ghost use Rattle.udp_listening.specs.SettledNotices.{HasNoted, settled_forgotten, settled_log};
 
 use crate::listening::ListenFault;
 use crate::udp_line::UdpLine;
+use crate::unchanged::settled_unchanged;
 use feed_text::Lack;
 use feed_types::{LineId, VenueId};
 use live_feed::{FeedReport, LineReport, Settlement, Stop};
@@ -39,6 +41,9 @@ pub struct ListenReport {
     /// The symbols of which no item came, where the settings have further options and all entries
     /// are kept.
     pub absent: AbsentList,
+    /// The symbols of which no change of the national best was told, where the settings have
+    /// further options and not all entries are kept.
+    pub unchanged: AbsentList,
     /// What was taken, and what became of it.
     pub settlement: Settlement,
 }
@@ -190,13 +195,17 @@ fn absent_of(
 }
 
 /// The report of listening by the report of the settings' feed, whose venues had these statuses at
-/// its end. NoMemory where memory was refused, and no other fault.
+/// its end, and of whose log the forgotten notices left these symbols unchanged. NoMemory where
+/// memory was refused, and no other fault.
 pub fn report_of<C: Drop>(
     alloc: Global,
     settings: &ListenSettings,
     whole: FeedReport<UdpLine<C>>,
     statuses: &VenueStatuses,
+    unchanged: AbsentList,
 ) -> Result<ListenReport, ListenFault>
+    requires { HasNoted (noted_symbols settings.now) (settled_log whole.settlement)
+        (settled_forgotten whole.settlement) unchanged }
     ensures { IfOk result (IsReportOfFeed settings.now whole) }
 {
     Ok(ListenReport {
@@ -206,6 +215,7 @@ pub fn report_of<C: Drop>(
         lacking: lacks_in(alloc, statuses)?,
         ended: ended_of(alloc, settings, whole.lines.as_slice())?,
         absent: absent_of(alloc, settings, &whole.settlement)?,
+        unchanged: settled_unchanged(unchanged, &whole.settlement),
         settlement: whole.settlement,
     })
 }

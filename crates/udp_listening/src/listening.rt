@@ -2,7 +2,7 @@
 ghost use Rattle.std.specs.Prelude.{◌≡◌, IfOk, length, map, vec_len};
 ghost use Rattle.feed_text.specs.Devices.{Writing};
 ghost use Rattle.udp_listening.specs.Listening.{HasListenedOn};
-ghost use Rattle.udp_listening.specs.Reports.{IsReportOfRun, task_line};
+ghost use Rattle.udp_listening.specs.Reports.{IsReportOfRun, noted_symbols, task_line};
 ghost use Rattle.run_watches.specs.RunLines.{watched_run};
 ghost use Rattle.run_watches.specs.RunNews.{SaysOfRun};
 ghost use Rattle.udp_listening.specs.Settings.{IsFeedOf, feed_setting, most_logged};
@@ -18,8 +18,10 @@ use live_feed::{
     CoreFault, FeedEnd, FeedName, FeedTask, JournalFault, LineTask, LiveFeed, SettleFault,
     Subscription, WholeFault,
 };
+use run_notes::AbsentList;
 use run_settings::ListenSettings;
 use std::alloc::{AllocError, Global};
+use std::mem;
 use std::rt::Clock;
 use std::sync::Wait;
 use std::thread::Threads;
@@ -119,6 +121,7 @@ where
     W: TextOut + Drop,
     E: TextOut + Drop,
     requires lanes { feed ≡ N.lanes }
+    requires unchanged { monitor.console.unchanged ≡ noted_symbols settings.now }
     ensures listened { HasListenedOn (record { adds = W.adds; failures = W.failures })
         monitor.console result.outcome result.console }
     ensures run { IfOk result.outcome
@@ -135,11 +138,13 @@ where
         attended: Some(subscription),
         subscriptions: Vec::new(alloc),
     };
-    let FeedEnd { outcome, attendant } = feed.run_whole::<N, UdpLine<C>, RunMonitor<C, W, E>, R>(
-        rt, alloc, task, monitor,
-    );
+    let FeedEnd {
+        outcome,
+        mut attendant,
+    } = feed.run_whole::<N, UdpLine<C>, RunMonitor<C, W, E>, R>(rt, alloc, task, monitor);
+    let unchanged = mem::replace(&mut attendant.console.unchanged, AbsentList::none(alloc));
     let outcome = match outcome {
-        Ok(whole) => report_of(alloc, settings, whole, &attendant.statuses),
+        Ok(whole) => report_of(alloc, settings, whole, &attendant.statuses, unchanged),
         Err(fault) => Err(fault_of(fault)),
     };
     Listened {

@@ -4,7 +4,7 @@
 //! is to end.
 ghost use Rattle.std.specs.Prelude.{◌≡◌};
 ghost use Rattle.feed_text.specs.Devices.{Writing};
-ghost use Rattle.udp_listening.specs.Listening.{KeepsFollowing};
+ghost use Rattle.udp_listening.specs.Listening.{KeepsFollowing, KeepsNoting};
 ghost use Rattle.run_watches.specs.RunLines.{watched_run};
 ghost use Rattle.run_watches.specs.RunNews.{SaysOfRun, SaysRunEnd, SaysRunNews};
 
@@ -134,6 +134,7 @@ impl<C: Clock + Drop, W: TextOut + Drop, E: TextOut + Drop> RunMonitor<C, W, E> 
     fn take<N: FeedName, R: Wait>(&mut self, rt: &R, log: &mut SubscriberLog<N>) -> bool
         ensures shows { KeepsFollowing (record { adds = W.adds; failures = W.failures })
             log.old self.old.console log.new self.new.console }
+        ensures notes { KeepsNoting log.old self.old.console log.new self.new.console }
         ensures run { watched_run self.new.watches ≡ watched_run self.old.watches }
         ensures news { SaysRunNews (record { adds = E.adds; failures = E.failures })
             (watched_run self.old.watches) self.old.console.errors self.new.console.errors }
@@ -154,6 +155,7 @@ impl<C: Clock + Drop, W: TextOut + Drop, E: TextOut + Drop> RunMonitor<C, W, E> 
     ) -> bool
         ensures shows { KeepsFollowing (record { adds = W.adds; failures = W.failures })
             log.old self.old.console log.new self.new.console }
+        ensures notes { KeepsNoting log.old self.old.console log.new self.new.console }
         ensures run { watched_run self.new.watches ≡ watched_run self.old.watches }
         ensures news { SaysRunNews (record { adds = E.adds; failures = E.failures })
             (watched_run self.old.watches) self.old.console.errors self.new.console.errors }
@@ -192,6 +194,7 @@ impl<C: Clock + Drop, W: TextOut + Drop, E: TextOut + Drop> RunMonitor<C, W, E> 
     ) -> (RunMonitor<C, W, E>, SubscriberLog<N>)
         ensures shows { KeepsFollowing (record { adds = W.adds; failures = W.failures })
             log self.console result.1 result.0.console }
+        ensures notes { KeepsNoting log self.console result.1 result.0.console }
         ensures says { SaysOfRun (record { adds = E.adds; failures = E.failures })
             (watched_run self.watches) self.console.errors result.0.console.errors }
     {

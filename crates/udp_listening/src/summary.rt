@@ -113,7 +113,7 @@ fn put_ending(
 {
     match format {
         BestFormat::Text => put_ends(text, settlement),
-        BestFormat::Csv | BestFormat::Json => Ok(()),
+        BestFormat::Csv(_) | BestFormat::Json => Ok(()),
     }
 }
 

@@ -5,6 +5,6 @@ use Rattle.run_notes.proofs.absent_report.write_first.Given as goal
 
 abbrev pub invariant-loop-symbol : goal.invariant-loop-symbol
 invariant-loop-symbol g l =
-    SaysFirst (record { adds = g.E.TextOut.adds; failures = g.E.TextOut.failures })
+    SaysFirst (record { adds = g.E.TextOut.adds; failures = g.E.TextOut.failures }) l.what
     (λ symbol. has_key l.absent (key_of symbol)) l.symbols l.symbol-index l.named
     l.fn.errors l.errors

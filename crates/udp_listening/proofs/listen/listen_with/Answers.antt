@@ -59,14 +59,15 @@ returns g c =
     } in
     let settings = c.args.settings.now in
     let sockets = length c.args.sockets.lines.items in
-    let made = c.in-Ok-Ok-Ok-Ok in
+    let made = c.in-Ok-Ok-Ok-Ok-Ok in
     let monitor = c.new-monitor.result in
     let ran = c.run_feed-outcome in
     let outcome = ran.result.outcome in
     let console = ran.result.console in
     let printed = c.print_end-ended in
     let style = c.style_of.result in
-    let new : monitor.console ≡ c.new-console.result = c.new-monitor.ensures.console in
+    let new : monitor.console ≡ record (c.new-console.result) { unchanged = made.unchanged } =
+    c.new-monitor.ensures.console in
     let unprinted : IsUnprinted writing style c.args.output monitor.console =
     subst (λ (k : Console g.row.W.Denot g.row.E.Denot). IsUnprinted writing style c.args.output k)
     (sym new) c.new-console.ensures.unprinted in

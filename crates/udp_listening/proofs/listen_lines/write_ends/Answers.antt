@@ -1,8 +1,8 @@
-use Rattle.std.proofs.Common.{List, flat_map, subst}
+use Rattle.std.proofs.Common.{◌++◌, List, flat_map, subst}
 use Rattle.feed_text.specs.Devices.{Writing}
 use Rattle.feed_text.specs.StandardError.{SaysEach}
 use Rattle.feed_text.specs.laws.SaidTexts.{says_each}
-use Rattle.run_notes.specs.AbsentSymbols.{absent_texts}
+use Rattle.run_notes.specs.AbsentSymbols.{absent_texts, unchanged_texts}
 use Rattle.udp_listening.specs.Listening.{ended_texts}
 use Rattle.udp_listening.specs.declared.listen_report.EndedLine.{EndedLine}
 use Rattle.udp_listening.proofs.listen_lines.write_ends.Goals as goal
@@ -13,10 +13,11 @@ returns g c =
       adds = g.E.TextOut.adds;
       failures = g.E.TextOut.failures;
     } in
-    says_each w (flat_map ended_texts c.args.report.now.ended.items)
-    (absent_texts c.args.report.now.absent)
-    c.args.errors.now c.write_each_ended.new.errors c.write.new.errors
+    let r = c.args.report.now in
+    says_each w (flat_map ended_texts r.ended.items)
+    (absent_texts r.absent ++ unchanged_texts r.unchanged)
+    c.args.errors.now c.write_each_ended.new.errors c.write_symbols.new.errors
     (subst (λ (lines : List EndedLine). SaysEach w (flat_map ended_texts lines)
     c.args.errors.now c.write_each_ended.new.errors)
     c.as_slice.ensures.value c.write_each_ended.ensures)
-    c.write.ensures
+    c.write_symbols.ensures

@@ -2,7 +2,7 @@ use Rattle.std.proofs.Common.{flat_map, ◌++◌}
 use Rattle.feed_text.specs.Devices.{Writing}
 use Rattle.feed_text.specs.LackTexts.{lack_texts}
 use Rattle.feed_text.specs.laws.SaidTexts.{says_each}
-use Rattle.run_notes.specs.AbsentSymbols.{absent_texts}
+use Rattle.run_notes.specs.AbsentSymbols.{absent_texts, unchanged_texts}
 use Rattle.udp_listening.specs.Listening.{ended_texts, failed_texts, read_out_texts, stop_texts}
 use Rattle.udp_listening.proofs.listen_lines.write_report_lines.Goals as goal
 
@@ -14,7 +14,8 @@ returns g c =
     } in
     let r = c.args.report.now in
     let gaps = flat_map read_out_texts r.read_out.items ++ flat_map lack_texts r.lacking.items in
-    let ends = flat_map ended_texts r.ended.items ++ absent_texts r.absent in
+    let symbols = absent_texts r.absent ++ unchanged_texts r.unchanged in
+    let ends = flat_map ended_texts r.ended.items ++ symbols in
     let first = c.args.errors.now in
     let faults = c.write_faults.new.errors in
     let lacked = c.write_gaps.new.errors in

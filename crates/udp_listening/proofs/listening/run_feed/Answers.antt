@@ -3,11 +3,31 @@ use Rattle.std.specs.Prelude.{Err, IfOk}
 use Rattle.std.proofs.lemmas.Result.{IfOk-at_ok}
 use Rattle.feed_text.specs.Devices.{Writing}
 use Rattle.udp_listening.specs.Listening.{HasListenedOn}
-use Rattle.udp_listening.specs.Reports.{IsReportOfFeed, IsReportOfRun, task_line}
+use Rattle.udp_listening.specs.Reports.{IsReportOfFeed, IsReportOfRun, noted_symbols, task_line}
+use Rattle.udp_listening.specs.SettledNotices.{HasNoted, settled_forgotten, settled_log}
 use Rattle.udp_listening.specs.declared.listening.ListenFault.{ListenFault}
-use Rattle.udp_listening.proofs.Monitored.{listened_by, monitored_if_run, printed_of, run_of, told_by}
+use Rattle.udp_listening.proofs.Monitored.{listened_by, monitored_if_run, noted_of, printed_of, run_of, told_by}
 use Rattle.udp_listening.proofs.listening.run_feed.Goals.{in-Ok, in-Err}
 use Rattle.udp_listening.proofs.listening.run_feed.Goals as goal
+
+pub report_of-outcome-requires : goal.report_of-outcome-requires
+report_of-outcome-requires g c =
+    let out : Writing g.row.W.Denot = record {
+      adds = g.W.TextOut.adds;
+      failures = g.W.TextOut.failures;
+    } in
+    let w : Writing g.row.E.Denot = record {
+      adds = g.E.TextOut.adds;
+      failures = g.E.TextOut.failures;
+    } in
+    let ran = c.run_whole-outcome in
+    let symbols = noted_symbols c.args.settings.now in
+    let s = c.in-Ok.whole.settlement in
+    subst (λ left. HasNoted symbols (settled_log s) (settled_forgotten s) left)
+    (sym c.replace-unchanged.ensures.value)
+    (noted_of c.args.settings.now out w _ _ _ _ _ c.new.ensures.len c.args.monitor
+    ran.result.attendant c.in-Ok.whole (IfOk-at_ok _ c.in-Ok.is ran.ensures.whole) symbols
+    c.requires.unchanged)
 
 pub returns-clause-says : goal.returns-clause-says
 returns-clause-says g c =
@@ -36,22 +56,22 @@ returns-clause-listened g c =
     let before = c.args.monitor in
     let after = ran.result.attendant in
     let told = monitored_if_run out w before after ran.ensures.attendant in
-    let failed : (fault : ListenFault)
-    → HasListenedOn out before.console (Err fault) after.console
+    let shown = record (after.console) { unchanged = c.replace-unchanged.new.dest } in
+    let failed : (fault : ListenFault) → HasListenedOn out before.console (Err fault) shown
     = λ fault style first unprinted.
     (told.lines, told.printed, told.shows style first unprinted) in
     elim c.match-outcome.branch [
       | in-Ok w' ↦
-          subst (λ o. HasListenedOn out before.console o after.console) (sym w'.outcome-is)
-          (listened_by out before.console after.console
+          subst (λ o. HasListenedOn out before.console o shown) (sym w'.outcome-is)
+          (listened_by out before.console shown
           (IsReportOfFeed c.args.settings.now w'.in-Ok.whole)
           w'.report_of-outcome.result
           (λ report tells.
           printed_of c.args.settings.now out w _ _ _ _ _ c.new.ensures.len before after
-          w'.in-Ok.whole report (IfOk-at_ok _ w'.in-Ok.is ran.ensures.whole) tells)
+          w'.in-Ok.whole (IfOk-at_ok _ w'.in-Ok.is ran.ensures.whole) report tells)
           failed w'.report_of-outcome.ensures)
       | in-Err w' ↦
-          subst (λ o. HasListenedOn out before.console o after.console) (sym w'.outcome-is)
+          subst (λ o. HasListenedOn out before.console o shown) (sym w'.outcome-is)
           (failed w'.fault_of.result)
     ]
 
@@ -75,8 +95,7 @@ returns-clause-run g c =
           (λ report tells.
           run_of c.args.settings.now out w _ _ _ _ _ c.new.ensures.len c.args.monitor
           ran.result.attendant
-          w'.in-Ok.whole report
-          (IfOk-at_ok _ w'.in-Ok.is ran.ensures.whole) tells)
+          w'.in-Ok.whole (IfOk-at_ok _ w'.in-Ok.is ran.ensures.whole) report tells)
           w'.report_of-outcome.ensures)
       | in-Err w' ↦ subst (λ o. IfOk o run) (sym w'.outcome-is) tt
     ]

@@ -1,9 +1,12 @@
-use Rattle.std.proofs.Common.{◌≡◌, ◌+◌, ap, drop, length, rules, subst, sym, List, ℕ}
+use Rattle.std.proofs.Common.{◌≡◌, ◌+◌, ◌∙◌, ap, drop, length, rules, subst, sym, List, ℕ}
 use Rattle.feed_text.specs.Devices.{Writing, Wrote}
 use Rattle.best_rows.specs.declared.style.RowStyle.{RowStyle}
 use Rattle.udp_listening.specs.Listening.{HasFollowed, log_rows}
 use Rattle.udp_listening.specs.declared.console.LiveOutput.{LiveOutput}
 use Rattle.udp_listening.proofs.Following.{all_forgotten, printed_all, printed_part, printed_where_on}
+use Rattle.udp_listening.specs.SettledNotices.{notices_of}
+use Rattle.run_notes.specs.AbsentSymbols.{unchanged_among}
+use Rattle.udp_listening.proofs.Noting.{noted_all}
 use Rattle.udp_listening.proofs.console.Console.write_rest.Goals as goal
 
 pub returns-in-Ok-clause-shows : goal.returns-in-Ok-clause-shows
@@ -59,3 +62,12 @@ returns-in-Err-clause-shows g c =
       printed_part w style first g.met.W.TextOut.adds_more out now old.lines old.forgotten time
           before rows failed,
     )
+
+pub returns-in-Ok-clause-notes : goal.returns-in-Ok-clause-notes
+returns-in-Ok-clause-notes g c =
+    let before = c.args.self.now.unchanged in
+    λ symbols h.
+    noted_all symbols c.args.log.now c.forget.new.self (length c.log-count.result.now) before
+    c.note_log.new.unchanged h
+    (c.note_log.ensures ∙ ap (λ l. unchanged_among (notices_of l) before) c.log.ensures)
+    (ap length c.log-count.ensures) c.forget.ensures

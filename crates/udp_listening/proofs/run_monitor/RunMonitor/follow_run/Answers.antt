@@ -1,7 +1,9 @@
-use Rattle.std.proofs.Common.{◌≡◌, ◌∙◌, refl, subst, sym}
+use Rattle.std.proofs.Common.{◌≡◌, ℕ, ◌∙◌, List, ap, refl, subst, sym}
 use Rattle.feed_text.specs.Devices.{Writing}
 use Rattle.run_watches.specs.RunLines.{WatchedRun, watched_run}
 use Rattle.run_watches.specs.RunNews.{SaysOfRun, SaysRunEnd, SaysRunNews}
+use Rattle.live_feed.specs.subscriber.Logs.{SubscriberLogState}
+use Rattle.udp_listening.specs.SettledNotices.{HasNoted}
 use Rattle.udp_listening.specs.declared.run_monitor.RunMonitor.{RunMonitor}
 use Rattle.run_watches.specs.RunNewsLaws.{more_run_news, no_run_news}
 use Rattle.udp_listening.proofs.run_monitor.RunMonitor.follow_run.Goals.{in-None, in-Some+then-turn}
@@ -41,6 +43,7 @@ loop-init g c =
       λ style first h. h,
       refl,
       no_run_news w (watched_run s.watches) s.console.errors,
+      λ symbols h. h,
     )
 
 pub loop-preserved : goal.loop-preserved
@@ -56,6 +59,7 @@ loop-preserved g c =
       turned w (watched_run c.args.self.watches) (watched_run c.loop.monitor.watches)
           c.args.self.console.errors c.loop.monitor.console.errors c.turn.new.self.console.errors
           c.loop.invariant.3 c.loop.invariant.4 c.turn.ensures.news,
+      λ symbols h. c.turn.ensures.notes symbols (c.loop.invariant.5 symbols h),
     )
 
 pub returns-clause-says : goal.returns-clause-says
@@ -84,3 +88,25 @@ returns-clause-says g c =
     ] in
     ended w run first c.match-next.monitor c.close.new.self.console.errors follows
     c.close.ensures.says
+
+-- the monitor has noted what this log has forgotten, of these symbols
+abbrev Notes : {C W E : Type 0} → List (List ℕ) → SubscriberLogState → RunMonitor C W E → Type 0
+Notes symbols log monitor = HasNoted symbols log.lines log.forgotten monitor.console.unchanged
+
+pub returns-clause-notes : goal.returns-clause-notes
+returns-clause-notes g c = λ symbols noted.
+    let log = c.match-next.log in
+    let before = c.loop.monitor in
+    let followed : Notes symbols log c.match-next.monitor =
+    elim c.match-next.branch [
+      | in-None w ↦
+          subst (λ m. Notes symbols log m) (sym w.monitor-is)
+          (subst (λ l. Notes symbols l before) (sym w.log-is)
+          (c.loop.invariant.5 symbols noted))
+      | in-Some+then-turn w ↦
+          subst (λ m. Notes symbols log m) (sym w.monitor-is)
+          (subst (λ l. Notes symbols l w.turn.new.self) (sym w.log-is)
+          (w.turn.ensures.notes symbols (c.loop.invariant.5 symbols noted)))
+    ] in
+    subst (λ (left : List (List ℕ)). HasNoted symbols log.lines log.forgotten left)
+    (sym (ap (λ k. k.unchanged) c.close.ensures.console)) followed

@@ -1,5 +1,5 @@
 use Rattle.std.proofs.Common.{◌≡◌}
-use Rattle.udp_listening.specs.Listening.{KeepsFollowing}
+use Rattle.udp_listening.specs.Listening.{KeepsFollowing, KeepsNoting}
 use Rattle.run_watches.specs.RunLines.{watched_run}
 use Rattle.run_watches.specs.RunNews.{SaysRunNews}
 use Rattle.udp_listening.proofs.run_monitor.RunMonitor.follow_run.Given as goal
@@ -13,3 +13,4 @@ invariant-loop g l =
     × SaysRunNews (record { adds = g.E.TextOut.adds; failures = g.E.TextOut.failures })
     (watched_run l.initial.monitor.watches) l.initial.monitor.console.errors
     l.monitor.console.errors
+    × KeepsNoting l.initial.log l.initial.monitor.console l.log l.monitor.console

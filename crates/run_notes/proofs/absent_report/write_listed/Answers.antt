@@ -3,17 +3,18 @@ use Rattle.feed_text.specs.Devices.{Writing}
 use Rattle.feed_text.specs.StandardError.{SaysEach}
 use Rattle.feed_text.specs.laws.SaidTexts.{says_each}
 use Rattle.run_notes.specs.AbsentSymbols.{more_symbols_texts, symbol_texts, symbols_with}
-use Rattle.run_notes.proofs.absent_report.write_absent.Goals as goal
+use Rattle.run_notes.proofs.absent_report.write_listed.Goals as goal
 
 pub returns : goal.returns
 returns g c =
     let w : Writing g.row.E.Denot =
     record { adds = g.E.TextOut.adds; failures = g.E.TextOut.failures } in
+    let what = c.args.what.now in
     let absent = symbols_with c.args.absent.now c.args.symbols.now in
     let first = c.write_first.new.errors in
     let end = c.write_more.new.errors in
-    says_each w (flat_map symbol_texts (take 8 absent)) (more_symbols_texts (length absent - 8))
-    c.args.errors.now first end c.write_first.ensures
-    (subst (λ (n : ℕ). SaysEach w (more_symbols_texts n) first end)
+    says_each w (flat_map (symbol_texts what) (take 8 absent))
+    (more_symbols_texts what (length absent - 8)) c.args.errors.now first end c.write_first.ensures
+    (subst (λ (n : ℕ). SaysEach w (more_symbols_texts what n) first end)
     (c.saturating_sub-more.ensures ∙ ap (λ (n : ℕ). n - 8) c.count_absent.ensures)
     c.write_more.ensures)
