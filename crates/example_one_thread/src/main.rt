@@ -112,13 +112,12 @@ fn main(rt: HostRuntime) -> io::Result<()> {
         }
         // After a packet there are at most a window of messages in sequence, and End.
         for _ in 0..=WINDOW {
-            let Some(numbered) = arbiter.next_ready() else {
-                break;
-            };
             if venue.index() >= journal.venue_count() || journal.reserve_one().is_err() {
                 break;
             }
-            arbiter.advance();
+            let Some(numbered) = arbiter.take_ready() else {
+                break;
+            };
             let _position = journal.record(venue, numbered);
         }
         for notice in journal.changes().get(asked..).unwrap_or(&[]) {
