@@ -23,8 +23,8 @@ def folder_of(program: str) -> Path:
 
 
 def copy_crate(crate: str, crates: Path) -> None:
-    """Copies the files of a crate that its proof reads."""
-    for part in ('src', 'specs', 'proofs'):
+    """Copies the files of a crate that its proof reads, and the library that was proved and built of them, if one was."""
+    for part in ('src', 'specs', 'proofs', 'out/rlib'):
         shutil.rmtree(crates / crate / part, ignore_errors=True)
         if (ROOT / 'crates' / crate / part).is_dir():
             shutil.copytree(ROOT / 'crates' / crate / part, crates / crate / part)
