@@ -1,5 +1,5 @@
 -- The events of a replay, apart from how they are printed, and the journal that they make.
-use Rattle.std.specs.Prelude.{ℕ, Bool, List, [], ◌∷◌, ◌++◌, Result, if◌then◌else◌}
+use Rattle.std.specs.Prelude.{ℕ, Bool, List, [], ◌∷◌, ◌++◌, ◌≡◌, Result, if◌then◌else◌}
 use Rattle.feed_types.specs.declared.item.Numbered.{Numbered}
 use Rattle.feed_types.specs.declared.journal.Entry.{Entry}
 use Rattle.feed_types.specs.declared.journal.Entry.TheVariants.{Consumed, SelfHelp}
@@ -25,6 +25,10 @@ pub data ReplayEvent : Type 0 where
   renewal_answered : (venue : ℕ) (answer : Result ℕ RenewFault) → ReplayEvent
   skip_answered : (venue number : ℕ) (answer : Result (Unit {0}) SkipFault) → ReplayEvent
   self_help_declared : (venue : ℕ) (on : Bool) → ReplayEvent
+
+-- the entry is an item of a venue
+abbrev pub IsItemEntry : Entry → Type 0
+IsItemEntry entry = (venue : ℕ) × (numbered : Numbered) × (entry ≡ Consumed venue numbered)
 
 -- The journal after one more event: an item adds its entry, a declaration adds one unless that is
 -- declared already, and other events add none.

@@ -1,14 +1,17 @@
 //! The journal of a replay, and the sink of its events.
-ghost use Rattle.std.specs.Prelude.{◌≡◌, ◌<◌, ◌≤◌, ◌∷◌, [], ◌+◌, ◌++◌, length, map, OnErr, OnOk};
+ghost use Rattle.std.specs.Prelude.{◌≡◌, ℕ, ◌<◌, ◌≤◌, ◌∷◌, [], ◌+◌, ◌++◌, length, map, OnErr, OnOk};
+ghost use Rattle.feed_types.specs.declared.item.Numbered.{Numbered};
+ghost use Rattle.feed_types.specs.declared.journal.Entry.{Entry};
+ghost use Rattle.nbbo_book.specs.Books.{venue_of};
 ghost use Rattle.journal_book.specs.Changes.{notices_from};
-ghost use Rattle.feed_text.specs.ReplayEvents.{item_taken, self_help_declared};
+ghost use Rattle.feed_text.specs.ReplayEvents.{IsItemEntry, item_taken, self_help_declared};
 ghost use Rattle.feed_text.specs.SinkEvents.{at_time, timed_event, told_best, told_by};
 ghost use Rattle.feed_text.specs.ReplayStates.{EmitsInto, EmitsPlain, state_of_replay};
 ghost use Rattle.feed_text.specs.declared.replay_sink.PublishStop.TheVariants.{SinkFailed};
 
 use crate::event::Event;
 use crate::event_sink::{EventSink, SinkStop};
-use feed_types::{Numbered, VenueId};
+use feed_types::{Entry, VenueId};
 use journal_book::{EntryChanges, JournalFault, NumberedBook};
 
 /// Why a record's events were not published to their end.
@@ -70,22 +73,28 @@ impl<K: EventSink> ReplaySink<K> {
         Ok(())
     }
 
-    /// Journals the venue's next item, and gives the sink the item and the changes that it makes.
+    /// Journals the entry, which is a venue's next item, and gives the sink the item and the changes
+    /// that it makes. The entry is lent, so that the item is written once, where it was read.
     #[inline(always)]
-    pub fn take_item(&mut self, venue: VenueId, numbered: &Numbered) -> Result<(), PublishStop>
-        requires { venue < self.old.journal.venues }
-        ensures { EmitsInto (record { takes = K.takes; fails = K.fails })
-            (state_of_replay self.old) (item_taken venue numbered.now ∷ [])
+    pub fn take_item(&mut self, entry: &Entry) -> Result<(), PublishStop>
+        requires venue { venue_of entry.now < self.old.journal.venues }
+        requires item { IsItemEntry entry.now }
+        ensures { (venue : ℕ) (numbered : Numbered) → entry.now ≡ Entry.Consumed venue numbered
+            → EmitsInto (record { takes = K.takes; fails = K.fails })
+            (state_of_replay self.old) (item_taken venue numbered ∷ [])
             (state_of_replay self.new) result }
     {
+        let Entry::Consumed { venue, numbered } = entry else {
+            unreachable!();
+        };
         if !self.journal.has_room() {
             return Err(PublishStop::JournalFull);
         }
         // Journaled before the sink is told: what the book keeps of the symbol is fetched
         // meanwhile.
-        self.journal.record(venue, *numbered);
+        self.journal.add(entry);
         let item = Event::Item {
-            venue,
+            venue: *venue,
             item: numbered,
         };
         self.sink.take(self.time, &item)?;

@@ -21,7 +21,7 @@ use crate::event::Event;
 use crate::event_sink::{EventSink, SinkStop};
 use crate::lack::Lack;
 use crate::replay_sink::{PublishStop, ReplaySink};
-use feed_types::{Anything, LineId, Numbered, VenueId};
+use feed_types::{Anything, Entry, LineId, Numbered, VenueId};
 use line_arbiter::{Arbiter, LineFault, Outcome, RenewFault, SkipFault};
 use mold_packet::{Messages, Packet, read_packet};
 use quote_payload::{peek_symbol_bytes, read_item};
@@ -65,8 +65,8 @@ fn publish_each<K: EventSink>(
     ensures { TakesReady (record { takes = K.takes; fails = K.fails }) venue
         arbiter.old arbiter.new (state_of_replay output.old) (state_of_replay output.new) result }
 {
-    while let Some(next) = arbiter.take_ready() {
-        output.take_item(venue, &next)?;
+    while let Some(numbered) = arbiter.take_ready() {
+        output.take_item(&Entry::Consumed { venue, numbered })?;
     }
     Ok(())
 }
@@ -106,11 +106,11 @@ fn publish_messages<K: EventSink>(
     let mut messages = packet.messages();
     let mut place: u64 = 0;
     while let Some(message) = messages.next() {
-        let item = Numbered {
+        let numbered = Numbered {
             number: first + place,
             item: read_item(message),
         };
-        output.take_item(venue, &item)?;
+        output.take_item(&Entry::Consumed { venue, numbered })?;
         place += 1;
     }
     Ok(())

@@ -10,7 +10,7 @@ ghost use Rattle.journal_book.specs.Changes.{changes_of, notices_from};
 ghost use Rattle.journal_book.specs.Declares.{DeclaresBy};
 
 use crate::fault::JournalFault;
-use feed_types::{Entry, Numbered, Past, SymbolName, VenueId};
+use feed_types::{Entry, Past, SymbolName, VenueId};
 use nbbo_book::{Book, BookFault, Change};
 use std::alloc::Global;
 use std::marker::Model;
@@ -134,9 +134,10 @@ impl NumberedBook {
         self.book.last_position() < u64::from(self.limit)
     }
 
-    /// Journals the entry, and returns its position.
+    /// Journals the entry, which is lent, and returns its position, which counts from 1. There is
+    /// room, and the entry's venue is below the count.
     #[inline(always)]
-    pub(crate) fn add(&mut self, entry: &Entry) -> u64
+    pub fn add(&mut self, entry: &Entry) -> u64
         requires room { length self.old.entries < self.old.journal }
         requires venue { venue_of entry.now < self.old.venues }
         ensures goes_on { GoesOnBy self.old entry.now self.new }
@@ -147,18 +148,6 @@ impl NumberedBook {
         self.book.apply(position, entry, &mut self.latest);
         self.past = self.past.with(entry);
         position
-    }
-
-    /// Journals the venue's item, and returns its position, which counts from 1. There is room, and
-    /// the venue is below the count.
-    #[inline(always)]
-    pub fn record(&mut self, venue: VenueId, numbered: Numbered) -> u64
-        requires room { length self.old.entries < self.old.journal }
-        requires venue { venue < self.old.venues }
-        ensures goes_on { GoesOnBy self.old (Entry.Consumed venue numbered) self.new }
-        ensures position { result ≡ length self.new.entries }
-    {
-        self.add(&Entry::Consumed { venue, numbered })
     }
 
     /// Reads what the venue's quotation of a symbol will read of the book, where a message to come
