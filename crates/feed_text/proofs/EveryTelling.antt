@@ -13,7 +13,8 @@ use Rattle.line_arbiter.specs.laws.SkipAnswers.{every_skip}
 use Rattle.feed_text.specs.declared.replay.ReplayConfig.{ReplayConfig}
 use Rattle.feed_text.specs.Capture.{CaptureRecord, datagram_record, renewal_record, skip_record, self_help_record, record_venue, IsRecord, HoldsBytes}
 use Rattle.feed_text.specs.ReplayEvents.{ReplayEvent, packet_answered, packet_refused, renewal_answered, skip_answered, self_help_declared}
-use Rattle.feed_text.specs.Emitted.{last_sent, gap_emitted, items_emitted, EmitsAt, EmitsRecord, Emits}
+use Rattle.line_arbiter.specs.LastSent.{last_sent}
+use Rattle.feed_text.specs.Emitted.{gap_emitted, items_emitted, EmitsAt, EmitsRecord, Emits}
 use Rattle.feed_text.specs.Texts.{EmitsAll}
 use Rattle.feed_text.specs.EventReplays.{venues_in}
 use Rattle.feed_types.specs.ListLaws.{get_within}

@@ -27,11 +27,12 @@ use Rattle.line_arbiter.specs.laws.SkipAnswers.{one_skip}
 use Rattle.feed_text.specs.declared.replay.ReplayConfig.{ReplayConfig}
 use Rattle.run_settings.specs.declared.skip_rule.SkipRule.{SkipRule}
 use Rattle.feed_text.specs.Capture.{CaptureRecord, datagram_record, renewal_record, skip_record, self_help_record, record_venue}
-use Rattle.feed_text.specs.Emitted.{last_sent, EmitsAt}
+use Rattle.line_arbiter.specs.LastSent.{last_sent}
+use Rattle.feed_text.specs.Emitted.{EmitsAt}
 use Rattle.feed_text.specs.Rules.{IsAhead, PutsIn, SkipsAt, SkipsBefore, first_come, held_at_last, skip_at}
 use Rattle.feed_text.specs.ReplayStates.{SinkTaking, ReplayState}
 use Rattle.feed_text.specs.Following.{ReplayVenue, FollowAll, EmitsNext}
-use Rattle.feed_text.specs.laws.LastSent.{last_all}
+use Rattle.line_arbiter.specs.laws.LastSent.{last_all}
 use Rattle.feed_text.specs.laws.Lists.{get_set_same}
 
 ahead_kind : (kind : Kind) (window sent : ℕ) (packets : List Input) (p : Content)

@@ -31,12 +31,13 @@ use Rattle.feed_text.specs.declared.replay_sink.PublishStop.{PublishStop}
 use Rattle.feed_text.specs.Capture.{datagram_record, renewal_record, skip_record}
 use Rattle.feed_text.specs.SinkEvents.{told_last}
 use Rattle.feed_text.specs.ReplayEvents.{ReplayEvent, packet_answered, packet_refused, item_taken, renewal_answered, skip_answered}
-use Rattle.feed_text.specs.Emitted.{last_sent, items_emitted, gap_event, gap_emitted, EmitsAt}
+use Rattle.line_arbiter.specs.LastSent.{last_sent}
+use Rattle.feed_text.specs.Emitted.{items_emitted, gap_event, gap_emitted, EmitsAt}
 use Rattle.feed_text.specs.Tellings.{last_told}
 use Rattle.feed_text.specs.ReplayStates.{SinkTaking, ReplayState, EmitsInto}
 use Rattle.feed_text.specs.Following.{ReplayVenue, Follows, SendsReady, EmitsOutcome, EmitsOne, Renews, GivesUp}
 use Rattle.feed_text.specs.Rules.{HasSentAll}
-use Rattle.feed_text.specs.laws.LastSent.{last_counted}
+use Rattle.line_arbiter.specs.laws.LastSent.{last_counted}
 use Rattle.feed_text.proofs.Tales.{SinkLaws, tells_more, tells_stop, tells_as}
 
 streams_more : (h : History) → length (streams_of h) ≡ length (items_of h.earlier) + length

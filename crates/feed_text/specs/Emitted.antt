@@ -11,22 +11,12 @@ use Rattle.line_arbiter.specs.declared.outcome.LineFault.{LineFault}
 use Rattle.line_arbiter.specs.declared.faults.RenewFault.{RenewFault}
 use Rattle.line_arbiter.specs.declared.faults.SkipFault.{SkipFault}
 use Rattle.line_arbiter.specs.Additions.{AddsArrival, AddsRenewal, AddsSkip}
-use Rattle.line_arbiter.specs.Packets.{Input, end_of}
-use Rattle.line_arbiter.specs.Streams.{stream_of, gap_of, front_of, end_at}
+use Rattle.line_arbiter.specs.Packets.{Input}
+use Rattle.line_arbiter.specs.Streams.{stream_of}
 use Rattle.line_arbiter.specs.Histories.{History}
+use Rattle.line_arbiter.specs.LastSent.{last_gap, last_sent, stream_length}
 use Rattle.feed_text.specs.Capture.{CaptureRecord, datagram_record, renewal_record, skip_record, self_help_record, record_venue}
 use Rattle.feed_text.specs.ReplayEvents.{ReplayEvent, packet_answered, packet_refused, item_taken, gap_left, renewal_answered, skip_answered, self_help_declared}
-
--- how many items of the present session were taken: every item is, once it is ready
-abbrev pub stream_length : History → ℕ
-stream_length h = length (stream_of h.present.packets)
-
--- the number of the last one: of the last message before the first gap, or of the end where that
--- follows
-abbrev pub last_sent : History → ℕ
-last_sent h =
-    let packets = h.present.packets in
-    front_of packets + length (end_at (end_of packets) (front_of packets + 1))
 
 -- the event of a gap, where there is one
 abbrev pub gap_event : ℕ → Option Request → List ReplayEvent
@@ -36,8 +26,7 @@ gap_event venue (Some request) = gap_left venue request ∷ []
 -- the event of the gap that is left, where gaps are asked for
 abbrev pub gap_emitted : ℕ → Bool → ℕ → History → List ReplayEvent
 gap_emitted window gaps venue h =
-    if gaps then gap_event venue (gap_of h.present.name window (last_sent h) h.present.packets)
-    else []
+    if gaps then gap_event venue (last_gap window h) else []
 
 -- the events of the items that one more packet made ready, or a skip
 abbrev pub items_emitted : ℕ → History → List Input → List ReplayEvent

@@ -1,12 +1,11 @@
 -- What venues lack at the end of a capture.
 use Rattle.std.specs.Prelude.{◌≡◌, ℕ, ◌+◌, List, [], ◌∷◌, ◌++◌, Option, Some, None}
 use Rattle.mold_packet.specs.declared.request.Request.{Request}
-use Rattle.line_arbiter.specs.Streams.{gap_of}
 use Rattle.line_arbiter.specs.Histories.{History}
 use Rattle.feed_text.specs.declared.lack.Lack.{Lack}
 use Rattle.feed_text.specs.declared.replay.ReplayConfig.{ReplayConfig}
 use Rattle.feed_text.specs.Devices.{Reading}
-use Rattle.feed_text.specs.Emitted.{last_sent}
+use Rattle.line_arbiter.specs.LastSent.{last_gap}
 use Rattle.feed_text.specs.EventReplays.{venues_in}
 use Rattle.feed_text.specs.Formats.{TimedRecord, Parsing, HasReadRecords}
 use Rattle.feed_text.specs.Told.{AreAllTaken}
@@ -18,8 +17,7 @@ lack_by venue (Some gap) = record { venue = venue; number = gap.number; count = 
 
 -- what a venue with this history lacks
 abbrev pub lack_of : ℕ → ℕ → History → List Lack
-lack_of window venue h =
-    lack_by venue (gap_of h.present.name window (last_sent h) h.present.packets)
+lack_of window venue h = lack_by venue (last_gap window h)
 
 -- what these venues lack, from this venue on, of each that lacks anything
 abbrev pub lacks_of : ℕ → ℕ → List History → List Lack

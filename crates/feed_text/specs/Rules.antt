@@ -14,7 +14,8 @@ use Rattle.feed_text.specs.declared.replay.ReplayConfig.{ReplayConfig}
 use Rattle.feed_text.specs.Capture.{CaptureRecord, datagram_record, renewal_record, skip_record, self_help_record, record_venue}
 use Rattle.feed_text.specs.Formats.{TimedRecord, timed_record}
 use Rattle.feed_text.specs.ReplayEvents.{ReplayEvent}
-use Rattle.feed_text.specs.Emitted.{last_sent, EmitsRecord}
+use Rattle.line_arbiter.specs.LastSent.{last_sent}
+use Rattle.feed_text.specs.Emitted.{EmitsRecord}
 
 -- An arbiter with a window of this width has this history, and has sent all that is ready.
 pub record HasSentAll (window : ℕ) (s : State) (h : History) : Type 0 where

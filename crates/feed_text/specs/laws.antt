@@ -2,7 +2,6 @@
 -- cite them.
 pub mod Lists
 pub mod Entries
-pub mod LastSent
 pub mod VenueItemsLaw
 pub mod Readings
 pub mod SaidTexts

@@ -5,7 +5,7 @@ ghost use Rattle.mold_packet.specs.Content.{Content};
 ghost use Rattle.line_arbiter.specs.Fits.{cursors_of};
 ghost use Rattle.line_arbiter.specs.Histories.{History};
 ghost use Rattle.feed_text.specs.Capture.{datagram_record};
-ghost use Rattle.feed_text.specs.Emitted.{last_sent};
+ghost use Rattle.line_arbiter.specs.LastSent.{last_sent};
 ghost use Rattle.feed_text.specs.Following.{Follows};
 ghost use Rattle.feed_text.specs.Rules.{Allows, HasSentAll, IsAhead, SkipsAt, SkipsBefore, first_come};
 

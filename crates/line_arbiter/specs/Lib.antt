@@ -6,6 +6,7 @@ pub mod Answered
 pub mod Renewals
 pub mod Skips
 pub mod Histories
+pub mod LastSent
 pub mod Additions
 pub mod Genuine
 pub mod OfSession

@@ -14,6 +14,7 @@ pub mod Below
 pub mod InSequence
 pub mod Parts
 pub mod Placing
+pub mod LastSent
 pub mod Deciding
 pub mod OneOutcome
 pub mod EveryAnswer

@@ -8,12 +8,13 @@ use Rattle.feed_types.specs.declared.item.Numbered.{Numbered}
 use Rattle.feed_types.specs.declared.journal.Entry.{Entry}
 use Rattle.feed_types.specs.Sessions.{end_item}
 use Rattle.line_arbiter.specs.Packets.{Input, end_of}
-use Rattle.line_arbiter.specs.Streams.{closed_of, end_at, front_of, item_numbered, opens_of, part_of, place_of, stream_of}
-use Rattle.line_arbiter.specs.States.{State}
+use Rattle.line_arbiter.specs.Streams.{closed_of, end_at, front_of, gap_of, item_numbered, opens_of, part_of, place_of, stream_of}
+use Rattle.line_arbiter.specs.States.{KeepsAllButSent, State}
 use Rattle.line_arbiter.specs.Fits.{Fits}
 use Rattle.feed_types.specs.declared.per_line.PerLine.{PerLine}
 use Rattle.feed_types.specs.PerLines.{on_line}
-use Rattle.line_arbiter.specs.Histories.{items_of}
+use Rattle.line_arbiter.specs.Histories.{History, items_of}
+use Rattle.line_arbiter.specs.LastSent.{last_gap}
 use Rattle.fifo_lane.specs.Lane.{Keeps}
 use Rattle.line_arbiter.specs.laws.Histories.{items_push}
 use Rattle.feed_types.specs.declared.genuine.Genuine.{Ghosts as Genuine}
@@ -23,6 +24,9 @@ use Rattle.journal_book.specs.ItemsIn.{item_by, items_in}
 use Rattle.live_feed.specs.settle.Settlements.{IsSettled}
 use Rattle.line_arbiter.specs.laws.FitsHistory.{wins_are}
 use Rattle.line_arbiter.specs.laws.Fronts.{front_is, opens_most}
+use Rattle.line_arbiter.specs.laws.Placing.{place_within}
+use Rattle.line_arbiter.specs.laws.LastSent.{sent_is_last}
+use Rattle.mold_packet.specs.declared.request.Request.{Request}
 
 -- ---- what is ready
 
@@ -97,6 +101,20 @@ pub ready_all : (n : ℕ) (packets : List Input) (room all : List Numbered)
 ready_all n packets room all e same = sym (append-nil room)
     ∙ ap (λ (l : List Numbered). room ++ l) (sym (none_left (stream_of packets) n e)) ∙ same
 
+-- where no item is ready, all were sent
+pub all_taken : {s : State} (packets : List Input) → Fits s packets
+    → None ≡ slice_get (stream_of packets) (place_of packets s.sent)
+    → place_of packets s.sent ≡ length (stream_of packets)
+all_taken {s} packets fits e =
+    let least = place_within fits in
+    let most = no_more (stream_of packets) (place_of packets s.sent) e in
+    omega arith
+  where
+    no_more : {X : Type 0} (xs : List X) (n : ℕ) → None ≡ slice_get xs n → length xs ≤ n
+    no_more [] n e = omega arith
+    no_more (y ∷ ys) zero e = absurd cc
+    no_more (y ∷ ys) (suc n) e = let h = no_more ys n e in omega arith
+
 pub drop_past : {X : Type 0} (xs : List X) (n : ℕ) → length xs ≤ n → drop n xs ≡ []
 drop_past [] zero h = refl
 drop_past [] (suc n) h = refl
@@ -164,16 +182,28 @@ module _ (v : ℕ) (entries : List Entry) (place : ℕ) where
 
 -- ---- a closed lane
 
+-- an arbiter that has sent all items, as this one was before that, shows what is missing then
+pub gap_left : {s t : State} (h : History) (window : ℕ) → Fits t h.present.packets
+    → KeepsAllButSent s t → s.session ≡ h.present.name → s.window ≡ window
+    → place_of h.present.packets t.sent ≡ length (stream_of h.present.packets)
+    → gap_of t.session t.window t.sent h.present.packets ≡ last_gap window h
+gap_left {s} {t} h window fits kept named wide all =
+    let packets = h.present.packets in
+    ap (λ (name : List ℕ). gap_of name t.window t.sent packets) (kept.session.session ∙ named)
+    ∙ ap (λ (n : ℕ). gap_of h.present.name n t.sent packets) (kept.session.window ∙ wide)
+    ∙ ap (λ (n : ℕ). gap_of h.present.name window n packets) (sent_is_last h fits all)
+
 pub settled : {S : Type 0} (premise : Genuine S) (lanes : FeedLanes) (may_send : ℕ
     → List Numbered → Type 0)
     (c : CellState) (k : VenueLockInvariant premise lanes c) (received inside ready : List Numbered)
-    (won : PerLine ℕ)
+    (won : PerLine ℕ) (gap : Option Request)
     → Keeps may_send c.lane.tag c.lane.capacity c.lane.items received inside
     → ready ≡ drop (place_of k.history.present.packets c.arbiter.sent)
     (stream_of k.history.present.packets) → won ≡ c.arbiter.wins
+    → gap ≡ last_gap lanes.setting.window k.history
     → IsSettled premise c.arbiter.venue lanes.setting.window c.lane.items received
-    inside ready won c.brought
-settled premise lanes may_send c k received inside ready won keeps rest same =
+    inside ready won c.brought gap
+settled premise lanes may_send c k received inside ready won gap keeps rest same missing =
     let h = k.history in
     let f = k.fits in
     let stream = stream_of h.present.packets in
@@ -191,4 +221,5 @@ settled premise lanes may_send c k received inside ready won keeps rest same =
           ∙ sym (items_push h.earlier h.present);
       wins = λ l. ap (on_line l) same ∙ wins_are h f.history l;
       accepted = λ l. f.accepted l;
+      missing = missing;
     }

@@ -39,7 +39,8 @@ module _ {S : Type 0} (premise : Genuine S) (lanes : FeedLanes) (seats : List Se
         kept = closed.kept;
         venue_is = same.venue_is;
         settled = subst (λ (n : ℕ). IsSettled premise n lanes.setting.window cell.lane.items
-            (items_in s.journal.entries n) v.in_lane v.ready v.wins v.brought)
+            (items_in s.journal.entries n) v.in_lane v.ready v.wins v.brought
+            v.gap)
             same.venue_is closed.settled;
         consumed = closed.consumed
             ∙ ap (items_in (kept_of s.journal.kept s.journal.entries)) same.venue_is;

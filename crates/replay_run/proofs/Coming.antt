@@ -37,7 +37,8 @@ use Rattle.feed_text.specs.declared.replay.ReplayConfig.{ReplayConfig}
 use Rattle.run_settings.specs.declared.skip_rule.SkipRule.TheVariants.{Never}
 use Rattle.feed_text.specs.Capture.{CaptureRecord, datagram_record}
 use Rattle.feed_text.specs.ReplayEvents.{ReplayEvent, packet_answered, item_taken, entries_of}
-use Rattle.feed_text.specs.Emitted.{last_sent, items_emitted, EmitsRecord, Emits}
+use Rattle.line_arbiter.specs.LastSent.{last_sent}
+use Rattle.feed_text.specs.Emitted.{items_emitted, EmitsRecord, Emits}
 use Rattle.feed_text.specs.laws.Entries.{entries_more}
 use Rattle.feed_core.specs.VenueHalf.{BringsOnly, BringOnly}
 use Rattle.replay_run.specs.Events.{event_of, consumed_all, world_of, outcomes_of, IsReplayRun}

@@ -11,7 +11,8 @@ use Rattle.feed_core.specs.Worlds.{Venue, World, Setting}
 use Rattle.feed_steps.specs.Steps.{Stays, unknown_venue}
 use Rattle.feed_core.specs.Runs.{IsRun}
 use Rattle.feed_text.specs.ReplayEvents.{ReplayEvent, entries_after, entries_of}
-use Rattle.feed_text.specs.Emitted.{last_sent, gap_event, gap_emitted}
+use Rattle.line_arbiter.specs.LastSent.{last_sent}
+use Rattle.feed_text.specs.Emitted.{gap_event, gap_emitted}
 use Rattle.replay_run.specs.Events.{outcomes_by, outcomes_of}
 
 pub run_more : (s : Setting) (a b c : World) (es fs : List Event) (ds gs : List Done)

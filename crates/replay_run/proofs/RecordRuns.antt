@@ -28,8 +28,9 @@ use Rattle.feed_core.specs.Steps as steps
 use Rattle.line_arbiter.specs.laws.Histories.{items_push}
 use Rattle.feed_text.specs.Capture.{CaptureRecord, datagram_record, renewal_record, skip_record, self_help_record, record_venue}
 use Rattle.feed_text.specs.ReplayEvents.{ReplayEvent, item_taken, entries_of}
-use Rattle.feed_text.specs.Emitted.{last_sent, stream_length, gap_emitted, EmitsFault, EmitsPacket, EmitsRenewal, EmitsSkip, EmitsSelfHelp, EmitsAt, EmitsRecord}
-use Rattle.feed_text.specs.laws.LastSent.{last_counted}
+use Rattle.line_arbiter.specs.LastSent.{last_sent, stream_length}
+use Rattle.feed_text.specs.Emitted.{gap_emitted, EmitsFault, EmitsPacket, EmitsRenewal, EmitsSkip, EmitsSelfHelp, EmitsAt, EmitsRecord}
+use Rattle.line_arbiter.specs.laws.LastSent.{last_counted}
 use Rattle.feed_text.specs.laws.Lists.{same_set}
 use Rattle.feed_text.specs.laws.Entries.{entries_more}
 use Rattle.feed_text.specs.VenueItems.{items_taken}

@@ -42,4 +42,4 @@ pub use metrics_server::{MetricsServer, RunProgress};
 pub use moment::Moment;
 pub use run_watches::RunWatches;
 pub use socket_tables::SocketTables;
-pub use venue_statuses::{NO_STATUSES, VenueStatuses, lacks_in};
+pub use venue_statuses::VenueStatuses;

@@ -1,16 +1,14 @@
 //! What the venues of a run have come to.
 
-use feed_text::Lack;
 use feed_types::{MAX_VENUES, VenueId};
 use run_metrics::VenueFigures;
-use std::alloc::{AllocError, Global};
 use venue_lines::VenueStatus;
 
 /// What each venue has come to, in order; None where there is no such venue.
 pub type VenueStatuses = [Option<VenueStatus>; MAX_VENUES];
 
 /// The statuses of no venue.
-pub const NO_STATUSES: VenueStatuses = [None; MAX_VENUES];
+const NO_STATUSES: VenueStatuses = [None; MAX_VENUES];
 
 /// What each venue has come to, in order, with what is known of its lines; None where there is no
 /// such venue.
@@ -28,17 +26,4 @@ pub fn statuses_by<S: Fn(VenueId) -> Option<VenueStatus>>(status: S) -> VenueSta
         statuses[place] = status(VenueId::at(place));
     }
     statuses
-}
-
-/// What the venues lack that have these statuses, in order, of each that lacks anything.
-pub fn lacks_in(alloc: Global, statuses: &VenueStatuses) -> Result<Vec<Lack>, AllocError> {
-    let mut lacking = Vec::new(alloc);
-    for place in 0..MAX_VENUES {
-        if let Some(status) = &statuses[place] {
-            if let Some(gap) = &status.gap {
-                lacking.push(Lack::of(VenueId::at(place), gap))?;
-            }
-        }
-    }
-    Ok(lacking)
 }

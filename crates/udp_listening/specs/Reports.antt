@@ -17,6 +17,7 @@ use Rattle.run_settings.specs.FurtherOptions.{has_further_options}
 use Rattle.run_settings.specs.declared.listen_settings.ListenSettings.{ListenSettings}
 use Rattle.run_watches.specs.RunLines.{listened_lines}
 use Rattle.udp_listening.specs.Settings.{feed_setting}
+use Rattle.udp_listening.specs.SettledLacks.{settled_lacks}
 use Rattle.udp_listening.specs.SettledNotices.{settled_notices}
 use Rattle.udp_listening.specs.UdpLines.{UdpLineState, is_read_out}
 use Rattle.udp_listening.specs.declared.listen_report.EndedLine.{EndedLine}
@@ -100,13 +101,14 @@ noted_symbols settings =
 -- ---- reports
 
 -- This is told of the whole life of the settings' feed: which of its lines failed and which have
--- read out, why it stopped early, which session's end ended which line, which symbols never came,
--- of which no change of the national best was told, and what was settled.
+-- read out, why it stopped early, what its venues lack, which session's end ended which line, which
+-- symbols never came, of which no change of the national best was told, and what was settled.
 pub record IsReportOfFeed (settings : ListenSettings) (whole : FeedReport UdpLineState)
     (told : ListenReport) : Type 0 where
   pub failed : told.failed.items ≡ failed_lines whole.lines.items
   pub stopped : told.stopped ≡ whole.stopped
   pub read_out : told.read_out.items ≡ read_out_lines whole.lines.items
+  pub lacking : told.lacking.items ≡ settled_lacks whole.settlement
   pub ended : told.ended.items ≡ told_ends (has_further_options settings) whole.lines.items
   pub absent : told.absent ≡ reported_absent settings whole.settlement.journal
   pub unchanged : told.unchanged

@@ -28,6 +28,7 @@ mod listening;
 mod metrics_socket;
 mod run_monitor;
 mod run_time;
+mod settled_lacks;
 mod socket_buffers;
 mod sockets;
 mod sources;

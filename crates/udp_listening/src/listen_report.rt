@@ -6,6 +6,7 @@ ghost use Rattle.udp_listening.specs.Reports.{IsReportOfFeed, absent_if, ended_l
 ghost use Rattle.udp_listening.specs.SettledNotices.{HasNoted, settled_forgotten, settled_log};
 
 use crate::listening::ListenFault;
+use crate::settled_lacks::settled_lacks;
 use crate::udp_line::UdpLine;
 use crate::unchanged::settled_unchanged;
 use feed_text::Lack;
@@ -13,7 +14,6 @@ use feed_types::{LineId, VenueId};
 use live_feed::{FeedReport, LineReport, Settlement, Stop};
 use run_notes::AbsentList;
 use run_settings::ListenSettings;
-use run_watches::{VenueStatuses, lacks_in};
 use std::alloc::{AllocError, Global};
 
 /// A line that an end of this session has ended.
@@ -194,14 +194,12 @@ fn absent_of(
     absent_if_told(alloc, tells_absent(settings), settings, settlement)
 }
 
-/// The report of listening by the report of the settings' feed, whose venues had these statuses at
-/// its end, and of whose log the forgotten notices left these symbols unchanged. NoMemory where
-/// memory was refused, and no other fault.
+/// The report of listening by the report of the settings' feed, of whose log the forgotten notices
+/// left these symbols unchanged. NoMemory where memory was refused, and no other fault.
 pub fn report_of<C: Drop>(
     alloc: Global,
     settings: &ListenSettings,
     whole: FeedReport<UdpLine<C>>,
-    statuses: &VenueStatuses,
     unchanged: AbsentList,
 ) -> Result<ListenReport, ListenFault>
     requires { HasNoted (noted_symbols settings.now) (settled_log whole.settlement)
@@ -212,7 +210,7 @@ pub fn report_of<C: Drop>(
         failed: failed_in(alloc, whole.lines.as_slice())?,
         stopped: whole.stopped,
         read_out: read_out_in(alloc, whole.lines.as_slice())?,
-        lacking: lacks_in(alloc, statuses)?,
+        lacking: settled_lacks(alloc, &whole.settlement)?,
         ended: ended_of(alloc, settings, whole.lines.as_slice())?,
         absent: absent_of(alloc, settings, &whole.settlement)?,
         unchanged: settled_unchanged(unchanged, &whole.settlement),

@@ -144,7 +144,7 @@ where
     } = feed.run_whole::<N, UdpLine<C>, RunMonitor<C, W, E>, R>(rt, alloc, task, monitor);
     let unchanged = mem::replace(&mut attendant.console.unchanged, AbsentList::none(alloc));
     let outcome = match outcome {
-        Ok(whole) => report_of(alloc, settings, whole, &attendant.statuses, unchanged),
+        Ok(whole) => report_of(alloc, settings, whole, unchanged),
         Err(fault) => Err(fault_of(fault)),
     };
     Listened {

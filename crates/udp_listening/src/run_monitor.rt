@@ -13,7 +13,7 @@ use crate::run_time::RunTime;
 use feed_text::{LineBuffer, TextOut};
 use feed_types::Anything;
 use live_feed::{Attendant, FeedName, OwnLog, RunView, SubscriberLog};
-use run_watches::{NO_STATUSES, RunProgress, RunWatches, VenueStatuses};
+use run_watches::{RunProgress, RunWatches};
 use std::alloc::Global;
 use std::sync::Wait;
 use std::time::Clock;
@@ -31,8 +31,6 @@ pub struct RunMonitor<C, W, E> {
     time: RunTime<C>,
     pub console: Console<W, E>,
     pub watches: RunWatches,
-    /// What each venue had come to when the run was over.
-    pub statuses: VenueStatuses,
     /// Where lines are put together.
     text: LineBuffer,
     has_stopped: bool,
@@ -53,7 +51,6 @@ impl<C, W, E> RunMonitor<C, W, E> {
             time,
             console,
             watches,
-            statuses: NO_STATUSES,
             text: LineBuffer::new(alloc),
             has_stopped: false,
         }
@@ -179,10 +176,10 @@ impl<C: Clock + Drop, W: TextOut + Drop, E: TextOut + Drop> RunMonitor<C, W, E> 
         ensures says { SaysRunEnd (record { adds = E.adds; failures = E.failures })
             (watched_run self.old.watches) self.old.console.errors self.new.console.errors }
     {
-        self.statuses = self.watches.statuses(|venue| run.status(rt, venue).ok());
+        let statuses = self.watches.statuses(|venue| run.status(rt, venue).ok());
         let moment = self.time.moment();
         self.watches
-            .write_end(moment, &self.statuses, &mut self.console.errors);
+            .write_end(moment, &statuses, &mut self.console.errors);
     }
 
     /// Attends the run until it is over and all that its subscriber is offered was taken.

@@ -26,10 +26,11 @@ use Rattle.line_arbiter.specs.laws.AnsweredHistories.{IsAnsweredThroughout, new_
 use Rattle.feed_text.specs.declared.replay.ReplayConfig.{ReplayConfig}
 use Rattle.feed_text.specs.Capture.{CaptureRecord, datagram_record, renewal_record, skip_record, self_help_record, record_venue}
 use Rattle.feed_text.specs.ReplayEvents.{ReplayEvent, item_taken, packet_answered, renewal_answered}
-use Rattle.feed_text.specs.Emitted.{last_sent, stream_length, gap_event, gap_emitted, EmitsPacket, EmitsSkip, EmitsAt, EmitsRecord, Emits}
+use Rattle.line_arbiter.specs.LastSent.{last_sent, stream_length}
+use Rattle.feed_text.specs.Emitted.{gap_event, gap_emitted, EmitsPacket, EmitsSkip, EmitsAt, EmitsRecord, Emits}
 use Rattle.feed_text.specs.Texts.{EmitsAll}
 use Rattle.feed_text.specs.VenueItems.{taken_by, items_taken}
-use Rattle.feed_text.specs.laws.LastSent.{place_last}
+use Rattle.line_arbiter.specs.laws.LastSent.{place_last}
 use Rattle.feed_text.specs.laws.Lists.{get_set_same, get_set_other, same_or_not}
 
 -- ---- what came to a venue

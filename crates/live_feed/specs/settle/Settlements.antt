@@ -1,9 +1,11 @@
 -- The settlement of a feed: what it shows once its threads have returned.
-use Rattle.std.specs.Prelude.{◌≡◌, ℕ, ◌+◌, List, ◌++◌, fold, length, map, Some, slice_get, if◌then◌else◌}
+use Rattle.std.specs.Prelude.{◌≡◌, ℕ, ◌+◌, List, ◌++◌, fold, length, map, Option, Some, slice_get, if◌then◌else◌}
 use Rattle.feed_types.specs.declared.item.Numbered.{Numbered}
 use Rattle.feed_types.specs.declared.journal.Notice.{Notice}
 use Rattle.feed_types.specs.declared.line.LineId.{LineId}
+use Rattle.mold_packet.specs.declared.request.Request.{Request}
 use Rattle.line_arbiter.specs.Histories.{History, all_begun, streams_of, wins_in}
+use Rattle.line_arbiter.specs.LastSent.{last_gap}
 use Rattle.feed_types.specs.declared.per_line.PerLine.{PerLine}
 use Rattle.feed_types.specs.PerLines.{on_line}
 use Rattle.line_arbiter.specs.Counts.{shown}
@@ -22,11 +24,11 @@ use Rattle.live_feed.specs.subscriber.Logs.{SubscriberLogState}
 -- A venue whose lane is closed, through which these items were sent: what was consumed, then what
 -- is in the lane, is what was sent. There are packets that the venue was given, session by session,
 -- each answered as it should be and genuine; what was sent, then what is ready, are the sessions'
--- streams; and the wins of each line and the packets that were accepted on it are those of these
--- packets.
+-- streams; the wins of each line and the packets that were accepted on it are those of these
+-- packets; and the gap is what is missing after all of that.
 pub record IsSettled {S : Type 0} (premise : Genuine S) (venue window : ℕ)
     (sent consumed in_lane ready : List Numbered) (won : PerLine ℕ) (brought : PerLine Brought)
-    : Type 0 where
+    (gap : Option Request) : Type 0 where
   pub sent_is : consumed ++ in_lane ≡ sent
   pub history : History
   pub given : AreGivenFrom premise venue window 1 history.earlier history.present
@@ -34,6 +36,7 @@ pub record IsSettled {S : Type 0} (premise : Genuine S) (venue window : ℕ)
   pub wins : (line : LineId) → on_line line won ≡ shown (wins_in (all_begun history) line)
   pub accepted : (line : LineId)
       → (on_line line brought).accepted ≡ accepted_on line (arrivals_of (all_begun history))
+  pub missing : gap ≡ last_gap window history
 
 -- A subscriber whose lane is closed: the notices of its log, then those in the lane, then those
 -- that weren't offered are what it wants of the entries.
@@ -45,13 +48,15 @@ pub record IsServed (journal : JournalState) (id : ℕ) (log : List Logged)
       ≡ wanted_of journal.symbols terms journal.entries
 
 -- what is left of a venue: its items that were consumed, that are in the lane and that are ready,
--- and, line by line, how many numbers came first and what was brought
+-- line by line, how many numbers came first and what was brought, and the run of messages that are
+-- missing, if any are
 pub record VenueEndState : Type 0 where
   pub consumed : List Numbered
   pub in_lane : List Numbered
   pub ready : List Numbered
   pub wins : PerLine ℕ
   pub brought : PerLine Brought
+  pub gap : Option Request
 
 -- what is left of a subscriber: its log, of which the first lines are forgotten, and the notices in
 -- its lane and those that weren't offered
@@ -106,7 +111,7 @@ pub record IsClosedVenue {S : Type 0} (premise : Genuine S) (lanes : FeedLanes)
     (journal : JournalState) (c : CellState) (v : VenueEndState) : Type 0 where
   pub kept : VenueLockInvariant premise lanes c
   pub settled : IsSettled premise c.arbiter.venue lanes.setting.window c.lane.items
-      (items_in journal.entries c.arbiter.venue) v.in_lane v.ready v.wins v.brought
+      (items_in journal.entries c.arbiter.venue) v.in_lane v.ready v.wins v.brought v.gap
   pub consumed : v.consumed ≡ items_in (kept_of journal.kept journal.entries) c.arbiter.venue
   pub wins : v.wins ≡ c.arbiter.wins
   pub brought : v.brought ≡ c.brought
@@ -122,7 +127,7 @@ pub record ShowsVenue {S : Type 0} (premise : Genuine S) (lanes : FeedLanes)
   pub kept : VenueLockInvariant premise lanes cell
   pub venue_is : cell.arbiter.venue ≡ venue
   pub settled : IsSettled premise venue lanes.setting.window cell.lane.items
-      (items_in journal.entries venue) v.in_lane v.ready v.wins v.brought
+      (items_in journal.entries venue) v.in_lane v.ready v.wins v.brought v.gap
   pub consumed : v.consumed ≡ items_in (kept_of journal.kept journal.entries) venue
   pub wins : (line : LineId)
       → on_line line v.wins ≡ (counts_of (brought_of_seats venue line seats)).wins

@@ -12,6 +12,7 @@ use crate::subscriber::logged::Logged;
 use feed_types::{Entry, LineId, Notice, Numbered, SubscriberId, VenueId};
 use filter_terms::Terms;
 use journal_book::Journal;
+use mold_packet::Request;
 use std::marker::Model;
 
 /// A feed once its threads have returned: its journal, and what is left of each venue and each
@@ -143,6 +144,16 @@ impl Settlement {
             (λ v. result ≡ (counts_of (on_line line v.brought)).accepted) }
     {
         self.venue_ends[venue.index()].accepted(line)
+    }
+
+    /// Returns the run of messages to ask for where all items of the venue were consumed: from the
+    /// first that is missing, as many as are missing in a row, as far as the window and what is
+    /// known of the session go. None where none is. The venue is below the number of venues.
+    pub fn gap(&self, venue: VenueId) -> Option<Request>
+        requires { venue < length self.now.venues }
+        ensures { IfSome (slice_get self.now.venues venue) (λ v. result ≡ v.gap) }
+    {
+        self.venue_ends[venue.index()].gap()
     }
 
     /// The lines of the subscriber's log that weren't forgotten, the oldest one first. The id is

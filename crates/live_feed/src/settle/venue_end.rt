@@ -4,12 +4,14 @@ ghost use Rattle.std.specs.Prelude.{◌≡◌};
 ghost use Rattle.feed_types.specs.PerLines.{on_line};
 ghost use Rattle.venue_lines.specs.Brought.{counts_of};
 
+use crate::settle::rooms::VenueRoom;
 use feed_types::{LineId, Numbered, PerLine};
+use mold_packet::Request;
 use std::marker::Model;
 use venue_lines::CountedLines;
 
 /// A venue's items, parted in those that were consumed, those that still lay in the lane and those
-/// that are ready after those, and what is counted per line.
+/// that are ready after those, what is counted per line, and what is missing.
 #[derive(Drop)]
 pub(crate) struct VenueEnd {
     journaled: Vec<Numbered>,
@@ -17,6 +19,7 @@ pub(crate) struct VenueEnd {
     unsent: Vec<Numbered>,
     won: PerLine<u64>,
     counted: CountedLines,
+    missing: Option<Request>,
 }
 
 impl Model for VenueEnd {
@@ -30,31 +33,35 @@ impl Model for VenueEnd {
       ready = e.unsent.items;
       wins = e.won;
       brought = e.counted;
+      gap = e.missing;
     } };
 }
 
 impl VenueEnd {
+    /// What is left of a venue with these items, counts of its lines, and run of messages that are
+    /// missing.
     pub(crate) fn new(
-        consumed: Vec<Numbered>,
-        in_lane: Vec<Numbered>,
-        ready: Vec<Numbered>,
+        items: VenueRoom,
         won: PerLine<u64>,
         counted: CountedLines,
+        missing: Option<Request>,
     ) -> VenueEnd
         ensures { result ≡ record {
-          consumed = consumed.items;
-          in_lane = in_lane.items;
-          ready = ready.items;
+          consumed = items.consumed.items;
+          in_lane = items.in_lane.items;
+          ready = items.ready.items;
           wins = won;
           brought = counted;
+          gap = missing;
         } }
     {
         VenueEnd {
-            journaled: consumed,
-            inside: in_lane,
-            unsent: ready,
+            journaled: items.consumed,
+            inside: items.in_lane,
+            unsent: items.ready,
             won,
             counted,
+            missing,
         }
     }
 
@@ -86,5 +93,11 @@ impl VenueEnd {
         ensures { result ≡ (counts_of (on_line line self.now.brought)).accepted }
     {
         self.counted.counts(line).accepted
+    }
+
+    pub(crate) fn gap(&self) -> Option<Request>
+        ensures { result ≡ self.now.gap }
+    {
+        self.missing
     }
 }

@@ -3,6 +3,7 @@
 ghost use Rattle.std.specs.Prelude.{◌≡◌, ◌≤◌, ◌<◌, ◌+◌, ◌++◌, List, drop, length, vec_len, vec_capacity};
 ghost use Rattle.line_arbiter.specs.Packets.{Input};
 ghost use Rattle.line_arbiter.specs.Streams.{place_of, stream_of};
+ghost use Rattle.line_arbiter.specs.States.{KeepsAllButSent};
 ghost use Rattle.line_arbiter.specs.Fits.{Fits};
 ghost use Rattle.journal_book.specs.ItemsIn.{item_by, items_in};
 ghost use Rattle.live_feed.specs.settle.Settlements.{IsClosedVenue};
@@ -102,7 +103,10 @@ fn take_ready<G: Genuine>(lines: &mut Arbiter<G>, mut room: Vec<Numbered>) -> Ve
     requires fits { (packets : List Input) × Fits lines.old packets }
     ensures ready { (packets : List Input) → Fits lines.old packets
         → result.items ≡ drop (place_of packets lines.old.sent) (stream_of packets) }
-    ensures wins { lines.new.wins ≡ lines.old.wins }
+    ensures all { (packets : List Input) → Fits lines.old packets
+        → Fits lines.new packets
+        × (place_of packets lines.new.sent ≡ length (stream_of packets)) }
+    ensures kept { KeepsAllButSent lines.old lines.new }
 {
     while let Some(next) = lines.next_ready() {
         room.push_reserved(next);
@@ -133,6 +137,10 @@ pub(crate) fn settle_venue<G: Genuine, N: FeedName, W: Wait>(
     let inside = settle(sender, receiver);
     let in_lane = drained(rt, inside, capacity, in_lane);
     let ready = take_ready(&mut lines, ready);
-    let wins = lines.all_wins();
-    VenueEnd::new(consumed, in_lane, ready, wins, counted)
+    let items = VenueRoom {
+        consumed,
+        in_lane,
+        ready,
+    };
+    VenueEnd::new(items, lines.all_wins(), counted, lines.gap())
 }

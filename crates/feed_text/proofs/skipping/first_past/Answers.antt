@@ -1,7 +1,7 @@
 use Rattle.std.proofs.Common.{◌≡◌, arith, sym, ap, ◌∙◌}
 use Rattle.line_arbiter.specs.Streams.{missing_count}
 use Rattle.line_arbiter.specs.declared.arbiter.ArbiterStatus.{ArbiterStatus}
-use Rattle.feed_text.specs.Emitted.{last_sent}
+use Rattle.line_arbiter.specs.LastSent.{last_sent}
 use Rattle.feed_text.proofs.VenueSteps.{gap_shown}
 use Rattle.feed_text.proofs.RuleSteps.{first_held, gap_none, gap_some}
 use Rattle.feed_text.proofs.skipping.first_past.Goals as goal

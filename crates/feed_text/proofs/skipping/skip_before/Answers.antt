@@ -3,7 +3,7 @@ use Rattle.std.proofs.Common.{◌≡◌, arith, ap, ◌∙◌}
 use Rattle.line_arbiter.specs.Fits.{cursors_of}
 use Rattle.line_arbiter.specs.Histories.{History}
 use Rattle.line_arbiter.specs.declared.arbiter.ArbiterStatus.{ArbiterStatus}
-use Rattle.feed_text.specs.Emitted.{last_sent}
+use Rattle.line_arbiter.specs.LastSent.{last_sent}
 use Rattle.feed_text.proofs.VenueSteps.{cursors_shown}
 use Rattle.feed_text.proofs.skipping.skip_before.Goals as goal
 use Rattle.feed_text.proofs.skipping.skip_before.Goals.{After-status-cursors}

@@ -7,6 +7,7 @@ returns g c = record {
   failed = search rules;
   stopped = refl;
   read_out = search rules;
+  lacking = search rules;
   ended = search rules;
   absent = search rules;
   unchanged = c.settled_unchanged.ensures (noted_symbols c.args.settings.now) c.requires;

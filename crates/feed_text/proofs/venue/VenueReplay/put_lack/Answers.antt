@@ -3,7 +3,7 @@ use Rattle.mold_packet.specs.declared.request.Request.{Request}
 use Rattle.line_arbiter.specs.Streams.{gap_of}
 use Rattle.line_arbiter.specs.Histories.{History}
 use Rattle.feed_text.specs.declared.lack.Lack.{Lack}
-use Rattle.feed_text.specs.Emitted.{last_sent}
+use Rattle.line_arbiter.specs.LastSent.{last_sent}
 use Rattle.feed_text.specs.Following.{ReplayVenue, Follows}
 use Rattle.feed_text.specs.Lacks.{lack_by}
 use Rattle.feed_text.proofs.VenueSteps.{all_sent, gap_shown}

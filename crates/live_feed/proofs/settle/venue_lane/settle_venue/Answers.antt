@@ -13,7 +13,7 @@ use Rattle.journal_book.specs.ItemsIn.{items_in}
 use Rattle.journal_book.specs.Journals.{kept_of}
 use Rattle.live_feed.specs.settle.Settlements.{IsClosedVenue, IsSettled, VenueEndState}
 use Rattle.feed_steps.specs.laws.Lists.{one_there}
-use Rattle.live_feed.proofs.ClosedLanes.{settled}
+use Rattle.live_feed.proofs.ClosedLanes.{gap_left, settled}
 use Rattle.live_feed.proofs.settle.venue_lane.settle_venue.Goals as goal
 
 pub take_ready-ready-requires-clause-fits : goal.take_ready-ready-requires-clause-fits
@@ -56,12 +56,18 @@ returns g c =
     c.settle-inside.ensures in
     let ready = c.take_ready-ready.ensures.ready packets
     (subst (λ (a : State). Fits a packets) (sym parts.0) k.fits.history.present) in
-    let wins = c.all_wins-wins.ensures.value ∙ c.take_ready-ready.ensures.wins
+    let wins = c.all_wins.ensures.value ∙ c.take_ready-ready.ensures.kept.wins
     ∙ (λ i. (parts.0 i).wins) in
+    let all = c.take_ready-ready.ensures.all packets
+    (subst (λ (a : State). Fits a packets) (sym parts.0) k.fits.history.present) in
+    let gap = c.gap.ensures packets all.0
+    ∙ gap_left k.history g.N.FeedName.lanes.setting.window all.0 c.take_ready-ready.ensures.kept
+    ((λ i. (parts.0 i).session) ∙ k.fits.history.session)
+    ((λ i. (parts.0 i).window) ∙ k.window) all.1 in
     let whole = settled g.G.Genuine g.N.FeedName.lanes may cell k received inside
     c.take_ready-ready.result.items
-    c.all_wins-wins.result keeps
-    (ready ∙ (λ i. drop (place_of packets (parts.0 i).sent) (stream_of packets))) wins in
+    c.all_wins.result c.gap.result keeps
+    (ready ∙ (λ i. drop (place_of packets (parts.0 i).sent) (stream_of packets))) wins gap in
     subst (λ (v : VenueEndState). IsClosedVenue g.G.Genuine g.N.FeedName.lanes journal cell v)
     (sym c.new.ensures) (record {
       kept = k;
@@ -69,7 +75,7 @@ returns g c =
           premise cell.arbiter.venue
           g.N.FeedName.lanes.setting.window cell.lane.items x.0 x.1.0
           c.take_ready-ready.result.items
-          c.all_wins-wins.result x.1.1)
+          c.all_wins.result x.1.1 c.gap.result)
           (λ i. (same i, (sym c.drained-in_lane.ensures i, sym parts.2 i))) whole;
       consumed = consumed;
       wins = wins;

@@ -1,7 +1,8 @@
 use Rattle.std.proofs.Common.{ap, sym, ◌∙◌, arith}
 use Rattle.line_arbiter.specs.Streams.{place_of}
 use Rattle.line_arbiter.specs.laws.Placing.{place_next}
-use Rattle.live_feed.proofs.ClosedLanes.{fewer, ready_more, ready_all}
+use Rattle.line_arbiter.specs.laws.FitsHistory.{keeping_all_but_sent_is_transitive}
+use Rattle.live_feed.proofs.ClosedLanes.{fewer, ready_more, ready_all, all_taken}
 use Rattle.live_feed.proofs.settle.venue_lane.take_ready.Goals as goal
 
 pub push_reserved-requires : goal.push_reserved-requires
@@ -31,7 +32,7 @@ loop-next-preserved g c =
           (i.items packets f);
       count = (let len = c.push_reserved.ensures.len in let further = after.sent in let count =
           i.count in omega arith);
-      wins = after.kept.wins ∙ i.wins;
+      kept = keeping_all_but_sent_is_transitive i.kept after.kept;
       room = c.push_reserved.ensures.capacity ∙ i.room;
     }
 
@@ -41,3 +42,8 @@ returns-clause-ready g c = λ packets f. ready_all (place_of packets c.loop-next
     (sym c.in_default.is ∙ c.next_ready.ensures.stream packets
     (c.loop-next.invariant.fits packets f))
     (c.loop-next.invariant.items packets f)
+
+pub returns-clause-all : goal.returns-clause-all
+returns-clause-all g c = λ packets f.
+    let fits = c.loop-next.invariant.fits packets f in
+    (fits, all_taken packets fits (sym c.in_default.is ∙ c.next_ready.ensures.stream packets fits))

@@ -1,6 +1,7 @@
 use Rattle.std.proofs.Common.{◌≡◌, ◌+◌, ◌-◌, ◌^◌, ◌++◌, List, drop, vec_len, vec_capacity}
 use Rattle.line_arbiter.specs.Packets.{Input}
 use Rattle.line_arbiter.specs.Streams.{place_of, stream_of}
+use Rattle.line_arbiter.specs.States.{KeepsAllButSent}
 use Rattle.line_arbiter.specs.Fits.{Fits}
 use Rattle.live_feed.proofs.settle.venue_lane.take_ready.Given as goal
 
@@ -11,7 +12,7 @@ invariant-loop-next g l = record {
       → l.room.items ++ drop (place_of packets l.lines.sent) (stream_of packets)
       ≡ drop (place_of packets l.fn.lines.sent) (stream_of packets);
   count : vec_len l.room + l.fn.lines.sent ≡ l.lines.sent;
-  wins : l.lines.wins ≡ l.fn.lines.wins;
+  kept : KeepsAllButSent l.fn.lines l.lines;
   room : vec_capacity l.room ≡ vec_capacity l.fn.room;
 }
 

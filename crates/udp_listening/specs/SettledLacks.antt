@@ -1,0 +1,14 @@
+-- What the venues of a settled feed lack.
+use Rattle.std.specs.Prelude.{ℕ, ◌+◌, List, [], ◌∷◌, ◌++◌, take}
+use Rattle.feed_text.specs.Lacks.{lack_by}
+use Rattle.feed_text.specs.declared.lack.Lack.{Lack}
+use Rattle.live_feed.specs.settle.Settlements.{SettlementState, VenueEndState}
+
+-- what these venues lack, from this one on, each its run of missing messages, if it has one
+abbrev pub lacks_from : ℕ → List VenueEndState → List Lack
+lacks_from venue [] = []
+lacks_from venue (v ∷ vs) = lack_by venue v.gap ++ lacks_from (venue + 1) vs
+
+-- what all venues lack, of which a feed has at most 16
+abbrev pub settled_lacks : SettlementState → List Lack
+settled_lacks s = lacks_from 0 (take 16 s.venues)
