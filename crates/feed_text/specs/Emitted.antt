@@ -1,6 +1,6 @@
 -- The events that the records of a capture emit, one record after the other, by the definitions
 -- over what came to each venue.
-use Rattle.std.specs.Prelude.{◌≡◌, ◌⊎◌, ℕ, ◌+◌, Bool, List, [], ◌∷◌, ◌++◌, length, drop, map, Option, Some, None, Result, slice_get, slice_set, if◌then◌else◌}
+use Rattle.std.specs.Prelude.{◌≡◌, ◌⊎◌, ℕ, Bool, List, [], ◌∷◌, ◌++◌, length, drop, map, Option, Some, None, Result, slice_get, slice_set, if◌then◌else◌}
 use Rattle.feed_types.specs.declared.line.LineId.{LineId}
 use Rattle.mold_packet.specs.declared.fault.PacketFault.{PacketFault}
 use Rattle.mold_packet.specs.declared.request.Request.{Request}

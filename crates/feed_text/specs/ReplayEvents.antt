@@ -26,6 +26,11 @@ pub data ReplayEvent : Type 0 where
   skip_answered : (venue number : ℕ) (answer : Result (Unit {0}) SkipFault) → ReplayEvent
   self_help_declared : (venue : ℕ) (on : Bool) → ReplayEvent
 
+-- the event of an entry: its item was taken, or self-help was declared or withdrawn
+abbrev pub entry_event : Entry → ReplayEvent
+entry_event (Consumed venue numbered) = item_taken venue numbered
+entry_event (SelfHelp venue on) = self_help_declared venue on
+
 -- the entry is an item of a venue
 abbrev pub IsItemEntry : Entry → Type 0
 IsItemEntry entry = (venue : ℕ) × (numbered : Numbered) × (entry ≡ Consumed venue numbered)

@@ -1,10 +1,8 @@
 //! The journal of a replay, and the sink of its events.
-ghost use Rattle.std.specs.Prelude.{◌≡◌, ℕ, ◌<◌, ◌≤◌, ◌∷◌, [], ◌+◌, ◌++◌, length, map, OnErr, OnOk};
-ghost use Rattle.feed_types.specs.declared.item.Numbered.{Numbered};
-ghost use Rattle.feed_types.specs.declared.journal.Entry.{Entry};
+ghost use Rattle.std.specs.Prelude.{◌≡◌, ◌<◌, ◌≤◌, ◌∷◌, [], ◌+◌, ◌++◌, length, map, OnErr, OnOk};
 ghost use Rattle.nbbo_book.specs.Books.{venue_of};
 ghost use Rattle.journal_book.specs.Changes.{notices_from};
-ghost use Rattle.feed_text.specs.ReplayEvents.{IsItemEntry, item_taken, self_help_declared};
+ghost use Rattle.feed_text.specs.ReplayEvents.{IsItemEntry, entry_event, self_help_declared};
 ghost use Rattle.feed_text.specs.SinkEvents.{at_time, timed_event, told_best, told_by};
 ghost use Rattle.feed_text.specs.ReplayStates.{EmitsInto, EmitsPlain, state_of_replay};
 ghost use Rattle.feed_text.specs.declared.replay_sink.PublishStop.TheVariants.{SinkFailed};
@@ -79,9 +77,8 @@ impl<K: EventSink> ReplaySink<K> {
     pub fn take_item(&mut self, entry: &Entry) -> Result<(), PublishStop>
         requires venue { venue_of entry.now < self.old.journal.venues }
         requires item { IsItemEntry entry.now }
-        ensures { (venue : ℕ) (numbered : Numbered) → entry.now ≡ Entry.Consumed venue numbered
-            → EmitsInto (record { takes = K.takes; fails = K.fails })
-            (state_of_replay self.old) (item_taken venue numbered ∷ [])
+        ensures { EmitsInto (record { takes = K.takes; fails = K.fails })
+            (state_of_replay self.old) (entry_event entry.now ∷ [])
             (state_of_replay self.new) result }
     {
         let Entry::Consumed { venue, numbered } = entry else {

@@ -9,8 +9,8 @@ use Rattle.feed_text.specs.ReplayStates.{state_of_replay}
 use Rattle.feed_text.proofs.Tales.{Took}
 use Rattle.feed_text.proofs.venue.publish_each.Given as goal
 
-abbrev pub invariant-loop-next : goal.invariant-loop-next
-invariant-loop-next g l = record {
+abbrev pub invariant-loop-numbered : goal.invariant-loop-numbered
+invariant-loop-numbered g l = record {
   fits : (P : List Input) → Fits l.fn.arbiter P → Fits l.arbiter P;
   kept : KeepsAllButSent l.fn.arbiter l.arbiter;
   venues : l.output.journal.venues ≡ l.fn.output.journal.venues;
@@ -21,5 +21,5 @@ invariant-loop-next g l = record {
       (state_of_replay l.fn.output) (state_of_replay l.output);
 }
 
-abbrev pub decreases-loop-next : goal.decreases-loop-next
-decreases-loop-next g l = 2 ^ 64 - l.arbiter.sent
+abbrev pub decreases-loop-numbered : goal.decreases-loop-numbered
+decreases-loop-numbered g l = 2 ^ 64 - l.arbiter.sent

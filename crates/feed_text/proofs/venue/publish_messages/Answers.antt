@@ -30,8 +30,8 @@ loop-message-init g c =
           (took_none (laws_of g) _ (state_of_replay c.args.output.now));
     }
 
-pub overflow_add-item : goal.overflow_add-item
-overflow_add-item g c = let s = ap length c.in-Some.ensures.steps
+pub overflow_add-numbered : goal.overflow_add-numbered
+overflow_add-numbered g c = let s = ap length c.in-Some.ensures.steps
     in let r = c.loop-message.invariant.room in omega arith
 
 pub overflow_add-place : goal.overflow_add-place
