@@ -38,6 +38,7 @@ pub fn consume_next<G: Genuine, N: FeedName, W: Wait>(
 /// were. UnknownVenue, else a refusal where it comes before any of them, whether or not there is
 /// one; then nothing has changed. It waits for a sender that stands in the middle of its push, or
 /// with no handle for nobody.
+#[inline(always)]
 pub fn consume_some<G: Genuine, N: FeedName, W: Wait>(
     rt: Option<&W>,
     core: &mut JournalAndLanes<G, N>,

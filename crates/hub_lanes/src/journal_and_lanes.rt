@@ -173,6 +173,8 @@ impl<G: Genuine, N: FeedName> JournalAndLanes<G, N> {
 
     /// Journals the next item of the venue's lane. All room is made before it is popped. It waits
     /// for a sender that stands in the middle of its push, or with no handle for nobody.
+    // Inlined, so that only one of the two ways of a pop is left where it is known which.
+    #[inline(always)]
     pub fn consume<W: Wait>(
         &mut self,
         rt: Option<&W>,
