@@ -23,16 +23,13 @@ use std::sync::Wait;
 
 /// Pushes what is ready of the venue, at most `most` items, until nothing is or the lane is full.
 /// Returns how many were pushed, and whether something may be ready still.
-fn push_ready<G: Genuine, N: FeedName, W: Wait>(
+fn push_each<G: Genuine, N: FeedName, W: Wait>(
     rt: &W,
     cell: &mut VenueCell<G, N>,
     most: u64,
 ) -> (u64, bool)
     ensures { Pushes most result.0 cell.old cell.new }
 {
-    if !cell.may_have_ready() {
-        return (0, false);
-    }
     for pushed in 0..most {
         match cell.push_one(rt) {
             Ok(_) => {}
@@ -43,6 +40,22 @@ fn push_ready<G: Genuine, N: FeedName, W: Wait>(
         }
     }
     (most, true)
+}
+
+/// Pushes what is ready as `push_each` does. Most often nothing is, which a look at two numbers
+/// shows.
+#[inline(always)]
+fn push_ready<G: Genuine, N: FeedName, W: Wait>(
+    rt: &W,
+    cell: &mut VenueCell<G, N>,
+    most: u64,
+) -> (u64, bool)
+    ensures { Pushes most result.0 cell.old cell.new }
+{
+    if !cell.may_have_ready() {
+        return (0, false);
+    }
+    push_each(rt, cell, most)
 }
 
 /// Pushes what is ready as `push_ready` does, where the cell is of this venue; else nothing.
