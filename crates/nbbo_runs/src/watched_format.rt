@@ -114,7 +114,11 @@ fn note_session<F>(seen: &mut SessionTable, sessions: &[[u8; 10]], step: &Step<'
         Step::Came {
             record: Record::Renewal { venue, session },
             ..
-        } => note_seen(seen, *venue, session, true),
+        } => {
+            // A copy: where the call is lent a part of the step, that stays in memory.
+            let name = *session;
+            note_seen(seen, *venue, &name, true);
+        }
         _ => {}
     }
 }
