@@ -71,8 +71,8 @@ impl<K: EventSink> ReplaySink<K> {
         Ok(())
     }
 
-    /// Journals the entry, which is a venue's next item, and gives the sink the item and the changes
-    /// that it makes. The entry is lent, so that the item is written once, where it was read.
+    /// Journals the entry, which is a venue's next item, and gives the sink the item and the
+    /// changes that it makes. The entry is lent, so that the item is written once.
     #[inline(always)]
     pub fn take_item(&mut self, entry: &Entry) -> Result<(), PublishStop>
         requires venue { venue_of entry.now < self.old.journal.venues }

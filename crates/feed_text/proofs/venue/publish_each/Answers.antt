@@ -27,7 +27,8 @@ loop-numbered-init g c = record {
 pub loop-numbered-preserved : goal.loop-numbered-preserved
 loop-numbered-preserved g c = record {
   fits = λ P f. c.in-Some.ensures.fits P (c.loop-numbered.invariant.fits P f);
-  kept = keeping_all_but_sent_is_transitive c.loop-numbered.invariant.kept c.in-Some.ensures.after.kept;
+  kept = keeping_all_but_sent_is_transitive c.loop-numbered.invariant.kept
+      c.in-Some.ensures.after.kept;
   venues = c.in_ok-take_item.ensures.venues ∙ c.loop-numbered.invariant.venues;
   emitted = λ P f.
       let fits = c.loop-numbered.invariant.fits P f in

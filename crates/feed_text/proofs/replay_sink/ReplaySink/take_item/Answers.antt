@@ -19,17 +19,19 @@ returns-then-not-has_room g c =
     let journal = c.args.self.now.journal in
     let full : journal.journal < length journal.entries + 1 = lt_of_not-le (λ less. let has =
     c.if-not-has_room.ensures.1 (omega (arith, less)) in absurd cc) in
-    rw c.in-Consumed.is (item_full (laws_of g) journal c.args.self.now.time c.args.self.now.sink c.in-Consumed.venue
-    c.in-Consumed.numbered (omega (arith, full)))
+    rw c.in-Consumed.is (item_full (laws_of g) journal c.args.self.now.time c.args.self.now.sink
+    c.in-Consumed.venue c.in-Consumed.numbered (omega (arith, full)))
 
 pub returns : goal.returns
 returns g c =
-    rw c.in-Consumed.is (entry_goes (laws_of g) c.args.self.now.journal c.add.new.self c.args.self.now.time
-    c.args.self.now.sink c.take.new.self c.tell_bests.new.sink
-    (item_taken c.in-Consumed.venue c.in-Consumed.numbered) (told_item c.in-Consumed.venue c.in-Consumed.numbered)
+    rw c.in-Consumed.is (entry_goes (laws_of g) c.args.self.now.journal c.add.new.self
+    c.args.self.now.time c.args.self.now.sink c.take.new.self c.tell_bests.new.sink
+    (item_taken c.in-Consumed.venue c.in-Consumed.numbered)
+    (told_item c.in-Consumed.venue c.in-Consumed.numbered)
     (Consumed c.in-Consumed.venue c.in-Consumed.numbered)
     (notices_from c.latest.result.first c.latest.result.changes.now)
-    (c.has_room.ensures.0 c.if-not-has_room.false) (rw c.in-Consumed.is at c.add.ensures.goes_on) refl refl
+    (c.has_room.ensures.0 c.if-not-has_room.false)
+    (rw c.in-Consumed.is at c.add.ensures.goes_on) refl refl
     c.latest.ensures.notices
     c.in_ok-take.ensures.took c.in_ok-tell_bests.ensures.took)
 
@@ -39,9 +41,11 @@ returns-in_err-take g c =
     rw (p.1, p.2, c.in-Consumed.is)
     (entry_fails_first (laws_of g) c.args.self.now.journal c.add.new.self c.args.self.now.time
     c.args.self.now.sink c.take.new.self
-    (item_taken c.in-Consumed.venue c.in-Consumed.numbered) (told_item c.in-Consumed.venue c.in-Consumed.numbered)
+    (item_taken c.in-Consumed.venue c.in-Consumed.numbered)
+    (told_item c.in-Consumed.venue c.in-Consumed.numbered)
     (Consumed c.in-Consumed.venue c.in-Consumed.numbered)
-    (c.has_room.ensures.0 c.if-not-has_room.false) (rw c.in-Consumed.is at c.add.ensures.goes_on) refl refl
+    (c.has_room.ensures.0 c.if-not-has_room.false)
+    (rw c.in-Consumed.is at c.add.ensures.goes_on) refl refl
     c.in_err-take.ensures.failed)
 
 pub returns-in_err-tell_bests : goal.returns-in_err-tell_bests
@@ -51,9 +55,11 @@ returns-in_err-tell_bests g c =
     rw (p.1, p.2, c.in-Consumed.is)
     (entry_fails_later (laws_of g) c.args.self.now.journal c.add.new.self c.args.self.now.time
     c.args.self.now.sink c.take.new.self c.tell_bests.new.sink
-    (item_taken c.in-Consumed.venue c.in-Consumed.numbered) (told_item c.in-Consumed.venue c.in-Consumed.numbered)
+    (item_taken c.in-Consumed.venue c.in-Consumed.numbered)
+    (told_item c.in-Consumed.venue c.in-Consumed.numbered)
     (Consumed c.in-Consumed.venue c.in-Consumed.numbered)
     (notices_from c.latest.result.first c.latest.result.changes.now)
-    (c.has_room.ensures.0 c.if-not-has_room.false) (rw c.in-Consumed.is at c.add.ensures.goes_on) refl refl
+    (c.has_room.ensures.0 c.if-not-has_room.false)
+    (rw c.in-Consumed.is at c.add.ensures.goes_on) refl refl
     c.latest.ensures.notices
     c.in_ok-take.ensures.took c.in_err-tell_bests.ensures.failed)
