@@ -8,7 +8,8 @@ use Rattle.feed_types.specs.declared.genuine.Genuine.{Ghosts as Genuine}
 use Rattle.venue_lines.specs.declared.faults.TakeFault.{TakeFault}
 use Rattle.venue_lines.specs.declared.faults.TakeFault.TheVariants as faults
 use Rattle.live_feed.specs.declared.run.line.LineEnd.{LineEnd}
-use Rattle.live_feed.specs.declared.run.source.SourceFault.{SourceFault}
+use Rattle.venue_lines.specs.declared.source.SourceFault.{SourceFault}
+use Rattle.venue_lines.specs.Sources.{failures_after}
 use Rattle.live_feed.specs.declared.subscriber.logged.PollFault.{PollFault}
 use Rattle.live_feed.specs.declared.subscriber.logged.PollFault.TheVariants.{NoMemory, LogFull}
 use Rattle.line_arbiter.specs.Counts.{shown}
@@ -16,7 +17,7 @@ use Rattle.feed_steps.specs.Lanes.{FeedLanes}
 use Rattle.venue_lines.specs.Seats.{SeatState}
 use Rattle.venue_lines.specs.Datagrams.{AreGenuineBytes, TakesDatagram}
 use Rattle.live_feed.specs.subscriber.Logs.{SubscriberLogState, Polls, logged}
-use Rattle.live_feed.specs.run.Runs.{failures_after, Taking, TakesDatagrams, HasTaken, LineHasEnded, HasPolled, Pairwise}
+use Rattle.live_feed.specs.run.Runs.{Taking, TakesDatagrams, HasTaken, LineHasEnded, HasPolled, Pairwise}
 use Rattle.feed_steps.specs.laws.Counts.{shown_sum}
 
 -- a datagram leaves a seat where it is

@@ -4,5 +4,6 @@ pub use Rattle.venue_lines.specs.Seats
 pub use Rattle.venue_lines.specs.Cells
 pub use Rattle.venue_lines.specs.Sections
 pub use Rattle.venue_lines.specs.Datagrams
+pub use Rattle.venue_lines.specs.Sources
 pub use Rattle.venue_lines.specs.Statuses
 pub use Rattle.venue_lines.specs.Starts

@@ -41,7 +41,6 @@ pub use laws::settled_items_are_the_sessions;
 pub use run::attendant::{Attendant, Attended, OwnLog, RunView, Unattended};
 pub use run::line::{Line, LineEnd};
 pub use run::report::{RunReport, Stop};
-pub use run::source::{LineSource, SourceFault};
 pub use run::stop_handle::StopHandle;
 pub use run::whole::{
     FeedEnd, FeedReport, FeedTask, LineReport, LineTask, Subscription, WholeFault,
@@ -57,8 +56,8 @@ pub use subscriber::logged::{Logged, PollFault};
 pub use feed_steps::FeedName;
 pub use hub_lanes::{Consolidated, journaled_items_are_the_sessions};
 pub use venue_lines::{
-    Datagram, FeedFault, GapFault, LineCounts, LineSeat, RenewalFault, TakeFault, VenueStatus,
-    packets_of_the_sessions_are_accepted, sent_items_are_the_sessions,
+    Datagram, FeedFault, GapFault, LineCounts, LineSeat, LineSource, RenewalFault, SourceFault,
+    TakeFault, VenueStatus, packets_of_the_sessions_are_accepted, sent_items_are_the_sessions,
     sent_items_are_the_sessions_parts, sent_items_skip_nothing,
 };
 

@@ -12,7 +12,6 @@ mod line_threads;
 mod line_work;
 pub(crate) mod report;
 mod signals;
-pub(crate) mod source;
 pub(crate) mod stop_handle;
 mod subscriber_threads;
 mod subscriber_work;
@@ -26,7 +25,6 @@ use crate::run::line::{Line, LineEnd};
 use crate::run::line_threads::{LineThread, start_lines};
 use crate::run::report::{RunReport, Stop};
 use crate::run::signals::Signals;
-use crate::run::source::LineSource;
 use crate::run::stop_handle::StopHandle;
 use crate::run::subscriber_threads::{LogThread, start_subscribers};
 use crate::run::threads::join_each;
@@ -40,6 +38,7 @@ use std::collections::VecDeque;
 use std::sync::{Mutex, Wait};
 use std::thread;
 use std::thread::{Scope, Threads};
+use venue_lines::LineSource;
 
 /// The lines of a run, with room for their threads and for the lines once they have ended.
 #[derive(Drop)]

@@ -23,7 +23,6 @@ mod gap_watch;
 mod gap_watches;
 mod line_figures;
 mod line_news;
-mod line_progress;
 mod line_watch;
 mod listen_counts;
 mod metrics_client;
@@ -35,7 +34,6 @@ mod venue_statuses;
 
 pub use gap_watches::GapWatches;
 pub use line_news::{LineChange, write_line_end};
-pub use line_progress::LineProgress;
 pub use line_watch::{LineWatch, LineWatches};
 pub use listen_counts::ListenCounts;
 pub use metrics_server::{MetricsServer, RunProgress};

@@ -9,12 +9,12 @@ ghost use Rattle.run_watches.specs.RunNews.{IsNewsOfLine, IsNewsOfLines, IsTold,
 
 use crate::drop_table::DropTable;
 use crate::line_news::{LineChange, LineCounted, LineNews, LineTotal, write_news, write_total};
-use crate::line_progress::LineProgress;
 use crate::socket_tables::SocketTables;
 use feed_text::TextOut;
 use feed_types::{LineId, VenueId};
 use run_metrics::{LineEnd, LineState, UNKNOWN_STATE, VenueFigures};
 use std::net::SocketAddr;
+use udp_lines::LineProgress;
 use venue_lines::VenueStatus;
 
 /// A line, and what was said of it.

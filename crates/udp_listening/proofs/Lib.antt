@@ -3,6 +3,5 @@ pub mod Following
 pub mod Lacks
 pub mod Noting
 pub mod Monitored
-pub mod Seeing
 pub mod Watching
 pub mod Wholes

@@ -22,7 +22,7 @@ use Rattle.udp_listening.specs.Reports.{IsListened, IsReportOfFeed, IsReportOfRu
 use Rattle.run_watches.specs.RunLines.{listened_lines, watched_run}
 use Rattle.run_watches.specs.RunNews.{SaysOfRun}
 use Rattle.udp_listening.specs.Settings.{feed_setting}
-use Rattle.udp_listening.specs.UdpLines.{UdpLineState}
+use Rattle.udp_lines.specs.UdpLines.{UdpLineState}
 use Rattle.udp_listening.specs.declared.console.Console.{Console}
 use Rattle.udp_listening.specs.declared.listen_report.ListenReport.{ListenReport}
 use Rattle.udp_listening.specs.declared.listening.ListenFault.{ListenFault}

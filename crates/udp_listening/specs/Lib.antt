@@ -5,4 +5,3 @@ pub mod Settings
 pub mod SettledLacks
 pub mod SettledNotices
 pub mod Sockets
-pub mod UdpLines

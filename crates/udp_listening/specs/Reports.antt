@@ -19,7 +19,7 @@ use Rattle.run_watches.specs.RunLines.{listened_lines}
 use Rattle.udp_listening.specs.Settings.{feed_setting}
 use Rattle.udp_listening.specs.SettledLacks.{settled_lacks}
 use Rattle.udp_listening.specs.SettledNotices.{settled_notices}
-use Rattle.udp_listening.specs.UdpLines.{UdpLineState, is_read_out}
+use Rattle.udp_lines.specs.UdpLines.{UdpLineState, is_read_out}
 use Rattle.udp_listening.specs.declared.listen_report.EndedLine.{EndedLine}
 use Rattle.udp_listening.specs.declared.listen_report.ListenReport.{ListenReport}
 

@@ -5,7 +5,7 @@ use Rattle.best_rows.specs.declared.style.RowStyle.{RowStyle}
 use Rattle.live_feed.specs.Lanes.{FeedSetting}
 use Rattle.run_settings.specs.Senders.{senders_of}
 use Rattle.run_settings.specs.declared.listen_settings.ListenSettings.{ListenSettings}
-use Rattle.udp_listening.specs.UdpLines.{UdpLineState}
+use Rattle.udp_lines.specs.UdpLines.{UdpLineState}
 
 -- the most notices of a log: as many as the journal's entries, unless they are printed as they come
 -- and forgotten

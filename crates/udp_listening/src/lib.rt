@@ -1,6 +1,6 @@
 //! Listening on live lines by UDP.
 //!
-//! Lines that are received by UDP ([`UdpLine`], a source of `live_feed`) are run as a live feed.
+//! Lines that are received by UDP (`udp_lines`) are run as a live feed.
 //! Beside the run stands a monitor, which ends it where it is to end from outside, prints best
 //! lines as they come, and does what is due of what it watches (`run_watches`). Once all has ended
 //! the best lines, and a line for each venue, are printed.
@@ -8,17 +8,12 @@
 //! Contract: [`listen_with`] prints, in all, the text of the report of a feed that was run over the
 //! settings' lines and settled, or says why it doesn't (`specs/Listening.antt`,
 //! `specs/Reports.antt`). Standard error has before that what the watches say of the run, and
-//! nothing else. A line brings what its socket brings of the settings' senders, up to an end of
-//! session that by its rule ends it, to its count of datagrams, or to a fault
-//! (`specs/UdpLines.antt`, `specs/Sockets.antt`). What the sockets bring, and when the run is ended
-//! from outside, tests show.
+//! nothing else. What the sockets bring, and when the run is ended from outside, tests show.
 //!
-//! Begin with `listen.rt`, then `listening.rt`, `udp_line.rt`, and `run_monitor.rt` for what is
-//! beside a run.
+//! Begin with `listen.rt`, then `listening.rt`, and `run_monitor.rt` for what is beside a run.
 #![tactic(auto)]
 
 mod console;
-mod datagram_in;
 mod input_end;
 mod listen;
 mod listen_lines;
@@ -33,7 +28,6 @@ mod socket_buffers;
 mod sockets;
 mod sources;
 mod summary;
-mod udp_line;
 mod unchanged;
 
 pub use listen::{NO_MEMORY, listen_with};
@@ -42,4 +36,3 @@ pub use metrics_socket::{bind_metrics, metrics_line};
 pub use run_watches::SocketTables;
 pub use socket_buffers::enlarge;
 pub use sockets::{BindFault, bind_sockets, listening_line, write_bind_fault};
-pub use udp_line::UdpLine;

@@ -7,7 +7,6 @@ ghost use Rattle.udp_listening.specs.SettledNotices.{HasNoted, settled_forgotten
 
 use crate::listening::ListenFault;
 use crate::settled_lacks::settled_lacks;
-use crate::udp_line::UdpLine;
 use crate::unchanged::settled_unchanged;
 use feed_text::Lack;
 use feed_types::{LineId, VenueId};
@@ -15,6 +14,7 @@ use live_feed::{FeedReport, LineReport, Settlement, Stop};
 use run_notes::AbsentList;
 use run_settings::ListenSettings;
 use std::alloc::{AllocError, Global};
+use udp_lines::UdpLine;
 
 /// A line that an end of this session has ended.
 #[derive(Clone, Copy, Debug, PartialEq, Eq)]

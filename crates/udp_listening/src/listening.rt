@@ -10,7 +10,6 @@ ghost use Rattle.udp_listening.specs.Settings.{IsFeedOf, feed_setting, most_logg
 use crate::console::Console;
 use crate::listen_report::{ListenReport, report_of};
 use crate::run_monitor::RunMonitor;
-use crate::udp_line::UdpLine;
 use feed_text::TextOut;
 use feed_types::{Anything, FeedConfig};
 use filter_terms::{Filter, Strategy, Terms};
@@ -25,6 +24,7 @@ use std::mem;
 use std::rt::Clock;
 use std::sync::Wait;
 use std::thread::Threads;
+use udp_lines::UdpLine;
 
 /// The number of items that a venue's lane, and a subscriber's, holds.
 const LANE: u32 = 1_024;

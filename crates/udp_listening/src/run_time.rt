@@ -1,11 +1,11 @@
 //! The time of a run, and when it is ended from outside.
 
 use crate::input_end::InputEnd;
-use crate::udp_line::millis;
 use run_settings::ListenSettings;
 use run_watches::Moment;
 use std::io::Stdin;
 use std::time::{Clock, Duration};
+use udp_lines::millis;
 
 /// The least milliseconds between two looks at standard input.
 const INPUT_MS: u64 = 5;

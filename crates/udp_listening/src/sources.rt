@@ -5,7 +5,6 @@ ghost use Rattle.udp_listening.specs.Reports.{task_line};
 ghost use Rattle.run_watches.specs.RunLines.{heard_lines, line_at, listened_lines, watched_lines};
 ghost use Rattle.udp_listening.specs.Settings.{IsSourceOf};
 
-use crate::udp_line::{UdpLine, UdpLineSettings};
 use feed_types::{LineId, VenueId};
 use live_feed::{LineSource, LineTask};
 use run_settings::ListenSettings;
@@ -13,6 +12,7 @@ use run_watches::{LineWatch, LineWatches, SocketTables};
 use std::alloc::{AllocError, Global};
 use std::net::UdpSocket;
 use std::rt::Clock;
+use udp_lines::{UdpLine, UdpLineSettings};
 
 /// The line at a place of the settings: line A's and then line B's, those of venue 0 first.
 pub fn line_at(place: usize) -> LineId

@@ -6,6 +6,8 @@ pub mod Seats
 pub mod Cells
 pub mod Sections
 pub mod Datagrams
+-- what the sources of lines bring
+pub mod Sources
 pub mod Statuses
 -- a venue to which nothing came
 pub mod Starts

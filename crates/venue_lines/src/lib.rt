@@ -3,8 +3,8 @@
 //!
 //! A venue's lock guards the venue's arbiter, the sending end of its lane and the counts of its
 //! lines, a [`VenueCell`], and which seats were handed out ([`LockedVenue`]). A line has a
-//! [`LineSeat`], which counts what it brought, too ([`LineCounts`]). [`VenueLocks`] are the venues
-//! of a feed; each of their calls takes one lock.
+//! [`LineSeat`], which counts what it brought, too ([`LineCounts`]), and a [`LineSource`], which
+//! brings it. [`VenueLocks`] are the venues of a feed; each of their calls takes one lock.
 //!
 //! Contract: whenever a lock is free, what it guards is a part of a world of the event machine
 //! (`feed_core`), and each section under it is one of the machine's events, or several
@@ -24,6 +24,7 @@ mod locked_venue;
 mod locks;
 mod reading;
 mod seat;
+mod source;
 mod start;
 mod starting;
 mod status;
@@ -40,6 +41,7 @@ pub use line_counts::LineCounts;
 pub use locked_venue::LockedVenue;
 pub use locks::{VenueLock, VenueLocks};
 pub use seat::LineSeat;
+pub use source::{LineSource, SourceFault};
 pub use start::VenueStart;
 pub use starting::new_starts;
 pub use status::VenueStatus;

@@ -1,43 +1,24 @@
 -- The report of a run of a feed.
-use Rattle.std.specs.Prelude.{◌≡◌, ℕ, ◌+◌, List, [], ◌∷◌, length, map, MatchOption, Option, Some, None, Result, Ok, Err}
+use Rattle.std.specs.Prelude.{◌≡◌, ℕ, List, [], ◌∷◌, length, map, MatchOption, Result}
 use Rattle.feed_types.specs.Prefix.{IsPrefix}
 use Rattle.line_arbiter.specs.declared.outcome.Outcome.{Outcome}
 use Rattle.line_arbiter.specs.Counts.{shown}
 use Rattle.feed_types.specs.declared.genuine.Genuine.{Ghosts as Genuine}
 use Rattle.venue_lines.specs.declared.faults.TakeFault.{TakeFault}
 use Rattle.live_feed.specs.declared.run.line.LineEnd.{LineEnd}
-use Rattle.live_feed.specs.declared.run.source.SourceFault.{SourceFault}
-use Rattle.live_feed.specs.declared.run.source.SourceFault.TheVariants as faults
 use Rattle.live_feed.specs.declared.run.report.Stop.{Stop}
 use Rattle.live_feed.specs.declared.run.report.Stop.TheVariants as stops
-use Rattle.venue_lines.specs.declared.datagram.Datagram.{Datagram}
-use Rattle.venue_lines.specs.Datagrams.{TakesDatagram, bytes_of}
+use Rattle.venue_lines.specs.Datagrams.{TakesDatagram}
+use Rattle.venue_lines.specs.Sources.{failures_after}
 use Rattle.feed_steps.specs.Lanes.{FeedLanes}
 use Rattle.venue_lines.specs.Seats.{SeatState}
 use Rattle.live_feed.specs.subscriber.Logs.{SubscriberLogState}
-
-abbrev pub source_fault_code : SourceFault → ℕ
-source_fault_code faults.NoMemory = 12
-source_fault_code faults.TooManyTurns = 28
-source_fault_code faults.Device = 33
 
 abbrev pub stop_code : Stop → ℕ
 stop_code stops.NoMemory = 12
 stop_code stops.JournalFull = 17
 stop_code stops.NoThread = 34
 stop_code stops.SubscriberBehind = 51
-
--- The count of a source's failures after a call with this fault: want of memory is no failure.
-abbrev pub failures_after : ℕ → SourceFault → ℕ
-failures_after failures faults.Device = failures + 1
-failures_after failures faults.TooManyTurns = failures + 1
-failures_after failures faults.NoMemory = failures
-
--- the bytes of the datagram that a source returned, as a list of one, or none
-abbrev pub brought_in : Result (Option Datagram) SourceFault → List (List ℕ)
-brought_in (Ok (Some datagram)) = bytes_of datagram ∷ []
-brought_in (Ok None) = []
-brought_in (Err fault) = []
 
 -- The lists have the same length, and the relation holds at each place.
 abbrev pub Pairwise : {A B : Type 0} → (A → B → Type 0) → List A → List B → Type 0

@@ -2,9 +2,8 @@
 
 ghost use Rattle.std.specs.Prelude.{◌≡◌, IfOk, IfErr, OnOk, OnErr};
 
-use crate::run::source::{LineSource, SourceFault};
 use feed_types::Genuine;
-use venue_lines::LineSeat;
+use venue_lines::{LineSeat, LineSource, SourceFault};
 
 /// A line of the feed `N`: its seat, and the source of its datagrams, which is of the seat's venue.
 #[derive(Drop)]

@@ -7,14 +7,13 @@ use crate::lists::made_of_each;
 use crate::run::line::{Line, LineEnd};
 use crate::run::line_work::{LineOf, work_line};
 use crate::run::signals::Signals;
-use crate::run::source::LineSource;
 use crate::run::threads::ThreadOf;
 use feed_steps::FeedName;
 use feed_types::Genuine;
 use std::snapshot::Snapshot;
 use std::sync::Wait;
 use std::thread::{Scope, Threads};
-use venue_lines::VenueLocks;
+use venue_lines::{LineSource, VenueLocks};
 
 /// A line's thread, or the line where none could be started: it has read nothing.
 pub(crate) type LineThread<G, N, S> = ThreadOf<LineEnd<G, N, S>, LineOf<G, N, S>>;

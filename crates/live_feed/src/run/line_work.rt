@@ -1,17 +1,17 @@
 //! The work of a line's thread.
 
 ghost use Rattle.std.specs.Prelude.{◌≡◌, [], IfOk, IfErr};
-ghost use Rattle.live_feed.specs.run.Runs.{HasTaken, LineHasEnded, failures_after};
+ghost use Rattle.live_feed.specs.run.Runs.{HasTaken, LineHasEnded};
+ghost use Rattle.venue_lines.specs.Sources.{failures_after};
 
 use crate::run::line::{Line, LineEnd};
 use crate::run::signals::Signals;
-use crate::run::source::{LineSource, SourceFault};
 use feed_steps::FeedName;
 use feed_types::{Genuine, VenueId};
 use std::snapshot::Snapshot;
 use std::sync::Wait;
 use std::thread::Promise;
-use venue_lines::{LineSeat, VenueLocks};
+use venue_lines::{LineSeat, LineSource, SourceFault, VenueLocks};
 
 /// The line that a thread has. What the thread returns is that line, ended.
 #[derive(Drop)]

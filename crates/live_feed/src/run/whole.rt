@@ -11,7 +11,6 @@ use crate::feed::open_feed::OpenFeed;
 use crate::run::attendant::{Attendant, Attended, OwnLog};
 use crate::run::line::{Line, LineEnd};
 use crate::run::report::{RunReport, Stop};
-use crate::run::source::{LineSource, SourceFault};
 use crate::settle::fault::SettleFault;
 use crate::settle::settlement::Settlement;
 use crate::subscriber::Subscriber;
@@ -23,7 +22,7 @@ use std::alloc::{AllocError, Global};
 use std::sync::Wait;
 use std::thread::Threads;
 use thiserror::Error;
-use venue_lines::{FeedFault, LineSeat};
+use venue_lines::{FeedFault, LineSeat, LineSource, SourceFault};
 
 /// A line that is to be run: which one of its venue's, and the source of its datagrams, which is of
 /// that venue.

@@ -1,7 +1,7 @@
 use Rattle.std.proofs.Common.{[], ◌∷◌, ◌++◌, None, Some, ap, rules, Ok, subst, ◌∙◌}
-use Rattle.live_feed.specs.run.Runs.{brought_in}
+use Rattle.venue_lines.specs.Sources.{brought_in, failures_after}
 use Rattle.venue_lines.specs.Datagrams.{bytes_of}
-use Rattle.live_feed.specs.run.Runs.{HasTaken, failures_after}
+use Rattle.live_feed.specs.run.Runs.{HasTaken}
 use Rattle.live_feed.proofs.RunMoves.{brings_still, genuine_at, line_ended, read_more, seat_stays, taken_more}
 use Rattle.live_feed.proofs.run.line_work.work_line.Goals as goal
 use Rattle.live_feed.proofs.run.line_work.work_line.Goals.{in-None, in-Some+then-not-is_next_there, in-Some+else-not-is_next_there+in-Ok-None, in-Some+else-not-is_next_there+in-Err, in-Some+else-not-is_next_there+in-Ok-Some+in-Err-request_due}

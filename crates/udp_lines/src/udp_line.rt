@@ -1,22 +1,22 @@
 //! A line that is received by UDP.
 ghost use Rattle.std.specs.Prelude.{◌≡◌, ◌+◌, ◌*◌, ◌/◌, ◌-◌, ◌^◌, ◌↔◌, ℕ, List, Bool, min, IfOk, IfErr, IfSome, IsTrue, OnErr, Ok, Some, None, true, false, option_map};
 ghost use Rattle.std.specs.Duration.{as_nanos};
-ghost use Rattle.live_feed.specs.venue.Datagrams.{bytes_of};
-ghost use Rattle.live_feed.specs.run.Runs.{failures_after};
+ghost use Rattle.venue_lines.specs.Datagrams.{bytes_of};
+ghost use Rattle.venue_lines.specs.Sources.{failures_after};
 ghost use Rattle.run_settings.specs.Senders.{senders_of};
-ghost use Rattle.udp_listening.specs.UdpLines.{EndsLine, IsEndedBy, IsLast, IsOver, SpellsEndOf, failures_of, is_none_left, is_read_out};
+ghost use Rattle.udp_lines.specs.UdpLines.{EndsLine, IsEndedBy, IsLast, IsOver, SpellsEndOf, failures_of, is_none_left, is_read_out};
 
 use crate::datagram_in::{LineSocket, MAX_TURNS, Received};
+use crate::line_progress::LineProgress;
 use feed_types::{Anything, VenueId};
-use live_feed::{Datagram, LineSource, SourceFault};
 use mold_packet::{Kind, Request, one_reading, read_packet, write_request};
 use run_settings::{EndRule, Senders};
-use run_watches::LineProgress;
 use std::alloc::{AllocError, Global};
 use std::io::ErrorKind;
 use std::marker::Model;
 use std::net::{SocketAddr, UdpSocket};
 use std::time::{Clock, Duration};
+use venue_lines::{Datagram, LineSource, SourceFault};
 
 /// The most bytes that a datagram can have.
 const MAX_DATAGRAM: usize = 65_535;
@@ -77,7 +77,7 @@ pub struct UdpLine<C> {
 
 impl<C> Model for UdpLine<C> {
     ghost use Rattle.run_settings.specs.Senders.{senders_of};
-    ghost use Rattle.udp_listening.specs.UdpLines.{UdpLineState};
+    ghost use Rattle.udp_lines.specs.UdpLines.{UdpLineState};
 
     ghost Value = { UdpLineState };
 
@@ -395,7 +395,7 @@ impl<C: Drop> UdpLine<C> {
 impl<C: Clock + Drop> LineSource<Anything> for UdpLine<C> {
     ghost use Rattle.std.specs.Prelude.{◌≡◌, refl};
     ghost use Rattle.std.proofs.Common.{◌∙◌};
-    ghost use Rattle.udp_listening.specs.UdpLines.{failures_of};
+    ghost use Rattle.udp_lines.specs.UdpLines.{failures_of};
 
     ghost venue_of = { λ l. l.venue };
 

@@ -1,8 +1,8 @@
 use Rattle.std.proofs.Common.{◌≡◌, rules, true, subst, sym}
-use Rattle.udp_listening.specs.UdpLines.{EndsLine, UdpLineState}
-use Rattle.udp_listening.proofs.Seeing.{last_of_end}
-use Rattle.udp_listening.proofs.udp_line.UdpLine.count_read.Goals.{then-self, else-self}
-use Rattle.udp_listening.proofs.udp_line.UdpLine.count_read.Goals as goal
+use Rattle.udp_lines.specs.UdpLines.{EndsLine, UdpLineState}
+use Rattle.udp_lines.proofs.Seeing.{last_of_end}
+use Rattle.udp_lines.proofs.udp_line.UdpLine.count_read.Goals.{then-self, else-self}
+use Rattle.udp_lines.proofs.udp_line.UdpLine.count_read.Goals as goal
 
 pub returns-clause-last : goal.returns-clause-last
 returns-clause-last g c =

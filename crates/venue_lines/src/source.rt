@@ -5,13 +5,12 @@
 
 ghost use Rattle.std.specs.Prelude.{◌≡◌, [], ◌++◌, Ok, Some, IfOk, IfErr};
 ghost use Rattle.venue_lines.specs.Datagrams.{AreGenuineBytes, bytes_of};
-ghost use Rattle.live_feed.specs.run.Runs.{brought_in};
-ghost use Rattle.live_feed.specs.run.Runs.{failures_after, source_fault_code};
+ghost use Rattle.venue_lines.specs.Sources.{brought_in, failures_after, source_fault_code};
 
+use crate::datagram::Datagram;
 use feed_types::{Genuine, VenueId};
 use mold_packet::Request;
 use thiserror::Error;
-use venue_lines::Datagram;
 
 /// Why a source returned no datagram, or sent no request.
 #[derive(Clone, Copy, Debug, PartialEq, Eq, Hash, Error)]

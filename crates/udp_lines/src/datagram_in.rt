@@ -4,16 +4,16 @@
 //! states, with laws. Of a socket of the system they say nothing.
 ghost use Rattle.std.specs.Prelude.{◌≡◌, ◌≢◌, ◌≤◌, List, ℕ, IfErr, IfOk, IsOk, OnErr, length, take, vec_capacity};
 ghost use Rattle.std.specs.declared.net.socket_addr.SocketAddr.{SocketAddr};
-ghost use Rattle.live_feed.specs.declared.run.source.SourceFault.TheVariants.{NoMemory};
-ghost use Rattle.live_feed.specs.venue.Datagrams.{bytes_of};
+ghost use Rattle.venue_lines.specs.declared.source.SourceFault.TheVariants.{NoMemory};
+ghost use Rattle.venue_lines.specs.Datagrams.{bytes_of};
 ghost use Rattle.run_settings.specs.Senders.{senders_of};
-ghost use Rattle.udp_listening.specs.Sockets.{IsHandedOn, IsReceived};
+ghost use Rattle.udp_lines.specs.Sockets.{IsHandedOn, IsReceived};
 
-use live_feed::{Datagram, SourceFault};
 use run_settings::Senders;
 use std::alloc::{AllocError, Global};
 use std::io::ErrorKind;
 use std::net::{SocketAddr, UdpSocket};
+use venue_lines::{Datagram, SourceFault};
 
 /// How many times one call asks the socket at most.
 pub const MAX_TURNS: u32 = 1_000_000;
