@@ -8,3 +8,4 @@ pub mod Sequence
 pub mod SequenceLaws
 pub mod Sessions
 pub mod PerLines
+pub mod FullCounts

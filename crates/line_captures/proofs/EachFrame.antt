@@ -8,7 +8,7 @@ use Rattle.packet_capture.specs.Captures.{PieceContent, frames_of}
 use Rattle.run_settings.specs.declared.captured_line.CapturedLine.{CapturedLine}
 use Rattle.line_captures.specs.declared.progress.Progress.{Progress}
 use Rattle.line_captures.specs.Counts.{FrameFate, to_line, elsewhere, no_datagram, IsFate, CountsPieces, new_progress, counts_after, total_of, falls_after, times_of, is_without, is_no_ip, is_no_udp, is_fragment, is_cut, is_malformed, is_unreadable, goes_elsewhere, goes_to_line}
-use Rattle.line_captures.specs.FullCounts.{count_after}
+use Rattle.feed_types.specs.FullCounts.{count_after}
 
 same_length : {A B : Type 0} (R : A → B → Type 0) (xs : List A) (ys : List B) → AllZip R xs ys
     → length xs ≡ length ys

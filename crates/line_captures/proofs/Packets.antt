@@ -18,7 +18,7 @@ use Rattle.feed_text.specs.Formats.{TimedRecord, TakesPiece, StepsTo, timed_reco
 use Rattle.run_settings.specs.declared.captured_line.CapturedLine.{CapturedLine}
 use Rattle.line_captures.specs.declared.progress.Progress.{Progress}
 use Rattle.line_captures.specs.Counts.{CountsFrame, CountsPieces, IsFate, counts_after, falls_after, last_after, piece_after, timed_after, times_of}
-use Rattle.line_captures.specs.FullCounts.{count_after}
+use Rattle.feed_types.specs.FullCounts.{count_after}
 use Rattle.run_settings.specs.Lists.{AreOfVenues}
 use Rattle.line_captures.specs.Records.{AreOfFrame, IsOfLine}
 use Rattle.line_captures.specs.PacketFormats.{PacketState, AreTimed, ReadsPackets, IsStepOf, IsStopStep, wants_packets, is_bad_packets}

@@ -10,7 +10,7 @@ use Rattle.run_settings.specs.declared.captured_line.CapturedLine.{CapturedLine}
 use Rattle.line_captures.specs.declared.frame_counts.FrameCounts.{FrameCounts}
 use Rattle.line_captures.specs.declared.progress.Progress.{Progress}
 use Rattle.line_captures.specs.Counts.{FrameFate, IsFate, CountsPieces, counts_after, falls_after, last_after, second_after, second_of, times_in, times_of, is_without, is_no_ip, is_no_udp, is_fragment, is_cut, is_malformed, is_unreadable, goes_elsewhere, goes_to_line}
-use Rattle.line_captures.specs.FullCounts.{count_after}
+use Rattle.feed_types.specs.FullCounts.{count_after}
 use Rattle.line_captures.specs.declared.drop_counts.DropCounts.{DropCounts}
 use Rattle.line_captures.specs.DropCounts.{drops_after, drops_of}
 

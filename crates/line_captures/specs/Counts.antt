@@ -11,7 +11,7 @@ use Rattle.packet_capture.specs.Frames.{FrameContent}
 use Rattle.run_settings.specs.declared.captured_line.CapturedLine.{CapturedLine}
 use Rattle.line_captures.specs.declared.frame_counts.FrameCounts.{FrameCounts}
 use Rattle.line_captures.specs.declared.progress.Progress.{Progress}
-use Rattle.line_captures.specs.FullCounts.{count_after}
+use Rattle.feed_types.specs.FullCounts.{count_after}
 use Rattle.line_captures.specs.DropCounts.{drops_after, drops_of, no_drops}
 use Rattle.line_captures.specs.Lines.{GoesTo, GoesToNone}
 

@@ -6,7 +6,7 @@ use Rattle.packet_capture.specs.Captures.{PieceContent}
 use Rattle.line_captures.specs.declared.drop_counts.DropCounts.{DropCounts}
 use Rattle.line_captures.specs.declared.drop_counts.DroppedFrames.{DroppedFrames}
 use Rattle.line_captures.specs.declared.drop_counts.SaidCounts.{SaidCounts}
-use Rattle.line_captures.specs.FullCounts.{count_after}
+use Rattle.feed_types.specs.FullCounts.{count_after}
 
 -- before the interfaces say anything
 abbrev pub none_said : SaidCounts

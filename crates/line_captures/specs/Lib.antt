@@ -1,6 +1,5 @@
 pub mod Lines
 pub mod Records
-pub mod FullCounts
 pub mod DropCounts
 pub mod Counts
 pub mod CountLaws

@@ -1,7 +1,7 @@
 //! How many frames of a capture are of each kind.
 ghost use Rattle.std.specs.Prelude.{◌≡◌, [], ◌∷◌};
 ghost use Rattle.line_captures.specs.Counts.{to_line, elsewhere, no_datagram, counts_after, total_of};
-ghost use Rattle.line_captures.specs.FullCounts.{count_after};
+ghost use Rattle.feed_types.specs.FullCounts.{count_after};
 
 use packet_capture::FrameFault;
 

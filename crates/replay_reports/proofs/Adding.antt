@@ -8,7 +8,7 @@ use Rattle.feed_types.specs.declared.line.LineId.TheVariants.{A, B, Recovery}
 use Rattle.mold_packet.specs.declared.fault.PacketFault.{PacketFault}
 use Rattle.line_arbiter.specs.declared.outcome.Outcome.{Outcome}
 use Rattle.line_arbiter.specs.declared.outcome.LineFault.{LineFault}
-use Rattle.line_captures.specs.FullCounts.{count_after}
+use Rattle.feed_types.specs.FullCounts.{count_after}
 use Rattle.feed_text.specs.declared.event.Event.{Event}
 use Rattle.feed_text.specs.SinkEvents.{SinkEvent, told_before, told_best, told_by, told_packet, told_refusal}
 use Rattle.replay_reports.specs.declared.counts.gap_stats.GapStats.{GapStats}

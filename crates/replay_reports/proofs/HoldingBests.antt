@@ -9,7 +9,7 @@ use Rattle.std.proofs.lemmas.List.Sums.{sum_by-cons}
 use Rattle.feed_types.specs.Symbols.{key_of}
 use Rattle.feed_types.specs.declared.national.National.{National}
 use Rattle.feed_text.specs.SinkEvents.{TimedEvent}
-use Rattle.line_captures.specs.FullCounts.{count_after}
+use Rattle.feed_types.specs.FullCounts.{count_after}
 use Rattle.replay_reports.specs.declared.best_times.best_figures.BestFigures.{BestFigures}
 use Rattle.replay_reports.specs.declared.best_times.period_step.PeriodStep.{PeriodStep}
 use Rattle.replay_reports.specs.declared.best_times.symbol_times.SymbolTimes.{SymbolTimes}

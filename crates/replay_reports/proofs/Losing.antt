@@ -7,7 +7,7 @@ use Rattle.feed_types.specs.declared.line.LineId.TheVariants.{A, B}
 use Rattle.line_arbiter.specs.declared.outcome.Outcome.{Outcome}
 use Rattle.line_arbiter.specs.declared.outcome.Outcome.TheVariants.{Taken, Heartbeat, Ended, Ahead}
 use Rattle.line_arbiter.specs.Streams.{is_same_line}
-use Rattle.line_captures.specs.FullCounts.{count_after}
+use Rattle.feed_types.specs.FullCounts.{count_after}
 use Rattle.feed_text.specs.SinkEvents.{SinkEvent, TimedEvent, timed_event, told_packet, told_renewal}
 use Rattle.replay_reports.specs.declared.times.extent.Extent.{Extent}
 use Rattle.replay_reports.specs.declared.times.line_numbers.LineNumbers.{LineNumbers}

@@ -7,7 +7,7 @@ use Rattle.feed_text.specs.SinkEvents.{TimedEvent}
 use Rattle.replay_reports.specs.declared.best_times.best_figures.BestFigures.{BestFigures}
 use Rattle.replay_reports.specs.declared.best_times.period_step.PeriodStep.{PeriodStep}
 use Rattle.replay_reports.specs.declared.best_times.symbol_times.SymbolTimes.{SymbolTimes}
-use Rattle.line_captures.specs.FullCounts.{count_after}
+use Rattle.feed_types.specs.FullCounts.{count_after}
 use Rattle.replay_reports.specs.best_times.BestShares.{most_spread}
 use Rattle.replay_reports.specs.best_times.Standing.{Piece, begins_with, best_told, bids, from_told, in_state, latest_told, no_best, offers, pieces_told, spread_of, weighed}
 use Rattle.replay_reports.specs.counts.Stats.{is_crossed, is_locked, is_normal}

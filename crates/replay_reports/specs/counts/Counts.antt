@@ -10,7 +10,7 @@ use Rattle.line_arbiter.specs.Codes.{line_fault_code}
 use Rattle.line_arbiter.specs.declared.outcome.Outcome.{Outcome}
 use Rattle.line_arbiter.specs.declared.outcome.Outcome.TheVariants.{Taken, Heartbeat, Ended, Ahead}
 use Rattle.line_arbiter.specs.Streams.{is_same_line}
-use Rattle.line_captures.specs.FullCounts.{count_after}
+use Rattle.feed_types.specs.FullCounts.{count_after}
 use Rattle.feed_text.specs.SinkEvents.{SinkEvent, told_packet, told_refusal, told_item, told_renewal, told_skip, told_declaration, told_before}
 use Rattle.replay_reports.specs.declared.counts.line_stats.LineStats.{LineStats}
 use Rattle.replay_reports.specs.declared.counts.line_stats.Refusals.{Refusals}

@@ -5,7 +5,7 @@ use Rattle.feed_types.specs.Nationals.{state_of}
 use Rattle.feed_types.specs.declared.national.Best.{Best}
 use Rattle.feed_types.specs.declared.national.NationalState.{NationalState}
 use Rattle.feed_types.specs.declared.national.NationalState.TheVariants.{Empty, OneSided, Normal, Locked, Crossed}
-use Rattle.line_captures.specs.FullCounts.{count_after}
+use Rattle.feed_types.specs.FullCounts.{count_after}
 use Rattle.feed_text.specs.SinkEvents.{SinkEvent, TimedEvent, told_packet, told_refusal, told_item, told_best, told_renewal, told_skip, told_declaration, told_before}
 use Rattle.replay_reports.specs.declared.counts.gap_stats.GapStats.{GapStats}
 use Rattle.replay_reports.specs.declared.counts.gap_stats.SequenceStats.{SequenceStats}

@@ -5,7 +5,7 @@ use Rattle.std.specs.Prelude.{◌≡◌, ℕ, ◌-◌, true, false, Bool, ◌||�
 use Rattle.feed_types.specs.declared.line.LineId.{LineId}
 use Rattle.feed_types.specs.declared.line.LineId.TheVariants as lines
 use Rattle.line_arbiter.specs.declared.outcome.Outcome.{Outcome}
-use Rattle.line_captures.specs.FullCounts.{count_after}
+use Rattle.feed_types.specs.FullCounts.{count_after}
 use Rattle.feed_text.specs.SinkEvents.{SinkEvent, TimedEvent, told_packet, told_item, told_renewal, told_skip, told_last, told_before}
 use Rattle.replay_reports.specs.declared.counts.gap_stats.GapStats.{GapStats}
 use Rattle.replay_reports.specs.declared.counts.gap_stats.SequenceStats.{SequenceStats}

@@ -1,7 +1,7 @@
 -- What a line brought in a period: the difference of its counts after the period and before it.
 use Rattle.std.specs.Prelude.{ℕ, ◌-◌}
 use Rattle.feed_types.specs.declared.line.LineId.TheVariants.{A, B}
-use Rattle.line_captures.specs.FullCounts.{count_after}
+use Rattle.feed_types.specs.FullCounts.{count_after}
 use Rattle.replay_reports.specs.declared.counts.line_stats.LineStats.{LineStats}
 use Rattle.replay_reports.specs.declared.counts.venue_stats.VenueStats.{VenueStats}
 use Rattle.replay_reports.specs.declared.periods.line_figures.LineFigures.{LineFigures}

@@ -1,6 +1,6 @@
 -- From which number to which one messages of a venue are known of.
 use Rattle.std.specs.Prelude.{ℕ, ◌+◌, ◌-◌, ◌==◌, max, min, if◌then◌else◌}
-use Rattle.line_captures.specs.FullCounts.{count_after}
+use Rattle.feed_types.specs.FullCounts.{count_after}
 use Rattle.replay_reports.specs.declared.times.extent.Extent.{Extent}
 
 -- of no session

@@ -1,6 +1,6 @@
 //! How long national bests stood, by what they are.
 ghost use Rattle.std.specs.Prelude.{◌≡◌, ◌+◌, ◌*◌, ℕ, length, min, slice_index_or};
-ghost use Rattle.line_captures.specs.FullCounts.{count_after};
+ghost use Rattle.feed_types.specs.FullCounts.{count_after};
 ghost use Rattle.replay_reports.specs.best_times.BestHolding.{AddsStanding, AreNone};
 ghost use Rattle.replay_reports.specs.best_times.BestShares.{most_spread};
 ghost use Rattle.replay_reports.specs.best_times.Standing.{one_if, spread_of};

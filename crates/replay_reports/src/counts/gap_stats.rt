@@ -1,6 +1,6 @@
 //! The gaps of a venue: the messages that packets' numbers pass over.
 ghost use Rattle.std.specs.Prelude.{◌≡◌, ℕ, ◌+◌, ◌-◌, ◌<◌, ◌∷◌, [], Ok, false, max, min};
-ghost use Rattle.line_captures.specs.FullCounts.{count_after};
+ghost use Rattle.feed_types.specs.FullCounts.{count_after};
 ghost use Rattle.feed_text.specs.SinkEvents.{told_before, told_by, told_packet, told_renewal, told_skip};
 ghost use Rattle.replay_reports.specs.counts.Counts.{gaps_after, highest_after, sequence_after, sequence_begun, sequence_heard};
 

@@ -2,7 +2,7 @@
 ghost use Rattle.std.specs.Prelude.{◌≡◌, ℕ, ◌∷◌, []};
 ghost use Rattle.feed_types.specs.declared.line.LineId.{LineId};
 ghost use Rattle.feed_text.specs.SinkEvents.{told_packet, told_refusal};
-ghost use Rattle.line_captures.specs.FullCounts.{count_after};
+ghost use Rattle.feed_types.specs.FullCounts.{count_after};
 ghost use Rattle.replay_reports.specs.counts.Counts.{line_after, refused_after};
 
 use line_arbiter::{LineFault, Outcome};

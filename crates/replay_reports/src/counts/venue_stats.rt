@@ -1,6 +1,6 @@
 //! The counts of a venue.
 ghost use Rattle.std.specs.Prelude.{◌≡◌, ℕ, ◌-◌, ◌∷◌, [], max};
-ghost use Rattle.line_captures.specs.FullCounts.{count_after};
+ghost use Rattle.feed_types.specs.FullCounts.{count_after};
 ghost use Rattle.feed_text.specs.SinkEvents.{told_before, told_by, told_item, told_packet, told_refusal};
 ghost use Rattle.replay_reports.specs.counts.Counts.{items_after, missing_in, new_past, own_after, session_after, session_begun, session_told};
 

@@ -1,6 +1,6 @@
 use Rattle.std.proofs.Common.{◌≡◌, Bool, Option, cond, refl, slice_set, subst, sym}
 use Rattle.feed_types.specs.declared.national.Best.{Best}
-use Rattle.line_captures.specs.FullCounts.{count_after}
+use Rattle.feed_types.specs.FullCounts.{count_after}
 use Rattle.replay_reports.specs.declared.counts.venue_stats.VenueStats.{VenueStats}
 use Rattle.replay_reports.specs.counts.Stats.{offer_led, each_venue, nothing_at}
 use Rattle.replay_reports.proofs.Placing.{none_led, turned_nowhere, turned_there}

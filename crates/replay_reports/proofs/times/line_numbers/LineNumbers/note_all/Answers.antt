@@ -1,5 +1,5 @@
 use Rattle.std.proofs.Common.{ℕ, ap, ◌∙◌}
-use Rattle.line_captures.specs.FullCounts.{count_after}
+use Rattle.feed_types.specs.FullCounts.{count_after}
 use Rattle.replay_reports.specs.times.Figures.{capped}
 use Rattle.replay_reports.proofs.Losing.{messages_more}
 use Rattle.replay_reports.proofs.times.line_numbers.LineNumbers.note_all.Goals as goal

@@ -1,6 +1,6 @@
 use Rattle.std.proofs.Common.{ℕ, ◌+◌, ◌<◌, ◌≤◌, List, ap, arith, refl, subst, sym, ◌∙◌}
 use Rattle.std.proofs.lemmas.List.{with_items_is}
-use Rattle.line_captures.specs.FullCounts.{count_after}
+use Rattle.feed_types.specs.FullCounts.{count_after}
 use Rattle.std.specs.Vec.{with_items}
 use Rattle.replay_reports.specs.declared.times.line_numbers.LineNumbers.{LineNumbers}
 use Rattle.replay_reports.specs.times.Brought.{AreHeld, greatest_at, new_after, numbers_from}

@@ -1,5 +1,5 @@
 use Rattle.std.proofs.Common.{◌≡◌, ℕ, ◌+◌, ◌-◌, ◌<◌, ap, arith, refl, sym, ◌∙◌}
-use Rattle.line_captures.specs.FullCounts.{count_after}
+use Rattle.feed_types.specs.FullCounts.{count_after}
 use Rattle.replay_reports.specs.declared.times.line_numbers.LineNumbers.{LineNumbers}
 use Rattle.replay_reports.specs.times.Brought.{greatest_at}
 use Rattle.replay_reports.specs.times.Figures.{capped}
