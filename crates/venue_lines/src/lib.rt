@@ -27,6 +27,7 @@ mod seat;
 mod start;
 mod starting;
 mod status;
+mod timing;
 
 pub use cell::VenueCell;
 pub use counted_lines::CountedLines;
