@@ -33,6 +33,7 @@ mod socket_buffers;
 mod sockets;
 mod sources;
 mod summary;
+mod timed_rows;
 mod udp_line;
 mod unchanged;
 
