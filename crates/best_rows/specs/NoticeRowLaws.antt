@@ -1,61 +1,91 @@
 -- Laws of the text of notices that are taken as they come.
 use Rattle.std.proofs.Common.{◌≡◌, ℕ, List, [], ◌∷◌, ◌++◌, Option, append-nil, append_assoc, ap, refl, sym, ◌∙◌}
-use Rattle.std.specs.Prelude.{flat_map}
+use Rattle.std.specs.Prelude.{flat_map, map}
 use Rattle.std.proofs.lemmas.Grind.{flat_map-append}
+use Rattle.std.proofs.lemmas.List.{map-append}
 use Rattle.feed_types.specs.declared.journal.Notice.{Notice}
 use Rattle.feed_text.specs.Lines.{best_line}
 use Rattle.run_settings.specs.declared.formats.BestFormat.{BestFormat}
 use Rattle.run_settings.specs.declared.formats.BestFormat.TheVariants.{Text}
-use Rattle.best_rows.specs.NoticeRows.{IsTextOf, Look, look_rows, notice_row}
+use Rattle.best_rows.specs.NoticeRows.{AreRowsOf, IsTextOf, TimedNotice, notice_row, timed_row}
 use Rattle.best_rows.specs.RowTexts.{header_of}
 use Rattle.best_rows.specs.declared.style.RowStyle.{RowStyle}
+
+-- ---- rows
+
+pub rows_of_none : (style : RowStyle) → AreRowsOf style [] []
+rows_of_none style = record { timed = []; all = refl; are = refl }
+
+-- the row of one notice
+pub rows_of_one : (style : RowStyle) (time : Option ℕ) (notice : Notice)
+    → AreRowsOf style (notice ∷ []) (notice_row style time notice)
+rows_of_one style time notice = record {
+  timed = record { time = time; notice = notice } ∷ [];
+  all = refl;
+  are = sym (append-nil (notice_row style time notice));
+}
+
+-- rows after rows
+pub rows_of_both : (style : RowStyle) (notices more : List Notice) (rows further : List ℕ)
+    → AreRowsOf style notices rows → AreRowsOf style more further
+    → AreRowsOf style (notices ++ more) (rows ++ further)
+rows_of_both style notices more rows further front rest = record {
+  timed = front.timed ++ rest.timed;
+  all =
+      map-append (λ (one : TimedNotice). one.notice) front.timed rest.timed
+      ∙ ap (λ (l : List Notice). l ++ map (λ one. one.notice) rest.timed) front.all
+      ∙ ap (λ (l : List Notice). notices ++ l) rest.all;
+  are =
+      ap (λ (t : List ℕ). t ++ further) front.are
+      ∙ ap (λ (t : List ℕ). flat_map (timed_row style) front.timed ++ t) rest.are
+      ∙ sym (flat_map-append (timed_row style) front.timed rest.timed);
+}
+
+-- where all have one time, or none
+pub rows_at_one_time : (style : RowStyle) (time : Option ℕ) (notices : List Notice)
+    → AreRowsOf style notices (flat_map (notice_row style time) notices)
+rows_at_one_time style time [] = rows_of_none style
+rows_at_one_time style time (notice ∷ notices) =
+    rows_of_both style (notice ∷ []) notices (notice_row style time notice)
+    (flat_map (notice_row style time) notices) (rows_of_one style time notice)
+    (rows_at_one_time style time notices)
+
+-- ---- the text
 
 -- before any notice there is the header
 pub text_of_none : (style : RowStyle) → IsTextOf style [] (header_of style.format style.timed)
 text_of_none style = record {
-  looks = [];
-  all = refl;
-  rows = sym (append-nil (header_of style.format style.timed));
+  rows = [];
+  told = rows_of_none style;
+  is = sym (append-nil (header_of style.format style.timed));
 }
 
--- and then the rows of one look more
-pub text_of_more : (style : RowStyle) (time : Option ℕ) (notices more : List Notice) (text : List ℕ)
-    → IsTextOf style notices text
-    → IsTextOf style (notices ++ more) (text ++ flat_map (notice_row style time) more)
-text_of_more style time notices more text is =
-    let look : Look = record { time = time; notices = more } in
-    let header = header_of style.format style.timed in
-    let before = flat_map (look_rows style) is.looks in
-    let rows = flat_map (notice_row style time) more in
-    record {
-      looks = is.looks ++ look ∷ [];
-      all =
-          flat_map-append (λ (l : Look). l.notices) is.looks (look ∷ [])
-          ∙ ap (λ (l : List Notice). l ++ (more ++ [])) is.all
-          ∙ ap (λ (l : List Notice). notices ++ l) (append-nil more);
-      rows =
-          ap (λ (t : List ℕ). t ++ rows) is.rows
-          ∙ append_assoc header before rows
-          ∙ ap (λ (t : List ℕ). header ++ (before ++ t)) (sym (append-nil rows))
-          ∙ ap (λ (t : List ℕ). header ++ t)
-          (sym (flat_map-append (look_rows style) is.looks (look ∷ [])));
-    }
+-- and then more rows
+pub text_of_more : (style : RowStyle) (notices more : List Notice) (text rows : List ℕ)
+    → IsTextOf style notices text → AreRowsOf style more rows
+    → IsTextOf style (notices ++ more) (text ++ rows)
+text_of_more style notices more text rows before further = record {
+  rows = before.rows ++ rows;
+  told = rows_of_both style notices more before.rows rows before.told further;
+  is =
+      ap (λ (t : List ℕ). t ++ rows) before.is
+      ∙ append_assoc (header_of style.format style.timed) before.rows rows;
+}
 
-lines_of_looks : (style : RowStyle) → style.format ≡ Text → (looks : List Look)
-    → flat_map (look_rows style) looks ≡ flat_map best_line (flat_map (λ l. l.notices) looks)
-lines_of_looks style is [] = refl
-lines_of_looks style is (look ∷ looks) =
-    ap (λ (format : BestFormat). look_rows (record style { format = format }) look
-    ++ flat_map (look_rows style) looks) is
-    ∙ ap (λ (t : List ℕ). flat_map best_line look.notices ++ t) (lines_of_looks style is looks)
-    ∙ sym (flat_map-append best_line look.notices (flat_map (λ l. l.notices) looks))
+lines_of_timed : (style : RowStyle) → style.format ≡ Text → (timed : List TimedNotice)
+    → flat_map (timed_row style) timed ≡ flat_map best_line (map (λ one. one.notice) timed)
+lines_of_timed style is [] = refl
+lines_of_timed style is (one ∷ timed) =
+    ap (λ (format : BestFormat). timed_row (record style { format = format }) one
+    ++ flat_map (timed_row style) timed) is
+    ∙ ap (λ (t : List ℕ). best_line one.notice ++ t) (lines_of_timed style is timed)
 
--- Where the rows are best lines, the text is the lines of the notices, whatever the moments.
+-- Where the rows are best lines, the text is the lines of the notices, whatever the times.
 pub text_is_best_lines : (style : RowStyle) (notices : List Notice) (text : List ℕ)
     → style.format ≡ Text → IsTextOf style notices text → text ≡ flat_map best_line notices
 text_is_best_lines style notices text is rows =
-    rows.rows
-    ∙ ap (λ (format : BestFormat). header_of format style.timed
-    ++ flat_map (look_rows style) rows.looks) is
-    ∙ lines_of_looks style is rows.looks
-    ∙ ap (λ (l : List Notice). flat_map best_line l) rows.all
+    rows.is
+    ∙ ap (λ (format : BestFormat). header_of format style.timed ++ rows.rows) is
+    ∙ rows.told.are
+    ∙ lines_of_timed style is rows.told.timed
+    ∙ ap (λ (l : List Notice). flat_map best_line l) rows.told.all

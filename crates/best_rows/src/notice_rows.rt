@@ -12,7 +12,7 @@ use std::alloc::AllocError;
 /// The bytes of room that a row needs.
 const ROW: usize = 1_024;
 
-/// Appends the row of a notice that was taken at this time.
+/// Appends the row of a notice, with this time.
 pub fn put_notice(
     text: &mut LineBuffer,
     style: RowStyle,

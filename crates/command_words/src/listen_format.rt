@@ -15,9 +15,10 @@ use std::alloc::Global;
 const FORMAT_HELP: &str = "\
 With --follow: the format of the best lines: 'text', as without this option, or 'csv' or 'json',
 rows as of 'nbbo replay --best-only --format', and no lines of venues. Each row ends with the time
-at which the program took the change of the national best: a moment of this machine's clock after
-the datagram came, not the time of the datagram. It is empty or null where the clock can't be
-read, and in rows that are left for the end since memory was refused";
+at which the datagram was received that caused the change, by this machine's clock: where messages
+were missing before it, the one that brought the last of them, or where they were given up the
+last one of the venue before that. It is empty or null where the clock can't be read, and in rows
+that are left for the end since memory was refused";
 
 /// `--format FORMAT` of a command that listens.
 pub fn listen_format_option<'a>(alloc: Global) -> Arg<'a>

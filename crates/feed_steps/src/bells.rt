@@ -1,13 +1,14 @@
 //! Where the threads of a feed sleep, how they are woken, and what ends its runs.
 
+use crate::times::FeedTimes;
 use crossbeam_utils::sync::EventCount;
 use feed_types::SubscriberId;
 use std::array;
 use std::sync::atomic::{AtomicBool, Ordering};
 
 /// Where the threads of a feed sleep that have nothing to do, who waits for room, and whether runs
-/// are to end. The feed, its subscribers and its stop handles share it: whoever has made work for
-/// another thread wakes it then.
+/// are to end; and the times of what the threads hand on to each other. The feed, its subscribers
+/// and its stop handles share it: whoever has made work for another thread wakes it then.
 #[derive(Drop)]
 pub struct Bells {
     /// The place where the consolidators of runs sleep.
@@ -21,18 +22,26 @@ pub struct Bells {
     polled: [AtomicBool; 32],
     /// The lines of runs are to read no further datagram.
     ended: AtomicBool,
+    times: FeedTimes,
 }
 
 impl Bells {
-    /// Bells of a feed where nobody sleeps or waits.
-    pub fn new() -> Bells {
+    /// Bells of a feed where nobody sleeps or waits, and where these times are kept.
+    pub fn new(times: FeedTimes) -> Bells {
         Bells {
             work: EventCount::new(),
             notices: array::from_fn(|_| EventCount::new()),
             full: array::from_fn(|_| AtomicBool::new(false)),
             polled: array::from_fn(|_| AtomicBool::new(false)),
             ended: AtomicBool::new(false),
+            times,
         }
+    }
+
+    /// The times of what goes through the feed.
+    #[inline(always)]
+    pub fn times(&self) -> &FeedTimes {
+        &self.times
     }
 
     /// Has the lines of the feed's runs read no further datagram.

@@ -6,7 +6,7 @@ ghost use Rattle.hub_lanes.specs.Batches.{ConsumesBatch};
 ghost use Rattle.hub_lanes.specs.Offers.{LacksSubscriber, Offers, OffersAll, OffersUpTo};
 
 use crate::journal_and_lanes::JournalAndLanes;
-use feed_steps::{Bells, FeedName, Unsent};
+use feed_steps::{Bells, FeedName, FeedTimes, Unsent};
 use feed_types::{Genuine, SubscriberId, VenueId};
 use filter_terms::Filter;
 use journal_book::{JournalFault, Unfinished};
@@ -16,6 +16,18 @@ use std::sync::Wait;
 /// for the lock where one comes late.
 const CHANGES_A_SECTION: usize = 1_024;
 
+/// Notes the time of the venue's item that was journaled last, where times are kept.
+#[inline(always)]
+fn note_item<G: Genuine, N: FeedName>(
+    core: &JournalAndLanes<G, N>,
+    times: &FeedTimes,
+    venue: VenueId,
+) {
+    if times.are_kept() {
+        times.note_item(venue, core.change_count());
+    }
+}
+
 /// Journals the next item of the venue's lane, and returns its position; None where the lane is
 /// empty. A refused call changes nothing. It waits for a sender that stands in the middle of its
 /// push.
@@ -23,6 +35,7 @@ pub fn consume_next<G: Genuine, N: FeedName, W: Wait>(
     rt: &W,
     core: &mut JournalAndLanes<G, N>,
     venue: VenueId,
+    times: &FeedTimes,
 ) -> Result<Option<u64>, JournalFault>
     ensures unknown { IsErrOf result JournalFault.UnknownVenue ↔ (length N.lanes.venues ≤ venue) }
     ensures consumes { venue < length N.lanes.venues
@@ -31,7 +44,11 @@ pub fn consume_next<G: Genuine, N: FeedName, W: Wait>(
     if venue.index() >= core.venue_count() {
         return Err(JournalFault::UnknownVenue);
     }
-    core.consume(Some(rt), venue)
+    let consumed = core.consume(Some(rt), venue);
+    if let Ok(Some(_)) = consumed {
+        note_item(core, times, venue);
+    }
+    consumed
 }
 
 /// Journals the items that are in the venue's lane, at most `most`, and returns how many there
@@ -44,6 +61,7 @@ pub fn consume_some<G: Genuine, N: FeedName, W: Wait>(
     core: &mut JournalAndLanes<G, N>,
     venue: VenueId,
     most: u32,
+    times: &FeedTimes,
 ) -> Result<u32, JournalFault>
     ensures unknown { IsErrOf result JournalFault.UnknownVenue ↔ (length N.lanes.venues ≤ venue) }
     ensures most { IfOk result (λ count. count ≤ most) }
@@ -55,7 +73,7 @@ pub fn consume_some<G: Genuine, N: FeedName, W: Wait>(
     }
     for count in 0..most {
         match core.consume(rt, venue) {
-            Ok(Some(_)) => {}
+            Ok(Some(_)) => note_item(core, times, venue),
             Ok(None) => return Ok(count),
             Err(fault) => return if count == 0 { Err(fault) } else { Ok(count) },
         }

@@ -24,4 +24,8 @@ pub use laws::journaled_items_are_the_sessions;
 pub use reading::national_in;
 pub use spare::SpareLane;
 pub use spares::new_spares;
-pub use turn::{Consolidated, no_handle, take_turn};
+pub use turn::{Consolidated, take_turn};
+
+// What a feed's own threads call, and no program.
+#[doc(hidden)]
+pub use turn::no_handle;

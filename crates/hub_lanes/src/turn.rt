@@ -5,7 +5,7 @@ ghost use Rattle.hub_lanes.specs.Turns.{ConsumesRound, TakesTurn};
 
 use crate::calls::{consume_some, offer_each};
 use crate::journal_and_lanes::JournalAndLanes;
-use feed_steps::{Bells, FeedName};
+use feed_steps::{Bells, FeedName, FeedTimes};
 use feed_types::{Genuine, VenueId};
 use filter_terms::Filter;
 use journal_book::JournalFault;
@@ -85,6 +85,7 @@ fn consume_round<G: Genuine, N: FeedName, W: Wait>(
     rt: &W,
     core: &mut JournalAndLanes<G, N>,
     next: &mut usize,
+    times: &FeedTimes,
 ) -> Consolidated
     ensures most { result.consumed ≤ 64 }
     ensures round { ConsumesRound G.Genuine N.lanes result.consumed result.refused
@@ -100,7 +101,7 @@ fn consume_round<G: Genuine, N: FeedName, W: Wait>(
         }
         let venue = venue_after(first, step, venues);
         *next = venue.index() + 1;
-        match consume_some(no_handle(rt), core, venue, left) {
+        match consume_some(no_handle(rt), core, venue, left, times) {
             Ok(count) => {
                 done.consumed += count;
                 done.venues[venue.index()] = count > 0;
@@ -129,7 +130,7 @@ pub fn take_turn<G: Genuine, N: FeedName, W: Wait>(
     ensures turn { TakesTurn G.Genuine N.lanes result.consumed result.offered result.unfinished
         result.refused core.old core.new }
 {
-    let mut done = consume_round(rt, core, next);
+    let mut done = consume_round(rt, core, next, bells.times());
     let offers = offer_each(rt, core, filters, bells);
     done.offered = offers.pushed;
     done.unfinished = offers.unfinished;

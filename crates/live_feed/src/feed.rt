@@ -14,7 +14,7 @@ use crate::feed::log_size::LogSize;
 use crate::feed::open_feed::OpenFeed;
 use crate::hub_cell::HubCell;
 use crossbeam_utils::CachePadded;
-use feed_steps::{Bells, FeedName};
+use feed_steps::{Bells, FeedName, FeedTimes};
 use feed_types::{FeedConfig, Genuine, MAX_SUBSCRIBERS, Numbered};
 use fifo_lane::{Receiver, VenueItems};
 use hub_lanes::{JournalAndLanes, SpareLane, new_spares};
@@ -24,6 +24,10 @@ use std::collections::VecDeque;
 use std::marker::Model;
 use std::sync::{Arc, Mutex};
 use venue_lines::{VenueLocks, VenueStart, new_starts};
+
+/// How many items of a venue are neither held nor in its lane, and not journaled: End or what is
+/// said of skipped messages, the one that was taken out of the lane last, and the next one.
+const FURTHER_ITEMS: usize = 3;
 
 /// A feed that isn't open yet, to which nothing came. Contracts see it as its lanes and its
 /// setting.
@@ -36,6 +40,7 @@ pub struct LiveFeed<G: Genuine> {
     window: u32,
     lane: u32,
     log_lines: u32,
+    bells: Arc<Bells, Global>,
 }
 
 impl<G: Genuine> Model for LiveFeed<G> {
@@ -119,6 +124,7 @@ impl<G: Genuine> LiveFeed<G> {
     {
         let (starts, from_venues) = new_starts(alloc, config)?;
         let spare_lanes = new_spares(alloc, config.lane)?;
+        let bells = Arc::new(alloc, Bells::new(FeedTimes::none(alloc)))?;
         Ok(LiveFeed {
             starts,
             from_venues,
@@ -127,7 +133,23 @@ impl<G: Genuine> LiveFeed<G> {
             window: config.window,
             lane: config.lane,
             log_lines: config.log,
+            bells,
         })
+    }
+
+    /// Has the feed keep times: of each of the latest `changes` changes that of the datagram which
+    /// brought the item that caused it, with the time that [`Datagram::received_at`] gave it
+    /// ([`SubscriberLog::time_of`](crate::SubscriberLog::time_of)). Where memory for them is
+    /// refused, it keeps none.
+    ///
+    /// [`Datagram::received_at`]: crate::Datagram::received_at
+    pub fn keep_times(&mut self, alloc: Global, changes: usize) -> Result<(), AllocError>
+        ensures { self.new ≡ self.old }
+    {
+        let items = self.window as usize + self.lane as usize + FURTHER_ITEMS;
+        let times = FeedTimes::new(alloc, self.starts.len(), items, changes)?;
+        self.bells = Arc::new(alloc, Bells::new(times))?;
+        Ok(())
     }
 
     /// Puts the venues and the journal under their locks. N names this feed's lanes. Where memory
@@ -136,11 +158,10 @@ impl<G: Genuine> LiveFeed<G> {
         requires { self ≡ N.lanes }
         ensures { IfErr result (λ feed. feed ≡ self) }
     {
-        let (Ok(venues), Ok(senders), Ok(filters), Ok(bells)) = (
+        let (Ok(venues), Ok(senders), Ok(filters)) = (
             Vec::with_capacity(alloc, self.starts.len()),
             Vec::with_capacity(alloc, MAX_SUBSCRIBERS),
             Vec::with_capacity(alloc, MAX_SUBSCRIBERS),
-            Arc::new(alloc, Bells::new()),
         ) else {
             return Err(self);
         };
@@ -152,6 +173,7 @@ impl<G: Genuine> LiveFeed<G> {
             window: _,
             lane: _,
             log_lines,
+            bells,
         } = self;
         let core = JournalAndLanes::new(kept, from_venues, senders, spare_lanes);
         let hub = CachePadded::new(Mutex::new(HubCell {

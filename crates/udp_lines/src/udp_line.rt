@@ -45,6 +45,8 @@ pub struct UdpLineSettings {
     pub requests_to: Option<SocketAddr>,
     /// The senders whose datagrams it brings.
     pub senders: Senders,
+    /// Whether its datagrams have the time at which they were received.
+    pub timed: bool,
 }
 
 /// A line of a venue that is received by UDP. It ends after as many datagrams or seconds as it was
@@ -59,6 +61,7 @@ pub struct UdpLine<C> {
     end_rule: EndRule,
     line_socket: LineSocket<UdpSocket>,
     requests_to: Option<SocketAddr>,
+    timed: bool,
     progress: LineProgress,
     clock: C,
     moment_ms: u64,
@@ -206,6 +209,7 @@ impl<C: Clock + Drop> UdpLine<C> {
                 used: None,
             },
             requests_to: settings.requests_to,
+            timed: settings.timed,
             progress: LineProgress::new(alloc)?,
             clock,
             moment_ms: 0,
@@ -246,9 +250,18 @@ impl<C: Clock + Drop> UdpLine<C> {
             self.at_end = true;
         }
     }
-}
 
-impl<C: Drop> UdpLine<C> {
+    /// This moment in nanoseconds from 1970 on, where datagrams have times and the system has it.
+    fn time(&self) -> Option<u64> {
+        if !self.timed {
+            return None;
+        }
+        match self.clock.since_1970() {
+            Ok(time) => u64::try_from(time.as_nanos()).ok(),
+            Err(_) => None,
+        }
+    }
+
     /// Waits a while for a datagram, and returns whether the next one needn't be waited for: it is
     /// there, or the socket has failed, or the line has ended.
     fn poll(&mut self) -> bool
@@ -259,7 +272,7 @@ impl<C: Drop> UdpLine<C> {
         }
         let buffer = self.buffer.as_mut_slice();
         self.received = match self.line_socket.try_receive(self.alloc, buffer) {
-            Received::Taken(datagram) => Some(Ok(datagram)),
+            Received::Taken(datagram) => Some(Ok(datagram.received_at(self.time()))),
             Received::Failed(fault) => Some(Err(fault)),
             Received::Foreign => {
                 self.progress.count_foreign();
@@ -269,7 +282,9 @@ impl<C: Drop> UdpLine<C> {
         };
         self.received.is_some()
     }
+}
 
+impl<C: Drop> UdpLine<C> {
     /// The progress of the line, for another thread. AllocError where it can't be shared any
     /// further.
     pub fn share_progress(&self) -> Result<LineProgress, AllocError> {
@@ -330,6 +345,22 @@ impl<C: Drop> UdpLine<C> {
         self.mark_end();
     }
 
+    /// The session whose end has ended the line, if one has.
+    pub fn ender(&self) -> Option<[u8; 10]>
+        ensures { result ≡ self.now.ender }
+    {
+        self.ender
+    }
+
+    /// Whether the line has ended since it has read as many datagrams as it may.
+    pub fn is_read_out(&self) -> bool
+        ensures { result ≡ is_read_out self.now }
+    {
+        !self.broken && !self.at_end && is_none_left(self.to_read)
+    }
+}
+
+impl<C: Clock + Drop> UdpLine<C> {
     /// Receives the next datagram; None once the line has ended, and only then. An end of session
     /// that by the line's rule ends it is its last, and so is the last datagram that it may read.
     ///
@@ -375,20 +406,6 @@ impl<C: Drop> UdpLine<C> {
             Some(Err(fault)) => Err(self.fail(fault)),
             None => Err(self.fail(SourceFault::TooManyTurns)),
         }
-    }
-
-    /// The session whose end has ended the line, if one has.
-    pub fn ender(&self) -> Option<[u8; 10]>
-        ensures { result ≡ self.now.ender }
-    {
-        self.ender
-    }
-
-    /// Whether the line has ended since it has read as many datagrams as it may.
-    pub fn is_read_out(&self) -> bool
-        ensures { result ≡ is_read_out self.now }
-    {
-        !self.broken && !self.at_end && is_none_left(self.to_read)
     }
 }
 

@@ -6,8 +6,8 @@ use Rattle.std.specs.Prelude.{Result, Ok, Err, Option, Some, None, flat_map}
 use Rattle.feed_types.specs.Prefix.{IsPrefix}
 use Rattle.feed_types.specs.declared.journal.Notice.{Notice}
 use Rattle.feed_text.specs.Devices.{Writing, Wrote}
-use Rattle.best_rows.specs.NoticeRowLaws.{text_of_more}
-use Rattle.best_rows.specs.NoticeRows.{IsTextOf, notice_row}
+use Rattle.best_rows.specs.NoticeRowLaws.{rows_at_one_time, text_of_more}
+use Rattle.best_rows.specs.NoticeRows.{AreRowsOf, IsTextOf, notice_row}
 use Rattle.best_rows.specs.declared.style.RowStyle.{RowStyle}
 use Rattle.filter_terms.specs.declared.advice.Advice.{Advice}
 use Rattle.live_feed.specs.declared.subscriber.logged.Logged.{Logged}
@@ -49,11 +49,17 @@ More {W} writing =
     → writing.adds s (xs ++ ys) u
 
 -- the rows of a log are those of its notices
-pub rows_of_notices : (style : RowStyle) (time : Option ℕ) (log : List Logged)
-    → log_rows style time log ≡ flat_map (notice_row style time) (notices_of log)
-rows_of_notices style time [] = refl
-rows_of_notices style time (logged ∷ log) =
-    ap (λ (t : List ℕ). notice_row style time logged.notice ++ t) (rows_of_notices style time log)
+rows_of_notices : (style : RowStyle) (log : List Logged)
+    → log_rows style log ≡ flat_map (notice_row style None) (notices_of log)
+rows_of_notices style [] = refl
+rows_of_notices style (logged ∷ log) =
+    ap (λ (t : List ℕ). notice_row style None logged.notice ++ t) (rows_of_notices style log)
+
+pub rows_of_log : (style : RowStyle) (log : List Logged)
+    → AreRowsOf style (notices_of log) (log_rows style log)
+rows_of_log style log =
+    subst (λ (t : List ℕ). AreRowsOf style (notices_of log) t) (sym (rows_of_notices style log))
+    (rows_at_one_time style None (notices_of log))
 
 -- the notices of a log are its first ones, and then the others
 pub notices_split : (n : ℕ) (log : List Logged)
@@ -63,15 +69,13 @@ notices_split n log =
     ∙ ap (λ l. notices_of l) (take-append-drop n log)
 
 -- a text with the rows of the rest of a log
-pub told_rest : (style : RowStyle) (time : Option ℕ) (n : ℕ) (log : List Logged) (text : List ℕ)
+pub told_rest : (style : RowStyle) (n : ℕ) (log : List Logged) (text rows : List ℕ)
     → IsTextOf style (notices_of (take n log)) text
-    → IsTextOf style (notices_of log) (text ++ log_rows style time (drop n log))
-told_rest style time n log text told =
-    subst (λ (t : List ℕ). IsTextOf style (notices_of log) (text ++ t))
-    (sym (rows_of_notices style time (drop n log)))
-    (subst (λ (l : List Notice). IsTextOf style l
-    (text ++ flat_map (notice_row style time) (notices_of (drop n log)))) (notices_split n log)
-    (text_of_more style time (notices_of (take n log)) (notices_of (drop n log)) text told))
+    → AreRowsOf style (notices_of (drop n log)) rows
+    → IsTextOf style (notices_of log) (text ++ rows)
+told_rest style n log text rows told rest =
+    subst (λ (l : List Notice). IsTextOf style l (text ++ rows)) (notices_split n log)
+    (text_of_more style (notices_of (take n log)) (notices_of (drop n log)) text rows told rest)
 
 module _ {W : Type 0} (writing : Writing W) (style : RowStyle) (first : W) where
   -- a log that has grown
@@ -103,43 +107,42 @@ module _ {W : Type 0} (writing : Writing W) (style : RowStyle) (first : W) where
         text = h.text ++ rows;
         told =
             subst (λ l. IsTextOf style l (h.text ++ rows)) same
-            (text_of_more style None (notices_of log) (notices_of grown.rest) h.text h.told);
+            (text_of_more style (notices_of log) (notices_of grown.rest) h.text rows h.told
+            (rows_at_one_time style None (notices_of grown.rest)));
         wrote = grow_part writing.adds first now h.text rows h.wrote;
         failed = h.failed;
       }
 
   -- the rest is printed
-  pub printed_all : More writing → (mid now : W) (log : List Logged) (printed : ℕ)
-      (time : Option ℕ)
+  pub printed_all : More writing → (mid now : W) (log : List Logged) (printed : ℕ) (rows : List ℕ)
       → HasPrinted writing style first log printed mid
-      → writing.adds mid (log_rows style time (drop printed log)) now
+      → AreRowsOf style (notices_of (drop printed log)) rows
+      → writing.adds mid rows now
       → writing.failures now ≡ writing.failures mid
       → HasPrinted writing style first log (length log) now
-  printed_all more mid now log printed time h written sound =
-      let rows = log_rows style time (drop printed log) in
+  printed_all more mid now log printed rows h rest written sound =
       let all : take (length log) log ≡ log = take_all (length log) log (omega arith) in
       record {
         few = omega arith;
         text = h.text ++ rows;
         told =
             subst (λ l. IsTextOf style (notices_of l) (h.text ++ rows)) (sym all)
-            (told_rest style time printed log h.text h.told);
+            (told_rest style printed log h.text rows h.told rest);
         wrote = more first mid now h.text rows h.wrote written;
         sound = sound ∙ h.sound;
       }
 
   -- a part of the rest is, and the output has failed
-  pub printed_part : More writing → (mid now : W) (log : List Logged) (printed : ℕ)
-      (time : Option ℕ)
+  pub printed_part : More writing → (mid now : W) (log : List Logged) (printed : ℕ) (rows : List ℕ)
       → HasPrinted writing style first log printed mid
-      → Wrote writing.adds mid (log_rows style time (drop printed log)) now
+      → AreRowsOf style (notices_of (drop printed log)) rows
+      → Wrote writing.adds mid rows now
       → writing.failures now ≡ writing.failures mid + 1
       → HasFailed writing style first log now
-  printed_part more mid now log printed time h part failed =
-      let rows = log_rows style time (drop printed log) in
+  printed_part more mid now log printed rows h rest part failed =
       record {
         text = h.text ++ rows;
-        told = told_rest style time printed log h.text h.told;
+        told = told_rest style printed log h.text rows h.told rest;
         wrote = part_after writing.adds more first mid now h.text rows h.wrote part;
         failed = failed ∙ ap (λ n. n + 1) h.sound;
       }

@@ -6,7 +6,7 @@ use Rattle.std.proofs.lemmas.List.{take-append-le, take_all}
 use Rattle.feed_text.specs.Devices.{Writing, Wrote}
 use Rattle.feed_types.specs.declared.genuine.Genuine.{Ghosts as Genuine}
 use Rattle.feed_types.specs.declared.journal.Notice.{Notice}
-use Rattle.best_rows.specs.NoticeRowLaws.{text_of_more, text_of_none}
+use Rattle.best_rows.specs.NoticeRowLaws.{rows_at_one_time, text_of_more, text_of_none}
 use Rattle.best_rows.specs.NoticeRows.{IsTextOf, notice_row}
 use Rattle.best_rows.specs.RowTexts.{header_of}
 use Rattle.best_rows.specs.declared.style.RowStyle.{RowStyle}
@@ -22,7 +22,7 @@ use Rattle.udp_listening.specs.declared.console.LiveOutput.{LiveOutput}
 use Rattle.udp_listening.specs.declared.console.LiveOutput.TheVariants.{On, Off, Failed}
 use Rattle.udp_listening.specs.declared.listening.ListenFault.{ListenFault}
 use Rattle.udp_listening.specs.declared.listen_report.ListenReport.{ListenReport}
-use Rattle.udp_listening.proofs.Following.{More, grow_part, part_after, told_rest}
+use Rattle.udp_listening.proofs.Following.{More, grow_part, part_after, rows_of_log, told_rest}
 
 -- the front of a text was written, so a part of it was
 pub part_of_front : {W : Type 0} (adds : W → List ℕ → W → Type 0) (first now : W) (xs ys : List ℕ)
@@ -46,13 +46,15 @@ rows_by style [] text told =
     subst (λ (t : List ℕ). IsTextOf style [] t) (sym (append-nil text)) told
 rows_by style (x ∷ xs) text told =
     let row : Notice → List ℕ = notice_row style None in
-    let log = log_rows style None (drop x.forgotten x.log) in
+    let log = log_rows style (drop x.forgotten x.log) in
     let queued = flat_map row x.queued in
     let unoffered = flat_map row x.unoffered in
     let notices = notices_of x.log ++ (x.queued ++ x.unoffered) in
-    let logged = told_rest style None x.forgotten x.log text told in
-    let all = text_of_more style None (notices_of x.log) (x.queued ++ x.unoffered) (text ++ log)
-    logged in
+    let rest = x.queued ++ x.unoffered in
+    let logged = told_rest style x.forgotten x.log text log told
+    (rows_of_log style (drop x.forgotten x.log)) in
+    let all = text_of_more style (notices_of x.log) rest (text ++ log) (flat_map row rest) logged
+    (rows_at_one_time style None rest) in
     let same : (text ++ log) ++ flat_map row (x.queued ++ x.unoffered)
     ≡ text ++ ((log ++ (queued ++ unoffered)) ++ [])
     = ap (λ (t : List ℕ). (text ++ log) ++ t) (flat_map-append row x.queued x.unoffered)
@@ -86,7 +88,8 @@ more_by style (x ∷ xs) text told =
       more,
       subst (λ (l : List Notice). IsTextOf style l (text ++ more))
           (sym (append-nil (notices_of x.log ++ rest)))
-          (text_of_more style None (notices_of x.log) rest text told),
+          (text_of_more style (notices_of x.log) rest text more told
+          (rows_at_one_time style None rest)),
     )
 
 -- the text of a log is the front of a summary
@@ -239,7 +242,8 @@ header_failed writing style first now wrote failed log =
     let rows = flat_map (notice_row style None) (notices_of log) in
     record {
       text = header ++ rows;
-      told = text_of_more style None [] (notices_of log) header (text_of_none style);
+      told = text_of_more style [] (notices_of log) header rows (text_of_none style)
+          (rows_at_one_time style None (notices_of log));
       wrote = grow_part writing.adds first now header rows wrote;
       failed = failed;
     }

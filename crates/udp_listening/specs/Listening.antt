@@ -37,16 +37,16 @@ use Rattle.udp_listening.specs.declared.listen_report.ListenReport.{ListenReport
 
 -- ---- what is printed on the output
 
--- the rows of the notices of a log, all of one look
-abbrev pub log_rows : RowStyle → Option ℕ → List Logged → List ℕ
-log_rows style time log = flat_map (λ logged. notice_row style time logged.notice) log
+-- the rows of the notices of a log, without times
+abbrev pub log_rows : RowStyle → List Logged → List ℕ
+log_rows style log = flat_map (λ logged. notice_row style None logged.notice) log
 
--- of a subscriber, without moments: the rows of the notices that it took, after the first ones,
+-- of a subscriber, without times: the rows of the notices that it took, after the first ones,
 -- which are printed already, then of those that were still in its lane, and then of those that were
 -- not offered
 abbrev pub subscriber_rows : RowStyle → ℕ → SubscriberEndState → List ℕ
 subscriber_rows style printed x =
-    log_rows style None (drop printed x.log)
+    log_rows style (drop printed x.log)
     ++ (flat_map (notice_row style None) x.queued ++ flat_map (notice_row style None) x.unoffered)
 
 -- the last line of a venue: how many of its items were consumed, and how many numbers each line
@@ -75,7 +75,7 @@ rest_text style s =
     ++ ending_text style.format s
 
 -- The text of a feed that was settled, from its beginning on: the header and the row of each notice
--- of its first subscriber, at the moment of the look that took it, and then its ending.
+-- of its first subscriber, and then its ending.
 pub record IsSummary (style : RowStyle) (s : SettlementState) (text : List ℕ) : Type 0 where
   pub rows : List ℕ
   pub told : IsTextOf style (settled_notices s) rows
@@ -84,7 +84,7 @@ pub record IsSummary (style : RowStyle) (s : SettlementState) (text : List ℕ) 
 -- ---- what is printed while a run goes on
 
 -- From this output on the header was written and the rows of the log's first notices, as many as
--- are counted, each at the moment of the look that took it; and no call failed.
+-- are counted; and no call failed.
 pub record HasPrinted {W : Type 0} (writing : Writing W) (style : RowStyle) (first : W)
     (log : List Logged) (printed : ℕ) (now : W) : Type 0 where
   pub few : printed ≤ length log
@@ -102,12 +102,11 @@ pub record HasFailed {W : Type 0} (writing : Writing W) (style : RowStyle) (firs
   pub wrote : Wrote writing.adds first text now
   pub failed : writing.failures now ≡ writing.failures first + 1
 
--- The one, or where the output has failed the other.
+-- Where the output has failed the latter, else the former.
 abbrev pub HasFollowed : {W : Type 0} → Writing W → RowStyle → W → List Logged → LiveOutput → ℕ → W
     → Type 0
-HasFollowed writing style first log On printed now = HasPrinted writing style first log printed now
-HasFollowed writing style first log Off printed now = HasPrinted writing style first log printed now
 HasFollowed writing style first log Failed printed now = HasFailed writing style first log now
+HasFollowed writing style first log _ printed now = HasPrinted writing style first log printed now
 
 -- So it is of the output of a console that writes rows in this style.
 abbrev pub IsFollowing : {W E : Type 0} → Writing W → RowStyle → W → List Logged → (printed : ℕ)

@@ -1,10 +1,11 @@
 //! Where the program prints while a run goes on.
-ghost use Rattle.std.specs.Prelude.{◌≡◌, ◌≢◌, drop, Option, ℕ};
+ghost use Rattle.std.specs.Prelude.{◌≡◌, ◌≢◌, drop};
 ghost use Rattle.feed_types.specs.Prefix.{IsPrefix};
-ghost use Rattle.udp_listening.specs.Listening.{IsUnprinted, KeepsFollowing, KeepsNoting, log_rows};
+ghost use Rattle.best_rows.specs.NoticeRows.{AreRowsOf};
+ghost use Rattle.udp_listening.specs.Listening.{IsUnprinted, KeepsFollowing, KeepsNoting};
+ghost use Rattle.udp_listening.specs.SettledNotices.{notices_of};
 
-use crate::run_time::RunTime;
-use crate::summary::put_log;
+use crate::timed_rows::put_timed;
 use crate::unchanged::note_log;
 use best_rows::{RowStyle, header_line};
 use feed_text::{LineBuffer, TextOut, write_all};
@@ -12,10 +13,9 @@ use live_feed::{FeedName, SubscriberLog};
 use run_notes::AbsentList;
 use std::alloc::Global;
 use std::sync::Wait;
-use std::time::Clock;
 
 /// The most notices that are taken before their lines are written.
-const MOST: usize = 1_024;
+pub const MOST: usize = 1_024;
 
 /// Whether lines are printed while a run goes on.
 #[derive(Clone, Copy, Debug, PartialEq, Eq)]
@@ -120,14 +120,14 @@ impl<W: TextOut, E> Console<W, E> {
     }
 
     /// Takes what the log's subscriber is offered, 1,024 notices at most, and where lines are
-    /// printed as they come prints those of the log that aren't printed yet, with this moment, and
+    /// printed as they come prints those of the log that aren't printed yet, with their times, and
     /// has the log forget them. Returns whether it took anything.
     ///
-    /// Where memory for the lines is refused they are printed at the end, with all that follow.
-    pub fn follow<N: FeedName, R: Wait, C: Clock>(
+    /// Where memory for the lines is refused they are printed at the end, with all that follow, and
+    /// without times.
+    pub fn follow<N: FeedName, R: Wait>(
         &mut self,
         rt: &R,
-        time: &RunTime<C>,
         text: &mut LineBuffer,
         log: &mut SubscriberLog<N>,
     ) -> bool
@@ -140,19 +140,14 @@ impl<W: TextOut, E> Console<W, E> {
         let has_taken = poll_some(rt, log);
         self.changes = last_number(log).unwrap_or(self.changes);
         if self.live_output == LiveOutput::On {
-            self.print_rest(time.nanoseconds(), text, log);
+            self.print_rest(text, log);
         }
         has_taken
     }
 
-    /// Prints the rows of the log that aren't printed yet, with this time, and has the log forget
+    /// Prints the rows of the log that aren't printed yet, with their times, and has the log forget
     /// them.
-    fn print_rest<N: FeedName>(
-        &mut self,
-        time: Option<u64>,
-        text: &mut LineBuffer,
-        log: &mut SubscriberLog<N>,
-    )
+    fn print_rest<N: FeedName>(&mut self, text: &mut LineBuffer, log: &mut SubscriberLog<N>)
         requires { self.old.live_output ≡ LiveOutput.On }
         ensures log { log.new.lines ≡ log.old.lines }
         ensures shows { KeepsFollowing (record { adds = W.adds; failures = W.failures })
@@ -163,20 +158,19 @@ impl<W: TextOut, E> Console<W, E> {
         if log.log().is_empty() {
             return;
         }
-        text.clear();
-        if put_log(text, self.style, time, log.log()).is_err() {
+        if put_timed(text, self.style, log.log(), log).is_err() {
             self.live_output = LiveOutput::Off;
             return;
         }
         self.write_rest(text.as_slice(), log);
     }
 
-    /// Writes the text of the log's rows that aren't printed yet, those of one look, and has the
-    /// log forget them, once it was noted which symbols they are of.
+    /// Writes the text of the log's rows that aren't printed yet, and has the log forget them, once
+    /// it was noted which symbols they are of.
     fn write_rest<N: FeedName>(&mut self, text: &[u8], log: &mut SubscriberLog<N>)
         requires on { self.old.live_output ≡ LiveOutput.On }
-        requires text { (time : Option ℕ)
-            × (text.now ≡ log_rows self.old.style time (drop log.old.forgotten log.old.lines)) }
+        requires text { AreRowsOf self.old.style (notices_of (drop log.old.forgotten log.old.lines))
+            text.now }
         ensures log { log.new.lines ≡ log.old.lines }
         ensures shows { KeepsFollowing (record { adds = W.adds; failures = W.failures })
             log.old self.old log.new self.new }

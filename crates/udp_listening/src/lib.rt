@@ -28,6 +28,7 @@ mod socket_buffers;
 mod sockets;
 mod sources;
 mod summary;
+mod timed_rows;
 mod unchanged;
 
 pub use listen::{NO_MEMORY, listen_with};

@@ -7,9 +7,10 @@ ghost use Rattle.run_watches.specs.RunLines.{watched_run};
 ghost use Rattle.run_watches.specs.RunNews.{SaysOfRun};
 ghost use Rattle.udp_listening.specs.Settings.{IsFeedOf, feed_setting, most_logged};
 
-use crate::console::Console;
+use crate::console::{Console, MOST};
 use crate::listen_report::{ListenReport, report_of};
 use crate::run_monitor::RunMonitor;
+use best_rows::has_times;
 use feed_text::TextOut;
 use feed_types::{Anything, FeedConfig};
 use filter_terms::{Filter, Strategy, Terms};
@@ -70,10 +71,18 @@ fn config_of(settings: &ListenSettings) -> FeedConfig<'_>
     }
 }
 
+/// How many changes at most wait to be printed, where they are printed as they come: those that the
+/// journal has room for, which are twice as many as the subscriber may be behind and one for each
+/// symbol; those in the subscriber's lane; and those that it has taken.
+fn most_unprinted(settings: &ListenSettings) -> usize {
+    let kept = settings.kept.unwrap_or(0) as usize;
+    kept * 2 + settings.feed.symbols.len() + LANE as usize + MOST
+}
+
 /// The feed of the settings, to which nothing came yet, with a venue for each session. Where best
 /// lines are printed as they come it keeps as many changes as its subscriber may be behind, else
 /// all.
-pub fn feed_of(alloc: Global, settings: &ListenSettings) -> Result<LiveFeed<Anything>, CoreFault>
+fn untimed_feed(alloc: Global, settings: &ListenSettings) -> Result<LiveFeed<Anything>, CoreFault>
     ensures setting { IfOk result (λ feed. feed.setting ≡ feed_setting settings.now) }
     ensures venues { IfOk result (λ feed. length feed.venues
         ≡ vec_len settings.now.feed.sessions) }
@@ -82,6 +91,22 @@ pub fn feed_of(alloc: Global, settings: &ListenSettings) -> Result<LiveFeed<Anyt
     match settings.kept {
         Some(kept) => LiveFeed::keeping(alloc, &config, kept),
         None => LiveFeed::new(alloc, &config),
+    }
+}
+
+/// The same feed, which keeps the times of changes where rows have them.
+pub fn feed_of(alloc: Global, settings: &ListenSettings) -> Result<LiveFeed<Anything>, CoreFault>
+    ensures setting { IfOk result (λ feed. feed.setting ≡ feed_setting settings.now) }
+    ensures venues { IfOk result (λ feed. length feed.venues
+        ≡ vec_len settings.now.feed.sessions) }
+{
+    let mut feed = untimed_feed(alloc, settings)?;
+    if !has_times(settings.format) {
+        return Ok(feed);
+    }
+    match feed.keep_times(alloc, most_unprinted(settings)) {
+        Ok(()) => Ok(feed),
+        Err(_) => Err(CoreFault::NoMemory),
     }
 }
 

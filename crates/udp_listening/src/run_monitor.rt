@@ -136,7 +136,7 @@ impl<C: Clock + Drop, W: TextOut + Drop, E: TextOut + Drop> RunMonitor<C, W, E> 
         ensures news { SaysRunNews (record { adds = E.adds; failures = E.failures })
             (watched_run self.old.watches) self.old.console.errors self.new.console.errors }
     {
-        let has_taken = self.console.follow(rt, &self.time, &mut self.text, log);
+        let has_taken = self.console.follow(rt, &mut self.text, log);
         self.say_news();
         has_taken
     }

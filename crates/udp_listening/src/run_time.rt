@@ -65,14 +65,6 @@ impl<C: Clock> RunTime<C> {
         }
     }
 
-    /// This moment in nanoseconds from 1970 on, if the system has the time.
-    pub fn nanoseconds(&self) -> Option<u64> {
-        match self.clock.since_1970() {
-            Ok(time) => u64::try_from(time.as_nanos()).ok(),
-            Err(_) => None,
-        }
-    }
-
     /// Whether the run is to end now.
     pub fn is_over(&self) -> bool {
         let is_late = match self.end_ms {

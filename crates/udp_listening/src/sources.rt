@@ -5,6 +5,7 @@ ghost use Rattle.udp_listening.specs.Reports.{task_line};
 ghost use Rattle.run_watches.specs.RunLines.{heard_lines, line_at, listened_lines, watched_lines};
 ghost use Rattle.udp_listening.specs.Settings.{IsSourceOf};
 
+use best_rows::has_times;
 use feed_types::{LineId, VenueId};
 use live_feed::{LineSource, LineTask};
 use run_settings::ListenSettings;
@@ -40,6 +41,7 @@ fn source_at<C: Clock + Drop>(
         seconds: settings.seconds,
         requests_to: settings.request,
         senders: settings.from.copied(alloc)?,
+        timed: has_times(settings.format),
     };
     UdpLine::new(alloc, of_line, socket, clock)
 }

@@ -21,17 +21,12 @@ fn put_notices(text: &mut LineBuffer, style: RowStyle, notices: &[Notice]) -> Re
     Ok(())
 }
 
-/// Appends the rows of the notices that a subscriber took, with this time.
-pub fn put_log(
-    text: &mut LineBuffer,
-    style: RowStyle,
-    time: Option<u64>,
-    log: &[Logged],
-) -> Result<(), AllocError>
-    ensures { OnOk result (text.new.items ≡ text.old.items ++ log_rows style time log.now) }
+/// Appends the rows of the notices that a subscriber took, without times.
+fn put_log(text: &mut LineBuffer, style: RowStyle, log: &[Logged]) -> Result<(), AllocError>
+    ensures { OnOk result (text.new.items ≡ text.old.items ++ log_rows style log.now) }
 {
     for logged in log {
-        put_notice(text, style, time, &logged.notice)?;
+        put_notice(text, style, None, &logged.notice)?;
     }
     Ok(())
 }
@@ -63,7 +58,7 @@ fn put_bests(
     ensures { OnOk result (IfSome (slice_get settlement.now.subscribers id)
         (λ x. text.new.items ≡ text.old.items ++ subscriber_rows style x.forgotten x)) }
 {
-    put_log(text, style, None, settlement.log(id))?;
+    put_log(text, style, settlement.log(id))?;
     put_notices(text, style, settlement.queued(id))?;
     put_notices(text, style, settlement.unoffered(id))
 }

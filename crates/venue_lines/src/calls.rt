@@ -15,6 +15,7 @@ use crate::faults::{FeedFault, GapFault, RenewalFault, TakeFault};
 use crate::locked_venue::LockedVenue;
 use crate::locks::{VenueLocks, lock_spinning};
 use crate::seat::LineSeat;
+use crate::timing::{last_sent, note_time};
 use feed_steps::{FeedName, Unsent};
 use feed_types::{Genuine, LineId, VenueId};
 use line_arbiter::{LineFault, Outcome, SkipFault};
@@ -235,7 +236,7 @@ impl<G: Genuine, N: FeedName> VenueLocks<G, N> {
             result }
     {
         match read_packet(datagram.bytes()) {
-            Ok(packet) => match self.take_packet(rt, seat, &packet, gap) {
+            Ok(packet) => match self.take_packet(rt, seat, &packet, datagram.time(), gap) {
                 Ok(outcome) => Ok(outcome),
                 Err(fault) => {
                     self.refuse(rt, seat, TakeFault::Line(fault));
@@ -262,13 +263,15 @@ impl<G: Genuine, N: FeedName> VenueLocks<G, N> {
         }
     }
 
-    /// Takes a packet that was read, under the lock of the seat's venue, pushes what is ready,
-    /// counts the packet, and stores in `gap` whether there is a gap then.
+    /// Takes a packet that was read, whose datagram was received at this time, under the lock of
+    /// the seat's venue, pushes what is ready, counts the packet, and stores in `gap` whether there
+    /// is a gap then.
     fn take_packet<W: Wait>(
         &self,
         rt: &W,
         seat: &mut LineSeat<G, N>,
         packet: &Packet<'_>,
+        time: Option<u64>,
         gap: &mut bool,
     ) -> Result<Outcome, LineFault>
         requires { IsGenuinePacket G.Genuine seat.old.venue packet.now }
@@ -280,6 +283,7 @@ impl<G: Genuine, N: FeedName> VenueLocks<G, N> {
             return Err(LineFault::OtherSession);
         };
         let mut locked = lock_spinning(rt, lock);
+        note_time(&locked.cell, self.bells().times(), time);
         let (answer, (pushed, has_backlog)) = take_in(rt, &mut locked.cell, seat, packet);
         self.set_backlog(seat.venue(), has_backlog);
         *gap = locked.cell.has_gap();
@@ -322,7 +326,12 @@ impl<G: Genuine, N: FeedName> VenueLocks<G, N> {
             return Err(GapFault::UnknownVenue);
         };
         let mut locked = lock_spinning(rt, lock);
+        let before = last_sent(&locked.cell);
         let (answer, (pushed, has_backlog)) = skip_in(rt, &mut locked.cell, venue, number);
+        let from = before.saturating_add(pushed);
+        self.bells()
+            .times()
+            .go_on_from(venue, from, last_sent(&locked.cell));
         self.set_backlog(venue, has_backlog);
         drop(locked);
         if pushed > 0 {
@@ -400,6 +409,12 @@ impl<G: Genuine, N: FeedName> VenueLocks<G, N> {
         let Some(lock) = self.get(venue) else {
             return Err(RenewalFault::UnknownVenue);
         };
-        renew_in(&mut lock.lock(rt).cell, venue, ordinal, session)
+        let mut locked = lock.lock(rt);
+        let from = last_sent(&locked.cell);
+        let begun = renew_in(&mut locked.cell, venue, ordinal, session);
+        self.bells()
+            .times()
+            .go_on_from(venue, from, last_sent(&locked.cell));
+        begun
     }
 }

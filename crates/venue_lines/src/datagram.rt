@@ -2,10 +2,11 @@
 
 ghost use Rattle.std.specs.Prelude.{◌≡◌};
 
-/// The bytes of one datagram.
+/// The bytes of one datagram, and when it was received, if that was said.
 #[derive(Drop)]
 pub struct Datagram {
     pub(crate) all: Vec<u8>,
+    pub(crate) time: Option<u64>,
 }
 
 impl Datagram {
@@ -15,7 +16,24 @@ impl Datagram {
     pub fn new(bytes: Vec<u8>) -> Datagram
         ensures { bytes_of result ≡ bytes.items }
     {
-        Datagram { all: bytes }
+        Datagram {
+            all: bytes,
+            time: None,
+        }
+    }
+
+    /// The same datagram, received at this time in nanoseconds from 1970 on, if that is known. A
+    /// feed that keeps times tells it of the changes that the datagram causes.
+    pub fn received_at(self, time: Option<u64>) -> Datagram
+        ensures { bytes_of result ≡ bytes_of self }
+    {
+        let Datagram { all, time: _ } = self;
+        Datagram { all, time }
+    }
+
+    /// When it was received, if that was said.
+    pub(crate) fn time(&self) -> Option<u64> {
+        self.time
     }
 
     /// The datagram's bytes.
@@ -29,7 +47,7 @@ impl Datagram {
     pub fn into_bytes(self) -> Vec<u8>
         ensures { result.items ≡ bytes_of self }
     {
-        let Datagram { all } = self;
+        let Datagram { time: _, all } = self;
         all
     }
 }

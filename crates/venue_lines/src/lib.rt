@@ -28,6 +28,7 @@ mod source;
 mod start;
 mod starting;
 mod status;
+mod timing;
 
 pub use cell::VenueCell;
 pub use counted_lines::CountedLines;

@@ -25,7 +25,8 @@ use Rattle.live_feed.specs.subscriber.Logs.{SubscriberLogState}
 -- is in the lane, is what was sent. There are packets that the venue was given, session by session,
 -- each answered as it should be and genuine; what was sent, then what is ready, are the sessions'
 -- streams; the wins of each line and the packets that were accepted on it are those of these
--- packets; and the gap is what is missing after all of that.
+-- packets; and the gap is the first run of messages that are missing after all of that, within the
+-- window.
 pub record IsSettled {S : Type 0} (premise : Genuine S) (venue window : ℕ)
     (sent consumed in_lane ready : List Numbered) (won : PerLine ℕ) (brought : PerLine Brought)
     (gap : Option Request) : Type 0 where

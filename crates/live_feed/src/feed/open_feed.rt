@@ -137,7 +137,8 @@ impl<G: Genuine, N: FeedName> OpenFeed<G, N> {
     {
         let mut hub = self.hub.lock(rt);
         hub.core.show_lock_invariant();
-        let consumed = consume_next(rt, &mut hub.core, venue);
+        let times = self.venues.bells().times();
+        let consumed = consume_next(rt, &mut hub.core, venue, times);
         hub.core.show_lock_invariant();
         drop(hub);
         if let Ok(Some(_)) = consumed {
@@ -164,7 +165,8 @@ impl<G: Genuine, N: FeedName> OpenFeed<G, N> {
     {
         let mut hub = self.hub.lock(rt);
         hub.core.show_lock_invariant();
-        let consumed = consume_some(Some(rt), &mut hub.core, venue, most);
+        let times = self.venues.bells().times();
+        let consumed = consume_some(Some(rt), &mut hub.core, venue, most, times);
         hub.core.show_lock_invariant();
         drop(hub);
         if let Ok(1..) = consumed {
@@ -215,6 +217,8 @@ impl<G: Genuine, N: FeedName> OpenFeed<G, N> {
         let mut hub = self.hub.lock(rt);
         hub.core.show_lock_invariant();
         let declared = hub.core.declare(venue, on);
+        let changes = hub.core.change_count();
+        self.venues.bells().times().pass_changes(changes);
         hub.core.show_lock_invariant();
         drop(hub);
         if declared.is_ok() {

@@ -155,6 +155,13 @@ impl<N: FeedName> SubscriberLog<N> {
         self.taken.forget(count);
     }
 
+    /// The time in nanoseconds from 1970 on of the datagram that brought the item by which the
+    /// change of this number was caused. None where the feed keeps no times, where that datagram
+    /// was given none, where no item caused it, and where too many changes came since.
+    pub fn time_of(&self, number: u64) -> Option<u64> {
+        self.bells.times().time_of(number)
+    }
+
     /// The subscriber's id.
     pub fn id(&self) -> SubscriberId
         ensures { result ≡ self.now.id }

@@ -4,4 +4,4 @@ use Rattle.udp_listening.proofs.summary.put_log.Given as goal
 
 abbrev pub invariant-loop-logged : goal.invariant-loop-logged
 invariant-loop-logged l = l.text.items ≡ l.fn.text.items
-    ++ log_rows l.style l.time (take l.logged-index l.log)
+    ++ log_rows l.style (take l.logged-index l.log)

@@ -17,7 +17,7 @@ new-core-requires g c =
       senders = l;
       spare = inside.spare_lanes.items;
     }))
-    (sym c.in-Ok-Ok-Ok-Ok.ensures'.items)
+    (sym c.in-Ok-Ok-Ok.ensures'.items)
     (fresh inside.starts.items inside.from_venues.items inside.kept inside.spare_lanes.items
     _ lanes c.self.invariant
     (c.self.view_is ∙ c.requires) premise)

@@ -1,7 +1,8 @@
 use Rattle.std.proofs.Common.{◌≡◌, ◌+◌, ◌∙◌, ap, drop, length, rules, subst, sym, List, ℕ}
 use Rattle.feed_text.specs.Devices.{Writing, Wrote}
 use Rattle.best_rows.specs.declared.style.RowStyle.{RowStyle}
-use Rattle.udp_listening.specs.Listening.{HasFollowed, log_rows}
+use Rattle.best_rows.specs.NoticeRows.{AreRowsOf}
+use Rattle.udp_listening.specs.Listening.{HasFollowed}
 use Rattle.udp_listening.specs.declared.console.LiveOutput.{LiveOutput}
 use Rattle.udp_listening.proofs.Following.{all_forgotten, printed_all, printed_part, printed_where_on}
 use Rattle.udp_listening.specs.SettledNotices.{notices_of}
@@ -23,14 +24,12 @@ returns-in-Ok-clause-shows g c =
     let before = printed_where_on w style first old.lines c.args.self.now.live_output old.forgotten
     out c.requires.on h.1 in
     let rest = drop old.forgotten old.lines in
-    let time = c.requires.text.0 in
     let written : g.W.TextOut.adds out c.args.text.now now = search rules in
-    let rows : g.W.TextOut.adds out (log_rows style time rest) now
-    = subst (λ (s : RowStyle). g.W.TextOut.adds out (log_rows s time rest) now) h.0
-    (subst (λ (t : List ℕ). g.W.TextOut.adds out t now) c.requires.text.1 written) in
+    let rows = subst (λ (s : RowStyle). AreRowsOf s (notices_of rest) c.args.text.now) h.0
+    c.requires.text in
     let sound : g.W.TextOut.failures now ≡ g.W.TextOut.failures out = search rules in
     let all = printed_all w style first g.met.W.TextOut.adds_more out now old.lines
-    old.forgotten time before rows sound in
+    old.forgotten c.args.text.now before rows written sound in
     let count : ℕ = length c.log-count.result.now in
     let counted : count ≡ length rest = ap length c.log-count.ensures in (
       h.0,
@@ -52,15 +51,13 @@ returns-in-Err-clause-shows g c =
     let before = printed_where_on w style first old.lines c.args.self.now.live_output old.forgotten
     out c.requires.on h.1 in
     let rest = drop old.forgotten old.lines in
-    let time = c.requires.text.0 in
     let part : Wrote g.W.TextOut.adds out c.args.text.now now = search rules in
     let failed : g.W.TextOut.failures now ≡ g.W.TextOut.failures out + 1 = search rules in
-    let rows : Wrote g.W.TextOut.adds out (log_rows style time rest) now
-    = subst (λ (s : RowStyle). Wrote g.W.TextOut.adds out (log_rows s time rest) now) h.0
-    (subst (λ (t : List ℕ). Wrote g.W.TextOut.adds out t now) c.requires.text.1 part) in (
+    let rows = subst (λ (s : RowStyle). AreRowsOf s (notices_of rest) c.args.text.now) h.0
+    c.requires.text in (
       h.0,
-      printed_part w style first g.met.W.TextOut.adds_more out now old.lines old.forgotten time
-          before rows failed,
+      printed_part w style first g.met.W.TextOut.adds_more out now old.lines old.forgotten
+          c.args.text.now before rows part failed,
     )
 
 pub returns-in-Ok-clause-notes : goal.returns-in-Ok-clause-notes

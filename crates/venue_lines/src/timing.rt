@@ -1,0 +1,31 @@
+//! What the times of a venue's items are known by.
+
+use crate::cell::VenueCell;
+use feed_steps::{FeedName, FeedTimes};
+use feed_types::Genuine;
+
+/// The number of the last item of the venue's session that was pushed, or 0.
+pub(crate) fn last_sent<G: Genuine, N: FeedName>(cell: &VenueCell<G, N>) -> u64 {
+    cell.arbiter().status().sent
+}
+
+/// The number of the last item of the venue's session that is ready or was pushed, or 0.
+fn last_ready<G: Genuine, N: FeedName>(cell: &VenueCell<G, N>) -> u64 {
+    let status = cell.arbiter().status();
+    match status.end {
+        Some(end) if end.saturating_sub(1) == status.front => end,
+        _ => status.front,
+    }
+}
+
+/// Notes the time of the datagram that the cell takes next, where times are kept.
+#[inline(always)]
+pub(crate) fn note_time<G: Genuine, N: FeedName>(
+    cell: &VenueCell<G, N>,
+    times: &FeedTimes,
+    time: Option<u64>,
+) {
+    if times.are_kept() {
+        times.note_datagram(cell.venue(), last_ready(cell), time);
+    }
+}
