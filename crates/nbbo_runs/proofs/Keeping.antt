@@ -11,6 +11,7 @@ use Rattle.feed_text.specs.ReplayStates.{SinkTaking}
 use Rattle.feed_text.specs.SinkEvents.{TimedEvent}
 use Rattle.feed_text.specs.Told.{ToldFacts}
 use Rattle.nbbo_runs.specs.Kept.{keeping}
+use Rattle.nbbo_runs.proofs.SinkRuns.{told_as}
 
 module _ {R S F K : Type 0} (reading : Reading R) (parsing : Parsing S F)
     (config : ReplayConfig) (facts : ToldFacts) (one : SinkTaking K) (is_shown : K → Type 0)
@@ -31,18 +32,7 @@ module _ {R S F K : Type 0} (reading : Reading R) (parsing : Parsing S F)
       (TookAll one is_shown old new))
       → ReadAndTold reading parsing venues from start finish IsLeft CameTo IsTold
       (TookAll keeping (λ kept. ⊤) [] a.told)
-  told_and_kept a = record {
-    records = a.records;
-    calls = a.calls;
-    mid = a.mid;
-    rest = a.rest;
-    read = a.read;
-    left = a.left;
-    came_to = a.came_to;
-    told = a.told;
-    is = a.is;
-    took = (refl, tt);
-  }
+  told_and_kept a = told_as a (refl, tt)
 
   pub kept_of : (from to : R) (start finish : S) (old new : K)
       (outcome : Result (Unit {0}) (ReplayStop F))

@@ -7,3 +7,5 @@ pub mod StatsTexts
 pub mod WatchedRuns
 pub mod SessionCounts
 pub mod SinkPrints
+pub mod SinkRuns
+pub mod SpanRuns

@@ -1,13 +1,12 @@
 -- A replay to a sink that writes a text of events prints it.
-use Rattle.std.proofs.Common.{◌≡◌, ℕ, ◌+◌, List, [], Ok, Err, ap, subst, ◌∙◌}
+use Rattle.std.proofs.Common.{◌≡◌, ℕ, ◌+◌, List, [], ap, subst, ◌∙◌}
 use Rattle.std.specs.Prelude.{⊤, Result}
 use Rattle.feed_text.specs.declared.replay.ReplayConfig.{ReplayConfig}
 use Rattle.feed_text.specs.declared.replay_stop.ReplayStop.{ReplayStop}
-use Rattle.feed_text.specs.declared.replay_stop.ReplayStop.TheVariants.{ReadFailed, SinkFailed, Bad, Short, TooManyTurns, JournalFull, NoMemory}
 use Rattle.feed_text.specs.declared.text_page.TextPage.{TextPage}
 use Rattle.feed_text.specs.Devices.{Reading, Writing, Wrote}
-use Rattle.feed_text.specs.EventReplays.{AnswersRun, ReadAndTold, TookAll}
-use Rattle.feed_text.specs.Formats.{Parsing, TimedRecord}
+use Rattle.feed_text.specs.EventReplays.{AnswersRun}
+use Rattle.feed_text.specs.Formats.{Parsing}
 use Rattle.feed_text.specs.ReplayStates.{SinkTaking}
 use Rattle.feed_text.specs.SinkEvents.{TimedEvent}
 use Rattle.feed_text.specs.TextPages.{FailsPage}
@@ -20,7 +19,6 @@ use Rattle.replay_reports.specs.declared.gaps.gap_rows.GapRows.{GapRows}
 use Rattle.replay_reports.specs.declared.periods.period_rows.PeriodRows.{PeriodRows}
 use Rattle.replay_reports.specs.declared.row_sink.BestRows.{BestRows}
 use Rattle.best_rows.specs.declared.style.RowStyle.{RowStyle}
-use Rattle.replay_reports.specs.declared.spans.span_sink.SpanSink.{SpanSink}
 use Rattle.replay_reports.specs.gaps.GapLaws.{gap_rows_are_written, gap_rows_failed}
 use Rattle.replay_reports.specs.gaps.GapSinks.{FailsGaps, IsNewGapRows, TakesGaps}
 use Rattle.replay_reports.specs.gaps.GapTexts.{text_of_gaps}
@@ -29,11 +27,12 @@ use Rattle.replay_reports.specs.periods.PeriodTexts.{period_header, text_of_peri
 use Rattle.replay_reports.specs.periods.RowHistoryLaws.{history_failed, history_is_written}
 use Rattle.replay_reports.specs.rows.RowLaws.{rows_are_written, rows_failed}
 use Rattle.replay_reports.specs.rows.RowSinks.{FailsRows, IsNewRows, TakesRows, text_of_rows}
-use Rattle.replay_reports.specs.spans.SpanEvents.{FailsSpan, TakesSpan, events_in}
+use Rattle.replay_reports.specs.spans.SpanEvents.{events_in}
 use Rattle.replay_run.specs.Printed.{facts_of_run}
 use Rattle.run_settings.specs.declared.time_span.TimeSpan.{TimeSpan}
 use Rattle.nbbo_runs.specs.declared.watched_sink.Missing.{Missing}
-use Rattle.nbbo_runs.specs.Printing.{LeavesMissing, PrintsWatched, printing}
+use Rattle.nbbo_runs.specs.Printing.{LeavesMissing, PrintsWatched, printing, taking_in}
+use Rattle.nbbo_runs.proofs.SinkRuns.{run_as}
 
 -- Of a sink before a writer: where it shows all that it took, the writer took the text of the
 -- events; where it failed, a front of it.
@@ -51,50 +50,18 @@ module _ {R S F W K : Type 0} (reading : Reading R) (writing : Writing W) (parsi
     (config : ReplayConfig) (facts : ToldFacts) (taking : SinkTaking K) (Shown : K → Type 0)
     (writer_of : K → W) (text : List TimedEvent → List ℕ) (writer : W) (old new : K)
     (writes : WritesText writing taking Shown writer_of text writer old new) where
-  written_told : {n : ℕ} {from : R} {start finish : S} {IsLeft : List ℕ → Type 0}
-      {CameTo : ℕ → R → Type 0} {IsTold : List TimedRecord → List TimedEvent → Type 0}
-      → ReadAndTold reading parsing n from start finish IsLeft CameTo IsTold
-      (TookAll taking Shown old new)
-      → ReadAndTold reading parsing n from start finish IsLeft CameTo IsTold
-      (TookAll (printing writing text) (λ output. ⊤) writer (writer_of new))
-  written_told a = record {
-    records = a.records;
-    calls = a.calls;
-    mid = a.mid;
-    rest = a.rest;
-    read = a.read;
-    left = a.left;
-    came_to = a.came_to;
-    told = a.told;
-    is = a.is;
-    took = (writes.written a.told a.took.0 a.took.1, tt);
-  }
-
   pub sink_printed : (from to : R) (start finish : S)
       (outcome : Result (Unit {0}) (ReplayStop F))
       → AnswersRun reading parsing taking Shown config facts from to start finish old new outcome
       → AnswersRun reading parsing (printing writing text) (λ output. ⊤) config facts
       from to start finish writer (writer_of new) outcome
-  sink_printed from to start finish (Ok done) run = written_told run
-  sink_printed from to start finish (Err (Bad fault)) run = written_told run
-  sink_printed from to start finish (Err Short) run = written_told run
-  sink_printed from to start finish (Err ReadFailed) run = (written_told run.0, run.1)
-  sink_printed from to start finish (Err TooManyTurns) run = written_told run
-  sink_printed from to start finish (Err JournalFull) run = written_told run
-  sink_printed from to start finish (Err SinkFailed) run = record {
-    records = run.records;
-    calls = run.calls;
-    mid = run.mid;
-    rest = run.rest;
-    read = run.read;
-    left = run.left;
-    came_to = run.came_to;
-    told = run.told;
-    is = run.is;
-    took = writes.failed run.told run.took;
-  }
-  sink_printed from to start finish (Err NoMemory) (stays, starts, kept) =
-      (stays, starts, ap writer_of kept ∙ writes.same)
+  sink_printed from to start finish outcome run =
+      run_as reading parsing config facts taking Shown (printing writing text) (λ output. ⊤)
+      old new writer (writer_of new) (record {
+        took = λ told took. (writes.written told took.0 took.1, tt);
+        failed = writes.failed;
+        same = λ kept. ap writer_of kept ∙ writes.same;
+      }) from to start finish outcome run
 
 -- ---- of each sink
 
@@ -192,43 +159,36 @@ module _ {W : Type 0} (writing : Writing W) where
             writing.failures header setting old new told is.header is.are failed);
       }
 
--- ---- of the events in a span
-
-abbrev pub in_span : {K : Type 0} → SinkTaking K → SinkTaking (SpanSink K)
-in_span taking = record { takes = TakesSpan taking.takes; fails = FailsSpan taking.fails }
-
-pub span_writes : {K W : Type 0} (writing : Writing W) (taking : SinkTaking K)
-    (Shown : K → Type 0) (writer_of : K → W) (text : List TimedEvent → List ℕ)
-    (writer : W) (old new : SpanSink K)
-    → WritesText writing taking Shown writer_of text writer old.sink new.sink
-    → WritesText writing (in_span taking) (λ s. Shown s.sink) (λ s. writer_of s.sink)
-    (λ told. text (events_in old.span told)) writer old new
-span_writes writing taking Shown writer_of text writer old new writes = record {
-  same = writes.same;
-  written = λ told took shown. writes.written (events_in old.span told) took.takes_in shown;
-  failed = λ told failed. writes.failed (events_in old.span told) failed;
-}
-
 -- ---- a replay to such a sink, of the events in a span
 
-module _ {R S F W K : Type 0} (reading : Reading R) (writing : Writing W) (parsing : Parsing S F)
-    (config : ReplayConfig) (span : TimeSpan) (taking : SinkTaking K) {Shown : K → Type 0}
-    {writer_of : K → W} {text : List TimedEvent → List ℕ} {writer : W} (sink : K)
-    (new : SpanSink K) where
-  pub span_prints : {from to : R} {start finish : S} {before after : Missing}
-      {outcome : Result (Unit {0}) (ReplayStop F)}
-      → WritesText writing taking Shown writer_of text writer sink new.sink
-      → AnswersRun reading parsing (in_span taking) (λ s. Shown s.sink) config
-      (facts_of_run config) from to start finish (record { sink = sink; span = span }) new outcome
-      → LeavesMissing reading parsing config from to start finish before after outcome
-      → PrintsWatched reading writing parsing config (λ told. text (events_in span told))
-      from to start finish writer (writer_of new.sink) before after outcome
-  span_prints writes run missing =
-      let old : SpanSink K = record { sink = sink; span = span } in
-      record {
-        prints = sink_printed reading writing parsing config (facts_of_run config)
-            (in_span taking) (λ s. Shown s.sink) (λ s. writer_of s.sink)
-            (λ told. text (events_in span told)) writer old new
-            (span_writes writing taking Shown writer_of text writer old new writes) _ _ _ _ _ run;
-        missing = missing;
-      }
+span_writes : {K W : Type 0} (writing : Writing W) (span : TimeSpan) (taking : SinkTaking K)
+    (Shown : K → Type 0) (writer_of : K → W) (text : List TimedEvent → List ℕ)
+    (writer : W) (old new : K)
+    → WritesText writing taking Shown writer_of text writer old new
+    → WritesText writing (taking_in span taking) Shown writer_of
+    (λ told. text (events_in span told)) writer old new
+span_writes writing span taking Shown writer_of text writer old new writes = record {
+  same = writes.same;
+  written = λ told took shown. writes.written (events_in span told) took shown;
+  failed = λ told failed. writes.failed (events_in span told) failed;
+}
+
+pub span_prints : {R S F W K : Type 0} {reading : Reading R} {writing : Writing W}
+    {parsing : Parsing S F} {config : ReplayConfig} (span : TimeSpan) (taking : SinkTaking K)
+    {Shown : K → Type 0} {writer_of : K → W} {text : List TimedEvent → List ℕ} {writer : W}
+    (old new : K) {from to : R} {start finish : S} {before after : Missing}
+    {outcome : Result (Unit {0}) (ReplayStop F)}
+    → WritesText writing taking Shown writer_of text writer old new
+    → AnswersRun reading parsing (taking_in span taking) Shown config
+    (facts_of_run config) from to start finish old new outcome
+    → LeavesMissing reading parsing config from to start finish before after outcome
+    → PrintsWatched reading writing parsing config (λ told. text (events_in span told))
+    from to start finish writer (writer_of new) before after outcome
+span_prints {R} {S} {F} {W} {K} {reading} {writing} {parsing} {config} span taking {Shown}
+    {writer_of} {text} {writer} old new writes run missing = record {
+      prints = sink_printed reading writing parsing config (facts_of_run config)
+          (taking_in span taking) Shown writer_of (λ told. text (events_in span told)) writer
+          old new (span_writes writing span taking Shown writer_of text writer old new writes)
+          _ _ _ _ _ run;
+      missing = missing;
+    }

@@ -1,20 +1,19 @@
 -- A replay to a sink whose symbols are watched is one to the sink, and leaves the symbols of which
 -- no item came.
-use Rattle.std.proofs.Common.{◌≡◌, ℕ, List, [], Ok, Err, true, refl, ap}
+use Rattle.std.proofs.Common.{◌≡◌, Ok, Err, true, refl, ap}
 use Rattle.std.specs.Prelude.{Bool, OnOk, Result}
 use Rattle.feed_text.specs.declared.replay.ReplayConfig.{ReplayConfig}
 use Rattle.feed_text.specs.declared.replay_stop.ReplayStop.{ReplayStop}
-use Rattle.feed_text.specs.declared.replay_stop.ReplayStop.TheVariants.{ReadFailed, SinkFailed, Bad, Short, TooManyTurns, JournalFull, NoMemory}
 use Rattle.feed_text.specs.Devices.{Reading}
-use Rattle.feed_text.specs.EventReplays.{AnswersRun, ReadAndTold}
-use Rattle.feed_text.specs.Formats.{Parsing, TimedRecord}
+use Rattle.feed_text.specs.EventReplays.{AnswersRun}
+use Rattle.feed_text.specs.Formats.{Parsing}
 use Rattle.feed_text.specs.ReplayStates.{SinkTaking}
-use Rattle.feed_text.specs.SinkEvents.{TimedEvent}
 use Rattle.replay_run.specs.Printed.{facts_of_run}
 use Rattle.nbbo_runs.specs.declared.watched_sink.WatchedSink.{WatchedSink}
 use Rattle.nbbo_runs.specs.AbsentSymbols.{LeavesAbsent, TakesWatched, comes_in}
 use Rattle.run_notes.specs.AbsentLaws.{absent_are}
 use Rattle.run_notes.specs.AbsentSymbols.{AreKeysOf, symbols_with}
+use Rattle.nbbo_runs.proofs.SinkRuns.{run_as, told_as}
 
 -- ---- the run
 
@@ -32,44 +31,17 @@ module _ {R S F K : Type 0} (reading : Reading R) (parsing : Parsing S F)
       AnswersRun reading parsing taking shown config (facts_of_run config) from to start finish
       old new outcome
 
-  told_as : {venues : ℕ} {from : R} {start finish : S} {IsLeft : List ℕ → Type 0}
-      {CameTo : ℕ → R → Type 0} {IsTold : List TimedRecord → List TimedEvent → Type 0}
-      {Took Other : List TimedEvent → Type 0}
-      → (a : ReadAndTold reading parsing venues from start finish IsLeft CameTo IsTold Took)
-      → Other a.told
-      → ReadAndTold reading parsing venues from start finish IsLeft CameTo IsTold Other
-  told_as a took = record {
-    records = a.records;
-    calls = a.calls;
-    mid = a.mid;
-    rest = a.rest;
-    read = a.read;
-    left = a.left;
-    came_to = a.came_to;
-    told = a.told;
-    is = a.is;
-    took = took;
-  }
-
   pub sink_run : (from to : R) (start finish : S) (old new : WatchedSink K)
       (outcome : Result (Unit {0}) (ReplayStop F))
       → RunOf watched (λ s. is_shown s.sink) from to start finish old new outcome
       → RunOf one is_shown from to start finish old.sink new.sink outcome
-  sink_run from to start finish old new (Ok done) run =
-      told_as run (run.took.0.0, run.took.1)
-  sink_run from to start finish old new (Err (Bad fault)) run =
-      told_as run (run.took.0.0, run.took.1)
-  sink_run from to start finish old new (Err Short) run =
-      told_as run (run.took.0.0, run.took.1)
-  sink_run from to start finish old new (Err ReadFailed) run =
-      (told_as run.0 (run.0.took.0.0, run.0.took.1), run.1)
-  sink_run from to start finish old new (Err TooManyTurns) run =
-      told_as run (run.took.0.0, run.took.1)
-  sink_run from to start finish old new (Err JournalFull) run =
-      told_as run (run.took.0.0, run.took.1)
-  sink_run from to start finish old new (Err SinkFailed) run = told_as run run.took
-  sink_run from to start finish old new (Err NoMemory) run =
-      (run.0, run.1, ap (λ (s : WatchedSink K). s.sink) run.2)
+  sink_run from to start finish old new outcome run =
+      run_as reading parsing config (facts_of_run config) watched (λ s. is_shown s.sink) one
+      is_shown old new old.sink new.sink (record {
+        took = λ told took. (took.0.0, took.1);
+        failed = λ told failed. failed;
+        same = ap (λ (s : WatchedSink K). s.sink);
+      }) from to start finish outcome run
 
   pub leaves_absent : (from to : R) (start finish : S) (old new : WatchedSink K)
       (outcome : Result (Unit {0}) (ReplayStop F)) (is_watched : Bool)

@@ -39,6 +39,13 @@ printing writing text_of = record {
       × (writing.failures after ≡ writing.failures before + 1);
 }
 
+-- A sink takes of the events those in a span, and those before it as such.
+abbrev pub taking_in : {K : Type 0} → TimeSpan → SinkTaking K → SinkTaking K
+taking_in span taking = record {
+  takes = λ before told after. taking.takes before (events_in span told) after;
+  fails = λ before told after. taking.fails before (events_in span told) after;
+}
+
 -- A replay was printed as it went on: what the writer took is the text of the events of a run of
 -- the machine over what was read.
 abbrev pub PrintsEvents : {R S F W : Type 0} (reading : Reading R) (writing : Writing W)

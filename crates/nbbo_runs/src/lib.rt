@@ -32,6 +32,7 @@ mod session_name;
 mod session_report;
 mod session_row;
 mod session_table;
+mod span_replay;
 mod terminals;
 mod told_format;
 mod venue_watch;

@@ -14,6 +14,7 @@ ghost use Rattle.nbbo_runs.specs.Printing.{IsTextOfSink, PrintsAsked, PrintsCoun
 
 use crate::config::{RunConfig, config_of};
 use crate::lacks::is_packet_input;
+use crate::span_replay::replay_in_span;
 use crate::watched_sink::{Missing, replay_watched};
 use best_rows::RowStyle;
 use feed_text::{
@@ -21,8 +22,7 @@ use feed_text::{
     write_all,
 };
 use replay_reports::{
-    BestRows, BestTimeRows, GapRows, PeriodCounts, PeriodRows, SpanSink, StatsSink, TimedStats,
-    new_times,
+    BestRows, BestTimeRows, GapRows, PeriodCounts, PeriodRows, StatsSink, TimedStats, new_times,
 };
 use run_settings::{PeriodStyle, RowFormat, RunOutput, RunSettings, StatsFormat};
 use std::alloc::{AllocError, Global};
@@ -122,13 +122,9 @@ fn print_rows<R: CaptureIn, F: RecordFormat, W: TextOut>(
 {
     match rows_before(alloc, style, output) {
         Ok(rows) => {
-            let rows = SpanSink {
-                sink: rows,
-                span: config.span,
-            };
-            let replayed = replay_watched(alloc, &config.replay, format, input, rows, missing);
+            let replayed = replay_in_span(alloc, config, format, input, rows, missing);
             Replayed {
-                sink: replayed.sink.sink.into_writer(),
+                sink: replayed.sink.into_writer(),
                 outcome: replayed.outcome,
             }
         }
@@ -170,13 +166,9 @@ fn print_gaps<R: CaptureIn, F: RecordFormat, W: TextOut>(
 {
     match gaps_before(alloc, rows, output) {
         Ok(rows) => {
-            let rows = SpanSink {
-                sink: rows,
-                span: config.span,
-            };
-            let replayed = replay_watched(alloc, &config.replay, format, input, rows, missing);
+            let replayed = replay_in_span(alloc, config, format, input, rows, missing);
             Replayed {
-                sink: replayed.sink.sink.into_writer(),
+                sink: replayed.sink.into_writer(),
                 outcome: replayed.outcome,
             }
         }
@@ -229,13 +221,9 @@ fn print_periods<R: CaptureIn, F: RecordFormat, W: TextOut>(
 {
     match periods_before(alloc, config, style, output) {
         Ok(rows) => {
-            let rows = SpanSink {
-                sink: rows,
-                span: config.span,
-            };
-            let replayed = replay_watched(alloc, &config.replay, format, input, rows, missing);
+            let replayed = replay_in_span(alloc, config, format, input, rows, missing);
             Replayed {
-                sink: replayed.sink.sink.into_writer(),
+                sink: replayed.sink.into_writer(),
                 outcome: replayed.outcome,
             }
         }
@@ -292,13 +280,9 @@ fn print_best_times<R: CaptureIn, F: RecordFormat, W: TextOut>(
 {
     match best_times_before(alloc, config, style, output) {
         Ok(rows) => {
-            let rows = SpanSink {
-                sink: rows,
-                span: config.span,
-            };
-            let replayed = replay_watched(alloc, &config.replay, format, input, rows, missing);
+            let replayed = replay_in_span(alloc, config, format, input, rows, missing);
             Replayed {
-                sink: replayed.sink.sink.into_writer(),
+                sink: replayed.sink.into_writer(),
                 outcome: replayed.outcome,
             }
         }
@@ -357,11 +341,7 @@ fn print_stats<R: CaptureIn, F: RecordFormat, W: TextOut, K: StatsSink + Drop>(
     let Ok(sink) = made else {
         return without_memory(output);
     };
-    let sink = SpanSink {
-        sink,
-        span: config.span,
-    };
-    let replayed = replay_watched(alloc, &config.replay, format, input, sink, missing);
+    let replayed = replay_in_span(alloc, config, format, input, sink, missing);
     let printed = write_text(replayed.sink.text(alloc, form), &mut output);
     Replayed {
         sink: output,

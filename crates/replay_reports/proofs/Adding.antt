@@ -105,6 +105,17 @@ own_counted old new e k is same kept venues states =
     ∙ same)
     (states ∙ sym kept))
 
+-- the same of an event that was made anew
+pub rare_counted : (old new : Counted) (e k : Event) → e ≡ k
+    → each_venue (own_at (told_by k)) 0 old.venues ≡ each_venue (venue_after (told_by k ∷ [])) 0
+    old.venues
+    → states_after old.states (told_by k ∷ []) ≡ old.states
+    → new.venues ≡ each_venue (own_at (told_by k)) 0 old.venues → new.states ≡ old.states
+    → new ≡ counted_after old (told_by e ∷ [])
+rare_counted old new e k is same kept venues states =
+    subst (λ (x : Event). new ≡ counted_after old (told_by x ∷ [])) (sym is)
+    (own_counted old new k k refl same kept venues states)
+
 -- and one before all that is counted
 pub own_begun : (old new : Counted) (e k : Event) → e ≡ k
     → each_venue (own_at (told_before (told_by k))) 0 old.venues

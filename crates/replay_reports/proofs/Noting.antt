@@ -111,6 +111,15 @@ lead_differs held line m t apart =
     cond-false (held.number == m && not (held.is_met || is_same_line held.line line)) _ _
     (and_left (held.number == m) _ (ne_eqb held.number m apart))
 
+-- one that is held comes on the other line, for the first time
+pub lead_of_second : (held : FirstArrival) (line : LineId) (m t : ℕ) → held.number ≡ m
+    → held.is_met ≡ false → is_same_line held.line line ≡ false
+    → lead_by held (message_on line m t) ≡ Some (lead_from held (message_on line m t))
+lead_of_second held line m t same unmet apart =
+    cond-true (held.number == m && not (held.is_met || is_same_line held.line line)) _ _
+    (and_from (held.number == m) _ (eq-eqb held.number m same)
+    (ap (λ (b : Bool). not (b || is_same_line held.line line)) unmet ∙ ap not apart))
+
 led_new : (window : ℕ) (one two line : LineId) (m t : ℕ) (came : List MessageOn)
     → is_passed window m came ≡ false
     → first_on one m came ≡ None → first_on two m came ≡ None
@@ -192,10 +201,8 @@ module _ (window t : ℕ) (one two : LineId) (came : List MessageOn) (held : Fir
     led_unmet =
         let unmet : held.is_met ≡ false = sym is.met ∙ ap is_some none in
         let lead : lead_by held Second ≡ Some (lead_from held Second) =
-        cond-true (held.number == held.number && not (held.is_met || is_same_line held.line two))
-        _ _ (and_from (held.number == held.number) _ (eq-eqb held.number held.number refl)
-        (ap (λ (b : Bool). not (b || is_same_line held.line two)) unmet
-        ∙ ap not (ap (λ (at : LineId). is_same_line at two) is.line_is ∙ apart))) in
+        lead_of_second held two held.number t refl unmet
+        (ap (λ (at : LineId). is_same_line at two) is.line_is ∙ apart) in
         subst (λ (l : Option Lead). AreLedBetween window one two Second came l) (sym lead)
         (led_by_time (nat_lt t held.time) refl)
 

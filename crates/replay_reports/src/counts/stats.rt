@@ -10,6 +10,7 @@ use crate::counts::line_stats::raised;
 use crate::counts::venue_stats::VenueStats;
 use feed_text::{Event, EventSink, SinkStop};
 use feed_types::{Best, National, NationalState, VenueId};
+use mold_packet::Request;
 use nbbo_book::Change;
 use std::alloc::{AllocError, Global};
 use std::marker::Model;
@@ -259,16 +260,50 @@ impl Stats {
     {
         match event {
             Event::Packet { venue, .. } => self.add_at(*venue, event),
-            Event::Refusal { venue, .. } => self.add_rare_at(*venue, event),
             Event::Item { venue, .. } => self.add_at(*venue, event),
             Event::Best { number, change } => {
                 self.add_leaders(change);
                 self.add_state(*number, change);
             }
-            Event::Renewal { venue, .. } => self.add_rare_at(*venue, event),
-            Event::Skip { venue, .. } => self.add_rare_at(*venue, event),
-            Event::Declaration { venue, .. } => self.add_rare_at(*venue, event),
-            Event::Gap { .. } => {}
+            // Each made anew: where the event itself is lent to a call it stays in memory.
+            Event::Refusal { venue, line, fault } => {
+                let (venue, line, fault) = (*venue, *line, *fault);
+                self.add_rare_at(venue, &Event::Refusal { venue, line, fault });
+            }
+            Event::Renewal { venue, answer } => {
+                let (venue, answer) = (*venue, *answer);
+                self.add_rare_at(venue, &Event::Renewal { venue, answer });
+            }
+            Event::Skip {
+                venue,
+                number,
+                answer,
+            } => {
+                let (venue, number, answer) = (*venue, *number, *answer);
+                let skip = Event::Skip {
+                    venue,
+                    number,
+                    answer,
+                };
+                self.add_rare_at(venue, &skip);
+            }
+            Event::Declaration {
+                venue,
+                on,
+                position,
+            } => {
+                let (venue, on, position) = (*venue, *on, *position);
+                let declaration = Event::Declaration {
+                    venue,
+                    on,
+                    position,
+                };
+                self.add_rare_at(venue, &declaration);
+            }
+            // Its type is named: the prover asks that where an event is made.
+            Event::Gap { request, .. } => {
+                let _request: &Request = request;
+            }
             Event::Last { .. } => {}
         }
     }

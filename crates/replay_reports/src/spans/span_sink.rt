@@ -1,14 +1,12 @@
 //! A sink that is told the events in a span of time.
-ghost use Rattle.std.specs.Prelude.{◌≡◌, IfOk};
+ghost use Rattle.std.specs.Prelude.{◌≡◌};
 ghost use Rattle.feed_text.specs.SinkEvents.{timed_event, told_by};
 ghost use Rattle.replay_reports.specs.spans.SpanEvents.{is_before, is_told_in};
 
 use crate::periods::period_counts::ends_all;
 use crate::spans::spanned_sink::SpannedSink;
-use crate::text::StatsSink;
 use feed_text::{Event, EventSink, SinkStop};
-use run_settings::{StatsFormat, TimeSpan};
-use std::alloc::{AllocError, Global};
+use run_settings::TimeSpan;
 
 /// A sink that is told of the events of a replay those whose times lie in a span, those before it
 /// as such, and that the capture is over.
@@ -23,9 +21,6 @@ pub struct SpanSink<K> {
 fn is_told_in(span: &TimeSpan, time: Option<u64>, event: &Event<'_>) -> bool
     ensures { result ≡ is_told_in span.now (timed_event time (told_by event.now)) }
 {
-    if !span.is_bounded() {
-        return true;
-    }
     span.has(time) || ends_all(event)
 }
 
@@ -72,14 +67,5 @@ impl<K: SpannedSink> EventSink for SpanSink<K> {
 
     fn show(&mut self) -> Result<(), SinkStop> {
         self.sink.show()
-    }
-}
-
-impl<K: StatsSink> SpanSink<K> {
-    /// Returns what the sink keeps as a text in the format. Fails where memory is refused.
-    pub fn text(&self, alloc: Global, format: StatsFormat) -> Result<Vec<u8>, AllocError>
-        ensures { IfOk result (λ text. K.is_text self.now.sink format text.items) }
-    {
-        self.sink.text(alloc, format)
     }
 }

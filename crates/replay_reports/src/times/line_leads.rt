@@ -4,7 +4,7 @@ ghost use Rattle.feed_types.specs.declared.line.LineId.TheVariants.{A, B};
 ghost use Rattle.feed_text.specs.SinkEvents.{told_packet};
 ghost use Rattle.replay_reports.specs.times.Heard.{has_numbers};
 ghost use Rattle.replay_reports.specs.times.Timing.{came_after};
-ghost use Rattle.replay_reports.specs.times.Leads.{AreLeadsOf, MessageOn, come_on, held_after, lead_by, leads_of, message_on};
+ghost use Rattle.replay_reports.specs.times.Leads.{AreLeadsOf, MessageOn, come_on, held_after, lead_by, lead_from, leads_of, message_on};
 
 use crate::times::durations::Durations;
 use crate::times::venue_timing::HeardPacket;
@@ -32,45 +32,45 @@ struct Lead {
 }
 
 impl FirstArrival {
-    /// Returns what is held after a message of the same place came.
-    fn after(self, line: LineId, number: u64, time: u64) -> FirstArrival
-        ensures { result ≡ held_after self (message_on line number time) }
+    /// Returns which line is ahead, where the other line brings the message that is held. Of two
+    /// that bring it at the same time it is the one whose arrival is held.
+    #[inline(always)]
+    fn lead(&self, line: LineId, time: u64) -> Lead
+        ensures { (number : ℕ) → result ≡ lead_from self.now (message_on line number time) }
+    {
+        if time < self.time {
+            return Lead {
+                line,
+                took: self.time - time,
+            };
+        }
+        Lead {
+            line: self.line,
+            took: time - self.time,
+        }
+    }
+
+    /// Takes a message of the same place. Returns which line is ahead, where the other line brings
+    /// the message that is held, for the first time.
+    #[inline(always)]
+    fn take(&mut self, line: LineId, number: u64, time: u64) -> Option<Lead>
+        ensures held { self.new ≡ held_after self.old (message_on line number time) }
+        ensures lead { result ≡ lead_by self.old (message_on line number time) }
     {
         if self.number < number {
-            return FirstArrival {
+            *self = FirstArrival {
                 number,
                 time,
                 line,
                 is_met: false,
             };
+            return None;
         }
-        let is_second = self.number == number && self.line != line;
-        FirstArrival {
-            number: self.number,
-            time: self.time,
-            line: self.line,
-            is_met: self.is_met || is_second,
-        }
-    }
-
-    /// Returns which line is ahead, where the other line now brings the message that is held. Of
-    /// two that bring it at the same time it is the one whose arrival is held.
-    fn lead(self, line: LineId, number: u64, time: u64) -> Option<Lead>
-        ensures { result ≡ lead_by self (message_on line number time) }
-    {
         if self.number != number || self.is_met || self.line == line {
             return None;
         }
-        if time < self.time {
-            return Some(Lead {
-                line,
-                took: self.time - time,
-            });
-        }
-        Some(Lead {
-            line: self.line,
-            took: time - self.time,
-        })
+        self.is_met = true;
+        Some(self.lead(line, time))
     }
 }
 
@@ -88,8 +88,7 @@ pub(crate) fn place_after(place: u64, size: u64) -> u64
     requires { 0 < size }
     ensures { (number : ℕ) → place ≡ number % size → result ≡ (number + 1) % size }
 {
-    let left = size.saturating_sub(place);
-    if left > 1 {
+    if place < size - 1 {
         return place + 1;
     }
     0
@@ -144,9 +143,7 @@ impl LineLeads {
         let Some(first) = self.arrivals.get_mut(place as usize) else {
             return;
         };
-        let held = *first;
-        *first = held.after(line, number, time);
-        let Some(lead) = held.lead(line, number, time) else {
+        let Some(lead) = first.take(line, number, time) else {
             return;
         };
         match lead.line {

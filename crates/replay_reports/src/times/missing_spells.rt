@@ -52,6 +52,7 @@ impl MissingSpells {
     }
 
     /// Counts a spell that began at this time, took so long, and was ended by a packet of the line.
+    #[inline(never)]
     fn add(&mut self, since: u64, took: u64, line: LineId)
         ensures over { (spells : List Spell) → AreOver spells self.old
             → AreOver (record { began = since; took = took; line = line } ∷ spells) self.new }
@@ -65,6 +66,7 @@ impl MissingSpells {
     }
 
     /// Notes whether messages are missing after a packet of a line at this time in nanoseconds.
+    #[inline(always)]
     pub(crate) fn note(&mut self, time: u64, line: LineId, is_missing: bool)
         ensures { (notes : List MissingAt) → AreSpellsOf notes self.old
             → AreSpellsOf (missing_at time line is_missing ∷ notes) self.new }

@@ -4,10 +4,8 @@ use Rattle.feed_text.specs.declared.replay_stop.ReplayStop.TheVariants.{NoMemory
 use Rattle.feed_text.specs.Devices.{Reading, Writing}
 use Rattle.feed_text.specs.Formats.{Parsing}
 use Rattle.replay_run.specs.Printed.{facts_of_run}
-use Rattle.replay_reports.specs.declared.spans.span_sink.SpanSink.{SpanSink}
 use Rattle.replay_reports.specs.spans.SpanEvents.{events_in}
-use Rattle.nbbo_runs.specs.Printing.{IsTextOfSink}
-use Rattle.nbbo_runs.proofs.SinkPrints.{in_span}
+use Rattle.nbbo_runs.specs.Printing.{IsTextOfSink, taking_in}
 use Rattle.nbbo_runs.proofs.Keeping.{kept_of}
 use Rattle.nbbo_runs.proofs.PrintedTexts.{made_as, missing_after, text_as}
 use Rattle.nbbo_runs.proofs.printing.print_stats.Goals as goal
@@ -44,16 +42,15 @@ returns g c =
     let config = c.args.config.now in
     let span = config.span in
     let form = c.args.stats.form in
-    let new = c.replay_watched-replayed.result.sink in
-    let old : SpanSink g.row.K.Denot = record { sink = c.in-Ok.sink; span = span } in
+    let replayed = c.replay_in_span-replayed in
+    let new = replayed.result.sink in
     let sure = g.met.K.StatsSink.never_fails in
-    let taking = in_span
+    let taking = taking_in span
     (record { takes = g.K.EventSink.takes; fails = g.K.EventSink.fails }) in
     let kept = kept_of reading parsing config.replay (facts_of_run config.replay) taking
-    (λ s. g.K.EventSink.is_shown s.sink)
-    (λ s. record { same_span = refl; takes_in = g.met.K.EventSink.takes_none s.sink })
-    (λ s t told failed. sure s.sink t.sink (events_in s.span told) failed) _ _ _ _ old new
-    c.replay_watched-replayed.result.outcome c.replay_watched-replayed.ensures.headline in
+    g.K.EventSink.is_shown g.met.K.EventSink.takes_none
+    (λ s t told failed. sure s t (events_in span told) failed) _ _ _ _ c.in-Ok.sink new
+    replayed.result.outcome replayed.ensures.run in
     let IsText : g.row.K.Denot → List ℕ → Type 0 =
     λ sink text. g.K.StatsSink.is_text sink form text in
     let Is : List ℕ → Type 0 =
@@ -62,20 +59,17 @@ returns g c =
     record {
       prints = record {
         told = kept.told;
-        seen = c.replay_watched-replayed.result.outcome;
+        seen = replayed.result.outcome;
         run = kept.run;
         printed = c.write_text-printed.result;
         prints = text_as writing (λ text. IsOkAnd c.text.result (λ bytes. bytes.items ≡ text)) Is
             _ _ c.write_text-printed.result
             (λ text made. made_as (λ bytes. bytes.items) c.text.result
-            (λ bytes. g.K.StatsSink.is_text new.sink form bytes.items) Is text c.text.ensures
-            (λ bytes is. rw c.in-Ok.is (new.sink, kept.took.takes_in, is)) made)
+            (λ bytes. g.K.StatsSink.is_text new form bytes.items) Is text c.text.ensures
+            (λ bytes is. rw c.in-Ok.is (new, kept.took, is)) made)
             c.write_text-printed.ensures;
         ends = c.and.ensures;
       };
       missing = rw c.and.ensures (missing_after reading parsing config.replay _ _ _ _ _ _
-          c.write_text-printed.result c.replay_watched-replayed.result.outcome (record {
-            lacks = c.replay_watched-replayed.ensures.lacks;
-            absent = c.replay_watched-replayed.ensures.absent;
-          }));
+          c.write_text-printed.result replayed.result.outcome replayed.ensures.missing);
     }

@@ -4,7 +4,7 @@ use Rattle.feed_text.specs.declared.event.Event.{Event}
 use Rattle.feed_text.specs.SinkEvents.{told_by}
 use Rattle.replay_reports.specs.counts.Stats.{counted_after}
 use Rattle.replay_reports.specs.counts.StatsLaws.{counted_none}
-use Rattle.replay_reports.proofs.Adding.{best_counted, own_counted}
+use Rattle.replay_reports.proofs.Adding.{best_counted, own_counted, rare_counted}
 use Rattle.replay_reports.proofs.counts.stats.Stats.add.Goals as goal
 
 pub returns-in-Packet : goal.returns-in-Packet
@@ -15,9 +15,8 @@ returns-in-Packet c =
 
 pub returns-in-Refusal : goal.returns-in-Refusal
 returns-in-Refusal c =
-    own_counted c.args.self.now c.add_rare_at.new.self c.args.event.now _ c.in-Refusal.is refl
-    refl c.add_rare_at.ensures.venues
-    c.add_rare_at.ensures.states
+    rare_counted c.args.self.now c.add_rare_at.new.self c.args.event.now _ c.in-Refusal.is refl refl
+    c.add_rare_at.ensures.venues c.add_rare_at.ensures.states
 
 pub returns-in-Item : goal.returns-in-Item
 returns-in-Item c =
@@ -27,19 +26,19 @@ returns-in-Item c =
 
 pub returns-in-Renewal : goal.returns-in-Renewal
 returns-in-Renewal c =
-    own_counted c.args.self.now c.add_rare_at-in-Renewal.new.self c.args.event.now _
+    rare_counted c.args.self.now c.add_rare_at-in-Renewal.new.self c.args.event.now _
     c.in-Renewal.is refl refl c.add_rare_at-in-Renewal.ensures.venues
     c.add_rare_at-in-Renewal.ensures.states
 
 pub returns-in-Skip : goal.returns-in-Skip
 returns-in-Skip c =
-    own_counted c.args.self.now c.add_rare_at-in-Skip.new.self c.args.event.now _
+    rare_counted c.args.self.now c.add_rare_at-in-Skip.new.self c.args.event.now _
     c.in-Skip.is refl refl c.add_rare_at-in-Skip.ensures.venues
     c.add_rare_at-in-Skip.ensures.states
 
 pub returns-in-Declaration : goal.returns-in-Declaration
 returns-in-Declaration c =
-    own_counted c.args.self.now c.add_rare_at-in-Declaration.new.self c.args.event.now _
+    rare_counted c.args.self.now c.add_rare_at-in-Declaration.new.self c.args.event.now _
     c.in-Declaration.is refl refl c.add_rare_at-in-Declaration.ensures.venues
     c.add_rare_at-in-Declaration.ensures.states
 

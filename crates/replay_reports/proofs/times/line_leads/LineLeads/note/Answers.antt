@@ -8,8 +8,8 @@ use Rattle.replay_reports.specs.declared.times.line_leads.LineLeads.{LineLeads}
 use Rattle.replay_reports.proofs.Noting.{max_one, noted_a, noted_b, noted_none}
 use Rattle.replay_reports.proofs.times.line_leads.LineLeads.note.Goals as goal
 
-pub returns-in_default-lead-clause-leads : goal.returns-in_default-lead-clause-leads
-returns-in_default-lead-clause-leads c = λ window came before_a before_b leads.
+pub returns-in_default-take-clause-leads : goal.returns-in_default-take-clause-leads
+returns-in_default-take-clause-leads c = λ window came before_a before_b leads.
     let old = c.args.self.now in
     let items = old.arrivals.items in
     let place = c.args.place in
@@ -17,7 +17,7 @@ returns-in_default-lead-clause-leads c = λ window came before_a before_b leads.
     let size : max (length items) 1 ≡ window = ap (λ (n : ℕ). max n 1) leads.size
     ∙ max_one window leads.some in
     let new : LineLeads = record {
-      arrivals = with_item old.arrivals place c.after.result;
+      arrivals = with_item old.arrivals place c.take.new.self;
       a = old.a;
       b = old.b;
     } in
@@ -27,8 +27,8 @@ returns-in_default-lead-clause-leads c = λ window came before_a before_b leads.
     (slice_get_read items (length items) place held refl (ltb-true place (length items)
     (sym c.in-Some.ensures.item.0))
     c.in-Some.ensures.item.1)
-    (ap (λ (h : FirstArrival). slice_set items place h) c.after.ensures) (sym c.in_default-lead.is
-    ∙ c.lead.ensures) refl refl
+    (ap (λ (h : FirstArrival). slice_set items place h) c.take.ensures.held)
+    (sym c.in_default-take.is ∙ c.take.ensures.lead) refl refl
 
 pub returns-in-B-clause-leads : goal.returns-in-B-clause-leads
 returns-in-B-clause-leads c = λ window came before_a before_b leads.
@@ -39,7 +39,7 @@ returns-in-B-clause-leads c = λ window came before_a before_b leads.
     let size : max (length items) 1 ≡ window = ap (λ (n : ℕ). max n 1) leads.size
     ∙ max_one window leads.some in
     let new : LineLeads = record {
-      arrivals = with_item old.arrivals place c.after.result;
+      arrivals = with_item old.arrivals place c.take.new.self;
       a =
           old.a;
       b = c.add.new.self;
@@ -50,8 +50,8 @@ returns-in-B-clause-leads c = λ window came before_a before_b leads.
     (slice_get_read items (length items) place held refl (ltb-true place (length items)
     (sym c.in-Some.ensures.item.0))
     c.in-Some.ensures.item.1)
-    (ap (λ (h : FirstArrival). slice_set items place h) c.after.ensures) c.in-Some-lead.lead
-    (sym c.in-Some-lead.is ∙ c.lead.ensures) c.in-B.is c.add.ensures refl
+    (ap (λ (h : FirstArrival). slice_set items place h) c.take.ensures.held) c.in-Some-take.lead
+    (sym c.in-Some-take.is ∙ c.take.ensures.lead) c.in-B.is c.add.ensures refl
 
 pub returns-in_default-line-clause-leads : goal.returns-in_default-line-clause-leads
 returns-in_default-line-clause-leads c = λ window came before_a before_b leads.
@@ -63,7 +63,7 @@ returns-in_default-line-clause-leads c = λ window came before_a before_b leads.
     ∙ max_one window leads.some in
     let after = c.add-in_default-line.new.self in
     let new : LineLeads = record {
-      arrivals = with_item old.arrivals place c.after.result;
+      arrivals = with_item old.arrivals place c.take.new.self;
       a = after;
       b = old.b;
     } in
@@ -73,6 +73,6 @@ returns-in_default-line-clause-leads c = λ window came before_a before_b leads.
     (slice_get_read items (length items) place held refl (ltb-true place (length items)
     (sym c.in-Some.ensures.item.0))
     c.in-Some.ensures.item.1)
-    (ap (λ (h : FirstArrival). slice_set items place h) c.after.ensures) c.in-Some-lead.lead
-    (sym c.in-Some-lead.is ∙ c.lead.ensures) c.in_default-line.not-B c.add-in_default-line.ensures
-    refl
+    (ap (λ (h : FirstArrival). slice_set items place h) c.take.ensures.held) c.in-Some-take.lead
+    (sym c.in-Some-take.is ∙ c.take.ensures.lead) c.in_default-line.not-B
+    c.add-in_default-line.ensures refl
