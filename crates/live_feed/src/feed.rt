@@ -140,7 +140,7 @@ impl<G: Genuine> LiveFeed<G> {
     /// Has the feed keep times: of each of the latest `changes` changes that of the datagram which
     /// brought the item that caused it, with the time that [`Datagram::received_at`] gave it
     /// ([`SubscriberLog::time_of`](crate::SubscriberLog::time_of)). Where memory for them is
-    /// refused, it keeps none.
+    /// refused, it keeps those that it kept before: none, unless this was called before.
     ///
     /// [`Datagram::received_at`]: crate::Datagram::received_at
     pub fn keep_times(&mut self, alloc: Global, changes: usize) -> Result<(), AllocError>

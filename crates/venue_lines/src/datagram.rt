@@ -1,6 +1,6 @@
 //! A datagram that came on a line.
 
-ghost use Rattle.std.specs.Prelude.{◌≡◌};
+ghost use Rattle.std.specs.Prelude.{◌≡◌, None};
 
 /// The bytes of one datagram, and when it was received, if that was said.
 #[derive(Drop)]
@@ -12,9 +12,10 @@ pub struct Datagram {
 impl Datagram {
     ghost use Rattle.venue_lines.specs.Datagrams.{bytes_of};
 
-    /// A datagram of these bytes.
+    /// A datagram of these bytes. When it was received is not said.
     pub fn new(bytes: Vec<u8>) -> Datagram
-        ensures { bytes_of result ≡ bytes.items }
+        ensures bytes { bytes_of result ≡ bytes.items }
+        ensures time { result.time ≡ None }
     {
         Datagram {
             all: bytes,
@@ -25,14 +26,17 @@ impl Datagram {
     /// The same datagram, received at this time in nanoseconds from 1970 on, if that is known. A
     /// feed that keeps times tells it of the changes that the datagram causes.
     pub fn received_at(self, time: Option<u64>) -> Datagram
-        ensures { bytes_of result ≡ bytes_of self }
+        ensures bytes { bytes_of result ≡ bytes_of self }
+        ensures time { result.time ≡ time }
     {
         let Datagram { all, time: _ } = self;
         Datagram { all, time }
     }
 
     /// When it was received, if that was said.
-    pub(crate) fn time(&self) -> Option<u64> {
+    pub(crate) fn time(&self) -> Option<u64>
+        ensures { result ≡ self.now.time }
+    {
         self.time
     }
 

@@ -37,8 +37,7 @@ pub record SubscriberLogInvariant (lanes : FeedLanes) (t : SubscriberLogState) :
 
 -- The answer to `poll`, by cases: LogFull exactly where the log is full; nothing is taken by a
 -- refused poll, nor at None; else the next notice was taken (Dequeue of the machine) and logged
--- with
--- its advice.
+-- with its advice.
 abbrev pub Polls : Result (Option Advice) PollFault → SubscriberLogState → SubscriberLogState
     → Type 0
 Polls (Err LogFull) old new = (old.most ≤ length old.lines) × (new ≡ old)
