@@ -3,6 +3,7 @@
 The gate need not prove such a program, and `rt ci` refuses a repository below which there is a second crates.txt.
 """
 
+import importlib
 import os
 import re
 import shutil
@@ -13,7 +14,7 @@ from collections.abc import Callable, Sequence
 from hashlib import sha256
 from pathlib import Path
 
-from .kit import crate_lines, crates_below
+from .kit import crate_lines, crates_below, kit_folder
 from .program import ROOT
 
 
@@ -28,6 +29,26 @@ def copy_crate(crate: str, crates: Path) -> None:
         shutil.rmtree(crates / crate / part, ignore_errors=True)
         if (ROOT / 'crates' / crate / part).is_dir():
             shutil.copytree(ROOT / 'crates' / crate / part, crates / crate / part)
+
+
+def is_current(crate: Path) -> bool:
+    """Whether a crate has a library that is newer than each file that its proof reads."""
+    made = crate / 'out' / 'rlib' / f'{crate.name}.rlib' / 'format'
+    files = [it for part in ('src', 'specs', 'proofs') for it in (crate / part).rglob('*') if it.is_file()]
+    return made.exists() and all(it.stat().st_mtime <= made.stat().st_mtime for it in files)
+
+
+def note_built(crates: Path) -> None:
+    """Notes beside each of these libraries what it was built of, by the kit's own sum, up to the first that is older.
+
+    `rt ci`, which proved and built them, leaves no such note, and without one `rt run` proves all of them again.
+    """
+    sys.path.insert(0, str(kit_folder() / 'bin'))
+    for crate in importlib.import_module('rtlib').crates_below(str(crates)):
+        folder = Path(crate.folder)
+        if not is_current(folder):
+            return
+        (folder / 'out' / 'rlib' / 'stamp').write_text(crate.stamp())
 
 
 def built(source: Path, uses: str, words: Sequence[str] = (), place: Callable[[Path], None] | None = None) -> Path:
@@ -50,6 +71,7 @@ def built(source: Path, uses: str, words: Sequence[str] = (), place: Callable[[P
         copy_crate(library, workspace / 'crates')
     lines = [*(crate_lines()[it] for it in below), f'{name}: {uses}', '']
     (workspace / 'crates.txt').write_text('\n'.join(lines))
+    note_built(workspace / 'crates')
     shutil.copy(source, crate / 'src' / 'main.rt')
     if place is not None:
         place(crate)
