@@ -30,8 +30,7 @@ use Rattle.replay_reports.specs.rows.RowSinks.{FailsRows, IsNewRows, TakesRows, 
 use Rattle.replay_reports.specs.spans.SpanEvents.{events_in}
 use Rattle.replay_run.specs.Printed.{facts_of_run}
 use Rattle.run_settings.specs.declared.time_span.TimeSpan.{TimeSpan}
-use Rattle.nbbo_runs.specs.declared.watched_sink.Missing.{Missing}
-use Rattle.nbbo_runs.specs.Printing.{LeavesMissing, PrintsWatched, printing, taking_in}
+use Rattle.nbbo_runs.specs.Printing.{PrintsEvents, printing, taking_in}
 use Rattle.nbbo_runs.proofs.SinkRuns.{run_as}
 
 -- Of a sink before a writer: where it shows all that it took, the writer took the text of the
@@ -176,19 +175,15 @@ span_writes writing span taking Shown writer_of text writer old new writes = rec
 pub span_prints : {R S F W K : Type 0} {reading : Reading R} {writing : Writing W}
     {parsing : Parsing S F} {config : ReplayConfig} (span : TimeSpan) (taking : SinkTaking K)
     {Shown : K → Type 0} {writer_of : K → W} {text : List TimedEvent → List ℕ} {writer : W}
-    (old new : K) {from to : R} {start finish : S} {before after : Missing}
-    {outcome : Result (Unit {0}) (ReplayStop F)}
+    (old new : K) {from to : R} {start finish : S} {outcome : Result (Unit {0}) (ReplayStop F)}
     → WritesText writing taking Shown writer_of text writer old new
     → AnswersRun reading parsing (taking_in span taking) Shown config
     (facts_of_run config) from to start finish old new outcome
-    → LeavesMissing reading parsing config from to start finish before after outcome
-    → PrintsWatched reading writing parsing config (λ told. text (events_in span told))
-    from to start finish writer (writer_of new) before after outcome
+    → PrintsEvents reading writing parsing config (λ told. text (events_in span told))
+    from to start finish writer (writer_of new) outcome
 span_prints {R} {S} {F} {W} {K} {reading} {writing} {parsing} {config} span taking {Shown}
-    {writer_of} {text} {writer} old new writes run missing = record {
-      prints = sink_printed reading writing parsing config (facts_of_run config)
-          (taking_in span taking) Shown writer_of (λ told. text (events_in span told)) writer
-          old new (span_writes writing span taking Shown writer_of text writer old new writes)
-          _ _ _ _ _ run;
-      missing = missing;
-    }
+    {writer_of} {text} {writer} old new writes run =
+    sink_printed reading writing parsing config (facts_of_run config)
+    (taking_in span taking) Shown writer_of (λ told. text (events_in span told)) writer
+    old new (span_writes writing span taking Shown writer_of text writer old new writes)
+    _ _ _ _ _ run

@@ -1,7 +1,9 @@
 -- What is printed of a replay.
 use Rattle.std.specs.Prelude.{◌≡◌, ⊤, ℕ, ◌+◌, Bool, List, [], IsOkAnd, OnOk, Result, Ok, Err}
 use Rattle.std.specs.Result.{result_and}
+use Rattle.run_settings.specs.declared.formats.RowFormat.{RowFormat}
 use Rattle.run_settings.specs.declared.formats.StatsFormat.{StatsFormat}
+use Rattle.best_rows.specs.declared.style.RowStyle.{RowStyle}
 use Rattle.feed_text.specs.declared.replay.ReplayConfig.{ReplayConfig}
 use Rattle.feed_text.specs.declared.replay_stop.ReplayStop.{ReplayStop}
 use Rattle.feed_text.specs.declared.replay_stop.ReplayStop.TheVariants.{SinkFailed, NoMemory}
@@ -109,70 +111,80 @@ pub record LeavesMissing {R S F : Type 0} (reading : Reading R) (parsing : Parsi
   pub absent : OnOk outcome (LeavesAbsent reading parsing config from to start finish outcome
       before.is_watched (symbols_with after.absent config.symbols.now))
 
--- A replay was printed as it went on, and what is missing at its end was left.
-pub record PrintsWatched {R S F W : Type 0} (reading : Reading R) (writing : Writing W)
-    (parsing : Parsing S F) (config : ReplayConfig) (text_of : List TimedEvent → List ℕ)
-    (from to : R) (start finish : S) (before after : W) (old new : Missing)
-    (outcome : Result (Unit {0}) (ReplayStop F)) : Type 0 where
-  pub prints : PrintsEvents reading writing parsing config text_of
-      from to start finish before after outcome
-  pub missing : LeavesMissing reading parsing config from to start finish old new outcome
+-- How a replay is printed, for any format of captures: a relation of its settings, of the reader and
+-- the format before and after, of the writer before and after, and of the outcome.
+abbrev pub Output : (R W : Type 0) → Type 1
+Output R W = {S F : Type 0} → Parsing S F → ReplayConfig → (from to : R) (start finish : S)
+    (before after : W) → Result (Unit {0}) (ReplayStop F) → Type 0
 
--- The same of statistics.
-pub record PrintsCounted {R S F W : Type 0} (reading : Reading R) (writing : Writing W)
-    (parsing : Parsing S F) (config : ReplayConfig) (Is : List TimedEvent → List ℕ → Type 0)
-    (from to : R) (start finish : S) (before after : W) (old new : Missing)
-    (outcome : Result (Unit {0}) (ReplayStop F)) : Type 0 where
-  pub prints : PrintsFigures reading writing parsing config Is
-      from to start finish before after outcome
+-- A replay was printed by an output, and what is missing at its end was left.
+pub record PrintsWatched {R S F W : Type 0} (reading : Reading R) (parsing : Parsing S F)
+    (Prints : Output R W) (config : ReplayConfig) (from to : R) (start finish : S)
+    (before after : W) (old new : Missing) (outcome : Result (Unit {0}) (ReplayStop F))
+    : Type 0 where
+  pub prints : Prints parsing config from to start finish before after outcome
   pub missing : LeavesMissing reading parsing config from to start finish old new outcome
 
 -- ---- by what is asked for
 
--- the rows of periods of these events
-abbrev pub periods_in : ReplayConfig → PeriodStyle → List TimedEvent → List ℕ
-periods_in config style told = text_of_periods style (venues_in config) told
-
--- and those of how long national bests stood
-abbrev pub best_times_in : ReplayConfig → PeriodStyle → List TimedEvent → List ℕ
-best_times_in config style told =
-    text_of_best_times
-    (record { style = style; venues = venues_in config; symbols = config.symbols.now }) told
-
--- All lines; or of the events in the span the rows of best lines alone, statistics, or the rows of
--- gaps or of periods. Rows of best lines and statistics are `timed` where the records have times.
-abbrev pub PrintsBy : {R S F W : Type 0} (reading : Reading R) (writing : Writing W)
-    (parsing : Parsing S F) (config : ReplayConfig) (timed : Bool) (span : TimeSpan)
-    (from to : R) (start finish : S) (before after : W)
-    (outcome : Result (Unit {0}) (ReplayStop F)) → RunOutput → Type 0
-PrintsBy reading writing parsing config timed span from to start finish before after outcome
-    Lines =
+-- all rows
+abbrev pub PrintsAllRows : {R W : Type 0} → Reading R → Writing W → Output R W
+PrintsAllRows reading writing parsing config =
     PrintsEvents reading writing parsing config text_told
-    from to start finish before after outcome
-PrintsBy reading writing parsing config timed span from to start finish before after outcome
-    (Bests format) =
-    PrintsEvents reading writing parsing config
-    (λ told. text_of_rows (record { format = format; timed = timed }) (events_in span told))
-    from to start finish before after outcome
-PrintsBy reading writing parsing config timed span from to start finish before after outcome
-    (Stats format) =
+
+-- the rows of best lines alone, of the events in a span
+abbrev pub PrintsBestRows : {R W : Type 0} → Reading R → Writing W → RowStyle → TimeSpan
+    → Output R W
+PrintsBestRows reading writing style span parsing config =
+    PrintsEvents reading writing parsing config (λ told. text_of_rows style (events_in span told))
+
+-- the statistics of the events in a span, `timed` where the records have times
+abbrev pub PrintsStatistics : {R W : Type 0} → Reading R → Writing W → StatsFormat → Bool
+    → TimeSpan → Output R W
+PrintsStatistics reading writing format timed span parsing config =
     PrintsFigures reading writing parsing config
     (λ told. IsStatsText config format timed (events_in span told))
-    from to start finish before after outcome
-PrintsBy reading writing parsing config timed span from to start finish before after outcome
-    (Gaps format) =
+
+-- the rows of the gaps in a span
+abbrev pub PrintsGapRows : {R W : Type 0} → Reading R → Writing W → RowFormat → TimeSpan
+    → Output R W
+PrintsGapRows reading writing format span parsing config =
     PrintsEvents reading writing parsing config (λ told. text_of_gaps format (events_in span told))
-    from to start finish before after outcome
-PrintsBy reading writing parsing config timed span from to start finish before after outcome
-    (Periods style) =
+
+-- the rows of the periods in a span
+abbrev pub PrintsPeriods : {R W : Type 0} → Reading R → Writing W → PeriodStyle → TimeSpan
+    → Output R W
+PrintsPeriods reading writing style span parsing config =
     PrintsEvents reading writing parsing config
-    (λ told. periods_in config style (events_in span told))
-    from to start finish before after outcome
-PrintsBy reading writing parsing config timed span from to start finish before after outcome
-    (BestTimes style) =
+    (λ told. text_of_periods style (venues_in config) (events_in span told))
+
+-- the rows of how long national bests stood in the periods of a span
+abbrev pub PrintsBestTimes : {R W : Type 0} → Reading R → Writing W → PeriodStyle → TimeSpan
+    → Output R W
+PrintsBestTimes reading writing style span parsing config =
     PrintsEvents reading writing parsing config
-    (λ told. best_times_in config style (events_in span told))
-    from to start finish before after outcome
+    (λ told. text_of_best_times
+    (record { style = style; venues = venues_in config; symbols = config.symbols.now })
+    (events_in span told))
+
+-- The output that is asked for. Rows of best lines and statistics are `timed` where the records
+-- have times.
+abbrev pub output_of : {R W : Type 0} → Reading R → Writing W → (timed : Bool)
+    → TimeSpan → RunOutput → Output R W
+output_of reading writing timed span Lines = PrintsAllRows reading writing
+output_of reading writing timed span (Bests format) =
+    PrintsBestRows reading writing (record { format = format; timed = timed }) span
+output_of reading writing timed span (Stats format) =
+    PrintsStatistics reading writing format timed span
+output_of reading writing timed span (Gaps format) = PrintsGapRows reading writing format span
+output_of reading writing timed span (Periods style) = PrintsPeriods reading writing style span
+output_of reading writing timed span (BestTimes style) =
+    PrintsBestTimes reading writing style span
+
+-- the output that the settings ask for
+abbrev pub output_asked : {R W : Type 0} → Reading R → Writing W → RunSettings → Output R W
+output_asked reading writing settings =
+    output_of reading writing (is_packet_input settings.input) settings.span settings.output
 
 -- the settings as a replay takes them; it makes at most 1,000,000,000 calls of the reader
 pub record IsConfigOf (settings : RunSettings) (config : ReplayConfig) : Type 0 where
@@ -184,16 +196,16 @@ pub record IsConfigOf (settings : RunSettings) (config : ReplayConfig) : Type 0 
   pub skips : config.skips ≡ settings.skips
   pub turns : config.turns ≡ 1000000000
 
--- A capture was replayed and printed as the settings say. Where it came to its end, what its venues
--- lack was appended to a list, and these are the symbols of which no item came, if that is watched.
-pub record PrintsAsked {R S F W : Type 0} (reading : Reading R) (writing : Writing W)
-    (parsing : Parsing S F) (settings : RunSettings) (is_watched : Bool) (from to : R)
+-- A capture was replayed with these settings, and printed by an output. Where it came to its end,
+-- what its venues lack was appended to a list, and these are the symbols of which no item came, if
+-- that is watched.
+pub record PrintsAsked {R S F W : Type 0} (reading : Reading R) (parsing : Parsing S F)
+    (Prints : Output R W) (settings : RunSettings) (is_watched : Bool) (from to : R)
     (start finish : S) (before after : W) (old new : List Lack) (absent : List (List ℕ))
     (outcome : Result (Unit {0}) (ReplayStop F)) : Type 0 where
   pub config : ReplayConfig
   pub is : IsConfigOf settings config
-  pub prints : PrintsBy reading writing parsing config (is_packet_input settings.input)
-      settings.span from to start finish before after outcome settings.output
+  pub prints : Prints parsing config from to start finish before after outcome
   pub lacks : OnOk outcome (AppendsLacks reading parsing config from to start finish old new)
   pub absent_are : OnOk outcome
       (LeavesAbsent reading parsing config from to start finish outcome is_watched absent)

@@ -25,7 +25,7 @@ use Rattle.nbbo_runs.specs.Discovery.{Discovered}
 use Rattle.nbbo_runs.specs.Ending.{ending_status, own_end_texts, write_failed_text}
 use Rattle.nbbo_runs.specs.Hints.{hint_text}
 use Rattle.nbbo_runs.specs.Lacks.{tells_lacks, told_lacks}
-use Rattle.nbbo_runs.specs.Printing.{PrintsAsked}
+use Rattle.nbbo_runs.specs.Printing.{Output, PrintsAsked, output_asked}
 use Rattle.nbbo_runs.specs.Streams.{Devices, Streams}
 use Rattle.nbbo_runs.specs.Watches.{IsWatched, watched_texts, watching}
 use Rattle.nbbo_runs.specs.declared.watched_format.WatchedFormat.{WatchedFormat}
@@ -33,18 +33,18 @@ use Rattle.nbbo_runs.specs.declared.program_run.Next.{Next}
 use Rattle.nbbo_runs.specs.declared.program_run.Next.TheVariants.{Ended, Listens}
 use Rattle.nbbo_runs.specs.declared.terminals.Terminals.{Terminals}
 
--- A capture of a format was replayed and printed, as the settings say. Standard error has the hint,
--- then what venues lack and which symbols never came, if that is told, and then what is to be said
--- of what was read and of the outcome, by `end_texts`.
+-- A capture of a format was replayed with these settings, and printed by an output. Standard error
+-- has the hint, then what venues lack and which symbols never came, if that is told, and then what
+-- is to be said of what was read and of the outcome, by `end_texts`.
 pub record RunsOver {R W E S F : Type 0} (devices : Devices R W E) (parsing : Parsing S F)
-    (end_texts : S → Result (Unit {0}) (ReplayStop F) → List (List ℕ))
+    (Prints : Output R S F W) (end_texts : S → Result (Unit {0}) (ReplayStop F) → List (List ℕ))
     (settings : RunSettings) (terminals : Terminals) (start : S)
     (before after : Streams R W E) (status : ℕ) : Type 0 where
   pub finish : S
   pub outcome : Result (Unit {0}) (ReplayStop F)
   pub lacks : List Lack
   pub absent : List (List ℕ)
-  pub prints : PrintsAsked devices.reading devices.writing parsing settings
+  pub prints : PrintsAsked devices.reading parsing Prints settings
       (tells_lacks settings terminals) before.input after.input start finish before.output
       after.output [] lacks absent outcome
   pub says : SaysEach devices.telling
@@ -57,39 +57,42 @@ pub record RunsOver {R W E S F : Type 0} (devices : Devices R W E) (parsing : Pa
 -- The same, where the datagrams are watched, and what is to be said of them comes after what venues
 -- lack.
 pub record RunsWatched {R W E S F : Type 0} (devices : Devices R W E) (parsing : Parsing S F)
-    (end_texts : S → Result (Unit {0}) (ReplayStop F) → List (List ℕ))
+    (Prints : Output R W) (end_texts : S → Result (Unit {0}) (ReplayStop F) → List (List ℕ))
     (settings : RunSettings) (terminals : Terminals) (start : S)
     (before after : Streams R W E) (status : ℕ) : Type 0 where
   pub watch : WatchedFormat S
   pub is : IsWatched start settings.feed.sessions.items watch
-  pub runs : RunsOver devices (watching parsing) (watched_texts end_texts) settings terminals watch
-      before after status
+  pub runs : RunsOver devices (watching parsing) Prints (watched_texts end_texts) settings terminals
+      watch before after status
 
 -- a run over a capture of the project's own format, whose datagrams are watched or not
-abbrev pub RunsOwn : {R W E : Type 0} (devices : Devices R W E) (settings : RunSettings)
-    (terminals : Terminals) (before after : Streams R W E) (status : ℕ) → Bool → Type 0
-RunsOwn devices settings terminals before after status false =
-    RunsOver devices own_parsing own_end_texts settings terminals
+abbrev pub RunsOwn : {R W E : Type 0} (devices : Devices R W E) (Prints : Output R W)
+    (settings : RunSettings) (terminals : Terminals) (before after : Streams R W E) (status : ℕ)
+    → Bool → Type 0
+RunsOwn devices Prints settings terminals before after status false =
+    RunsOver devices own_parsing Prints own_end_texts settings terminals
     (length settings.feed.sessions.items) before after status
-RunsOwn devices settings terminals before after status true =
-    RunsWatched devices own_parsing own_end_texts settings terminals
+RunsOwn devices Prints settings terminals before after status true =
+    RunsWatched devices own_parsing Prints own_end_texts settings terminals
     (length settings.feed.sessions.items) before after status
 
 -- a run over a capture of the project's own format, or over a packet capture
-abbrev pub RunsBy : {R W E : Type 0} (devices : Devices R W E) (settings : RunSettings)
-    (terminals : Terminals) (before after : Streams R W E) (status : ℕ) → RunInput → Type 0
-RunsBy devices settings terminals before after status Own =
-    RunsOwn devices settings terminals before after status (tells_lacks settings terminals)
-RunsBy devices settings terminals before after status (Packets lines) =
-    RunsWatched devices packet_parsing capture_texts settings terminals
+abbrev pub RunsBy : {R W E : Type 0} (devices : Devices R W E) (Prints : Output R W)
+    (settings : RunSettings) (terminals : Terminals) (before after : Streams R W E) (status : ℕ)
+    → RunInput → Type 0
+RunsBy devices Prints settings terminals before after status Own =
+    RunsOwn devices Prints settings terminals before after status (tells_lacks settings terminals)
+RunsBy devices Prints settings terminals before after status (Packets lines) =
+    RunsWatched devices packet_parsing Prints capture_texts settings terminals
     (new_packets (length settings.feed.sessions.items) lines.items) before after status
 
--- The words ask for a run, and it was made.
+-- The words ask for a run, and it was made, and printed by the output that they ask for.
 pub record Ran {R W E : Type 0} (devices : Devices R W E) (words : List Text)
     (terminals : Terminals) (before after : Streams R W E) (status : ℕ) : Type 0 where
   pub settings : RunSettings
   pub asked : AsksRun words settings
-  pub runs : RunsBy devices settings terminals before after status settings.input
+  pub runs : RunsBy devices (output_asked devices.reading devices.writing settings) settings terminals
+      before after status settings.input
 
 -- A packet capture was converted onto output. Standard error has the hint, and then what is to be
 -- said of what was read and of the outcome.

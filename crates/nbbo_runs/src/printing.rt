@@ -2,15 +2,14 @@
 ghost use Rattle.std.specs.Prelude.{◌≡◌, [], Err, IfErr, IfOk, IsOkAnd, vec_len};
 ghost use Rattle.feed_text.specs.declared.replay_stop.ReplayStop.TheVariants.{NoMemory};
 ghost use Rattle.feed_text.specs.EventReplays.{venues_in};
-ghost use Rattle.feed_text.specs.Replays.{CanReplay, text_told};
+ghost use Rattle.feed_text.specs.Replays.{CanReplay};
 ghost use Rattle.replay_reports.specs.best_times.BestTimeSinks.{IsNewBestTimes};
 ghost use Rattle.replay_reports.specs.gaps.GapSinks.{IsNewGapRows};
-ghost use Rattle.replay_reports.specs.gaps.GapTexts.{text_of_gaps};
 ghost use Rattle.replay_reports.specs.periods.PeriodSinks.{IsNewPeriods};
-ghost use Rattle.replay_reports.specs.rows.RowSinks.{IsNewRows, text_of_rows};
+ghost use Rattle.replay_reports.specs.rows.RowSinks.{IsNewRows};
 ghost use Rattle.replay_reports.specs.spans.SpanEvents.{events_in};
 ghost use Rattle.run_notes.specs.AbsentSymbols.{symbols_with};
-ghost use Rattle.nbbo_runs.specs.Printing.{IsTextOfSink, PrintsAsked, PrintsCounted, PrintsText, PrintsWatched, best_times_in, periods_in};
+ghost use Rattle.nbbo_runs.specs.Printing.{IsTextOfSink, PrintsAllRows, PrintsAsked, PrintsBestRows, PrintsBestTimes, PrintsFigures, PrintsGapRows, PrintsPeriods, PrintsText, PrintsWatched, output_asked};
 
 use crate::config::{RunConfig, config_of};
 use crate::lacks::is_packet_input;
@@ -64,9 +63,11 @@ fn print_lines<R: CaptureIn, F: RecordFormat, W: TextOut>(
     requires of_venues { F.venues format.old ≡ venues_in config.now.replay }
     ensures { PrintsWatched
         (record { gives = R.gives; ends = R.ends; failures = R.failures; fails = R.fails })
-        (record { adds = W.adds; failures = W.failures })
         (record { reads = F.reads; wants = F.wants; is_bad = F.is_bad; is_whole = F.is_whole })
-        config.now.replay text_told
+        (PrintsAllRows
+        (record { gives = R.gives; ends = R.ends; failures = R.failures; fails = R.fails })
+        (record { adds = W.adds; failures = W.failures }))
+        config.now.replay
         input.old input.new format.old format.new output result.sink missing.old missing.new
         result.outcome }
 {
@@ -114,9 +115,12 @@ fn print_rows<R: CaptureIn, F: RecordFormat, W: TextOut>(
     requires of_venues { F.venues format.old ≡ venues_in config.now.replay }
     ensures { PrintsWatched
         (record { gives = R.gives; ends = R.ends; failures = R.failures; fails = R.fails })
-        (record { adds = W.adds; failures = W.failures })
         (record { reads = F.reads; wants = F.wants; is_bad = F.is_bad; is_whole = F.is_whole })
-        config.now.replay (λ told. text_of_rows style (events_in config.now.span told))
+        (PrintsBestRows
+        (record { gives = R.gives; ends = R.ends; failures = R.failures; fails = R.fails })
+        (record { adds = W.adds; failures = W.failures })
+        style config.now.span)
+        config.now.replay
         input.old input.new format.old format.new output result.sink missing.old missing.new
         result.outcome }
 {
@@ -158,9 +162,12 @@ fn print_gaps<R: CaptureIn, F: RecordFormat, W: TextOut>(
     requires of_venues { F.venues format.old ≡ venues_in config.now.replay }
     ensures { PrintsWatched
         (record { gives = R.gives; ends = R.ends; failures = R.failures; fails = R.fails })
-        (record { adds = W.adds; failures = W.failures })
         (record { reads = F.reads; wants = F.wants; is_bad = F.is_bad; is_whole = F.is_whole })
-        config.now.replay (λ told. text_of_gaps rows (events_in config.now.span told))
+        (PrintsGapRows
+        (record { gives = R.gives; ends = R.ends; failures = R.failures; fails = R.fails })
+        (record { adds = W.adds; failures = W.failures })
+        rows config.now.span)
+        config.now.replay
         input.old input.new format.old format.new output result.sink missing.old missing.new
         result.outcome }
 {
@@ -212,10 +219,12 @@ fn print_periods<R: CaptureIn, F: RecordFormat, W: TextOut>(
     requires of_venues { F.venues format.old ≡ venues_in config.now.replay }
     ensures { PrintsWatched
         (record { gives = R.gives; ends = R.ends; failures = R.failures; fails = R.fails })
-        (record { adds = W.adds; failures = W.failures })
         (record { reads = F.reads; wants = F.wants; is_bad = F.is_bad; is_whole = F.is_whole })
+        (PrintsPeriods
+        (record { gives = R.gives; ends = R.ends; failures = R.failures; fails = R.fails })
+        (record { adds = W.adds; failures = W.failures })
+        style config.now.span)
         config.now.replay
-        (λ told. periods_in config.now.replay style (events_in config.now.span told))
         input.old input.new format.old format.new output result.sink missing.old missing.new
         result.outcome }
 {
@@ -271,10 +280,12 @@ fn print_best_times<R: CaptureIn, F: RecordFormat, W: TextOut>(
     requires of_venues { F.venues format.old ≡ venues_in config.now.replay }
     ensures { PrintsWatched
         (record { gives = R.gives; ends = R.ends; failures = R.failures; fails = R.fails })
-        (record { adds = W.adds; failures = W.failures })
         (record { reads = F.reads; wants = F.wants; is_bad = F.is_bad; is_whole = F.is_whole })
+        (PrintsBestTimes
+        (record { gives = R.gives; ends = R.ends; failures = R.failures; fails = R.fails })
+        (record { adds = W.adds; failures = W.failures })
+        style config.now.span)
         config.now.replay
-        (λ told. best_times_in config.now.replay style (events_in config.now.span told))
         input.old input.new format.old format.new output result.sink missing.old missing.new
         result.outcome }
 {
@@ -328,12 +339,15 @@ fn print_stats<R: CaptureIn, F: RecordFormat, W: TextOut, K: StatsSink + Drop>(
 ) -> Replayed<W, F::Fault>
     requires can { CanReplay config.now.replay }
     requires of_venues { F.venues format.old ≡ venues_in config.now.replay }
-    ensures { PrintsCounted
+    ensures { PrintsWatched
+        (record { gives = R.gives; ends = R.ends; failures = R.failures; fails = R.fails })
+        (record { reads = F.reads; wants = F.wants; is_bad = F.is_bad; is_whole = F.is_whole })
+        (λ parsing replay. PrintsFigures
         (record { gives = R.gives; ends = R.ends; failures = R.failures; fails = R.fails })
         (record { adds = W.adds; failures = W.failures })
-        (record { reads = F.reads; wants = F.wants; is_bad = F.is_bad; is_whole = F.is_whole })
-        config.now.replay (λ told. IsTextOfSink K.takes (λ sink. K.is_text sink stats.form)
-        stats.made (events_in config.now.span told))
+        parsing replay (λ told. IsTextOfSink K.takes (λ sink. K.is_text sink stats.form) stats.made
+        (events_in config.now.span told)))
+        config.now.replay
         input.old input.new format.old format.new output result.sink missing.old missing.new
         result.outcome }
 {
@@ -362,8 +376,11 @@ pub fn print<R: CaptureIn, F: RecordFormat, W: TextOut>(
     requires { F.venues format.old ≡ vec_len settings.now.feed.sessions }
     ensures { PrintsAsked
         (record { gives = R.gives; ends = R.ends; failures = R.failures; fails = R.fails })
-        (record { adds = W.adds; failures = W.failures })
         (record { reads = F.reads; wants = F.wants; is_bad = F.is_bad; is_whole = F.is_whole })
+        (output_asked
+        (record { gives = R.gives; ends = R.ends; failures = R.failures; fails = R.fails })
+        (record { adds = W.adds; failures = W.failures })
+        settings.now)
         settings.now missing.old.is_watched input.old input.new format.old format.new
         output result.sink missing.old.lacks.items missing.new.lacks.items
         (symbols_with missing.new.absent settings.now.feed.symbols.items) result.outcome }

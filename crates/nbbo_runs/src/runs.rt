@@ -1,6 +1,7 @@
 //! Runs over captures: replays that are printed, and conversions.
 ghost use Rattle.std.specs.Prelude.{◌≡◌, vec_len};
 ghost use Rattle.run_settings.specs.Lists.{AreOfVenues};
+ghost use Rattle.nbbo_runs.specs.Printing.{output_asked};
 ghost use Rattle.nbbo_runs.specs.Runs.{RunsBy, RunsConversion, RunsOver};
 
 use crate::absent_report::tell_absent;
@@ -45,6 +46,10 @@ fn run_over<R: CaptureIn, F: ToldFormat + Drop, W: TextOut, E: TextOut>(
           telling = record { adds = E.adds; failures = E.failures };
         })
         (record { reads = F.reads; wants = F.wants; is_bad = F.is_bad; is_whole = F.is_whole })
+        (output_asked
+        (record { gives = R.gives; ends = R.ends; failures = R.failures; fails = R.fails })
+        (record { adds = W.adds; failures = W.failures })
+        settings.now)
         F.end_texts settings.now terminals format
         (record { input = input.old; output = output; errors = errors.old })
         (record { input = input.new; output = result.1; errors = errors.new }) result.0 }
@@ -81,6 +86,10 @@ pub fn run_settings<R: CaptureIn, W: TextOut, E: TextOut>(
           writing = record { adds = W.adds; failures = W.failures };
           telling = record { adds = E.adds; failures = E.failures };
         })
+        (output_asked
+        (record { gives = R.gives; ends = R.ends; failures = R.failures; fails = R.fails })
+        (record { adds = W.adds; failures = W.failures })
+        settings.now)
         settings.now terminals
         (record { input = input.old; output = output; errors = errors.old })
         (record { input = input.new; output = result.1; errors = errors.new })

@@ -8,7 +8,10 @@ returns-in-Ok g c =
     record { adds = g.W.TextOut.adds; failures = g.W.TextOut.failures } in
     let rows = c.in-Ok.rows in
     let replayed = c.replay_in_span-replayed in
-    rw c.into_writer.ensures (span_prints _ (rows_taking writing) rows
+    rw c.into_writer.ensures (record {
+      prints = span_prints _ (rows_taking writing) rows
     replayed.result.sink
     (rows_write writing c.args.output c.args.style rows replayed.result.sink c.in-Ok.ensures.rows)
-    replayed.ensures.run replayed.ensures.missing)
+    replayed.ensures.run;
+      missing = replayed.ensures.missing;
+    })

@@ -8,7 +8,7 @@ use Rattle.feed_text.specs.laws.SaidTexts.{says_each}
 use Rattle.nbbo_runs.specs.AbsentSymbols.{told_absent}
 use Rattle.run_notes.specs.AbsentSymbols.{symbols_with}
 use Rattle.nbbo_runs.specs.Lacks.{tells_lacks, told_lacks}
-use Rattle.nbbo_runs.specs.Printing.{PrintsAsked}
+use Rattle.nbbo_runs.specs.Printing.{PrintsAsked, output_asked}
 use Rattle.nbbo_runs.proofs.SaidLacks.{tells_absent, tells_items}
 use Rattle.nbbo_runs.proofs.runs.run_over.Goals as goal
 
@@ -49,11 +49,13 @@ returns g c =
       outcome = outcome;
       lacks = lacks;
       absent = absent;
-      prints = subst (λ (old : List Lack). PrintsAsked reading writing parsing settings due
+      prints = subst (λ (old : List Lack). PrintsAsked reading parsing
+          (output_asked reading writing settings) settings due
           c.args.input.now c.print-printed.new.input c.args.format finish c.args.output
           c.print-printed.result.sink old lacks absent outcome)
           c.new-missing.ensures.lacks
-          (subst (λ (is_watched : Bool). PrintsAsked reading writing parsing settings is_watched
+          (subst (λ (is_watched : Bool). PrintsAsked reading parsing
+          (output_asked reading writing settings) settings is_watched
           c.args.input.now c.print-printed.new.input c.args.format finish c.args.output
           c.print-printed.result.sink c.new-missing.result.lacks.items lacks absent outcome)
           (c.new-missing.ensures.watched ∙ c.tells_lacks-is_told.ensures)
