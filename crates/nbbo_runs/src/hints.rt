@@ -119,7 +119,11 @@ fn is_file<F: Files>(files: &F, word: &str) -> bool {
 
 /// Whether the word is an option of `nbbo replay` or `nbbo stats` that has no value.
 fn is_flag(word: &str) -> bool {
-    word == "--gaps" || word == "--best-only" || word == "--join" || word == "--skip-gaps"
+    word == "--gaps"
+        || word == "--best-only"
+        || word == "--bests"
+        || word == "--join"
+        || word == "--skip-gaps"
 }
 
 /// Whether a word after this one may be a symbol: an option may take it as its value.
