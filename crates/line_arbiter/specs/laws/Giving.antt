@@ -48,9 +48,11 @@ record IsOf (s : Session) (packets : List Input) : Type 0 where
 
 part : (s : Session) (packets : List Input) → IsOf s packets → IsPartOf s packets
 part s packets of = record {
-  item = λ m item h message.
-      carried_may (carries_alone s) (ends_alone s) 0 0 packets m item of.genuine h message;
-  end = λ e h. end_may (carries_alone s) (ends_alone s) 0 0 packets e of.genuine h;
+  taken = record {
+    item = λ m item h message.
+        carried_may (carries_alone s) (ends_alone s) 0 0 packets m item of.genuine h message;
+    end = λ e h. end_may (carries_alone s) (ends_alone s) 0 0 packets e of.genuine h;
+  };
   within = of.within;
 }
 
@@ -131,5 +133,5 @@ gives_session s window packets all of =
           ∙ ap (λ (xs : List Numbered). parts_after s [] packets ++ xs) present;
       accepted = own.accepted;
       whole = λ complete.
-          let last = (part s packets own).end (front_of packets + 1) complete in omega arith;
+          let last = (part s packets own).taken.end (front_of packets + 1) complete in omega arith;
     }

@@ -57,21 +57,23 @@ end_is_last (Some e) front len h =
     tests : (e front len : ℕ) → e ≡ len + 1 → (e == front + 1) ≡ (front == len)
     tests e front len h = grind (arith, nat_tests)
 
--- what was taken is the session's: each message has its number, and the end the one after the last;
--- and the skips go on within it
-pub record IsPartOf (s : Session) (packets : List Input) : Type 0 where
+-- what was taken is the session's: each message has its number, and the end the one after the last
+pub record IsTakenOf (s : Session) (packets : List Input) : Type 0 where
   pub item : (m : ℕ) (item : Item) → carried packets m ≡ Some item → (item ≡ items.Skipped → ⊥)
       → IsItemAt s m item
   pub end : (e : ℕ) → end_of packets ≡ Some e → e ≡ length s.items + 1
+
+-- the same, and the skips go on within the session
+pub record IsPartOf (s : Session) (packets : List Input) : Type 0 where
+  pub taken : IsTakenOf s packets
   pub within : AllByRecursion (SkipsWithin s) packets
 
-pub part_of_session : (sessions : ℕ → ℕ → List ℕ → Type 0) (carries : ℕ → ℕ → ℕ → Item → Type 0)
-    (ends : ℕ → ℕ → ℕ → Type 0) (venue ordinal : ℕ) (all : List Session) (s : Session)
-    (packets : List Input)
+pub taken_of_session : (sessions : ℕ → ℕ → List ℕ → Type 0)
+    (carries : ℕ → ℕ → ℕ → Item → Type 0) (ends : ℕ → ℕ → ℕ → Type 0) (venue ordinal : ℕ)
+    (all : List Session) (s : Session) (packets : List Input)
     → Names sessions carries ends venue all → IsSessionAt all ordinal s
-    → AreGenuine carries ends venue ordinal packets → AllByRecursion (SkipsWithin s) packets
-    → IsPartOf s packets
-part_of_session sessions carries ends venue ordinal all s packets names at genuine within = record {
+    → AreGenuine carries ends venue ordinal packets → IsTakenOf s packets
+taken_of_session sessions carries ends venue ordinal all s packets names at genuine = record {
   item = λ m item is message.
       let found =
       (names.carried ordinal m item).0
@@ -81,36 +83,20 @@ part_of_session sessions carries ends venue ordinal all s packets names at genui
       let found =
       (names.ended ordinal e).0 (end_may carries ends venue ordinal packets e genuine is) in
       subst (λ (t : Session). e ≡ length t.items + 1) (same_session found.0 found.1) found.2;
-  within = within;
 } where
   same_session : (t : Session) → IsSessionAt all ordinal t → t ≡ s
   same_session t h = let mine : Some t ≡ Some s = sym h.1 ∙ at.1 in cc
 
--- a number at which Skipped was carried is below a skip's
-skipped_within : (s : Session) (packets : List Input) (m : ℕ)
-    → AllByRecursion (SkipsWithin s) packets → carried packets m ≡ Some items.Skipped
-    → m ≤ length s.items
-skipped_within s [] m within is = absurd cc
-skipped_within s (Arrived a ∷ packets) m within is =
-    by_test (λ h. skipped_within s packets m within.1 h) (brings m (Arrived a)) is
-  where
-    by_test : (carried packets m ≡ Some items.Skipped → m ≤ length s.items) → (b : Bool)
-        → option_map (λ (y : Input). item_brought y m)
-        (cond b (Some (Arrived a)) (find (brings m) packets)) ≡ Some items.Skipped
-        → m ≤ length s.items
-    by_test later true is =
-        absurd (item_of-never_skipped _ (let e : item_at a.packet m ≡ items.Skipped = cc in e))
-    by_test later false is = later is
-skipped_within s (Skip n ∷ packets) m within is =
-    by_test (λ h. skipped_within s packets m within.1 h) (nat_lt m n) refl is
-  where
-    by_test : (carried packets m ≡ Some items.Skipped → m ≤ length s.items) → (b : Bool)
-        → nat_lt m n ≡ b
-        → option_map (λ (y : Input). item_brought y m)
-        (cond b (Some (Skip n)) (find (brings m) packets)) ≡ Some items.Skipped
-        → m ≤ length s.items
-    by_test later true e is = let lt = ltb-true m n e in let k = within.0 in omega arith
-    by_test later false e is = later is
+pub part_of_session : (sessions : ℕ → ℕ → List ℕ → Type 0) (carries : ℕ → ℕ → ℕ → Item → Type 0)
+    (ends : ℕ → ℕ → ℕ → Type 0) (venue ordinal : ℕ) (all : List Session) (s : Session)
+    (packets : List Input)
+    → Names sessions carries ends venue all → IsSessionAt all ordinal s
+    → AreGenuine carries ends venue ordinal packets → AllByRecursion (SkipsWithin s) packets
+    → IsPartOf s packets
+part_of_session sessions carries ends venue ordinal all s packets names at genuine within = record {
+  taken = taken_of_session sessions carries ends venue ordinal all s packets names at genuine;
+  within = within;
+}
 
 first_grows : (packets : List Input) (n : ℕ) → n ≤ fold (λ n x. first_by n x) n packets
 first_grows [] n = omega arith
@@ -119,6 +105,19 @@ first_grows (Skip k ∷ packets) n = let rest = first_grows packets (max n k) in
 
 pub first_least : (packets : List Input) → 1 ≤ first_of packets
 first_least packets = first_grows packets 1
+
+-- where the skips go on within the session, so does the present part
+first_stays : (s : Session) (packets : List Input) (n : ℕ) → n ≤ length s.items + 1
+    → AllByRecursion (SkipsWithin s) packets
+    → fold (λ n x. first_by n x) n packets ≤ length s.items + 1
+first_stays s [] n le within = le
+first_stays s (Arrived a ∷ packets) n le within = first_stays s packets n le within.1
+first_stays s (Skip k ∷ packets) n le within =
+    let most = within.0 in first_stays s packets (max n k) (omega arith) within.1
+
+pub first_within : (s : Session) (packets : List Input) → AllByRecursion (SkipsWithin s) packets
+    → first_of packets ≤ length s.items + 1
+first_within s packets within = first_stays s packets 1 (omega arith) within
 
 -- a number at which Skipped was carried is below the part's first
 skipped_before : (packets : List Input) (n m : ℕ) → carried packets m ≡ Some items.Skipped
@@ -151,18 +150,30 @@ pub skipped_below : (packets : List Input) (m : ℕ) → carried packets m ≡ S
     → m < first_of packets
 skipped_below packets m is = skipped_before packets 1 m is
 
+-- what was taken past the session's end was given up: the present part goes on from past it
+pub taken_past : (s : Session) (packets : List Input) → IsTakenOf s packets → (m : ℕ)
+    → IsSome (carried packets m) → length s.items < m → m < first_of packets
+taken_past s packets taken m h past =
+    elim (cases_item (unwrap_or (carried packets m) items.Other) items.Skipped) [
+      | inl skipped ↦ skipped_below packets m
+          (some_is (carried packets m) h ∙ ap (λ (x : Item). Some x) skipped)
+      | inr message ↦
+          let at = taken.item m (unwrap_or (carried packets m) items.Other)
+          (some_is (carried packets m) h) message in
+          let lt =
+          slice_get_within s.items (m - 1) (unwrap_or (carried packets m) items.Other) at.1 in
+          let one = at.0 in
+          absurd (omega arith)
+    ]
+
 module _ (s : Session) (packets : List Input) (part : IsPartOf s packets) where
-  pub taken_within : (m : ℕ) → IsSome (carried packets m) → m ≤ length s.items
-  taken_within m h = elim (cases_item (unwrap_or (carried packets m) items.Other) items.Skipped) [
-    | inl skipped ↦ skipped_within s packets m part.within
-        (some_is (carried packets m) h ∙ ap (λ (x : Item). Some x) skipped)
-    | inr message ↦
-        let at = part.item m (unwrap_or (carried packets m) items.Other)
-        (some_is (carried packets m) h) message in
-        let lt =
-        slice_get_within s.items (m - 1) (unwrap_or (carried packets m) items.Other) at.1 in
-        let one = at.0 in
-        omega arith
+  taken_within : (m : ℕ) → IsSome (carried packets m) → m ≤ length s.items
+  taken_within m h = elim (cases_lt (length s.items) m) [
+    | inl past ↦
+        let below = taken_past s packets part.taken m h past in
+        let within = first_within s packets part.within in
+        absurd (omega arith)
+    | inr le ↦ le
   ]
 
   pub front_within : front_of packets ≤ length s.items
@@ -176,7 +187,7 @@ module _ (s : Session) (packets : List Input) (part : IsPartOf s packets) where
       → slice_get s.items (m - 1) ≡ Some (unwrap_or (carried packets m) items.Other)
   message_in m one most from =
       let some = some_is (carried packets m) ((front_is packets).all m one most) in
-      (part.item m (unwrap_or (carried packets m) items.Other) some
+      (part.taken.item m (unwrap_or (carried packets m) items.Other) some
       (λ e. let below = skipped_below packets m (some ∙ ap (λ (x : Item). Some x) e) in
       absurd (omega arith))).1
 
@@ -252,4 +263,4 @@ module _ (s : Session) (packets : List Input) (part : IsPartOf s packets) where
       ∙ ap (λ (xs : List Numbered). (opening (first_of packets)
       ++ numbered_from (first_of packets)
       (take (front_of packets + 1 - first_of packets) (drop (first_of packets - 1) s.items))) ++ xs)
-      (end_is_last (end_of packets) (front_of packets) (length s.items) part.end)
+      (end_is_last (end_of packets) (front_of packets) (length s.items) part.taken.end)
