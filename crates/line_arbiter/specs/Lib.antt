@@ -10,6 +10,7 @@ pub mod LastSent
 pub mod Additions
 pub mod Genuine
 pub mod OfSession
+pub mod SessionOrder
 pub mod InOrder
 -- an arbiter, and the packets and sessions that it fits
 pub mod Counts

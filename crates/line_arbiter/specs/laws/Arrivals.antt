@@ -81,6 +81,11 @@ pub all_push : {X : Type 0} (Q : X → Type 0) (xs : List X) (x : X) → AllByRe
 all_push Q [] x all one = (one, tt)
 all_push Q (y ∷ xs) x all one = (all.0, all_push Q xs x all.1 one)
 
+pub all_map : {X : Type 0} {P Q : X → Type 0} → ((x : X) → P x → Q x) → (xs : List X)
+    → AllByRecursion P xs → AllByRecursion Q xs
+all_map f [] all = tt
+all_map f (x ∷ xs) all = (f x all.0, all_map f xs all.1)
+
 module _ (carries : Carries) (ends : Ends) (venue ordinal : ℕ) where
   genuine_input : (session : List ℕ) (window : ℕ) (packets : List Input) (x : Input)
       → IsGenuineIn carries ends venue ordinal session x

@@ -1,6 +1,6 @@
 -- The streams of genuine packets obey the rule of a venue's items, part by part.
 use Rattle.std.proofs.Common.{◌≡◌, ℕ, zero, suc, ◌+◌, ◌-◌, ◌<◌, ◌≤◌, Bool, true, false, List, [], ◌∷◌, ◌++◌, append_assoc, append-nil, map, Option, Some, None, refl, sym, ap, subst, ◌∙◌, arith, inl, inr}
-use Rattle.std.specs.Prelude.{IsSome, nat_lt, ◌==◌, if◌then◌else◌}
+use Rattle.std.specs.Prelude.{◌⊎◌, IsSome, nat_lt, ◌==◌, if◌then◌else◌}
 use Rattle.std.specs.List.{AllByRecursion, range_with_len}
 use Rattle.std.specs.Option.{unwrap_or}
 use Rattle.std.proofs.lemmas.Bool.{cases_lt, eq-eqb, eqb-true, le-ltb, lt-ltb, ne_eqb}
@@ -13,6 +13,7 @@ use Rattle.line_arbiter.specs.Streams.{closed_after, closed_of, front_of, item_i
 use Rattle.line_arbiter.specs.Skips.{AreSkips, MaySkip, SkipsFrom}
 use Rattle.line_arbiter.specs.Histories.{Begun, History, all_begun, items_of, streams_of}
 use Rattle.line_arbiter.specs.Genuine.{AreGenuine, AreGenuineFrom, IsGenuineInput}
+use Rattle.line_arbiter.specs.SessionOrder.{AreInSequenceFrom}
 use Rattle.feed_types.specs.SequenceLaws.{continues_append}
 use Rattle.line_arbiter.specs.laws.Bringing.{first_of-push, opens_same}
 use Rattle.line_arbiter.specs.laws.Fronts.{first_most, front_is, opens_most}
@@ -28,6 +29,13 @@ place_past_message ordinal n items.Other never = refl
 place_past_message ordinal n items.Skipped never = refl
 place_past_message ordinal n (items.Quote quote) never = refl
 place_past_message ordinal n (items.Halt symbol halted) never = refl
+
+is_end : (item : Item) → (item ≡ items.End) ⊎ (item ≡ items.End → ⊥)
+is_end items.End = inl refl
+is_end items.Other = inr (λ e. absurd cc)
+is_end items.Skipped = inr (λ e. absurd cc)
+is_end (items.Quote quote) = inr (λ e. absurd cc)
+is_end (items.Halt symbol halted) = inr (λ e. absurd cc)
 
 own_place : (n : ℕ) (item : Item) → HasPlace n n item
 own_place n items.End = refl
@@ -45,6 +53,33 @@ place_through : (from mid to : Place) (xs ys : List Numbered) → place_after_al
     → place_after_all mid ys ≡ to → place_after_all from (xs ++ ys) ≡ to
 place_through from mid to xs ys e f =
     place_after_append from xs ys ∙ ap (λ (place : Place). place_after_all place ys) e ∙ f
+
+-- no item leads back to an earlier session
+not_back : (ordinal n : ℕ) (item : Item) → ordinal ≤ (place_past ordinal n item).ordinal
+not_back ordinal n items.End = omega arith
+not_back ordinal n items.Other = omega arith
+not_back ordinal n items.Skipped = omega arith
+not_back ordinal n (items.Quote quote) = omega arith
+not_back ordinal n (items.Halt symbol halted) = omega arith
+
+never_back : (place : Place) (xs : List Numbered)
+    → place.ordinal ≤ (place_after_all place xs).ordinal
+never_back place [] = omega arith
+never_back place (x ∷ xs) =
+    let one : place.ordinal ≤ (place_after place x).ordinal =
+    not_back place.ordinal x.number x.item in
+    let rest = never_back (place_after place x) xs in
+    omega arith
+
+-- where the end follows, it is the last item
+end_last : (end : Option ℕ) (m : ℕ) → AreInSequenceFrom m (end_at end m)
+end_last None m = tt
+end_last (Some e) m = by_test (e == m)
+  where
+    by_test : (b : Bool)
+        → AreInSequenceFrom m (if b then record { number = m; item = items.End } ∷ [] else [])
+    by_test true = (refl, λ end. refl, tt)
+    by_test false = tt
 
 all_front : {X : Type 0} (Q : X → Type 0) (xs ys : List X) → AllByRecursion Q (xs ++ ys)
     → AllByRecursion Q xs
@@ -217,6 +252,34 @@ module _ (carries : ℕ → ℕ → ℕ → Item → Type 0) (ends : ℕ → ℕ
         ∙ ap (λ (place : Place). place_after_all place
         (end_at (end_of packets) (front_of packets + 1))) (run_continues k can).1
 
+  -- items after which the place is in the same session are in sequence, with no End among them
+  stays : (ordinal n m : ℕ) (xs ys : List Numbered)
+      → Continues carries ends venue (place_at ordinal n) xs
+      → place_after_all (place_at ordinal n) xs ≡ place_at ordinal m → AreInSequenceFrom m ys
+      → AreInSequenceFrom n (xs ++ ys)
+  stays ordinal n m [] ys all is next =
+      subst (λ (k : ℕ). AreInSequenceFrom k ys) (sym (ap (λ (p : Place). p.number) is)) next
+  stays ordinal n m (x ∷ xs) ys all is next = elim (is_end x.item) [
+    | inl end ↦
+        let here : place_after (place_at ordinal n) x ≡ place_at (ordinal + 1) 1 =
+        ap (λ (item : Item). place_past ordinal x.number item) end in
+        let later = never_back (place_at (ordinal + 1) 1) xs in
+        let same : place_after_all (place_at (ordinal + 1) 1) xs ≡ place_at ordinal m =
+        subst (λ (p : Place). place_after_all p xs ≡ place_at ordinal m) here is in
+        let back : (place_after_all (place_at (ordinal + 1) 1) xs).ordinal ≡ ordinal =
+        ap (λ (p : Place). p.ordinal) same in
+        absurd (omega arith)
+    | inr other ↦
+        let here : place_after (place_at ordinal n) x ≡ place_at ordinal (x.number + 1) =
+        place_past_message ordinal x.number x.item other in (
+          all.0,
+          λ end. absurd (other end),
+          stays ordinal (x.number + 1) m xs ys
+              (subst (λ (p : Place). Continues carries ends venue p xs) here all.2)
+              (subst (λ (p : Place). place_after_all p xs ≡ place_at ordinal m) here is) next,
+        )
+  ]
+
   none_at : (end : Option ℕ) (m : ℕ) → ((e : ℕ) → end ≡ Some e → m < e) → end_at end m ≡ []
   none_at None m past = refl
   none_at (Some e) m past =
@@ -309,6 +372,15 @@ module _ (carries : ℕ → ℕ → ℕ → Item → Type 0) (ends : ℕ → ℕ
         closed.goes
         (subst (λ (place : Place). Continues carries ends venue place (part_of packets))
         (sym closed.place) (part_continues ordinal packets genuine closed.next closed.can))
+
+    -- the session's items are in sequence, whatever the lines may carry
+    pub stream_in_sequence : AreInSequenceFrom 1 (stream_of packets)
+    stream_in_sequence =
+        let run = run_continues ordinal packets genuine closed.next closed.can in
+        stays ordinal 1 closed.next (closed_of packets) (part_of packets) closed.goes closed.place
+        (stays ordinal closed.next (front_of packets + 1) (messages ordinal packets genuine)
+        (end_at (end_of packets) (front_of packets + 1)) run.0 run.1
+        (end_last (end_of packets) (front_of packets + 1)))
 
     -- after a session that is over comes the first place of the next
     place_after_stream : IsComplete packets
