@@ -114,7 +114,7 @@ pub record LeavesMissing {R S F : Type 0} (reading : Reading R) (parsing : Parsi
 -- How a replay is printed, for any format of captures: a relation of its settings, of the reader and
 -- the format before and after, of the writer before and after, and of the outcome.
 abbrev pub Output : (R W : Type 0) → Type 1
-Output R W = {S F : Type 0} → Parsing S F → ReplayConfig → (from to : R) (start finish : S)
+Output R W = (S F : Type 0) → Parsing S F → ReplayConfig → (from to : R) (start finish : S)
     (before after : W) → Result (Unit {0}) (ReplayStop F) → Type 0
 
 -- A replay was printed by an output, and what is missing at its end was left.
@@ -122,46 +122,46 @@ pub record PrintsWatched {R S F W : Type 0} (reading : Reading R) (parsing : Par
     (Prints : Output R W) (config : ReplayConfig) (from to : R) (start finish : S)
     (before after : W) (old new : Missing) (outcome : Result (Unit {0}) (ReplayStop F))
     : Type 0 where
-  pub prints : Prints parsing config from to start finish before after outcome
+  pub prints : Prints S F parsing config from to start finish before after outcome
   pub missing : LeavesMissing reading parsing config from to start finish old new outcome
 
 -- ---- by what is asked for
 
 -- all rows
 abbrev pub PrintsAllRows : {R W : Type 0} → Reading R → Writing W → Output R W
-PrintsAllRows reading writing parsing config =
+PrintsAllRows reading writing S F parsing config =
     PrintsEvents reading writing parsing config text_told
 
 -- the rows of best lines alone, of the events in a span
 abbrev pub PrintsBestRows : {R W : Type 0} → Reading R → Writing W → RowStyle → TimeSpan
     → Output R W
-PrintsBestRows reading writing style span parsing config =
+PrintsBestRows reading writing style span S F parsing config =
     PrintsEvents reading writing parsing config (λ told. text_of_rows style (events_in span told))
 
 -- the statistics of the events in a span, `timed` where the records have times
 abbrev pub PrintsStatistics : {R W : Type 0} → Reading R → Writing W → StatsFormat → Bool
     → TimeSpan → Output R W
-PrintsStatistics reading writing format timed span parsing config =
+PrintsStatistics reading writing format timed span S F parsing config =
     PrintsFigures reading writing parsing config
     (λ told. IsStatsText config format timed (events_in span told))
 
 -- the rows of the gaps in a span
 abbrev pub PrintsGapRows : {R W : Type 0} → Reading R → Writing W → RowFormat → TimeSpan
     → Output R W
-PrintsGapRows reading writing format span parsing config =
+PrintsGapRows reading writing format span S F parsing config =
     PrintsEvents reading writing parsing config (λ told. text_of_gaps format (events_in span told))
 
 -- the rows of the periods in a span
 abbrev pub PrintsPeriods : {R W : Type 0} → Reading R → Writing W → PeriodStyle → TimeSpan
     → Output R W
-PrintsPeriods reading writing style span parsing config =
+PrintsPeriods reading writing style span S F parsing config =
     PrintsEvents reading writing parsing config
     (λ told. text_of_periods style (venues_in config) (events_in span told))
 
 -- the rows of how long national bests stood in the periods of a span
 abbrev pub PrintsBestTimes : {R W : Type 0} → Reading R → Writing W → PeriodStyle → TimeSpan
     → Output R W
-PrintsBestTimes reading writing style span parsing config =
+PrintsBestTimes reading writing style span S F parsing config =
     PrintsEvents reading writing parsing config
     (λ told. text_of_best_times
     (record { style = style; venues = venues_in config; symbols = config.symbols.now })
@@ -205,7 +205,7 @@ pub record PrintsAsked {R S F W : Type 0} (reading : Reading R) (parsing : Parsi
     (outcome : Result (Unit {0}) (ReplayStop F)) : Type 0 where
   pub config : ReplayConfig
   pub is : IsConfigOf settings config
-  pub prints : Prints parsing config from to start finish before after outcome
+  pub prints : Prints S F parsing config from to start finish before after outcome
   pub lacks : OnOk outcome (AppendsLacks reading parsing config from to start finish old new)
   pub absent_are : OnOk outcome
       (LeavesAbsent reading parsing config from to start finish outcome is_watched absent)

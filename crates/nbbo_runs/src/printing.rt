@@ -342,7 +342,7 @@ fn print_stats<R: CaptureIn, F: RecordFormat, W: TextOut, K: StatsSink + Drop>(
     ensures { PrintsWatched
         (record { gives = R.gives; ends = R.ends; failures = R.failures; fails = R.fails })
         (record { reads = F.reads; wants = F.wants; is_bad = F.is_bad; is_whole = F.is_whole })
-        (λ parsing replay. PrintsFigures
+        (λ State Fault parsing replay. PrintsFigures
         (record { gives = R.gives; ends = R.ends; failures = R.failures; fails = R.fails })
         (record { adds = W.adds; failures = W.failures })
         parsing replay (λ told. IsTextOfSink K.takes (λ sink. K.is_text sink stats.form) stats.made
