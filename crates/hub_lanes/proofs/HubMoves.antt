@@ -34,8 +34,9 @@ use Rattle.feed_steps.specs.Lanes.{FeedLanes}
 use Rattle.journal_book.specs.ItemsIn.{items_in}
 use Rattle.journal_book.specs.ItemLaws.{items_put, items_here, items_there}
 use Rattle.hub_lanes.specs.Hubs.{HubState, IsConsumed, HubLockInvariant, IsOffered, IsSpare}
-use Rattle.hub_lanes.specs.Sections.{Consumes, ConsumesOne, HubOffersOne, KeepsButOffers, hub_intake}
+use Rattle.hub_lanes.specs.Sections.{Consumes, ConsumesOne, HubOffersOne, KeepsButOffersTo, hub_intake}
 use Rattle.feed_steps.specs.declared.unsent.Unsent.TheVariants as unsent
+use Rattle.hub_lanes.proofs.LaneEnds.{get_other}
 
 -- ---- cursors
 
@@ -411,17 +412,21 @@ module _ (venue : ℕ) (s : HubState) (r : LaneEnd Numbered)
 
 -- ---- offer
 
--- nothing but a cursor and a lane has changed
+-- nothing but the subscriber's cursor and its lane has changed
 pub offer_keeps : (s : HubState) (id to : ℕ) (c : Cursor) (j : JournalState)
     (senders : List (LaneEnd Notice))
     → slice_get s.journal.cursors id ≡ Some c
     → j ≡ record s.journal { cursors = slice_set s.journal.cursors id (record c { seen = to }) }
-    → KeepsButOffers s (record s { journal = j; senders = senders })
+    → KeepsButOffersTo id s (record s { journal = j; senders = senders })
 offer_keeps s id to c j senders at is = record {
-  journal = is ∙ ap (λ (x : JournalState). record s.journal { cursors = x.cursors }) (sym is);
-  terms = ap (λ (x : JournalState). map (λ (y : Cursor). y.terms) x.cursors) is
-      ∙ terms_put s.journal.cursors id to c at;
-  others = refl;
+  kept = record {
+    journal = is ∙ ap (λ (x : JournalState). record s.journal { cursors = x.cursors }) (sym is);
+    terms = ap (λ (x : JournalState). map (λ (y : Cursor). y.terms) x.cursors) is
+        ∙ terms_put s.journal.cursors id to c at;
+    others = refl;
+  };
+  cursors = λ k apart. ap (λ (x : JournalState). slice_get x.cursors k) is
+      ∙ get_other s.journal.cursors id k (record c { seen = to }) apart;
 }
 
 module _ {S : Type 0} (premise : Genuine S) (lanes : FeedLanes) (s : HubState) (id place : ℕ)

@@ -1,5 +1,5 @@
 -- A lane's end in a list of ends, through which more items go.
-use Rattle.std.proofs.Common.{◌≡◌, ℕ, zero, suc, ◌+◌, List, [], ◌∷◌, ◌++◌, length, Some, refl, ap, ◌∙◌, arith, append_assoc}
+use Rattle.std.proofs.Common.{◌≡◌, ◌≢◌, ℕ, zero, suc, ◌+◌, List, [], ◌∷◌, ◌++◌, length, Some, refl, ap, ◌∙◌, arith, append_assoc}
 use Rattle.std.specs.Prelude.{slice_get, slice_set, sum_by}
 use Rattle.std.proofs.lemmas.List.Sums.{sum_by-cons}
 use Rattle.fifo_lane.specs.Lane.{LaneEnd, with_items}
@@ -16,6 +16,14 @@ pub get_there : {X : Type 0} (xs : List X) (i : ℕ) (x y : X) → slice_get xs 
 get_there [] i x y e = absurd cc
 get_there (z ∷ zs) zero x y e = refl
 get_there (z ∷ zs) (suc i) x y e = get_there zs i x y e
+
+pub get_other : {X : Type 0} (xs : List X) (i j : ℕ) (x : X) → j ≢ i
+    → slice_get (slice_set xs i x) j ≡ slice_get xs j
+get_other [] i j x apart = refl
+get_other (y ∷ ys) zero zero x apart = absurd (apart refl)
+get_other (y ∷ ys) zero (suc j) x apart = refl
+get_other (y ∷ ys) (suc i) zero x apart = refl
+get_other (y ∷ ys) (suc i) (suc j) x apart = get_other ys i j x (λ h. apart (ap suc h))
 
 module _ {T : Type 0} where
   -- through the end at this place one more item went than before

@@ -1,6 +1,6 @@
 -- What one more notice leaves of a section, in terms of plain states.
 use Rattle.std.proofs.Common.{◌≡◌, ◌≢◌, ℕ, zero, suc, ◌+◌, ◌≤◌, ◌<◌, Bool, true, false, List, [], ◌∷◌, ◌++◌, length, Option, Some, None, Ok, Err, refl, sym, ap, subst, ◌∙◌, arith, append-nil, length-append, inl, inr}
-use Rattle.std.specs.Prelude.{MatchBool, ◌||◌, slice_get, slice_set, sum_by, ◌⊎◌}
+use Rattle.std.specs.Prelude.{IfSome, MatchBool, ◌||◌, slice_get, slice_set, sum_by, ◌⊎◌}
 use Rattle.std.proofs.lemmas.List.{length-map}
 use Rattle.std.proofs.lemmas.Option.{slice_get-map}
 use Rattle.feed_types.specs.declared.journal.Notice.{Notice}
@@ -17,10 +17,10 @@ use Rattle.feed_steps.specs.Steps.{AppliesTo, is_lane_full, offer_next}
 use Rattle.feed_steps.specs.declared.unsent.Unsent.{Unsent}
 use Rattle.feed_steps.specs.declared.unsent.Unsent.TheVariants as unsent
 use Rattle.hub_lanes.specs.Hubs.{HubState}
-use Rattle.hub_lanes.specs.Sections.{KeepsButOffers, HubOffersOne, LooksOn, offer_done}
-use Rattle.hub_lanes.specs.Offers.{HasNoOffer, Offers, OffersAll, OffersCount, OffersUpTo, SendsNotices}
+use Rattle.hub_lanes.specs.Sections.{KeepsButOffers, KeepsButOffersTo, HubOffersOne, LooksOn, offer_done}
+use Rattle.hub_lanes.specs.Offers.{HasNoOffer, IsPartSeen, IsUnfinished, Offers, OffersAll, OffersCount, OffersUpTo, SendsNotices}
 use Rattle.feed_steps.specs.laws.Lists.{put_same}
-use Rattle.hub_lanes.proofs.LaneEnds.{end_grows, sum_put}
+use Rattle.hub_lanes.proofs.LaneEnds.{end_grows, get_other, sum_put}
 use Rattle.feed_steps.specs.laws.Counts.{shown_sum}
 
 -- ---- the answer to Offer
@@ -70,6 +70,17 @@ kept_on a b c first next = record {
       ∙ ap (λ (s : HubState). record s { journal = c.journal; senders = c.senders }) first.others;
 }
 
+-- and of a section for one subscriber
+to_itself : (id : ℕ) (s : HubState) → KeepsButOffersTo id s s
+to_itself id s = record { kept = kept_itself s; cursors = λ k apart. refl }
+
+to_on : (id : ℕ) (a b c : HubState) → KeepsButOffersTo id a b → KeepsButOffersTo id b c
+    → KeepsButOffersTo id a c
+to_on id a b c first next = record {
+  kept = kept_on a b c first.kept next.kept;
+  cursors = λ k apart. next.cursors k apart ∙ first.cursors k apart;
+}
+
 -- to whom no notice can be sent, none can be sent after a section that sent it none
 stays_over : (id : ℕ) (old new : HubState) → KeepsButOffers old new
     → slice_get new.senders id ≡ slice_get old.senders id → HasNoOffer id old → HasNoOffer id new
@@ -100,11 +111,11 @@ no_notices id s below =
       at = there.1;
       sent = sym (ap (λ (l : List Notice). slice_set s.senders id (with_items lane l))
           (append-nil lane.items) ∙ put_same s.senders id lane there.1);
-      kept = kept_itself s;
+      kept = to_itself id s;
     }
 
 module _ (id pushed : ℕ) (old between new : HubState)
-    (r : SendsNotices id pushed old between) (kept : KeepsButOffers between new) where
+    (r : SendsNotices id pushed old between) (kept : KeepsButOffersTo id between new) where
   -- one more was
   pub one_notice : (number more : ℕ) → HubOffersOne id (Ok number) between new
       → more ≡ shown (pushed + 1) → SendsNotices id more old new
@@ -123,7 +134,7 @@ module _ (id pushed : ℕ) (old between new : HubState)
             one.at r.sent (one.sent_is
             ∙ ap (λ (l : List Notice). slice_set between.senders id (with_items one.lane l))
             found.1);
-        kept = kept_on old between new r.kept kept;
+        kept = to_on id old between new r.kept kept;
       }
 
   -- none was
@@ -152,12 +163,12 @@ module _ (id pushed : ℕ) (old between new : HubState)
       lane = r.lane;
       at = r.at;
       sent = none_sent ∙ r.sent;
-      kept = kept_on old between new r.kept kept;
+      kept = to_on id old between new r.kept kept;
     }
 
 -- and none can be
 module _ (id pushed : ℕ) (why : Unsent) (old between new : HubState)
-    (r : SendsNotices id pushed old between) (kept : KeepsButOffers between new)
+    (r : SendsNotices id pushed old between) (kept : KeepsButOffersTo id between new)
     (one : HubOffersOne id (Err why) between new) where
   no_offer : HasNoOffer id between
   no_offer = record {
@@ -184,13 +195,13 @@ module _ (id pushed : ℕ) (why : Unsent) (old between new : HubState)
   pub offered : Offers id pushed old new
   offered = record {
     sends = no_notice id pushed old between new r kept why one;
-    over = stays_over id between new kept (ap (λ (l : List (LaneEnd Notice)). slice_get l id)
+    over = stays_over id between new kept.kept (ap (λ (l : List (LaneEnd Notice)). slice_get l id)
         (none_sent id pushed old between new r kept why one)) no_offer;
   }
 
 -- the changes up to a number were looked at, and there are more
 pub looked_on : (id to pushed : ℕ) (old between new : HubState) → SendsNotices id pushed old between
-    → KeepsButOffers between new → LooksOn id to between new → OffersUpTo id to pushed true old new
+    → KeepsButOffersTo id between new → LooksOn id to between new → OffersUpTo id to pushed true old new
 looked_on id to pushed old between new r kept looks =
     let passes = looks.passes in
     let past : Cursor = record passes.cursor { seen = passes.cursor.seen + looks.most } in
@@ -203,7 +214,7 @@ looked_on id to pushed old between new r kept looks =
         lane = r.lane;
         at = r.at;
         sent = ap (λ (s : HubState). s.senders) looks.others ∙ r.sent;
-        kept = kept_on old between new r.kept kept;
+        kept = to_on id old between new r.kept kept;
       };
       over = record {
         cursor = past;
@@ -229,7 +240,7 @@ pub all_looked_at : (id to pushed : ℕ) (unfinished : Bool) (old new : HubState
     → Offers id pushed old new
 all_looked_at id to pushed false old new r all = record { sends = r.sends; over = r.over }
 all_looked_at id to pushed true old new r all =
-    let same = changes_stay old new r.sends.kept in
+    let same = changes_stay old new r.sends.kept.kept in
     let seen = r.over.seen in
     let more = r.over.more in
     absurd (omega (arith, same, seen, more, all))
@@ -246,19 +257,11 @@ counts_of id pushed old new r = record {
       (with_items r.lane (r.lane.items ++ r.notices))
       r.at (length-append r.lane.items r.notices);
   counted = r.counted;
-  kept = r.kept;
+  kept = r.kept.kept;
 }
 
 both_shown : (m n : ℕ) → shown (shown m + shown n) ≡ shown (m + n)
 both_shown m n = grind (arith)
-
-get_other : {X : Type 0} (xs : List X) (i j : ℕ) (x : X) → j ≢ i
-    → slice_get (slice_set xs i x) j ≡ slice_get xs j
-get_other [] i j x apart = refl
-get_other (y ∷ ys) zero zero x apart = absurd (apart refl)
-get_other (y ∷ ys) zero (suc j) x apart = refl
-get_other (y ∷ ys) (suc i) zero x apart = refl
-get_other (y ∷ ys) (suc i) (suc j) x apart = get_other ys i j x (λ h. apart (ap suc h))
 
 pub before_or_at : (m n : ℕ) → m < n + 1 → (m < n) ⊎ (m ≡ n)
 before_or_at zero zero h = inr refl
@@ -269,45 +272,109 @@ before_or_at (suc m) (suc n) h = elim (before_or_at m n (omega arith)) [
   | inr same ↦ inr (ap suc same)
 ]
 
--- Notices were offered to the subscribers below this id.
+-- who is unfinished is so after a section for another one
+still_unfinished : (id k : ℕ) (old between new : HubState) → KeepsButOffersTo id between new
+    → k ≢ id → IsUnfinished k old between → IsUnfinished k old new
+still_unfinished id k old between new kept apart part =
+    let same = changes_stay between new kept.kept in
+    let more = part.part.more in
+    record {
+      cursor = part.cursor;
+      at = part.at;
+      part = record {
+        cursor = part.part.cursor;
+        at = kept.cursors k apart ∙ part.part.at;
+        seen = part.part.seen;
+        more = omega (arith, same, more);
+      };
+    }
+
+-- Notices were offered to the subscribers below this id, and no change was looked at for the
+-- others.
 pub record OffersBelow (id answer : ℕ) (unfinished : Bool) (old new : HubState) : Type 0 where
   pub counts : OffersCount answer old new
-  pub over : MatchBool unfinished (1024 < length (changes new.journal)) ((k : ℕ)
-      → k < id → HasNoOffer k new)
+  pub each : (k : ℕ) → k < id → HasNoOffer k new ⊎ IsUnfinished k old new
+  pub over : MatchBool unfinished ((k : ℕ) × (k < id) × IsUnfinished k old new)
+      ((k : ℕ) → k < id → HasNoOffer k new)
+  pub others : (k : ℕ) → id ≤ k
+      → slice_get new.journal.cursors k ≡ slice_get old.journal.cursors k
 
 pub none_yet : (s : HubState) → OffersBelow 0 0 false s s
 none_yet s = record {
   counts = record { more = 0; total = omega arith; counted = refl; kept = kept_itself s };
+  each = λ k below. absurd (omega arith);
   over = λ k below. absurd (omega arith);
+  others = λ k past. refl;
 }
 
 -- and to the next one
-module _ (id to : ℕ) (old between new : HubState) where
-  still_over : (answer pushed : ℕ) (left cut : Bool) → OffersBelow id answer left old between
-      → OffersUpTo id to pushed cut between new → 1024 ≤ to
-      → MatchBool (left || cut) (1024 < length (changes new.journal)) ((k : ℕ)
-      → k < id + 1 → HasNoOffer k new)
-  still_over answer pushed true cut r next many =
-      let more = r.over in let same = changes_stay between new next.sends.kept
-      in omega (arith, more, same)
-  still_over answer pushed false true r next many =
-      let seen = next.over.seen in let more = next.over.more in omega (arith, seen, more, many)
-  still_over answer pushed false false r next many = λ k below. elim (before_or_at k id below) [
-    | inl less ↦ stays_over k between new next.sends.kept
+module _ (id to : ℕ) (old between new : HubState) (cursor : Cursor)
+    (at : slice_get old.journal.cursors id ≡ Some cursor) (limit : to ≡ cursor.seen + 1024) where
+  its_part : IsPartSeen id to new → IsUnfinished id old new
+  its_part part = record {
+    cursor = cursor;
+    at = at;
+    part = subst (λ (n : ℕ). IsPartSeen id n new) limit part;
+  }
+
+  module _ (answer pushed : ℕ) where
+    its_end : (cut : Bool) → OffersUpTo id to pushed cut between new
+        → HasNoOffer id new ⊎ IsUnfinished id old new
+    its_end true next = inr (its_part next.over)
+    its_end false next = inl next.over
+
+    still_none : (cut : Bool) → OffersUpTo id to pushed cut between new → (k : ℕ) → k < id
+        → HasNoOffer k between → HasNoOffer k new
+    still_none cut next k less none =
+        stays_over k between new next.sends.kept.kept
         (ap (λ (l : List (LaneEnd Notice)). slice_get l k) next.sends.sent
         ∙ get_other between.senders id k (with_items next.sends.lane (next.sends.lane.items
         ++ next.sends.notices))
         (omega arith))
-        (r.over k less)
-    | inr same ↦ subst (λ (n : ℕ). HasNoOffer n new) (sym same) next.over
-  ]
+        none
+
+    still_each : (left cut : Bool) → OffersBelow id answer left old between
+        → OffersUpTo id to pushed cut between new → (k : ℕ) → k < id + 1
+        → HasNoOffer k new ⊎ IsUnfinished k old new
+    still_each left cut r next k below = elim (before_or_at k id below) [
+      | inl less ↦ elim (r.each k less) [
+        | inl none ↦ inl (still_none cut next k less none)
+        | inr part ↦ inr (still_unfinished id k old between new next.sends.kept (omega arith) part)
+      ]
+      | inr same ↦ subst (λ (n : ℕ). HasNoOffer n new ⊎ IsUnfinished n old new) (sym same)
+          (its_end cut next)
+    ]
+
+    still_over : (left cut : Bool) → OffersBelow id answer left old between
+        → OffersUpTo id to pushed cut between new
+        → MatchBool (left || cut) ((k : ℕ) × (k < id + 1) × IsUnfinished k old new)
+        ((k : ℕ) → k < id + 1 → HasNoOffer k new)
+    still_over true cut r next =
+        let less = r.over.1 in (
+          r.over.0,
+          omega arith,
+          still_unfinished id r.over.0 old between new next.sends.kept (omega arith) r.over.2,
+        )
+    still_over false true r next = (id, omega arith, its_part next.over)
+    still_over false false r next = λ k below. elim (before_or_at k id below) [
+      | inl less ↦ still_none false next k less (r.over k less)
+      | inr same ↦ subst (λ (n : ℕ). HasNoOffer n new) (sym same) next.over
+    ]
 
 pub one_offered : (id at to answer pushed sum : ℕ) (left cut : Bool) (old between new : HubState)
-    → at ≡ id
-    → OffersBelow id answer left old between → OffersUpTo at to pushed cut between new → 1024 ≤ to
+    → at ≡ id → id < length between.journal.cursors
+    → OffersBelow id answer left old between → OffersUpTo at to pushed cut between new
+    → IfSome (slice_get between.journal.cursors at) (λ cursor. to ≡ cursor.seen + 1024)
     → sum ≡ shown (answer + pushed) → OffersBelow (id + 1) sum (left || cut) old new
-one_offered id at to answer pushed sum left cut old between new at_is r found many is =
+one_offered id at to answer pushed sum left cut old between new at_is below r found limit is =
     let next = subst (λ (n : ℕ). OffersUpTo n to pushed cut between new) at_is found in
+    let there = get_within between.journal.cursors id below in
+    let cursor = there.0 in
+    let up_to : to ≡ cursor.seen + 1024 =
+    subst (λ (o : Option Cursor). IfSome o (λ c. to ≡ c.seen + 1024))
+    (ap (slice_get between.journal.cursors) at_is ∙ there.1) limit in
+    let was : slice_get old.journal.cursors id ≡ Some cursor =
+    sym (r.others id (omega arith)) ∙ there.1 in
     let counts = counts_of id pushed between new next.sends in
     let first = r.counts.total in
     let second = counts.total in
@@ -319,14 +386,27 @@ one_offered id at to answer pushed sum left cut old between new at_is r found ma
             ∙ both_shown r.counts.more counts.more;
         kept = kept_on old between new r.counts.kept counts.kept;
       };
-      over = still_over id to old between new answer pushed left cut r next many;
+      each = still_each id to old between new cursor was up_to answer pushed left cut r next;
+      over = still_over id to old between new cursor was up_to answer pushed left cut r next;
+      others = λ k past. next.sends.kept.cursors k (omega arith) ∙ r.others k (omega arith);
     }
 
 -- and so to all of them
 pub all_offered : (count answer : ℕ) (unfinished : Bool) (old new : HubState)
     → OffersBelow count answer unfinished old new → length old.journal.cursors ≤ count
     → OffersAll answer unfinished old new
-all_offered count answer false old new r few =
-    let stays = count_stays old new r.counts.kept in
-    record { counts = r.counts; over = λ id below. r.over id (omega (arith, stays)) }
-all_offered count answer true old new r few = record { counts = r.counts; over = r.over }
+all_offered count answer unfinished old new r few = record {
+  counts = r.counts;
+  each = λ id below. r.each id (omega (arith, stays));
+  over = over unfinished r.over;
+}
+  where
+    stays : length new.journal.cursors ≡ length old.journal.cursors
+    stays = count_stays old new r.counts.kept
+
+    over : (b : Bool) → MatchBool b ((k : ℕ) × (k < count) × IsUnfinished k old new)
+        ((k : ℕ) → k < count → HasNoOffer k new)
+        → MatchBool b ((id : ℕ) × IsUnfinished id old new)
+        ((id : ℕ) → id < length new.journal.cursors → HasNoOffer id new)
+    over true one = (one.0, one.2)
+    over false none = λ id below. none id (omega (arith, stays))

@@ -3,7 +3,7 @@ use Rattle.std.specs.Prelude.{◌≡◌, ◌⊎◌, ℕ, ◌<◌, ◌≤◌, Lis
 use Rattle.feed_types.specs.declared.item.Numbered.{Numbered}
 use Rattle.feed_types.specs.declared.journal.Entry.TheVariants as entry
 use Rattle.journal_book.specs.declared.fault.JournalFault.{JournalFault}
-use Rattle.journal_book.specs.declared.fault.JournalFault.TheVariants.{NoMemory, JournalFull, UnknownVenue, AlreadySo, TooManySubscribers, SubscriberBehind, TooLate}
+use Rattle.journal_book.specs.declared.fault.JournalFault.TheVariants.{NoMemory, JournalFull, UnknownVenue, SubscriberBehind}
 use Rattle.journal_book.specs.Journals.{IsBehind}
 use Rattle.fifo_lane.specs.Lane.{LaneEnd, with_items}
 use Rattle.feed_steps.specs.Lanes.{FeedLanes}
@@ -46,6 +46,4 @@ ConsumesBatch lanes venue most (Err NoMemory) old new =
     (new ≡ old) × IsNone old.journal.kept
 ConsumesBatch lanes venue most (Err SubscriberBehind) old new =
     (new ≡ old) × IsBehind old.journal
-ConsumesBatch lanes venue most (Err AlreadySo) old new = ⊥
-ConsumesBatch lanes venue most (Err TooManySubscribers) old new = ⊥
-ConsumesBatch lanes venue most (Err TooLate) old new = ⊥
+ConsumesBatch lanes venue most _ old new = ⊥

@@ -8,17 +8,17 @@ use Rattle.journal_book.specs.Journals.{changes, terms_at}
 use Rattle.journal_book.specs.Wanted.{wanted_of}
 use Rattle.fifo_lane.specs.Lane.{LaneEnd, HasFilled, with_items}
 use Rattle.hub_lanes.specs.Hubs.{HubState}
-use Rattle.hub_lanes.specs.Sections.{KeepsButOffers}
+use Rattle.hub_lanes.specs.Sections.{KeepsButOffers, KeepsButOffersTo}
 
--- Offer, again and again: notices were sent to the subscriber, and none to another one. The answer
--- is how many these were, as a u64 shows it.
+-- Offer, again and again: notices were sent to the subscriber, and none to another one, nor was a
+-- change looked at for another one. The answer is how many these were, as a u64 shows it.
 pub record SendsNotices (id answer : ℕ) (old new : HubState) : Type 0 where
   pub notices : List Notice
   pub counted : answer ≡ shown (length notices)
   pub lane : LaneEnd Notice
   pub at : slice_get old.senders id ≡ Some lane
   pub sent : new.senders ≡ slice_set old.senders id (with_items lane (lane.items ++ notices))
-  pub kept : KeepsButOffers old new
+  pub kept : KeepsButOffersTo id old new
 
 -- Why no further notice is sent to the subscriber: its lane was sent as many as it has room for, or
 -- none that it wants of the entries is left.
@@ -67,9 +67,17 @@ pub record OffersCount (answer : ℕ) (old new : HubState) : Type 0 where
   pub counted : answer ≡ shown more
   pub kept : KeepsButOffers old new
 
--- So it was, and either no further notice can be sent to any of the subscribers, or the journal has
--- more changes than are looked at in one section for one of them, 1,024.
+-- 1,024 changes more were looked at for the subscriber, and there are further ones.
+pub record IsUnfinished (id : ℕ) (old new : HubState) : Type 0 where
+  pub cursor : Cursor
+  pub at : slice_get old.journal.cursors id ≡ Some cursor
+  pub part : IsPartSeen id (cursor.seen + 1024) new
+
+-- So it was, and no further notice can be sent to a subscriber, unless it is unfinished: the answer
+-- says whether one is.
 pub record OffersAll (answer : ℕ) (unfinished : Bool) (old new : HubState) : Type 0 where
   pub counts : OffersCount answer old new
-  pub over : MatchBool unfinished (1024 < length (changes new.journal))
+  pub each : (id : ℕ) → id < length new.journal.cursors
+      → HasNoOffer id new ⊎ IsUnfinished id old new
+  pub over : MatchBool unfinished ((id : ℕ) × IsUnfinished id old new)
       ((id : ℕ) → id < length new.journal.cursors → HasNoOffer id new)

@@ -1,13 +1,13 @@
 -- Each section under the consolidator's lock is one event of the machine (feed_core), on the part
 -- that the lock keeps.
-use Rattle.std.specs.Prelude.{◌≡◌, ℕ, ◌+◌, ◌<◌, ◌≤◌, Bool, true, List, [], ◌∷◌, ◌++◌, length, map, slice_get, slice_set, Option, Some, None, IsNone, Result, Ok, Err}
+use Rattle.std.specs.Prelude.{◌≡◌, ◌≢◌, ℕ, ◌+◌, ◌≤◌, Bool, true, List, [], ◌∷◌, ◌++◌, length, map, slice_get, slice_set, Option, Some, None, IsNone, Result, Ok, Err}
 use Rattle.feed_types.specs.declared.item.Numbered.{Numbered}
 use Rattle.feed_types.specs.declared.journal.Notice.{Notice}
 use Rattle.filter_terms.specs.declared.terms.Terms.{Terms}
 use Rattle.journal_book.specs.declared.fault.JournalFault.{JournalFault}
-use Rattle.journal_book.specs.declared.fault.JournalFault.TheVariants.{NoMemory, JournalFull, UnknownVenue, AlreadySo, TooManySubscribers, SubscriberBehind, TooLate}
+use Rattle.journal_book.specs.declared.fault.JournalFault.TheVariants.{NoMemory, JournalFull, SubscriberBehind}
 use Rattle.journal_book.specs.Codes.{journal_fault_code}
-use Rattle.journal_book.specs.Journals.{Declares, IsBehind, IsLate, JournalState, terms_at}
+use Rattle.journal_book.specs.Journals.{AddsSubscription, Declares, IsBehind, JournalState, RefusesSubscribe, terms_at}
 use Rattle.journal_book.specs.Consolidators.{StaysButCursors}
 use Rattle.journal_book.specs.Cursors.{PassesUnwanted}
 use Rattle.journal_book.specs.Wanted.{wanted_of}
@@ -51,10 +51,7 @@ Consumes venue (Ok answer) old new = ConsumesOne venue (Ok answer) old new
 Consumes venue (Err JournalFull) old new = ConsumesOne venue (Err JournalFull) old new
 Consumes venue (Err NoMemory) old new = (new ≡ old) × IsNone old.journal.kept
 Consumes venue (Err SubscriberBehind) old new = (new ≡ old) × IsBehind old.journal
-Consumes venue (Err UnknownVenue) old new = ⊥
-Consumes venue (Err AlreadySo) old new = ⊥
-Consumes venue (Err TooManySubscribers) old new = ⊥
-Consumes venue (Err TooLate) old new = ⊥
+Consumes venue _ old new = ⊥
 
 -- nothing else has changed, but for the room
 abbrev pub KeepsButIntake : HubState → HubState → Type 0
@@ -105,44 +102,27 @@ pub record KeepsButOffers (old new : HubState) : Type 0 where
   pub terms : map (λ c. c.terms) new.journal.cursors ≡ map (λ c. c.terms) old.journal.cursors
   pub others : new ≡ record old { journal = new.journal; senders = new.senders }
 
--- Subscribe: there is one more subscriber with these terms, to whom nothing was offered, and with
--- the lane that the feed has for it, which has the capacity of the feed's setting. It wasn't late.
+-- nor how many of them for another subscriber
+pub record KeepsButOffersTo (id : ℕ) (old new : HubState) : Type 0 where
+  pub kept : KeepsButOffers old new
+  pub cursors : (k : ℕ) → k ≢ id
+      → slice_get new.journal.cursors k ≡ slice_get old.journal.cursors k
+
+-- Subscribe: the journal has one more subscriber with these terms, and it has the lane that the
+-- feed has for it, through which nothing was sent, with the capacity of the feed's setting.
 pub record AddsSubscriber (lanes : FeedLanes) (terms : Terms) (id : ℕ) (e : LaneEnd Notice)
     (old new : HubState) : Type 0 where
-  pub few : length old.journal.cursors < 32
-  pub in_time : ¬ IsLate old.journal
-  pub id_is : id ≡ length old.journal.cursors
+  pub journal : AddsSubscription old.journal terms (Ok id) new.journal
   pub tag : e.tag ≡ id
   pub lane : slice_get lanes.subscribers id ≡ Some e.lane
   pub capacity : e.capacity ≡ lanes.setting.lane
   pub empty : e.items ≡ []
-  pub journal : new.journal ≡ record old.journal {
-    cursors = old.journal.cursors ++ record { terms = terms; seen = 0 } ∷ [];
-  }
   pub senders : new.senders ≡ old.senders ++ e ∷ []
   pub receivers : new.receivers ≡ old.receivers
-
--- The refusals of a subscriber, in order: there are 32, it is too late, else memory was refused.
-abbrev pub RefusesSubscriber : HubState → JournalFault → Type 0
-RefusesSubscriber s TooManySubscribers = 32 ≤ length s.journal.cursors
-RefusesSubscriber s NoMemory = (length s.journal.cursors < 32) × (¬ IsLate s.journal)
-RefusesSubscriber s JournalFull = ⊥
-RefusesSubscriber s UnknownVenue = ⊥
-RefusesSubscriber s AlreadySo = ⊥
-RefusesSubscriber s SubscriberBehind = ⊥
-RefusesSubscriber s TooLate = (length s.journal.cursors < 32) × IsLate s.journal
 
 -- the answer to `subscribe`, by cases: a refused call hands the terms back and changes nothing
 abbrev pub HubSubscribes : FeedLanes → Terms → Result (ℕ × LaneEnd Notice) (JournalFault × Terms)
     → HubState → HubState → Type 0
 HubSubscribes lanes terms (Ok (id, e)) old new = AddsSubscriber lanes terms id e old new
-HubSubscribes lanes terms (Err (TooManySubscribers, back)) old new =
-    (32 ≤ length old.journal.cursors) × (back ≡ terms) × (new ≡ old)
-HubSubscribes lanes terms (Err (NoMemory, back)) old new =
-    (length old.journal.cursors < 32) × (back ≡ terms) × (new ≡ old) × (¬ IsLate old.journal)
-HubSubscribes lanes terms (Err (JournalFull, back)) old new = ⊥
-HubSubscribes lanes terms (Err (UnknownVenue, back)) old new = ⊥
-HubSubscribes lanes terms (Err (AlreadySo, back)) old new = ⊥
-HubSubscribes lanes terms (Err (SubscriberBehind, back)) old new = ⊥
-HubSubscribes lanes terms (Err (TooLate, back)) old new =
-    (length old.journal.cursors < 32) × (back ≡ terms) × (new ≡ old) × IsLate old.journal
+HubSubscribes lanes terms (Err (fault, back)) old new =
+    RefusesSubscribe old.journal fault × (back ≡ terms) × (new ≡ old)

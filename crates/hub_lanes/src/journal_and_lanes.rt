@@ -1,9 +1,9 @@
 //! The journal with the lanes that meet at it.
 
-ghost use Rattle.std.specs.Prelude.{◌≡◌, ◌≤◌, ◌<◌, ◌↔◌, length, IfOk, OnErr, IsTrue};
+ghost use Rattle.std.specs.Prelude.{◌≡◌, ◌+◌, ◌≤◌, ◌<◌, ◌↔◌, length, slice_get, IfOk, IfSome, OnErr, IsTrue};
 ghost use Rattle.journal_book.specs.Journals.{IsLate, changes};
 ghost use Rattle.hub_lanes.specs.Hubs.{HubLockInvariant};
-ghost use Rattle.hub_lanes.specs.Sections.{Consumes, DeclaresAt, KeepsButIntake, HubOffersOne, LooksOn, KeepsButOffers, HubSubscribes};
+ghost use Rattle.hub_lanes.specs.Sections.{Consumes, DeclaresAt, KeepsButIntake, HubOffersOne, LooksOn, KeepsButOffersTo, HubSubscribes};
 
 use crate::spare::SpareLane;
 use feed_steps::{FeedName, Unsent};
@@ -239,13 +239,16 @@ impl<G: Genuine, N: FeedName> JournalAndLanes<G, N> {
         self.kept.change_count()
     }
 
-    /// The number of the last change to look at for the subscriber where no more than `most` are.
+    /// The number of the last change to look at for the subscriber where no more than `most` are of
+    /// those that weren't looked at for it.
     #[inline(always)]
     pub(crate) fn look_limit(&self, id: SubscriberId, most: usize) -> usize
-        requires { id < length self.now.journal.cursors }
-        ensures { most ≤ result }
+        requires known { id < length self.now.journal.cursors }
+        requires few { most ≤ 1024 }
+        ensures { IfSome (slice_get self.now.journal.cursors id)
+            (λ cursor. result ≡ cursor.seen + most) }
     {
-        self.kept.seen(id).saturating_add(most)
+        self.kept.seen(id) + most
     }
 
     /// Pushes the next notice that the subscriber wants, whose filter is `filter`. It looks at no
@@ -262,7 +265,7 @@ impl<G: Genuine, N: FeedName> JournalAndLanes<G, N> {
         requires { id < length self.old.journal.cursors }
         ensures offer { IfOk result (λ answer. HubOffersOne id answer self.old self.new) }
         ensures looks { OnErr result (LooksOn id to self.old self.new) }
-        ensures kept { KeepsButOffers self.old self.new }
+        ensures kept { KeepsButOffersTo id self.old self.new }
     {
         let most = to.saturating_sub(self.kept.seen(id));
         let found = match self.kept.seek_offer(id, filter, most) {

@@ -37,6 +37,14 @@ pub one_within : (first end : ℕ) (cursors : List Cursor) (i : ℕ) (c : Cursor
 one_within first end cursors i c h each is = subst (IsWithin first end) (sym is)
     (within_at first end cursors i c h each)
 
+pub cursor_within : (first end : ℕ) (cursors : List Cursor) (i : ℕ) (c : Cursor)
+    → slice_get cursors i ≡ Some c → AllByRecursion (IsWithin first end) cursors
+    → IsWithin first end c
+cursor_within first end [] i c at each = absurd cc
+cursor_within first end (x ∷ xs) zero c at each =
+    let same : x ≡ c = cc in subst (IsWithin first end) same each.0
+cursor_within first end (x ∷ xs) (suc i) c at each = cursor_within first end xs i c at each.1
+
 -- and more changes change nothing of what was offered
 pub same_offered : (cursors : List Cursor) (first : ℕ) (notices more : List Notice)
     → AllByRecursion (IsWithin first (length notices)) cursors

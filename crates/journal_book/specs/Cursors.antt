@@ -14,6 +14,13 @@ pub record IsUnseen (state : JournalState) (id : ℕ) (unseen : List Notice) : T
   pub within : cursor.seen ≤ length (changes state)
   pub is : unseen ≡ drop cursor.seen (changes state)
 
+-- these are the last changes, with all that weren't looked at for some subscriber
+pub record KeepsUnseen (state : JournalState) (kept : List Notice) : Type 0 where
+  pub first : ℕ
+  pub is : kept ≡ drop first (changes state)
+  pub unseen : (id : ℕ) (cursor : Cursor) → slice_get state.cursors id ≡ Some cursor
+      → first ≤ cursor.seen
+
 -- there is such a subscriber, and `step` changes at least weren't looked at for it
 abbrev pub HasUnseen : JournalState → ℕ → ℕ → Type 0
 HasUnseen state id step = MatchOption (slice_get state.cursors id) ⊥

@@ -72,20 +72,26 @@ terms_at state id = option_map (λ cursor. cursor.terms) (slice_get state.cursor
 abbrev pub IsLate : JournalState → Type 0
 IsLate state = IsSome state.kept × (0 < length (changes state))
 
--- the answer to `subscribe`, by cases in the order in which they are tried
-abbrev pub AddsSubscription : JournalState → Terms → Result ℕ (JournalFault × Terms) → JournalState
-    → Type 0
-AddsSubscription old terms (Ok id) new =
+-- there is one more subscriber, with these terms, to whom nothing was offered
+abbrev pub AddsCursor : JournalState → Terms → ℕ → JournalState → Type 0
+AddsCursor old terms id new =
     (id ≡ length old.cursors) × (length old.cursors < 32)
     × (new ≡ record old { cursors = old.cursors ++ record { terms = terms; seen = 0 } ∷ [] })
-    × (¬ IsLate old)
-AddsSubscription old terms (Err (TooManySubscribers, back)) new =
-    (32 ≤ length old.cursors) × (back ≡ terms) × (new ≡ old)
-AddsSubscription old terms (Err (TooLate, back)) new =
-    (length old.cursors < 32) × (back ≡ terms) × (new ≡ old) × IsLate old
-AddsSubscription old terms (Err (NoMemory, back)) new =
-    (length old.cursors < 32) × (back ≡ terms) × (new ≡ old) × (¬ IsLate old)
-AddsSubscription old terms _ new = ⊥
+
+-- Why a subscriber is refused, in the order in which it is tried: there are 32, it is too late, or
+-- memory was refused.
+abbrev pub RefusesSubscribe : JournalState → JournalFault → Type 0
+RefusesSubscribe state TooManySubscribers = 32 ≤ length state.cursors
+RefusesSubscribe state TooLate = (length state.cursors < 32) × IsLate state
+RefusesSubscribe state NoMemory = (length state.cursors < 32) × (¬ IsLate state)
+RefusesSubscribe state _ = ⊥
+
+-- the answer to `subscribe`, by cases: a refused call hands the terms back
+abbrev pub AddsSubscription : JournalState → Terms → Result ℕ (JournalFault × Terms) → JournalState
+    → Type 0
+AddsSubscription old terms (Ok id) new = AddsCursor old terms id new × (¬ IsLate old)
+AddsSubscription old terms (Err (fault, back)) new =
+    RefusesSubscribe old fault × (back ≡ terms) × (new ≡ old)
 
 -- there is one more entry, and nothing else differs, but for the room
 abbrev pub Journals : JournalState → Entry → JournalState → Type 0
@@ -112,11 +118,16 @@ Reserves old (Err NoMemory) new =
     (length old.entries < old.journal) × (new ≡ old) × IsNone old.kept × (old.ready ≡ false)
 Reserves old _ new = ⊥
 
--- the answer to `declare`: room is refused only where the entry would be journaled else
-abbrev pub Declares : JournalState → ℕ → Bool → Result ℕ JournalFault → JournalState → Type 0
-Declares old venue on answer new =
+-- The answer to `declare` of a journal whose `reserve_one` answers so: room is refused only where
+-- the entry would be journaled else.
+abbrev pub DeclaresWhere : (JournalState → Result (Unit {0}) JournalFault → JournalState → Type 0)
+    → JournalState → ℕ → Bool → Result ℕ JournalFault → JournalState → Type 0
+DeclaresWhere reserves old venue on answer new =
     DeclaresBy old.venues old.journal old.entries (new ≡ old)
     (λ fault. (venue < old.venues) × (is_so old.entries venue on ≡ false)
-    × Reserves old (Err fault) new)
+    × reserves old (Err fault) new)
     (λ position. Journals old (SelfHelp venue on) new × (position ≡ length new.entries))
     venue on answer
+
+abbrev pub Declares : JournalState → ℕ → Bool → Result ℕ JournalFault → JournalState → Type 0
+Declares old venue on answer new = DeclaresWhere Reserves old venue on answer new

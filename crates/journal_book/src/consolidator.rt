@@ -1,7 +1,8 @@
 //! The journal with its subscribers' filters.
 
-ghost use Rattle.std.specs.Prelude.{◌≡◌, ◌<◌, ◌≤◌, ◌↔◌, length, IsTrue, IsSome, IfSome, IfNone, IfOk, Some};
-ghost use Rattle.journal_book.specs.Journals.{new_journal, changes, kept_of, subscriptions_of, Journals, Reserves, Declares, terms_at};
+ghost use Rattle.std.specs.Prelude.{◌≡◌, ◌<◌, ◌≤◌, ◌↔◌, length, IsTrue, IsSome, IfSome, IfOk, Some, None};
+ghost use Rattle.std.proofs.Props.{props};
+ghost use Rattle.journal_book.specs.Journals.{new_journal, changes, subscriptions_of, DeclaresWhere, Journals, terms_at};
 
 use crate::fault::JournalFault;
 use crate::journal::Journal;
@@ -10,12 +11,13 @@ use filter_terms::{Filter, Terms};
 use nbbo_book::BookFault;
 use std::alloc::Global;
 
-/// A [`Journal`] with its subscribers' filters: it journals, and offers each subscriber what its
-/// filter lets through.
+/// A [`Journal`] that keeps all, with its subscribers' filters: it journals, and offers each
+/// subscriber what its filter lets through.
 #[derive(Drop)]
 pub struct Consolidator {
     journal: Journal,
     filters: Vec<Filter>,
+    ghost all: { journal.kept ≡ None } by { Prim.hlevel props },
 }
 
 impl Consolidator {
@@ -23,7 +25,7 @@ impl Consolidator {
     ghost use Rattle.nbbo_book.specs.Nationals.{national_of};
     ghost use Rattle.nbbo_book.specs.Eligible.{is_self_helped};
     ghost use Rattle.nbbo_book.specs.Refusals.{ConfiguresBook};
-    ghost use Rattle.journal_book.specs.Consolidators.{journal_in, next_at, StaysButCursors, CountsOffer, SubscribesFilter};
+    ghost use Rattle.journal_book.specs.Consolidators.{journal_in, next_at, ReservesRoom, StaysButCursors, CountsOffer, SubscribesFilter};
 
     /// A consolidator of no entries and no subscribers: see [`Journal::new`].
     pub fn new(
@@ -45,9 +47,10 @@ impl Consolidator {
         }
     }
 
-    /// Makes room for one entry and all changes that it can make, as [`Journal::reserve_one`].
+    /// Makes room for one entry and all changes that it can make: JournalFull where the journal
+    /// has as many entries as it takes. NoMemory comes only where room was missing.
     pub fn reserve_one(&mut self) -> Result<(), JournalFault>
-        ensures { Reserves (journal_in self.old) result (journal_in self.new) }
+        ensures { ReservesRoom (journal_in self.old) result (journal_in self.new) }
     {
         self.journal.reserve_one()
     }
@@ -77,7 +80,8 @@ impl Consolidator {
     /// refused as UnknownVenue, AlreadySo where the venue's self-help is in that state (off at
     /// first), JournalFull or NoMemory: the first that fits.
     pub fn declare(&mut self, venue: VenueId, on: bool) -> Result<u64, JournalFault>
-        ensures declares { Declares (journal_in self.old) venue on result (journal_in self.new) }
+        ensures declares { DeclaresWhere ReservesRoom (journal_in self.old) venue on result
+            (journal_in self.new) }
         ensures offered { subscriptions_of (journal_in self.new)
             ≡ subscriptions_of (journal_in self.old) }
     {
@@ -93,16 +97,12 @@ impl Consolidator {
 
     /// Adds a subscriber, to which nothing was offered, and returns its id, the next one from 0 on.
     /// Its notices begin with the first change of the journal, whenever it subscribes. It is
-    /// refused, with the filter, as TooManySubscribers where there are 32, as TooLate where not all
-    /// changes are kept and there is one, else as NoMemory.
+    /// refused, with the filter, as TooManySubscribers where there are 32, else as NoMemory.
     pub fn subscribe(&mut self, filter: Filter) -> Result<SubscriberId, (JournalFault, Filter)>
         ensures { SubscribesFilter (journal_in self.old) filter result (journal_in self.new) }
     {
         if !self.journal.has_subscriber_room() {
             return Err((JournalFault::TooManySubscribers, filter));
-        }
-        if self.journal.is_late() {
-            return Err((JournalFault::TooLate, filter));
         }
         if self.filters.reserve(1).is_err() {
             return Err((JournalFault::NoMemory, filter));
@@ -173,18 +173,17 @@ impl Consolidator {
         self.journal.venue_count()
     }
 
-    /// The entries, each at its position less one; none where not all is kept.
+    /// The entries, each at its position less one.
     pub fn entries(&self) -> &[Entry]
-        ensures value { result.now
-            ≡ kept_of (journal_in self.now).kept (journal_in self.now).entries }
+        ensures value { result.now ≡ (journal_in self.now).entries }
         ensures within { length result.now ≤ (journal_in self.now).journal }
     {
         self.journal.entries()
     }
 
-    /// The changes of the entries, numbered from 1; where not all are kept, those that are.
+    /// The changes of the entries, numbered from 1.
     pub fn changes(&self) -> &[Notice]
-        ensures { IfNone (journal_in self.now).kept (result.now ≡ changes (journal_in self.now)) }
+        ensures { result.now ≡ changes (journal_in self.now) }
     {
         self.journal.changes()
     }

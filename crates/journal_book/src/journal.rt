@@ -1,6 +1,6 @@
 //! The journal of entries with the changes that they make, and a cursor for each subscriber.
 
-ghost use Rattle.std.specs.Prelude.{◌≡◌, ℕ, ◌+◌, ◌<◌, ◌≤◌, ◌^◌, ◌↔◌, ◌∷◌, [], ◌++◌, drop, length, slice_get, IsTrue, IsSome, IfSome, IfNone, IfOk, OnErr, Some};
+ghost use Rattle.std.specs.Prelude.{◌≡◌, ℕ, ◌+◌, ◌<◌, ◌≤◌, ◌^◌, ◌↔◌, ◌∷◌, [], ◌++◌, length, slice_get, IsTrue, IsSome, IfSome, IfNone, IfOk, OnErr, Some};
 ghost use Rattle.std.specs.Vec.{vec_len, vec_capacity};
 ghost use Rattle.journal_book.specs.Keeping.{CursorMoves, IsRest};
 ghost use Rattle.journal_book.specs.Journals.{kept_of};
@@ -121,7 +121,7 @@ impl Journal {
     ghost use Rattle.nbbo_book.specs.Eligible.{is_self_helped};
     ghost use Rattle.journal_book.specs.Journals.{JournalState, new_journal, changes, subscriptions_of, Journals, Reserves, Declares, AddsSubscription, IsLate, terms_at};
     ghost use Rattle.journal_book.specs.ItemsIn.{items_in};
-    ghost use Rattle.journal_book.specs.Cursors.{IsUnseen, HasUnseen, MovesOn, GoesToNext, PassesUnwanted, StandsAtWanted, AdvancesCursor};
+    ghost use Rattle.journal_book.specs.Cursors.{IsUnseen, KeepsUnseen, HasUnseen, MovesOn, GoesToNext, PassesUnwanted, StandsAtWanted, AdvancesCursor};
 
     /// A journal of no entries and no subscribers, over `venue_count` venues, 1 to 16, and these
     /// symbols, at most 4,096 and each once. It takes at most `journal` entries, and keeps all.
@@ -185,9 +185,9 @@ impl Journal {
     }
 
     /// Makes room for one entry and all changes that it can make: JournalFull where the journal
-    /// has as many entries as it takes. Else, where room was missing: NoMemory, if all is kept and
-    /// memory was refused; if not all is kept, SubscriberBehind, where a subscriber is behind by
-    /// more changes than it may be.
+    /// has as many entries as it takes. The other refusals come only where room was missing:
+    /// NoMemory only where all is kept, and SubscriberBehind only where not all is kept and a
+    /// subscriber is behind by more changes than it may be.
     pub fn reserve_one(&mut self) -> Result<(), JournalFault>
         ensures { Reserves self.old result self.new }
     {
@@ -324,10 +324,11 @@ impl Journal {
         self.counted.of(venue)
     }
 
-    /// The changes of the entries, numbered from 1; where not all are kept, those that are.
+    /// The changes of the entries, numbered from 1; where not all are kept, the last ones, with all
+    /// that weren't looked at for some subscriber.
     pub fn changes(&self) -> &[Notice]
         ensures value { IfNone self.now.kept (result.now ≡ changes self.now) }
-        ensures kept { (first : ℕ) × (result.now ≡ drop first (changes self.now)) }
+        ensures kept { KeepsUnseen self.now result.now }
     {
         self.notices.as_slice()
     }
@@ -485,7 +486,8 @@ impl Journal {
     #[inline(always)]
     pub fn seen(&self, id: SubscriberId) -> usize
         requires { id < length self.now.cursors }
-        ensures { IfSome (slice_get self.now.cursors id) (λ cursor. result ≡ cursor.seen) }
+        ensures value { IfSome (slice_get self.now.cursors id) (λ cursor. result ≡ cursor.seen) }
+        ensures small { result < 2 ^ 44 }
     {
         self.cursors[id.index()].seen
     }

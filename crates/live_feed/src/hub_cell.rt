@@ -4,7 +4,8 @@ ghost use Rattle.std.specs.Prelude.{◌≡◌, IfOk, IfErr, OnErr};
 ghost use Rattle.filter_terms.specs.declared.terms.Terms.{Terms};
 ghost use Rattle.filter_terms.specs.Copies.{IsCopy};
 ghost use Rattle.filter_terms.specs.Filters.{terms_of};
-ghost use Rattle.hub_lanes.specs.Sections.{AddsSubscriber, RefusesSubscriber};
+ghost use Rattle.journal_book.specs.Journals.{RefusesSubscribe};
+ghost use Rattle.hub_lanes.specs.Sections.{AddsSubscriber};
 
 use feed_steps::FeedName;
 use feed_types::{Genuine, Notice, SubscriberId};
@@ -35,7 +36,8 @@ impl<G: Genuine, N: FeedName> HubCell<G, N> {
         ensures added { IfOk result (λ made. (copy : Terms) × IsCopy (terms_of filter) copy
             × AddsSubscriber N.lanes copy made.0 made.1 self.old.core self.new.core) }
         ensures back { IfErr result (λ refused. refused.1 ≡ filter) }
-        ensures order { IfErr result (λ refused. RefusesSubscriber self.old.core refused.0) }
+        ensures order { IfErr result
+            (λ refused. RefusesSubscribe self.old.core.journal refused.0) }
         ensures refused { OnErr result (self.new.core ≡ self.old.core) }
     {
         if !self.core.has_subscriber_room() {

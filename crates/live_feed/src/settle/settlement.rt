@@ -2,6 +2,7 @@
 
 ghost use Rattle.std.specs.Prelude.{◌≡◌, ◌<◌, drop, length, IfSome, IfNone, Some, slice_get};
 ghost use Rattle.feed_types.specs.PerLines.{on_line};
+ghost use Rattle.journal_book.specs.Cursors.{KeepsUnseen};
 ghost use Rattle.journal_book.specs.Journals.{changes, kept_of, terms_at};
 ghost use Rattle.journal_book.specs.ItemsIn.{items_in};
 ghost use Rattle.venue_lines.specs.Brought.{counts_of};
@@ -86,9 +87,10 @@ impl Settlement {
     }
 
     /// The changes of the national best that the entries make, numbered from 1; where not all are
-    /// kept, those that are.
+    /// kept, the last ones, with all that weren't looked at for some subscriber.
     pub fn changes(&self) -> &[Notice]
-        ensures { IfNone self.now.journal.kept (result.now ≡ changes self.now.journal) }
+        ensures value { IfNone self.now.journal.kept (result.now ≡ changes self.now.journal) }
+        ensures kept { KeepsUnseen self.now.journal result.now }
     {
         self.kept.changes()
     }

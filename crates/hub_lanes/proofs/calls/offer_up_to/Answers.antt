@@ -23,7 +23,7 @@ loop-preserved-in-Ok-answer g c =
     c.in-Ok-answer.is e.offer in (
       tt,
       tt,
-      subst (λ (n : ℕ). c.args.id < n) (sym (count_stays c.loop.core new e.kept)) i.2,
+      subst (λ (n : ℕ). c.args.id < n) (sym (count_stays c.loop.core new e.kept.kept)) i.2,
       one_notice c.args.id c.loop.pushed c.args.core.now c.loop.core new i.3 e.kept _ _ one
           c.saturating_add-pushed.ensures,
     )
@@ -37,7 +37,7 @@ loop-preserved g c =
     c.in-Err-LaneFull.is e.offer in (
       tt,
       tt,
-      subst (λ (n : ℕ). c.args.id < n) (sym (count_stays c.loop.core new e.kept)) i.2,
+      subst (λ (n : ℕ). c.args.id < n) (sym (count_stays c.loop.core new e.kept.kept)) i.2,
       no_notice c.args.id c.loop.pushed c.args.core.now c.loop.core new i.3 e.kept _ one,
     )
 

@@ -37,6 +37,6 @@ returns-clause-step g c = λ s w filters f.
     (subst (λ (m : MachineView). FitsWorld s m w) (sym c.self.view_is) f)
     (terms_read (λ x. terms_of x) c.args.filters.now s.filters c.self.inside.filters_used
     c.index-filters-self.result filters lt c.index-filters-self.is)
-    c.in-Ok.id c.in_ok-terms.terms c.subscribe.new.self room (c.in-Ok.ensures.0
+    c.in-Ok.id c.in_ok-terms.terms c.subscribe.new.self room (c.in-Ok.ensures.0.0
     ∙ sym c.self.invariant.1) (c.in_ok-terms.ensures.cases.meets_same
-    ∙ ap (λ t. meets t) c.terms.ensures) c.in-Ok.ensures.2)
+    ∙ ap (λ t. meets t) c.terms.ensures) c.in-Ok.ensures.0.2)

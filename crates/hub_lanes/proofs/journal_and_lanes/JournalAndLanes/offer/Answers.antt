@@ -6,7 +6,7 @@ use Rattle.journal_book.specs.declared.cursor.Cursor.{Cursor}
 use Rattle.journal_book.specs.CursorLaws.{goes_past}
 use Rattle.feed_types.specs.ListLaws.{get_within}
 use Rattle.hub_lanes.specs.Hubs.{HubState}
-use Rattle.hub_lanes.specs.Sections.{HubOffersOne, KeepsButOffers, LooksOn}
+use Rattle.hub_lanes.specs.Sections.{HubOffersOne, KeepsButOffersTo, LooksOn}
 use Rattle.feed_steps.specs.declared.unsent.Unsent.TheVariants as unsent
 use Rattle.feed_steps.specs.laws.Lists.{at_index}
 use Rattle.hub_lanes.proofs.HubMoves.{passes_kept, looks_only, looks_kept, offers_kept, offer_may, offer_nothing, offer_full, offer_keeps, offer_one}
@@ -35,7 +35,7 @@ returns-in-Err-clause-looks g c =
     let passes = c.in-Err.ensures.unfinished in
     let seen : c.seen.result ≡ passes.cursor.seen =
     subst (λ (o : Option Cursor). IfSome o (λ cursor. c.seen.result ≡ cursor.seen))
-    passes.at c.seen.ensures in
+    passes.at c.seen.ensures.value in
     subst (λ (x : HubState). LooksOn c.args.id c.args.to x (record {
       journal = c.seek_offer.new.self;
       receivers = c.self.inside.from_venues.items;
@@ -52,7 +52,7 @@ pub returns-in-Err-clause-kept : goal.returns-in-Err-clause-kept
 returns-in-Err-clause-kept g c =
     let passes = c.in-Err.ensures.unfinished in
     let new = c.seek_offer.new.self in
-    subst (λ (x : HubState). KeepsButOffers x (record {
+    subst (λ (x : HubState). KeepsButOffersTo c.args.id x (record {
       journal = new;
       receivers = c.self.inside.from_venues.items;
       senders = c.self.inside.to_subscribers.items;
@@ -167,7 +167,7 @@ pub returns-in_default-clause-kept : goal.returns-in_default-clause-kept
 returns-in_default-clause-kept g c =
     let goes = c.in-Ok.ensures.goes in
     let new = c.seek_offer.new.self in
-    subst (λ (x : HubState). KeepsButOffers x (record {
+    subst (λ (x : HubState). KeepsButOffersTo c.args.id x (record {
       journal = new;
       receivers = c.self.inside.from_venues.items;
       senders = c.self.inside.to_subscribers.items;
@@ -181,7 +181,7 @@ returns-in-Ok-push-clause-kept g c =
     let new = c.advance_cursor.new.self in
     let past = goes_past c.self.inside.kept c.seek_offer.new.self new c.args.id _ goes
     c.advance_cursor.ensures in
-    subst (λ (x : HubState). KeepsButOffers x (record {
+    subst (λ (x : HubState). KeepsButOffersTo c.args.id x (record {
       journal = new;
       receivers = c.self.inside.from_venues.items;
       senders = slice_set c.self.inside.to_subscribers.items c.index.result c.push.new.self;
@@ -193,7 +193,7 @@ pub returns-in-Err-push-clause-kept : goal.returns-in-Err-push-clause-kept
 returns-in-Err-push-clause-kept g c =
     let goes = c.in-Ok.ensures.goes in
     let new = c.seek_offer.new.self in
-    subst (λ (x : HubState). KeepsButOffers x (record {
+    subst (λ (x : HubState). KeepsButOffersTo c.args.id x (record {
       journal = new;
       receivers = c.self.inside.from_venues.items;
       senders = slice_set c.self.inside.to_subscribers.items c.index.result c.push.new.self;

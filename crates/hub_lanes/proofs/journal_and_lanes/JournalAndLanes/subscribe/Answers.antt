@@ -15,7 +15,7 @@ invariant_of-self-2 g c =
     subscribes g.G.Genuine g.N.FeedName.lanes _ c.in-Some.spare
     c.pop_front.new.self.items c.subscribe.new.self
     c.push_reserved.new.self.items c.args.terms c.self.invariant
-    c.in-Some.ensures.items c.in-Ok.ensures.2 senders
+    c.in-Some.ensures.items c.in-Ok.ensures.0.2 senders
 
 pub returns : goal.returns
 returns g c =
@@ -25,7 +25,7 @@ returns g c =
     let spare = spare_end g.G.Genuine g.N.FeedName.lanes _ c.in-Some.spare
     c.pop_front.new.self.items c.self.invariant
     c.in-Some.ensures.items in
-    let id_is = c.in-Ok.ensures.0 in
+    let id_is = c.in-Ok.ensures.0.0 in
     let new : HubState = record {
       journal = c.subscribe.new.self;
       receivers = c.self.inside.from_venues.items;
@@ -35,15 +35,11 @@ returns g c =
     subst (λ (s : HubState). AddsSubscriber g.N.FeedName.lanes c.args.terms c.in-Ok.id
     c.in-Some.spare.receiver s new)
     c.self.view_is (record {
-      few = c.in-Ok.ensures.1;
-      in_time = λ late. (let is = c.is_late.ensures.1 late in let not_is =
-          c.if-is_late.false in absurd cc);
-      id_is = id_is;
+      journal = c.in-Ok.ensures;
       tag = spare.1 ∙ sym id_is;
       lane = ap (slice_get g.N.FeedName.lanes.subscribers) id_is ∙ spare.3;
       capacity = spare.4;
       empty = spare.2;
-      journal = c.in-Ok.ensures.2;
       senders = senders ∙ ap (λ (e : LaneEnd Notice). c.self.inside.to_subscribers.items
           ++ e ∷ []) (sym spare.0);
       receivers = refl;
