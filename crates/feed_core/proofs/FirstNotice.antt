@@ -133,40 +133,42 @@ module _ (session : List ℕ) (ten : length session ≡ 10) where
     packet = packet;
     rest = [];
     spells = spells;
-    answer = Ok (Taken 1 0);
-    history = history;
-    taken = record {
-      right = inr (
-        refl,
-        (
-          λ at e. absurd cc,
-          let near : 1 ≤ 1 = omega arith in near,
-          λ k x within unsent is other. absurd cc,
+    answers = record {
+      answer = Ok (Taken 1 0);
+      history = history;
+      adds = record {
+        right = inr (
           refl,
-          refl,
-        ),
-      );
-      is = refl;
+          (
+            λ at e. absurd cc,
+            let near : 1 ≤ 1 = omega arith in near,
+            λ k x within unsent is other. absurd cc,
+            refl,
+            refl,
+          ),
+        );
+        is = refl;
+      };
+      outcome_is = refl;
+      new_is = refl;
     };
-    outcome_is = refl;
-    new_is = refl;
   }
 
   run : IsRun setting (new_world setting) events outcomes dequeued
   unfolding item_of
-  run =
-      let taken = dequeued in
-      let last : IsRun setting offered (Dequeue 0 ∷ []) (done.Dequeued 1 ∷ []) taken =
-      (taken, (refl, refl), refl) in
-      let offers : IsRun setting consumed (Offer 0 ∷ Dequeue 0 ∷ [])
-      (done.Offered 1 ∷ done.Dequeued 1 ∷ []) taken = (offered, (refl, refl), last) in
-      let consumes : IsRun setting pushed (Consume 0 ∷ Offer 0 ∷ Dequeue 0 ∷ [])
-      (done.Consumed 1 ∷ done.Offered 1 ∷ done.Dequeued 1 ∷ []) taken =
-      (consumed, (refl, refl), offers) in
-      let pushes : IsRun setting arrived (Push 0 ∷ Consume 0 ∷ Offer 0 ∷ Dequeue 0 ∷ [])
-      (done.Pushed 1 ∷ done.Consumed 1 ∷ done.Offered 1 ∷ done.Dequeued 1 ∷ []) taken =
-      (pushed, (refl, refl), consumes) in
-      (subscribed, (refl, refl), (arrived, inr answers, pushes))
+  run = (
+    subscribed,
+    (refl, refl),
+    (
+      arrived,
+      inr answers,
+      (
+        pushed,
+        (refl, refl),
+        (consumed, (refl, refl), (offered, (refl, refl), (dequeued, (refl, refl), refl))),
+      ),
+    ),
+  )
 
   pub first_notice : Dequeues (one_of_each session xyz) 0 notice_of_xyz
   first_notice = record {
