@@ -23,8 +23,8 @@ one_of_each session symbol = record {
 abbrev pub xyz : List ℕ
 xyz = 88 ∷ 89 ∷ 90 ∷ 32 ∷ 32 ∷ 32 ∷ 32 ∷ 32 ∷ []
 
--- The first notice, of the first entry: venue 0 bids 10.0000 for 300 shares of XYZ and offers 200 at
--- 10.0100.
+-- The first notice, of the first entry: venue 0 bids 10.0000 for 300 shares of XYZ, and offers 200
+-- at 10.0100.
 abbrev pub notice_of_xyz : Notice
 notice_of_xyz = record {
   number = 1;

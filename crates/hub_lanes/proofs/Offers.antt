@@ -201,7 +201,8 @@ module _ (id pushed : ℕ) (why : Unsent) (old between new : HubState)
 
 -- the changes up to a number were looked at, and there are more
 pub looked_on : (id to pushed : ℕ) (old between new : HubState) → SendsNotices id pushed old between
-    → KeepsButOffersTo id between new → LooksOn id to between new → OffersUpTo id to pushed true old new
+    → KeepsButOffersTo id between new → LooksOn id to between new
+    → OffersUpTo id to pushed true old new
 looked_on id to pushed old between new r kept looks =
     let passes = looks.passes in
     let past : Cursor = record passes.cursor { seen = passes.cursor.seen + looks.most } in

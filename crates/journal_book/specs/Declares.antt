@@ -6,8 +6,8 @@ use Rattle.journal_book.specs.declared.fault.JournalFault.{JournalFault}
 use Rattle.journal_book.specs.declared.fault.JournalFault.TheVariants.{NoMemory, JournalFull, UnknownVenue, AlreadySo, SubscriberBehind}
 
 -- The answer of a journal of this many venues, of this many entries at most and of these entries,
--- by cases in the order in which they are tried. `stays` says that nothing has changed, `lacks` when
--- room is refused, and `goes` what is answered where the declaration is taken.
+-- by cases in the order in which they are tried. `stays` says that nothing has changed, `lacks`
+-- when room is refused, and `goes` what is answered where the declaration is taken.
 abbrev pub DeclaresBy : {T : Type 0} → ℕ → ℕ → List Entry → Type 0 → (JournalFault → Type 0)
     → (T → Type 0) → ℕ → Bool → Result T JournalFault → Type 0
 DeclaresBy venues limit entries stays lacks goes venue on (Err UnknownVenue) =

@@ -111,8 +111,8 @@ pub record LeavesMissing {R S F : Type 0} (reading : Reading R) (parsing : Parsi
   pub absent : OnOk outcome (LeavesAbsent reading parsing config from to start finish outcome
       before.is_watched (symbols_with after.absent config.symbols.now))
 
--- How a replay is printed, for any format of captures: a relation of its settings, of the reader and
--- the format before and after, of the writer before and after, and of the outcome.
+-- How a replay is printed, for any format of captures: a relation of its settings, of the reader
+-- and the format before and after, of the writer before and after, and of the outcome.
 abbrev pub Output : (R W : Type 0) → Type 1
 Output R W = (S F : Type 0) → Parsing S F → ReplayConfig → (from to : R) (start finish : S)
     (before after : W) → Result (Unit {0}) (ReplayStop F) → Type 0

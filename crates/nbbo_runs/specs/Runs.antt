@@ -91,8 +91,8 @@ pub record Ran {R W E : Type 0} (devices : Devices R W E) (words : List Text)
     (terminals : Terminals) (before after : Streams R W E) (status : ℕ) : Type 0 where
   pub settings : RunSettings
   pub asked : AsksRun words settings
-  pub runs : RunsBy devices (output_asked devices.reading devices.writing settings) settings terminals
-      before after status settings.input
+  pub runs : RunsBy devices (output_asked devices.reading devices.writing settings) settings
+      terminals before after status settings.input
 
 -- A packet capture was converted onto output. Standard error has the hint, and then what is to be
 -- said of what was read and of the outcome.
