@@ -1,16 +1,19 @@
--- One more packet or skip, and one more session, in a venue's history.
-use Rattle.std.proofs.Common.{◌≡◌, ℕ, zero, suc, ◌+◌, ◌≤◌, List, [], ◌∷◌, ◌++◌, length, take, Some, refl, sym, ap, subst, ◌∙◌, arith, append_assoc, append-nil, length-append}
+-- One more packet or skip, and one more session, in a venue's history, and what was sent of it.
+use Rattle.std.proofs.Common.{◌≡◌, ℕ, zero, suc, ◌+◌, ◌<◌, ◌≤◌, List, [], ◌∷◌, ◌++◌, length, take, drop, Some, refl, sym, ap, subst, ◌∙◌, arith, append_assoc, append-nil, length-append}
 use Rattle.std.specs.Prelude.{slice_get}
 use Rattle.std.proofs.lemmas.Grind.{flat_map-append}
+use Rattle.std.proofs.lemmas.List.{take-append-drop}
+use Rattle.feed_types.specs.declared.item.Numbered.{Numbered}
 use Rattle.line_arbiter.specs.Packets.{Arrival, Input}
-use Rattle.line_arbiter.specs.Streams.{IsComplete}
+use Rattle.line_arbiter.specs.Streams.{IsComplete, place_of, stream_of}
 use Rattle.line_arbiter.specs.Answered.{IsAnswered}
 use Rattle.line_arbiter.specs.Genuine.{IsGenuineIn}
-use Rattle.line_arbiter.specs.Histories.{Begun, History, all_begun, after_input}
+use Rattle.line_arbiter.specs.Histories.{Begun, History, all_begun, after_input, items_of, streams_of}
 use Rattle.line_arbiter.specs.laws.Below.{answered_more}
+use Rattle.line_arbiter.specs.laws.Histories.{items_push}
 use Rattle.line_arbiter.specs.laws.Arrivals.{all_push}
 use Rattle.feed_types.specs.declared.genuine.Genuine.{Ghosts as Genuine}
-use Rattle.venue_lines.specs.Cells.{AreGiven, AreGivenFrom, arrived_in, arrived_of, arrivals_of}
+use Rattle.venue_lines.specs.Cells.{AreGiven, AreGivenFrom, CellFitsHistory, CellState, arrived_in, arrived_of, arrivals_of}
 
 -- ---- lists
 
@@ -26,13 +29,19 @@ take_next (y ∷ ys) (suc n) zero x is e = absurd (omega arith)
 take_next (y ∷ ys) (suc n) (suc m) x is e = ap (λ (l : List _). y ∷ l)
     (take_next ys n m x (omega arith) e)
 
-get_after : {X : Type 0} (xs ys : List X) (n m : ℕ) → m ≡ length xs + n
+pub get_before : {X : Type 0} (xs ys : List X) (n : ℕ) → n < length xs
+    → slice_get (xs ++ ys) n ≡ slice_get xs n
+get_before [] ys n within = absurd (omega arith)
+get_before (x ∷ xs) ys zero within = refl
+get_before (x ∷ xs) ys (suc n) within = get_before xs ys n (omega arith)
+
+pub get_after : {X : Type 0} (xs ys : List X) (n m : ℕ) → m ≡ length xs + n
     → slice_get (xs ++ ys) m ≡ slice_get ys n
 get_after [] ys n m is = ap (slice_get ys) (omega arith)
 get_after (x ∷ xs) ys n zero is = absurd (omega arith)
 get_after (x ∷ xs) ys n (suc m) is = get_after xs ys n m (omega arith)
 
-length_take : {X : Type 0} (xs : List X) (n : ℕ) → n ≤ length xs → length (take n xs) ≡ n
+pub length_take : {X : Type 0} (xs : List X) (n : ℕ) → n ≤ length xs → length (take n xs) ≡ n
 length_take [] zero le = refl
 length_take [] (suc n) le = absurd (omega arith)
 length_take (x ∷ xs) zero le = refl
@@ -44,6 +53,19 @@ pub get_sent : {X : Type 0} (xs ys sent : List X) (n : ℕ) → sent ≡ xs ++ t
 get_sent xs ys sent n is le =
     get_after xs ys n (length sent) (ap length is ∙ length-append xs (take n ys)
     ∙ ap (λ (k : ℕ). length xs + k) (length_take ys n le))
+
+-- what was sent begins the streams
+pub sent_begins : (c : CellState) (h : History) → CellFitsHistory c h
+    → streams_of h
+    ≡ c.lane.items
+    ++ drop (place_of h.present.packets c.arbiter.sent) (stream_of h.present.packets)
+sent_begins c h f =
+    let stream = stream_of h.present.packets in
+    let place = place_of h.present.packets c.arbiter.sent in
+    items_push h.earlier h.present
+    ∙ ap (λ (xs : List Numbered). items_of h.earlier ++ xs) (sym (take-append-drop place stream))
+    ∙ sym (append_assoc (items_of h.earlier) (take place stream) (drop place stream))
+    ∙ ap (λ (xs : List Numbered). xs ++ drop place stream) (sym f.sent)
 
 -- ---- one more packet, or a skip
 

@@ -2,6 +2,7 @@ pub mod Counting
 pub mod Histories
 pub mod CellMoves
 pub mod Statuses
+pub mod FirstNumbers
 pub mod CellAnswers
 pub mod TheirPackets
 pub mod NewVenues

@@ -1,19 +1,17 @@
 -- What was sent of a venue is of its sessions.
-use Rattle.std.proofs.Common.{◌≡◌, List, ◌++◌, take, drop, sym, ap, subst, ◌∙◌, append_assoc}
-use Rattle.std.proofs.lemmas.List.{take-append-drop}
+use Rattle.std.proofs.Common.{List, drop, subst}
 use Rattle.feed_types.specs.declared.item.Numbered.{Numbered}
 use Rattle.feed_types.specs.Prefix.{IsPrefix}
 use Rattle.feed_types.specs.Sequence.{SkipsNothing}
 use Rattle.feed_types.specs.SequenceLaws.{prefix_in_sequence}
 use Rattle.feed_types.specs.Sessions.{Session, whole_sessions}
 use Rattle.line_arbiter.specs.Streams.{place_of, stream_of}
-use Rattle.line_arbiter.specs.Histories.{items_of, streams_of}
-use Rattle.line_arbiter.specs.laws.Histories.{items_push}
 use Rattle.feed_types.specs.declared.genuine.Genuine.{Ghosts as Genuine}
 use Rattle.feed_steps.specs.Premises.{AreInSequence, AreOfSessions, BringExactly}
 use Rattle.feed_steps.specs.Lanes.{FeedLanes}
 use Rattle.venue_lines.specs.Cells.{CellState, VenueLockInvariant}
 use Rattle.venue_lines.specs.laws.Given.{streams_sequence}
+use Rattle.venue_lines.proofs.Histories.{sent_begins}
 
 module _ {S : Type 0} (premise : Genuine S) (of_sessions : AreOfSessions premise)
     (lanes : FeedLanes) where
@@ -22,18 +20,11 @@ module _ {S : Type 0} (premise : Genuine S) (of_sessions : AreOfSessions premise
       → AreInSequence premise c.arbiter.venue c.lane.items
   sent_in_sequence c k =
       let h = k.history in
-      let stream = stream_of h.present.packets in
-      let place = place_of h.present.packets c.arbiter.sent in
-      let sent = items_of h.earlier ++ take place stream in
-      let left = drop place stream in
-      let whole : streams_of h ≡ sent ++ left =
-      items_push h.earlier h.present
-      ∙ ap (λ (l : List Numbered). items_of h.earlier ++ l) (sym (take-append-drop place stream))
-      ∙ sym (append_assoc (items_of h.earlier) (take place stream) left) in
-      let all = streams_sequence premise c.arbiter.venue c.arbiter.window h k.given in
-      subst (λ (l : List Numbered). AreInSequence premise c.arbiter.venue l) (sym k.fits.sent)
-      (prefix_in_sequence premise.carries premise.ends c.arbiter.venue sent left
-      (subst (λ (l : List Numbered). AreInSequence premise c.arbiter.venue l) whole all))
+      let left = drop (place_of h.present.packets c.arbiter.sent) (stream_of h.present.packets) in
+      prefix_in_sequence premise.carries premise.ends c.arbiter.venue c.lane.items left
+      (subst (λ (l : List Numbered). AreInSequence premise c.arbiter.venue l)
+      (sent_begins c h k.fits)
+      (streams_sequence premise c.arbiter.venue c.arbiter.window h k.given))
 
   pub sent_of_sessions : (c : CellState) (all : List Session) → VenueLockInvariant premise lanes c
       → BringExactly premise c.arbiter.venue all → SkipsNothing c.lane.items

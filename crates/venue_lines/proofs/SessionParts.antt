@@ -1,8 +1,7 @@
 -- Where messages were given up, a venue's items are its sessions' parts.
-use Rattle.std.proofs.Common.{◌≡◌, ℕ, suc, ◌+◌, ◌-◌, ◌<◌, List, [], ◌∷◌, ◌++◌, length, take, drop, Some, refl, sym, ap, subst, ◌∙◌, arith, append_assoc}
+use Rattle.std.proofs.Common.{◌≡◌, ℕ, suc, ◌+◌, ◌-◌, ◌<◌, List, [], ◌∷◌, ◌++◌, length, drop, Some, refl, sym, ap, subst, ◌∙◌, arith}
 use Rattle.std.specs.Prelude.{slice_get}
 use Rattle.std.specs.List.{AllByRecursion}
-use Rattle.std.proofs.lemmas.List.{take-append-drop}
 use Rattle.std.proofs.lemmas.Option.{slice_get_within}
 use Rattle.feed_types.specs.declared.item.Numbered.{Numbered}
 use Rattle.feed_types.specs.Prefix.{IsPrefix}
@@ -16,7 +15,6 @@ use Rattle.line_arbiter.specs.Histories.{Begun, History, all_begun, items_of, st
 use Rattle.line_arbiter.specs.States.{ordinal_of}
 use Rattle.line_arbiter.specs.laws.Arrivals.{all_push, genuine_grows}
 use Rattle.line_arbiter.specs.laws.FitsHistory.{ordinal_is}
-use Rattle.line_arbiter.specs.laws.Histories.{items_push}
 use Rattle.line_arbiter.specs.laws.OfSession.{part_is, part_of_session}
 use Rattle.feed_steps.specs.SessionParts.{parts_of_sessions}
 use Rattle.feed_types.specs.declared.genuine.Genuine.{Ghosts as Genuine}
@@ -24,6 +22,7 @@ use Rattle.feed_steps.specs.Premises.{BringExactly, SkipWithinSessions}
 use Rattle.feed_steps.specs.Lanes.{FeedLanes}
 use Rattle.venue_lines.specs.Cells.{AreGiven, AreGivenFrom, CellState, VenueLockInvariant}
 use Rattle.venue_lines.specs.laws.Given.{given_genuine}
+use Rattle.venue_lines.proofs.Histories.{sent_begins}
 
 -- ---- one session
 
@@ -138,18 +137,12 @@ pub sent_parts : {S : Type 0} (premise : Genuine S) (lanes : FeedLanes)
     → IsPrefix c.lane.items (parts_of_sessions all (all_begun k.history))
 sent_parts premise lanes c all k names within =
     let h = k.history in
-    let stream = stream_of h.present.packets in
-    let place = place_of h.present.packets c.arbiter.sent in
     let found = (names.named (ordinal_of c.arbiter) c.arbiter.session).0 k.named in
     let there = slice_get_within all (ordinal_of c.arbiter - 1) found.0 found.1.1 in
     let ordinal = ordinal_is h k.fits.history in
     let parts = history_parts premise c.arbiter.venue c.arbiter.window all names h k.given
     (omega arith) within in
     record {
-      rest = drop place stream;
-      is = sym parts ∙ items_push h.earlier h.present
-          ∙ ap (λ (xs : List Numbered). items_of h.earlier ++ xs)
-          (sym (take-append-drop place stream))
-          ∙ sym (append_assoc (items_of h.earlier) (take place stream) (drop place stream))
-          ∙ ap (λ (xs : List Numbered). xs ++ drop place stream) (sym k.fits.sent);
+      rest = drop (place_of h.present.packets c.arbiter.sent) (stream_of h.present.packets);
+      is = sym parts ∙ sent_begins c h k.fits;
     }

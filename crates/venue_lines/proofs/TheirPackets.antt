@@ -1,5 +1,5 @@
 -- The answers to bytes that are a packet of a known session.
-use Rattle.std.proofs.Common.{ℕ, List, Result, Ok, Err, refl, ap, subst, inl, inr}
+use Rattle.std.proofs.Common.{ℕ, List, Result, Ok, Err, refl, ap, subst, ◌∙◌, inl, inr}
 use Rattle.mold_packet.specs.Content.{Content, Spells}
 use Rattle.mold_packet.specs.Faults.{HasFault}
 use Rattle.mold_packet.specs.declared.fault.PacketFault.{PacketFault}
@@ -11,7 +11,6 @@ use Rattle.line_arbiter.specs.OfSession.{IsOfSession}
 use Rattle.feed_types.specs.declared.genuine.Genuine.{Ghosts as Genuine}
 use Rattle.venue_lines.specs.declared.faults.TakeFault.{TakeFault}
 use Rattle.venue_lines.specs.declared.faults.TakeFault.TheVariants as faults
-use Rattle.feed_steps.specs.Lanes.{FeedLanes}
 use Rattle.venue_lines.specs.Sections.{AcceptsTheirPacket}
 use Rattle.venue_lines.specs.Datagrams.{AcceptsTheirs}
 
@@ -19,22 +18,25 @@ abbrev as_taken : Result Outcome LineFault → Result Outcome TakeFault
 as_taken (Ok outcome) = Ok outcome
 as_taken (Err fault) = Err (faults.Line fault)
 
-module _ {S : Type 0} (premise : Genuine S) (lanes : FeedLanes) (venue : ℕ) (bytes : List ℕ) where
+module _ {S : Type 0} (premise : Genuine S) (venue : ℕ) (bytes : List ℕ) where
   pub faulty : (fault : PacketFault) → HasFault bytes fault
-      → AcceptsTheirs premise lanes venue bytes (Err (faults.Packet fault))
+      → AcceptsTheirs premise venue bytes (Err (faults.Packet fault))
   faulty fault has all ordinal session p rest names at spells of =
       absurd (no_fault bytes p rest fault spells has)
 
-  pub other : AcceptsTheirs premise lanes venue bytes (Err (faults.Line OtherSession))
+  pub other : AcceptsTheirs premise venue bytes (Err (faults.Line OtherSession))
   other all ordinal session p rest names at spells of = inr (inl refl)
 
   pub theirs : (q : Content) (more : List ℕ) (fault : LineFault) → Spells bytes q more
-      → AcceptsTheirPacket premise lanes venue q (Err fault)
-      → AcceptsTheirs premise lanes venue bytes (Err (faults.Line fault))
+      → AcceptsTheirPacket premise venue q (Err fault)
+      → AcceptsTheirs premise venue bytes (Err (faults.Line fault))
   theirs q more fault spelled accepts all ordinal session p rest names at spells of =
-      elim (accepts all ordinal session names at (subst (IsOfSession session)
-      (same_packet bytes p q rest more spells spelled) of)) [
+      let same = same_packet bytes p q rest more spells spelled in
+      elim (accepts all ordinal session names at (subst (IsOfSession session) same of)) [
         | inl ok ↦ absurd cc
-        | inr (inl same) ↦ inr (inl (ap as_taken same))
-        | inr (inr past) ↦ inr (inr past)
+        | inr (inl other) ↦ inr (inl (ap as_taken other))
+        | inr (inr early) ↦ inr (inr (
+          ap (λ (x : Content). x.kind) same ∙ early.0,
+          ap as_taken early.1,
+        ))
       ]

@@ -1,9 +1,8 @@
 -- Where nothing was given up, no item says so.
-use Rattle.std.proofs.Common.{◌≡◌, ◌≢◌, ℕ, zero, suc, ◌+◌, ◌-◌, ◌≤◌, Bool, true, false, List, [], ◌∷◌, ◌++◌, map, take, drop, Option, Some, None, sym, ap, subst, ◌∙◌, arith, append_assoc}
+use Rattle.std.proofs.Common.{◌≡◌, ◌≢◌, ℕ, zero, suc, ◌+◌, ◌-◌, ◌≤◌, Bool, true, false, List, [], ◌∷◌, ◌++◌, map, drop, Option, Some, None, sym, ap, subst, ◌∙◌, arith}
 use Rattle.std.specs.Prelude.{unwrap_or, ◌==◌, if◌then◌else◌}
 use Rattle.std.specs.List.{AllByRecursion, range_with_len}
 use Rattle.std.proofs.lemmas.Bool.{le-ltb}
-use Rattle.std.proofs.lemmas.List.{take-append-drop}
 use Rattle.feed_types.specs.declared.item.Item.{Item}
 use Rattle.feed_types.specs.declared.item.Item.TheVariants as items
 use Rattle.feed_types.specs.declared.item.Numbered.{Numbered}
@@ -12,13 +11,11 @@ use Rattle.feed_types.specs.Sessions.{end_item}
 use Rattle.line_arbiter.specs.Packets.{Input, carried, end_of, first_of}
 use Rattle.line_arbiter.specs.Streams.{end_at, front_of, item_in, item_numbered, opens_of, place_of, stream_of}
 use Rattle.line_arbiter.specs.Skips.{IsArrival}
-use Rattle.line_arbiter.specs.Histories.{Begun, all_begun, items_of, streams_of}
-use Rattle.line_arbiter.specs.laws.Histories.{items_push}
+use Rattle.line_arbiter.specs.Histories.{Begun, History, all_begun, items_of}
 use Rattle.line_arbiter.specs.laws.OfSession.{skipped_below}
 use Rattle.line_arbiter.specs.laws.Parts.{first_one, one_part}
-use Rattle.feed_types.specs.declared.genuine.Genuine.{Ghosts as Genuine}
-use Rattle.feed_steps.specs.Lanes.{FeedLanes}
-use Rattle.venue_lines.specs.Cells.{CellState, VenueLockInvariant}
+use Rattle.venue_lines.specs.Cells.{CellFitsHistory, CellState}
+use Rattle.venue_lines.proofs.Histories.{sent_begins}
 
 -- ---- lists
 
@@ -41,7 +38,7 @@ none_at_end (Some e) m = by_test (e == m)
     by_test true = (λ is. absurd cc, tt)
     by_test false = tt
 
-skipped_was_carried : (o : Option Item) → unwrap_or o items.Other ≡ items.Skipped
+pub skipped_was_carried : (o : Option Item) → unwrap_or o items.Other ≡ items.Skipped
     → o ≡ Some items.Skipped
 skipped_was_carried None is = absurd cc
 skipped_was_carried (Some x) is = ap (λ (y : Item). Some y) is
@@ -77,19 +74,11 @@ items_skip_nothing [] arrived = tt
 items_skip_nothing (b ∷ bs) arrived = both_skip_nothing (stream_of b.packets) (items_of bs)
     (stream_skips_nothing b.packets arrived.0) (items_skip_nothing bs arrived.1)
 
-pub sent_skips_nothing : {S : Type 0} (premise : Genuine S) (lanes : FeedLanes) (c : CellState)
-    (k : VenueLockInvariant premise lanes c)
-    → AllByRecursion (λ b. AllByRecursion IsArrival b.packets) (all_begun k.history)
+pub sent_skips_nothing : (c : CellState) (h : History) → CellFitsHistory c h
+    → AllByRecursion (λ b. AllByRecursion IsArrival b.packets) (all_begun h)
     → SkipsNothing c.lane.items
-sent_skips_nothing premise lanes c k arrived =
-    let h = k.history in
-    let stream = stream_of h.present.packets in
-    let place = place_of h.present.packets c.arbiter.sent in
-    let whole : streams_of h ≡ c.lane.items ++ drop place stream =
-    items_push h.earlier h.present
-    ∙ ap (λ (xs : List Numbered). items_of h.earlier ++ xs) (sym (take-append-drop place stream))
-    ∙ sym (append_assoc (items_of h.earlier) (take place stream) (drop place stream))
-    ∙ ap (λ (xs : List Numbered). xs ++ drop place stream) (sym k.fits.sent) in
-    front_skips_nothing c.lane.items (drop place stream)
-    (subst (λ (xs : List Numbered). SkipsNothing xs) whole
+sent_skips_nothing c h f arrived =
+    front_skips_nothing c.lane.items
+    (drop (place_of h.present.packets c.arbiter.sent) (stream_of h.present.packets))
+    (subst (λ (xs : List Numbered). SkipsNothing xs) (sent_begins c h f)
     (items_skip_nothing (all_begun h) arrived))

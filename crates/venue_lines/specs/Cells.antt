@@ -1,8 +1,7 @@
 -- What a venue's lock guards.
-use Rattle.std.specs.Prelude.{◌≡◌, ◌≢◌, ◌⊎◌, ℕ, ◌+◌, ◌<◌, ◌≤◌, Contains, List, [], ◌∷◌, ◌++◌, take, flat_map, length, Some, None, slice_get}
+use Rattle.std.specs.Prelude.{◌≡◌, ◌≢◌, ◌⊎◌, ℕ, ◌+◌, ◌≤◌, List, [], ◌∷◌, ◌++◌, take, flat_map, length, Some, None, slice_get}
 use Rattle.std.specs.List.{AllByRecursion}
 use Rattle.feed_types.specs.declared.item.Numbered.{Numbered}
-use Rattle.feed_types.specs.Sessions.{Session}
 use Rattle.feed_types.specs.declared.line.LineId.{LineId}
 use Rattle.line_arbiter.specs.Packets.{Arrival, Input, Arrived, Skip}
 use Rattle.line_arbiter.specs.Streams.{IsComplete, place_of, stream_of}
@@ -90,18 +89,6 @@ pub record VenueLockInvariant {S : Type 0} (premise : Genuine S)
   pub lane : slice_get lanes.venues c.arbiter.venue ≡ Some c.lane.lane
   pub window : c.arbiter.window ≡ lanes.setting.window
   pub capacity : c.lane.capacity ≡ lanes.setting.lane
-
--- Messages past the end of this session were given up: there is such a cell of the venue, whose
--- present session has that name, and to which a skip past its messages came.
-pub record SkipsPast {S : Type 0} (premise : Genuine S) (lanes : FeedLanes) (venue : ℕ)
-    (session : Session) : Type 0 where
-  pub cell : CellState
-  pub kept : VenueLockInvariant premise lanes cell
-  pub venue_is : cell.arbiter.venue ≡ venue
-  pub present : kept.history.present.name ≡ session.name
-  pub number : ℕ
-  pub given_up : Contains kept.history.present.packets (Skip number)
-  pub past : length session.items + 1 < number
 
 -- The section is possible: there are two cells of the venue that its lock may keep, and it leads
 -- from the one to the other. Outside of the lock nothing is known of its cell, so this says which

@@ -3,9 +3,10 @@ use Rattle.std.specs.Prelude.{◌≡◌, ◌⊎◌, ℕ, List, Result, Ok, Err, 
 use Rattle.feed_types.specs.Sessions.{Session, IsSessionAt}
 use Rattle.mold_packet.specs.Content.{Content, Spells}
 use Rattle.mold_packet.specs.Faults.{HasFault}
+use Rattle.mold_packet.specs.declared.packet.Kind.TheVariants as kinds
 use Rattle.line_arbiter.specs.declared.outcome.Outcome.{Outcome}
 use Rattle.line_arbiter.specs.declared.outcome.LineFault.{LineFault}
-use Rattle.line_arbiter.specs.declared.outcome.LineFault.TheVariants.{OtherSession}
+use Rattle.line_arbiter.specs.declared.outcome.LineFault.TheVariants.{OtherSession, EndTooEarly}
 use Rattle.line_arbiter.specs.OfSession.{IsOfSession}
 use Rattle.feed_types.specs.declared.genuine.Genuine.{Ghosts as Genuine}
 use Rattle.feed_steps.specs.Premises.{BringExactly, IsGenuinePacket}
@@ -13,7 +14,7 @@ use Rattle.venue_lines.specs.declared.datagram.Datagram.{Datagram}
 use Rattle.venue_lines.specs.declared.faults.TakeFault.{TakeFault}
 use Rattle.venue_lines.specs.declared.faults.TakeFault.TheVariants as faults
 use Rattle.feed_steps.specs.Lanes.{FeedLanes}
-use Rattle.venue_lines.specs.Cells.{IsPossibleCall, SkipsPast}
+use Rattle.venue_lines.specs.Cells.{IsPossibleCall}
 use Rattle.venue_lines.specs.Seats.{SeatState, seat_after, seat_refusing}
 use Rattle.venue_lines.specs.Sections.{PushesReady, TakesAndPushesReady}
 
@@ -58,13 +59,14 @@ TakesDatagram premise lanes bytes old (Ok outcome) new =
     IsPacketTaken premise lanes bytes old (Ok outcome) new
 
 -- Whatever packet the bytes are: where the lines bring exactly these sessions, a packet of one of
--- them is accepted, or is of another session than the present one, or messages past the session's
--- end were given up.
-abbrev pub AcceptsTheirs : {S : Type 0} → Genuine S → FeedLanes → ℕ → List ℕ
-    → Result Outcome TakeFault → Type 0
-AcceptsTheirs premise lanes venue bytes answer =
+-- them is accepted, or is of another session than the present one, or is an end that is answered as
+-- too early.
+abbrev pub AcceptsTheirs : {S : Type 0} → Genuine S → ℕ → List ℕ → Result Outcome TakeFault
+    → Type 0
+AcceptsTheirs premise venue bytes answer =
     (all : List Session) (ordinal : ℕ) (session : Session) (p : Content) (rest : List ℕ)
     → BringExactly premise venue all → IsSessionAt all ordinal session
     → Spells bytes p rest → IsOfSession session p
     → IsOk answer
-    ⊎ ((answer ≡ Err (faults.Line OtherSession)) ⊎ SkipsPast premise lanes venue session)
+    ⊎ ((answer ≡ Err (faults.Line OtherSession))
+    ⊎ ((p.kind ≡ kinds.End) × (answer ≡ Err (faults.Line EndTooEarly))))

@@ -4,12 +4,14 @@ use Rattle.std.specs.Prelude.{◌≡◌, ◌≢◌, ◌⊎◌, ℕ, ◌+◌, ◌
 use Rattle.feed_types.specs.declared.line.LineId.{LineId}
 use Rattle.feed_types.specs.Sessions.{Session, IsSessionAt}
 use Rattle.mold_packet.specs.Content.{Content}
+use Rattle.mold_packet.specs.declared.packet.Kind.TheVariants as kinds
 use Rattle.line_arbiter.specs.declared.outcome.Outcome.{Outcome}
 use Rattle.line_arbiter.specs.declared.outcome.LineFault.{LineFault}
-use Rattle.line_arbiter.specs.declared.outcome.LineFault.TheVariants.{OtherSession}
+use Rattle.line_arbiter.specs.declared.outcome.LineFault.TheVariants.{OtherSession, EndTooEarly}
 use Rattle.line_arbiter.specs.declared.faults.RenewFault.{RenewFault}
 use Rattle.line_arbiter.specs.declared.faults.SkipFault.{SkipFault}
 use Rattle.line_arbiter.specs.declared.faults.SkipFault.TheVariants.{ItemsReady, NothingMissing}
+use Rattle.line_arbiter.specs.Packets.{first_of}
 use Rattle.line_arbiter.specs.Histories.{History, streams_of}
 use Rattle.line_arbiter.specs.OfSession.{IsOfSession}
 use Rattle.line_arbiter.specs.InOrder.{IsNextPacket}
@@ -33,7 +35,7 @@ use Rattle.venue_lines.specs.declared.faults.GapFault.TheVariants as gaps
 use Rattle.feed_steps.specs.declared.unsent.Unsent.{Unsent}
 use Rattle.feed_steps.specs.declared.unsent.Unsent.TheVariants as unsent
 use Rattle.feed_steps.specs.Lanes.{FeedLanes}
-use Rattle.venue_lines.specs.Cells.{IsPossibleCall, CellState, CellFitsHistory, MayMeetAnother, SkipsPast, IsPossibleAtVenue, new_pace}
+use Rattle.venue_lines.specs.Cells.{IsPossibleCall, CellState, CellFitsHistory, MayMeetAnother, IsPossibleAtVenue, new_pace}
 
 -- Packet: the venue's history has grown by the packet, and the cell represents it.
 pub record TakesPacket (line : LineId) (p : Content) (answer : Result Outcome LineFault)
@@ -43,14 +45,25 @@ pub record TakesPacket (line : LineId) (p : Content) (answer : Result Outcome Li
   pub fits : CellFitsHistory new after
 
 -- Where the lines bring exactly these sessions, a packet of one of them is accepted, or is of
--- another session than the present one, or messages past the session's end were given up.
-abbrev pub AcceptsTheirPacket : {S : Type 0} → Genuine S → FeedLanes → ℕ → Content
+-- another session than the present one, or is an end that is answered as too early.
+abbrev pub AcceptsTheirPacket : {S : Type 0} → Genuine S → ℕ → Content
     → Result Outcome LineFault → Type 0
-AcceptsTheirPacket premise lanes venue p answer =
+AcceptsTheirPacket premise venue p answer =
     (all : List Session) (ordinal : ℕ) (session : Session)
     → BringExactly premise venue all → IsSessionAt all ordinal session
     → IsOfSession session p
-    → IsOk answer ⊎ ((answer ≡ Err OtherSession) ⊎ SkipsPast premise lanes venue session)
+    → IsOk answer
+    ⊎ ((answer ≡ Err OtherSession) ⊎ ((p.kind ≡ kinds.End) × (answer ≡ Err EndTooEarly)))
+
+-- And it is too early only once messages past it were given up: the present part of each history
+-- that the cell represents goes on from past the session's end.
+abbrev pub HasSkippedPast : {S : Type 0} → Genuine S → CellState → Content
+    → Result Outcome LineFault → Type 0
+HasSkippedPast premise c p answer =
+    answer ≡ Err EndTooEarly → (all : List Session) (ordinal : ℕ) (session : Session) (h : History)
+    → BringExactly premise c.arbiter.venue all → IsSessionAt all ordinal session
+    → IsOfSession session p → CellFitsHistory c h
+    → length session.items + 1 < first_of h.present.packets
 
 -- nothing else has changed
 pub record KeepsButPackets (old new : CellState) : Type 0 where

@@ -6,7 +6,7 @@ ghost use Rattle.feed_steps.specs.Premises.{IsGenuinePacket};
 ghost use Rattle.venue_lines.specs.Seats.{new_seat, seat_after, seat_refusing};
 ghost use Rattle.venue_lines.specs.Cells.{CellFitsHistory};
 ghost use Rattle.venue_lines.specs.Brought.{requests_after};
-ghost use Rattle.venue_lines.specs.Sections.{AcceptsTheirPacket, AnswersAtVenue, IsDueAt, FlushesVenue, RenewsVenue, SkipsVenue, KeepsButPushed, Pushes, RequestsGap, TakesPacket};
+ghost use Rattle.venue_lines.specs.Sections.{AcceptsTheirPacket, HasSkippedPast, AnswersAtVenue, IsDueAt, FlushesVenue, RenewsVenue, SkipsVenue, KeepsButPushed, Pushes, RequestsGap, TakesPacket};
 ghost use Rattle.venue_lines.specs.Datagrams.{AreGenuineBytes, AcceptsTheirs, IsAnsweredAt, TakesDatagram, bytes_of};
 
 use crate::cell::VenueCell;
@@ -96,7 +96,8 @@ fn take_one<G: Genuine, N: FeedName, W: Wait>(
         → TakesPacket seat.old.line packet.now result h cell.old cell.new }
     ensures kept { KeepsButPushed cell.old cell.new }
     ensures seat { seat.new ≡ seat_after seat.old packet.now result }
-    ensures accepts { AcceptsTheirPacket G.Genuine N.lanes seat.old.venue packet.now result }
+    ensures accepts { AcceptsTheirPacket G.Genuine seat.old.venue packet.now result }
+    ensures early { HasSkippedPast G.Genuine cell.old packet.now result }
 {
     if let Some(outcome) = cell.take_and_push(rt, seat, packet) {
         return Ok(outcome);
@@ -115,7 +116,8 @@ fn take_in<G: Genuine, N: FeedName, W: Wait>(
     requires { IsGenuinePacket G.Genuine seat.old.venue packet.now }
     ensures seat { seat.new ≡ seat_after seat.old packet.now result.0 }
     ensures answer { IsAnsweredAt G.Genuine N.lanes seat.old packet.now result.0 }
-    ensures accepts { AcceptsTheirPacket G.Genuine N.lanes seat.old.venue packet.now result.0 }
+    ensures accepts { AcceptsTheirPacket G.Genuine seat.old.venue packet.now result.0 }
+    ensures early { HasSkippedPast G.Genuine cell.old packet.now result.0 }
 {
     cell.show_lock_invariant();
     if cell.venue() != seat.venue() {
@@ -232,8 +234,7 @@ impl<G: Genuine, N: FeedName> VenueLocks<G, N> {
         requires { AreGenuineBytes G.Genuine seat.old.venue (bytes_of datagram.now) }
         ensures taken { TakesDatagram G.Genuine N.lanes (bytes_of datagram.now)
             seat.old result seat.new }
-        ensures accepts { AcceptsTheirs G.Genuine N.lanes seat.old.venue (bytes_of datagram.now)
-            result }
+        ensures accepts { AcceptsTheirs G.Genuine seat.old.venue (bytes_of datagram.now) result }
     {
         match read_packet(datagram.bytes()) {
             Ok(packet) => match self.take_packet(rt, seat, &packet, datagram.time(), gap) {
@@ -277,7 +278,7 @@ impl<G: Genuine, N: FeedName> VenueLocks<G, N> {
         requires { IsGenuinePacket G.Genuine seat.old.venue packet.now }
         ensures seat { seat.new ≡ seat_after seat.old packet.now result }
         ensures answer { IsAnsweredAt G.Genuine N.lanes seat.old packet.now result }
-        ensures accepts { AcceptsTheirPacket G.Genuine N.lanes seat.old.venue packet.now result }
+        ensures accepts { AcceptsTheirPacket G.Genuine seat.old.venue packet.now result }
     {
         let Some(lock) = self.get(seat.venue()) else {
             return Err(LineFault::OtherSession);

@@ -12,7 +12,7 @@ ghost use Rattle.feed_steps.specs.Premises.{IsGenuinePacket};
 ghost use Rattle.venue_lines.specs.Brought.{counts_of, refused_on_line};
 ghost use Rattle.venue_lines.specs.Seats.{seat_after};
 ghost use Rattle.venue_lines.specs.Cells.{CellFitsHistory, VenueLockInvariant, new_cell};
-ghost use Rattle.venue_lines.specs.Sections.{TakesPacket, AcceptsTheirPacket, HasNoneReady, KeepsButPackets, TakesAndPushes, KeepsButPushed, IsLeft, PushesOne, KeepsButSent, RenewsSession, BeginsNext, SkipsGap, GoesOnFrom, RequestsGap};
+ghost use Rattle.venue_lines.specs.Sections.{TakesPacket, AcceptsTheirPacket, HasSkippedPast, HasNoneReady, KeepsButPackets, TakesAndPushes, KeepsButPushed, IsLeft, PushesOne, KeepsButSent, RenewsSession, BeginsNext, SkipsGap, GoesOnFrom, RequestsGap};
 
 use crate::accepted_packet::AcceptedPacket;
 use crate::counted_lines::CountedLines;
@@ -203,8 +203,10 @@ impl<G: Genuine, N: FeedName> VenueCell<G, N> {
         ensures seat { seat.new ≡ seat_after seat.old packet.now result }
 
         // Where it is known which sessions the lines bring, a packet of one of them is refused only
-        // where it isn't of the present one, or messages past its end were given up.
-        ensures accepts { AcceptsTheirPacket G.Genuine N.lanes seat.old.venue packet.now result }
+        // where it isn't of the present one, or as an end that is too early, once messages past it
+        // were given up.
+        ensures accepts { AcceptsTheirPacket G.Genuine seat.old.venue packet.now result }
+        ensures early { HasSkippedPast G.Genuine self.old packet.now result }
         ensures refused { OnErr result (self.new ≡ self.old) }
     {
         // for the prover: the packet's ranges

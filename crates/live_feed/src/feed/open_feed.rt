@@ -65,9 +65,8 @@ impl<G: Genuine, N: FeedName> OpenFeed<G, N> {
             seat.old result seat.new }
 
         // Where it is known which sessions the lines bring, a packet of one of them is refused only
-        // where it isn't of the present one, or messages past its end were given up.
-        ensures accepts { AcceptsTheirs G.Genuine N.lanes seat.old.venue (bytes_of datagram.now)
-            result }
+        // where it isn't of the present one, or as an end that is too early.
+        ensures accepts { AcceptsTheirs G.Genuine seat.old.venue (bytes_of datagram.now) result }
     {
         let mut gap = false;
         self.venues.take_and_look(rt, seat, datagram, &mut gap)

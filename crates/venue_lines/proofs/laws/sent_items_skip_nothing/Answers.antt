@@ -2,5 +2,4 @@ use Rattle.venue_lines.proofs.WithoutSkips.{sent_skips_nothing}
 use Rattle.venue_lines.proofs.laws.sent_items_skip_nothing.Goals as goal
 
 pub returns : goal.returns
-returns g c = λ cell kept arrived.
-    sent_skips_nothing g.G.Genuine g.N.FeedName.lanes cell kept arrived
+returns c = sent_skips_nothing

@@ -2,8 +2,8 @@ use Rattle.std.proofs.Common.{ℕ, Ok, Err, refl, sym, ap, subst, ◌∙◌}
 use Rattle.feed_types.specs.declared.line.LineId.{LineId}
 use Rattle.feed_steps.specs.Premises.{IsGenuinePacket}
 use Rattle.venue_lines.specs.Cells.{CellState, CellFitsHistory}
-use Rattle.venue_lines.specs.Sections.{AcceptsTheirPacket, TakesPacket}
-use Rattle.venue_lines.proofs.CellAnswers.{accepts}
+use Rattle.venue_lines.specs.Sections.{AcceptsTheirPacket, HasSkippedPast, TakesPacket}
+use Rattle.venue_lines.proofs.CellAnswers.{accepts, skipped_past}
 use Rattle.venue_lines.proofs.CellMoves.{counted_on, no_more, packet_fits, packet_kept, takes}
 use Rattle.venue_lines.proofs.cell.VenueCell.take.Goals as goal
 
@@ -72,8 +72,7 @@ pub returns-in-Ok-clause-accepts : goal.returns-in-Ok-clause-accepts
 returns-in-Ok-clause-accepts g c =
     let k = c.self.invariant in
     let venue = c.requires.venue ∙ ap (λ (v : CellState). v.arbiter.venue) (sym c.self.view_is) in
-    subst (λ (n : ℕ). AcceptsTheirPacket g.G.Genuine g.N.FeedName.lanes n
-    c.args.packet.now (Ok c.in-Ok.outcome))
+    subst (λ (n : ℕ). AcceptsTheirPacket g.G.Genuine n c.args.packet.now (Ok c.in-Ok.outcome))
     (sym venue)
     (accepts g.G.Genuine g.N.FeedName.lanes _ k c.args.packet.now (Ok c.in-Ok.outcome)
     c.number-number.ensures.content
@@ -83,9 +82,17 @@ pub returns-in-Err-clause-accepts : goal.returns-in-Err-clause-accepts
 returns-in-Err-clause-accepts g c =
     let k = c.self.invariant in
     let venue = c.requires.venue ∙ ap (λ (v : CellState). v.arbiter.venue) (sym c.self.view_is) in
-    subst (λ (n : ℕ). AcceptsTheirPacket g.G.Genuine g.N.FeedName.lanes n
-    c.args.packet.now (Err c.in-Err.fault))
+    subst (λ (n : ℕ). AcceptsTheirPacket g.G.Genuine n c.args.packet.now (Err c.in-Err.fault))
     (sym venue)
     (accepts g.G.Genuine g.N.FeedName.lanes _ k c.args.packet.now (Err c.in-Err.fault)
+    c.number-number.ensures.content
+    (c.in-Err.ensures.outcome k.history.present.packets k.fits.history.present))
+
+pub returns-in-Err-clause-early : goal.returns-in-Err-clause-early
+returns-in-Err-clause-early g c =
+    let k = c.self.invariant in
+    subst (λ (v : CellState). HasSkippedPast g.G.Genuine v c.args.packet.now (Err c.in-Err.fault))
+    c.self.view_is
+    (skipped_past g.G.Genuine g.N.FeedName.lanes _ k c.args.packet.now (Err c.in-Err.fault)
     c.number-number.ensures.content
     (c.in-Err.ensures.outcome k.history.present.packets k.fits.history.present))
