@@ -8,6 +8,7 @@ use Rattle.mold_packet.specs.Faults.{code_of}
 use Rattle.mold_packet.specs.laws.EveryReading.{read_or_fault}
 use Rattle.filter_terms.specs.declared.terms.Terms.{Terms}
 use Rattle.line_arbiter.specs.Packets.{arrival_of, end_of}
+use Rattle.line_arbiter.specs.Additions.{AddsRenewal, AddsSkip}
 use Rattle.line_arbiter.specs.Histories.{History, names_of, after_input, skip_after, history_after}
 use Rattle.line_arbiter.specs.laws.EveryAnswer.{every_answer, every_renewal}
 use Rattle.line_arbiter.specs.laws.SkipAnswers.{every_skip}
@@ -17,7 +18,7 @@ use Rattle.feed_steps.specs.declared.event.Done.{Done}
 use Rattle.feed_steps.specs.declared.event.Done.TheVariants as done
 use Rattle.feed_core.specs.Worlds.{Venue, session_sent, World, Setting}
 use Rattle.feed_steps.specs.Steps.{Transition, Refused, Changes, Stays, Applies, packet_done, renewal_done, skip_done}
-use Rattle.feed_core.specs.Steps.{put_venue, RefusesBytes, AnswersPacket, AnswersRenewal, AnswersSkip, AnswersSubscribe}
+use Rattle.feed_core.specs.Steps.{put_venue, RefusesBytes, Answers, AnswersPacket, AnswersSubscribe}
 use Rattle.feed_core.specs.OneStep.{IsStep}
 use Rattle.feed_core.specs.Runs.{IsRun, BringsBytes}
 
@@ -60,16 +61,19 @@ module _ (place : ℕ) (v : Venue) (old : World) where
             packet = read.0;
             rest = read.1;
             spells = read.2;
-            answer = given.0;
-            history = history;
-            taken = record { right = given.1; is = refl };
-            outcome_is = refl;
-            new_is = refl;
+            answers = record {
+              answer = given.0;
+              history = history;
+              adds = record { right = given.1; is = refl };
+              outcome_is = refl;
+              new_is = refl;
+            };
           }),
         )
   ]
 
-  renewed : (name : List ℕ) → HasStep (AnswersRenewal place v name old)
+  renewed : (name : List ℕ) → HasStep (Answers (AddsRenewal (session_sent v) name v.history)
+      renewal_done place v old)
   renewed name =
       let given = every_renewal (names_of v.history) (end_of v.history.present.packets)
       (session_sent v) name in
@@ -79,13 +83,14 @@ module _ (place : ℕ) (v : Venue) (old : World) where
         record {
           answer = given.0;
           history = history;
-          renewed = record { right = given.1; is = refl };
+          adds = record { right = given.1; is = refl };
           outcome_is = refl;
           new_is = refl;
         },
       )
 
-  skipped : (number : ℕ) → HasStep (AnswersSkip place v number old)
+  skipped : (number : ℕ) → HasStep (Answers (AddsSkip (session_sent v) number v.history)
+      (skip_done number) place v old)
   skipped number =
       let given = every_skip v.history.present.packets (session_sent v) number in
       let history : History = skip_after v.history number given.0 in (
@@ -94,7 +99,7 @@ module _ (place : ℕ) (v : Venue) (old : World) where
         record {
           answer = given.0;
           history = history;
-          skipped = record { right = given.1; is = refl };
+          adds = record { right = given.1; is = refl };
           outcome_is = refl;
           new_is = refl;
         },

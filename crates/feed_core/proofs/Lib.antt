@@ -4,3 +4,5 @@ pub mod VenueMoves
 pub mod Offers
 pub mod MachineMoves
 pub mod WholeMachine
+mod ItemOrder
+mod FirstNotice

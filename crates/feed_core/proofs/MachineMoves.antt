@@ -23,7 +23,8 @@ use Rattle.feed_steps.specs.declared.event.Done.{Done}
 use Rattle.feed_steps.specs.declared.event.Done.TheVariants as done
 use Rattle.feed_core.specs.Worlds.{Lane, empty_lane, is_full, Venue, Subscriber, World, Setting, new_world}
 use Rattle.feed_steps.specs.Steps.{Transition, Refused, Changes, journal_full, push_next, Intake, journal_item, consume_next, offer_next, dequeue_next, Applies, AppliesTo, too_many_subscribers}
-use Rattle.feed_core.specs.Steps.{next_in, next_out, declare_help, put_venue, put_subscriber, with_sent, with_intake, with_offered, with_dequeued, AnswersSubscribe}
+use Rattle.feed_core.specs.Steps.{next_in, next_out, declare_help, put_venue, put_subscriber, AnswersSubscribe}
+use Rattle.feed_core.specs.laws.LaneMoves.{with_sent, with_intake, with_offered, with_dequeued}
 use Rattle.feed_core.specs.OneStep.{IsStep}
 use Rattle.feed_core.specs.Runs.{IsRun}
 use Rattle.feed_core.specs.Fitting.{VenueView, FitsVenue, LeftFaulty, LeftAnswered, LeftRenewed, LeftSkipped, LeftPushed, FitsSubscriber, LeftOffered, intake_of, KeepsJournal, MachineView, FitSubscribers, FitsWorld, HasStepped, HasReached}
@@ -166,12 +167,13 @@ module _ (s : Setting) (m : MachineView) (w : World) (place n : ℕ) (c new : Ve
                 rest = answered.rest;
                 spells =
                     answered.spells;
-                answer = answered.answer;
-                history = answered.history;
-                taken =
-                    answered.taken;
-                outcome_is = answered.outcome_is;
-                new_is = refl;
+                answers = record {
+                  answer = answered.answer;
+                  history = answered.history;
+                  adds = answered.taken;
+                  outcome_is = answered.outcome_is;
+                  new_is = refl;
+                };
               }));
         }
       ])
@@ -191,7 +193,7 @@ module _ (s : Setting) (m : MachineView) (w : World) (place n : ℕ) (c new : Ve
             (record {
               answer = renewed.answer;
               history = renewed.history;
-              renewed = renewed.renewed;
+              adds = renewed.renewed;
               outcome_is = renewed.outcome_is;
               new_is = refl;
             });
@@ -212,7 +214,7 @@ module _ (s : Setting) (m : MachineView) (w : World) (place n : ℕ) (c new : Ve
             (record {
               answer = skipped.answer;
               history = skipped.history;
-              skipped = skipped.skipped;
+              adds = skipped.skipped;
               outcome_is = skipped.outcome_is;
               new_is = refl;
             });

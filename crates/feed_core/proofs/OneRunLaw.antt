@@ -10,6 +10,7 @@ use Rattle.filter_terms.specs.declared.terms.Terms.{Terms}
 use Rattle.line_arbiter.specs.declared.outcome.Outcome.{Outcome}
 use Rattle.line_arbiter.specs.declared.outcome.LineFault.{LineFault}
 use Rattle.line_arbiter.specs.Packets.{arrival_of, end_of}
+use Rattle.line_arbiter.specs.Additions.{AddsRenewal, AddsSkip}
 use Rattle.line_arbiter.specs.Outcomes.{IsOutcome}
 use Rattle.line_arbiter.specs.Histories.{History, names_of, after_input, skip_after, history_after}
 use Rattle.line_arbiter.specs.laws.OneOutcome.{one_answer, one_renewal}
@@ -20,7 +21,7 @@ use Rattle.feed_steps.specs.declared.event.Done.{Done}
 use Rattle.feed_steps.specs.declared.event.Done.TheVariants as done
 use Rattle.feed_core.specs.Worlds.{Venue, session_sent, World, Setting}
 use Rattle.feed_steps.specs.Steps.{Transition, Refused, Changes, Stays, Applies, packet_done, renewal_done, skip_done}
-use Rattle.feed_core.specs.Steps.{put_venue, RefusesBytes, AnswersPacket, AnswersRenewal, AnswersSkip, AnswersSubscribe}
+use Rattle.feed_core.specs.Steps.{put_venue, RefusesBytes, Answers, AnswersPacket, AnswersSubscribe}
 use Rattle.feed_core.specs.OneStep.{IsStep}
 use Rattle.feed_core.specs.Runs.{IsRun}
 
@@ -48,6 +49,14 @@ module _ (place : ℕ) (x : Venue) (old : World) where
   abbrev with_history : History → World
   with_history h = put_venue old place (record x { history = h })
 
+  answered : {R : Type 0} {Adds More : R → History → Type 0} {a b : Done} {v w : World}
+      (done_of : R → Done) (f : Answers Adds done_of place x old a v)
+      (g : Answers More done_of place x old b w) → f.answer ≡ g.answer → f.history ≡ g.history
+      → Same a b v w
+  answered done_of f g answer history =
+      same (ap done_of answer) (ap with_history history) f.outcome_is f.new_is g.outcome_is
+      g.new_is
+
   arrival_same : (line : LineId) (p q : Content) (r s : Result Outcome LineFault) → p ≡ q → r ≡ s
       → after_input x.history (arrival_of line p r) ≡ after_input x.history (arrival_of line q s)
   arrival_same line p q r s e f = rw (e, f) refl
@@ -66,33 +75,36 @@ module _ (place : ℕ) (x : Venue) (old : World) where
       | inr g ↦
           let one = same_packet bytes f.packet g.packet f.rest g.rest f.spells g.spells in
           let right = subst (λ (p : Content). IsOutcome x.history.present.name window
-          (session_sent x) x.history.present.packets p f.answer) one f.taken.right in
+          (session_sent x) x.history.present.packets p f.answers.answer) one f.answers.adds.right in
           let answer = one_answer x.history.present.name window (session_sent x)
-          x.history.present.packets g.packet f.answer g.answer right g.taken.right in
-          let history = f.taken.is ∙ arrival_same line f.packet g.packet f.answer g.answer one
-          answer ∙ sym g.taken.is in
-          same (ap packet_done answer) (ap with_history history) f.outcome_is
-          f.new_is g.outcome_is g.new_is
+          x.history.present.packets g.packet f.answers.answer g.answers.answer right
+          g.answers.adds.right in
+          let history = f.answers.adds.is
+          ∙ arrival_same line f.packet g.packet f.answers.answer g.answers.answer one answer
+          ∙ sym g.answers.adds.is in
+          answered packet_done f.answers g.answers answer history
     ]
   ]
 
-  renewals : (name : List ℕ) (a b : Done) (v w : World) → AnswersRenewal place x name old a v
-      → AnswersRenewal place x name old b w → Same a b v w
+  renewals : (name : List ℕ) (a b : Done) (v w : World)
+      → Answers (AddsRenewal (session_sent x) name x.history) renewal_done place x old a v
+      → Answers (AddsRenewal (session_sent x) name x.history) renewal_done place x old b w
+      → Same a b v w
   renewals name a b v w f g =
       let answer = one_renewal (names_of x.history) (end_of x.history.present.packets)
-      (session_sent x) name f.answer g.answer f.renewed.right g.renewed.right in
-      let history = f.renewed.is ∙ ap (history_after x.history name) answer ∙ sym g.renewed.is in
-      same (ap renewal_done answer) (ap with_history history) f.outcome_is
-      f.new_is g.outcome_is g.new_is
+      (session_sent x) name f.answer g.answer f.adds.right g.adds.right in
+      let history = f.adds.is ∙ ap (history_after x.history name) answer ∙ sym g.adds.is in
+      answered renewal_done f g answer history
 
-  skips : (number : ℕ) (a b : Done) (v w : World) → AnswersSkip place x number old a v
-      → AnswersSkip place x number old b w → Same a b v w
+  skips : (number : ℕ) (a b : Done) (v w : World)
+      → Answers (AddsSkip (session_sent x) number x.history) (skip_done number) place x old a v
+      → Answers (AddsSkip (session_sent x) number x.history) (skip_done number) place x old b w
+      → Same a b v w
   skips number a b v w f g =
       let answer = one_skip x.history.present.packets (session_sent x) number f.answer g.answer
-      f.skipped.right g.skipped.right in
-      let history = f.skipped.is ∙ ap (skip_after x.history number) answer ∙ sym g.skipped.is in
-      same (ap (skip_done number) answer) (ap with_history history) f.outcome_is
-      f.new_is g.outcome_is g.new_is
+      f.adds.right g.adds.right in
+      let history = f.adds.is ∙ ap (skip_after x.history number) answer ∙ sym g.adds.is in
+      answered (skip_done number) f g answer history
 
 subscriptions : (o : Option Terms) (old : World) (a b : Done) (v w : World)
     → AnswersSubscribe o old a v → AnswersSubscribe o old b w → Same a b v w

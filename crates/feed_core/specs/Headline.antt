@@ -13,11 +13,11 @@ use Rattle.feed_core.specs.Runs.{IsRun}
 use Rattle.feed_core.specs.VenueHalf.{waiting, VenueHalf}
 use Rattle.feed_core.specs.SubscriberHalf.{SubscriberHalf}
 
--- The headline, of a world to which these events led: the venue half for each venue, whose first
--- session is the one that it is set up with; the journal's items of the venue are those that were
--- consumed there, in order; and the subscriber half for each subscriber, whose terms are those of
--- the
--- filter at its place.
+-- What is said of the world that `IsRun` leads to, of these events; by itself it is no claim, since
+-- it holds of the new world and of every list of events. It is the venue half for each venue, whose
+-- first session is the one that it is set up with; the journal's items of the venue are those that
+-- were consumed there, in order; and it is the subscriber half for each subscriber, whose terms are
+-- those of the filter at its place.
 pub record Headline (s : Setting) (events : List Event) (w : World) : Type 0 where
   pub venues : (place : ℕ) (v : Venue) → slice_get w.venues place ≡ Some v
       → VenueHalf events place v

@@ -6,6 +6,8 @@ pub mod VenueHalf
 pub mod WholeSessions
 pub mod SubscriberHalf
 pub mod Headline
+pub mod RefusedSkip
+pub mod Dequeuing
 pub mod LaneCode
 pub mod Fitting
 -- laws, which proofs of the crates above cite

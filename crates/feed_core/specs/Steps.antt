@@ -1,27 +1,20 @@
 -- One event on its part of the world (the steps of feed_steps, and two more), and that part put
--- back
--- in its place. The step (OneStep.antt) chooses among these. Refusals are listed in the order in
--- which they are looked for.
-use Rattle.std.specs.Prelude.{◌≡◌, ℕ, ◌+◌, Bool, nat_le, List, [], ◌∷◌, ◌++◌, length, MatchOption, Option, Some, None, Result, slice_get, slice_set, if◌then◌else◌}
-use Rattle.feed_types.specs.declared.item.Numbered.{Numbered}
+-- back in its place. The step (OneStep.antt) chooses among these. Refusals are listed in the order
+-- in which they are looked for.
+use Rattle.std.specs.Prelude.{◌≡◌, ℕ, ◌+◌, Bool, nat_le, List, [], ◌∷◌, ◌++◌, length, MatchOption, Option, Some, None, slice_get, slice_set, if◌then◌else◌}
 use Rattle.feed_types.specs.declared.line.LineId.{LineId}
 use Rattle.feed_types.specs.declared.journal.Entry.{Entry}
 use Rattle.feed_types.specs.declared.journal.Entry.TheVariants as entry
-use Rattle.feed_types.specs.declared.journal.Notice.{Notice}
 use Rattle.mold_packet.specs.declared.fault.PacketFault.{PacketFault}
 use Rattle.mold_packet.specs.Content.{Content, Spells}
 use Rattle.mold_packet.specs.Faults.{HasFault, code_of}
-use Rattle.line_arbiter.specs.declared.outcome.Outcome.{Outcome}
-use Rattle.line_arbiter.specs.declared.outcome.LineFault.{LineFault}
-use Rattle.line_arbiter.specs.declared.faults.RenewFault.{RenewFault}
-use Rattle.line_arbiter.specs.declared.faults.SkipFault.{SkipFault}
-use Rattle.line_arbiter.specs.Additions.{AddsArrival, AddsRenewal, AddsSkip}
+use Rattle.line_arbiter.specs.Additions.{AddsArrival}
 use Rattle.line_arbiter.specs.Histories.{History}
 use Rattle.filter_terms.specs.declared.terms.Terms.{Terms}
 use Rattle.nbbo_book.specs.Eligible.{is_so}
 use Rattle.feed_steps.specs.declared.event.Done.{Done}
 use Rattle.feed_steps.specs.declared.event.Done.TheVariants as done
-use Rattle.feed_steps.specs.Steps.{journal_full, unknown_venue, already_so, too_many_subscribers, unknown_subscriber, Transition, Refused, Changes, Intake, Stays, Applies, packet_done, renewal_done, skip_done}
+use Rattle.feed_steps.specs.Steps.{journal_full, unknown_venue, already_so, too_many_subscribers, unknown_subscriber, Transition, Refused, Changes, Stays, Applies, packet_done}
 use Rattle.feed_core.specs.Worlds.{Lane, empty_lane, Venue, session_sent, Subscriber, World}
 
 -- ---- what goes into a lane next, and what is taken out next
@@ -58,23 +51,6 @@ put_venue w place v = record w { venues = slice_set w.venues place v }
 abbrev pub put_subscriber : World → ℕ → Subscriber → World
 put_subscriber w id x = record w { subscribers = slice_set w.subscribers id x }
 
-abbrev pub with_sent : World → ℕ → Venue → List Numbered → World
-with_sent w place v sent = put_venue w place (record v { lane = record v.lane { sent = sent } })
-
-abbrev pub with_intake : World → ℕ → Venue → Intake → World
-with_intake w place v x =
-    record (put_venue w place (record v { lane = record v.lane { received = x.received } })) {
-      entries = x.entries;
-    }
-
-abbrev pub with_offered : World → ℕ → Subscriber → List Notice → World
-with_offered w id x sent =
-    put_subscriber w id (record x { lane = record x.lane { sent = sent } })
-
-abbrev pub with_dequeued : World → ℕ → Subscriber → List Notice → World
-with_dequeued w id x received =
-    put_subscriber w id (record x { lane = record x.lane { received = received } })
-
 -- ---- what the step cites
 
 -- the datagram is no packet, and nothing changes
@@ -83,34 +59,23 @@ pub record RefusesBytes (bytes : List ℕ) (old : World) (outcome : Done) (new :
   pub has : HasFault bytes fault
   pub is : Stays (done.Refused (code_of fault)) old outcome new
 
+-- the venue's lines answer, and the answer is added to its history
+pub record Answers {R : Type 0} (Adds : R → History → Type 0) (done_of : R → Done) (place : ℕ)
+    (v : Venue) (old : World) (outcome : Done) (new : World) : Type 0 where
+  pub answer : R
+  pub history : History
+  pub adds : Adds answer history
+  pub outcome_is : outcome ≡ done_of answer
+  pub new_is : new ≡ put_venue old place (record v { history = history })
+
 -- the datagram is a packet, and the venue's lines answer it
 pub record AnswersPacket (window place : ℕ) (v : Venue) (line : LineId) (bytes : List ℕ)
-    (old : World)
-    (outcome : Done) (new : World) : Type 0 where
+    (old : World) (outcome : Done) (new : World) : Type 0 where
   pub packet : Content
   pub rest : List ℕ
   pub spells : Spells bytes packet rest
-  pub answer : Result Outcome LineFault
-  pub history : History
-  pub taken : AddsArrival window (session_sent v) line packet v.history answer history
-  pub outcome_is : outcome ≡ packet_done answer
-  pub new_is : new ≡ put_venue old place (record v { history = history })
-
-pub record AnswersRenewal (place : ℕ) (v : Venue) (name : List ℕ) (old : World) (outcome : Done)
-    (new : World) : Type 0 where
-  pub answer : Result ℕ RenewFault
-  pub history : History
-  pub renewed : AddsRenewal (session_sent v) name v.history answer history
-  pub outcome_is : outcome ≡ renewal_done answer
-  pub new_is : new ≡ put_venue old place (record v { history = history })
-
-pub record AnswersSkip (place : ℕ) (v : Venue) (number : ℕ) (old : World) (outcome : Done)
-    (new : World) : Type 0 where
-  pub answer : Result (Unit {0}) SkipFault
-  pub history : History
-  pub skipped : AddsSkip (session_sent v) number v.history answer history
-  pub outcome_is : outcome ≡ skip_done number answer
-  pub new_is : new ≡ put_venue old place (record v { history = history })
+  pub answers : Answers (AddsArrival window (session_sent v) line packet v.history) packet_done
+      place v old outcome new
 
 -- the next filter is used, also where there is no place for its subscriber
 abbrev pub AnswersSubscribe : Option Terms → World → Done → World → Type 0

@@ -8,8 +8,9 @@ use Rattle.feed_types.specs.Sessions.{Session}
 use Rattle.mold_packet.specs.Content.{Content, Spells}
 use Rattle.line_arbiter.specs.Packets as inputs
 use Rattle.line_arbiter.specs.Packets.{Input, carried}
-use Rattle.line_arbiter.specs.Streams.{AreTaken, IsComplete, front_of}
+use Rattle.line_arbiter.specs.Streams.{AreTaken, front_of}
 use Rattle.line_arbiter.specs.OfSession.{IsOfSession, GivesSession, SkipsWithin}
+use Rattle.line_arbiter.specs.SessionOrder.{AreSessionsInSequence}
 use Rattle.line_arbiter.specs.Histories.{Begun, History, all_begun, streams_of}
 use Rattle.feed_steps.specs.declared.event.Event.{Event}
 use Rattle.feed_steps.specs.declared.event.Event.TheVariants.{Packet, Skip}
@@ -54,20 +55,19 @@ AreBegunAs _ _ = ⊥
 -- Skipped where messages before them were given up, and then End exactly where the end was
 -- announced and nothing is missing; no packet of it that came while it was the present one was
 -- refused; and the last part of one that is over goes up to its last message.
-pub record AreSession (s : Session) (h : History) : Type 0 where
-  pub earlier : AllByRecursion
-      (λ b. IsBegunAs s b → GivesSession s b.packets × IsComplete b.packets) h.earlier
-  pub present : IsBegunAs s h.present → GivesSession s h.present.packets
+abbrev pub AreSession : Session → History → Type 0
+AreSession s h = AllByRecursion (λ b. IsBegunAs s b → GivesSession s b.packets) (all_begun h)
 
--- The items of a venue that has this history: they are its streams. Each session of which the
--- packets alone came is the one that came under its name. Where that holds of all sessions that the
--- venue began, the items are these sessions' parts, the last of which goes up to the first gap:
--- each message before the gap was taken or given up, and the one at the gap was not. What was given
--- up is what skips that came gave up; where they gave up nothing, each session is one part, from
--- its first message on (the law `items_without_skips`).
+-- The items of a venue that has this history: they are its streams, which are in sequence, whatever
+-- came. Each session of which the packets alone came is the one that came under its name. Where
+-- that holds of all sessions that the venue began, the items are these sessions' parts, the last of
+-- which goes up to the first gap: each message before the gap was taken or given up, and the one at
+-- the gap was not. What was given up is what skips that came gave up; where they gave up nothing,
+-- each session is one part, from its first message on (the law `items_without_skips`).
 pub record AreItemsOf (Came : Input → Type 0) (CameAlone : Session → Type 0)
     (all : List Numbered) (h : History) : Type 0 where
   pub items : all ≡ streams_of h
+  pub sequence : AreSessionsInSequence h
   pub skips : AllByRecursion (λ b. AllByRecursion Came b.packets) (all_begun h)
   pub session : (s : Session) → CameAlone s → AreSession s h
   pub sessions : (began : List Session) → AreBegunAs began (all_begun h)

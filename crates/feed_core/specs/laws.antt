@@ -1,5 +1,6 @@
 -- Laws of the definitions, with their proofs, which nobody has to read: proofs of the crates above
 -- cite them.
+pub mod LaneMoves
 pub mod KeptSubscribers
 pub mod KeptTerms
 pub mod KeptVenues

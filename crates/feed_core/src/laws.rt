@@ -1,22 +1,26 @@
 //! Laws of the definitions. Each function has an empty body, and its contract is a law.
 
-ghost use Rattle.std.specs.Prelude.{◌≡◌, ℕ, ◌++◌, ◌∷◌, [], List, Some, map, slice_get};
+ghost use Rattle.std.specs.Prelude.{◌≡◌, ◌≢◌, ℕ, ◌+◌, ◌<◌, ◌++◌, ◌∷◌, [], List, Some, length, map, slice_get};
 ghost use Rattle.std.specs.List.{AllByRecursion};
+ghost use Rattle.feed_types.specs.declared.item.Item.TheVariants.{End};
 ghost use Rattle.feed_types.specs.declared.item.Numbered.{Numbered};
+ghost use Rattle.feed_types.specs.Sequence.{HasPlace};
 ghost use Rattle.feed_types.specs.Sessions.{Session, whole_sessions};
 ghost use Rattle.line_arbiter.specs.Packets.{end_of};
 ghost use Rattle.line_arbiter.specs.Skips.{IsArrival};
 ghost use Rattle.line_arbiter.specs.Streams.{front_of};
 ghost use Rattle.line_arbiter.specs.OfSession.{SkipsWithin, session_stream};
+ghost use Rattle.line_arbiter.specs.SessionOrder.{AreInSequenceFrom};
 ghost use Rattle.line_arbiter.specs.Histories.{History, all_begun, names_of};
 ghost use Rattle.feed_steps.specs.declared.event.Event.{Event};
 ghost use Rattle.feed_steps.specs.declared.event.Done.{Done};
-ghost use Rattle.feed_core.specs.Worlds.{Venue, Subscriber, World, Setting, new_world, session_count, session_sent};
+ghost use Rattle.feed_core.specs.Worlds.{Venue, World, Setting, new_world, session_count, session_sent};
 ghost use Rattle.feed_core.specs.Runs.{BringsBytes, IsRun};
 ghost use Rattle.feed_core.specs.VenueHalf.{AreVenueItems, BringOnly, VenueHalf};
 ghost use Rattle.feed_core.specs.WholeSessions.{AreWhole, GiveNothingUp, SkipWithin};
-ghost use Rattle.feed_core.specs.SubscriberHalf.{SubscriberHalf};
 ghost use Rattle.feed_core.specs.Headline.{Headline};
+ghost use Rattle.feed_core.specs.RefusedSkip.{with_refused_skip};
+ghost use Rattle.feed_core.specs.Dequeuing.{Dequeues, one_of_each, notice_of_xyz, xyz};
 
 /// The headline. After every list of events, each venue's items, consumed and then waiting, are its
 /// sessions' messages, session by session up to the first gap that was not given up, each once, in
@@ -69,4 +73,32 @@ pub fn every_list_of_events_has_a_run()
     ensures { (s : Setting) (old : World) (events : List Event)
         → AllByRecursion BringsBytes events
         → (outcomes : List Done) × (new : World) × IsRun s old events outcomes new }
+{}
+
+/// Each item in sequence comes once: of two the later one has the greater number, and none follows
+/// End. The next item has the next number, or is Skipped, which has that or a greater one.
+pub fn items_come_once()
+    ensures once { (n : ℕ) (items : List Numbered) → AreInSequenceFrom n items
+        → (i j : ℕ) (x y : Numbered) → i < j
+        → slice_get items i ≡ Some x → slice_get items j ≡ Some y
+        → (x.number < y.number) × (x.item ≢ End) }
+    ensures next { (n : ℕ) (items : List Numbered) → AreInSequenceFrom n items
+        → (i : ℕ) (x y : Numbered)
+        → slice_get items i ≡ Some x → slice_get items (i + 1) ≡ Some y
+        → HasPlace (x.number + 1) y.number y.item }
+{}
+
+/// The venue half excludes a history in which a refused skip stands, whose items have messages
+/// twice, whatever the events are and whatever came.
+pub fn no_refused_skip_stands()
+    ensures { (events : List Event) (place : ℕ) (v : Venue) (session : List ℕ)
+        → v.history ≡ with_refused_skip session → VenueHalf events place v → ⊥ }
+{}
+
+/// Notices come: whatever the name of a venue's session is, some events bring a packet of it with a
+/// quotation, and lead to a world where a subscriber has dequeued the change that the quotation
+/// makes. So the headline isn't one of a machine that offers nothing.
+pub fn a_notice_is_dequeued()
+    ensures { (session : List ℕ) → length session ≡ 10
+        → Dequeues (one_of_each session xyz) 0 notice_of_xyz }
 {}

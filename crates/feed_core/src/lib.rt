@@ -24,7 +24,8 @@ mod world;
 pub use feed_steps::{Done, Event};
 pub use journal_book::{ConfigFault, CoreFault};
 pub use laws::{
-    every_list_of_events_has_a_run, headline, items_without_skips, one_run, skips_are_events,
+    a_notice_is_dequeued, every_list_of_events_has_a_run, headline, items_come_once,
+    items_without_skips, no_refused_skip_stands, one_run, skips_are_events,
 };
 pub use running::run;
 pub use world::World;

@@ -19,7 +19,8 @@ use Rattle.feed_steps.specs.declared.event.Done.{Done}
 use Rattle.feed_steps.specs.declared.event.Done.TheVariants as outcome
 use Rattle.feed_core.specs.Worlds.{Venue, World, Setting, new_venue, new_world}
 use Rattle.feed_steps.specs.Steps.{Applies, Refused, Changes, journal_item, consume_next, journal_full, already_so}
-use Rattle.feed_core.specs.Steps.{next_out, declare_help, with_intake}
+use Rattle.feed_core.specs.Steps.{next_out, declare_help}
+use Rattle.feed_core.specs.laws.LaneMoves.{with_intake}
 use Rattle.feed_core.specs.OneStep.{IsStep}
 use Rattle.feed_core.specs.Runs.{IsRun}
 use Rattle.feed_steps.specs.Steps as parts

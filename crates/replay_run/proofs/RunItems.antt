@@ -8,6 +8,7 @@ use Rattle.nbbo_book.specs.Eligible.{is_so}
 use Rattle.journal_book.specs.ItemsIn.{items_in}
 use Rattle.journal_book.specs.ItemLaws.{items_put}
 use Rattle.line_arbiter.specs.Histories.{History, all_begun, streams_of}
+use Rattle.line_arbiter.specs.laws.Arrivals.{all_map}
 use Rattle.feed_steps.specs.declared.event.Event.{Event}
 use Rattle.feed_core.specs.VenueHalf.{AreItemsOf, VenueHalf}
 use Rattle.feed_text.specs.Capture.{CaptureRecord}
@@ -16,7 +17,7 @@ use Rattle.feed_text.specs.VenueItems.{taken_by, items_taken}
 use Rattle.replay_run.specs.Events.{AreEvents, consumed_all}
 use Rattle.replay_run.specs.ToldHeadline.{HoldOnly, IsRecorded}
 use Rattle.replay_run.proofs.RunSessions.{events_only}
-use Rattle.replay_run.proofs.RunSkips.{all_map, among_one}
+use Rattle.replay_run.proofs.RunSkips.{among_one}
 
 pub venue_items : (place : ℕ) (records : List CaptureRecord) (events : List Event)
     (emitted : List ReplayEvent)
@@ -27,6 +28,7 @@ pub venue_items : (place : ℕ) (records : List CaptureRecord) (events : List Ev
     h
 venue_items place records events emitted h items half are = record {
   items = items;
+  sequence = half.sequence;
   skips = all_map (λ b. all_map (among_one records events place are) b.packets)
       (all_begun h) half.skips;
   session = λ s may. half.session s (events_only place s records events are may);

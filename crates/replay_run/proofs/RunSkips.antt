@@ -1,6 +1,6 @@
 -- The skips among the events are the records'.
 use Rattle.std.proofs.Common.{◌≡◌, ℕ, zero, suc, List, [], ◌∷◌, subst, arith, inl, inr}
-use Rattle.std.specs.List.{AllByRecursion, Contains}
+use Rattle.std.specs.List.{Contains}
 use Rattle.std.proofs.lemmas.List.Elements.{Contains-append_cases, Contains-append_right}
 use Rattle.line_arbiter.specs.Packets as inputs
 use Rattle.line_arbiter.specs.Packets.{Input, Arrived}
@@ -55,8 +55,3 @@ pub among_one : (records : List CaptureRecord) (events : List Event) (place : �
     → (x : Input) → IsAmong events place x → IsRecorded records place x
 among_one records events place are (Arrived a) has = tt
 among_one records events place are (inputs.Skip n) has = skip_among records events place n are has
-
-pub all_map : {X : Type 0} {P Q : X → Type 0} → ((x : X) → P x → Q x) → (xs : List X)
-    → AllByRecursion P xs → AllByRecursion Q xs
-all_map f [] all = tt
-all_map f (x ∷ xs) all = (f x all.0, all_map f xs all.1)

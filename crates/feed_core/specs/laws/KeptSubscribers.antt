@@ -15,7 +15,8 @@ use Rattle.feed_steps.specs.declared.event.Event.TheVariants.{Packet, Push, Cons
 use Rattle.feed_steps.specs.declared.event.Done.{Done}
 use Rattle.feed_core.specs.Worlds.{empty_lane, is_full, Venue, Subscriber, World, Setting}
 use Rattle.feed_steps.specs.Steps.{Refused, Changes, push_next, journal_item, offer_next, dequeue_next, journal_full, already_so, too_many_subscribers, unknown_venue, unknown_subscriber, Stays, Applies}
-use Rattle.feed_core.specs.Steps.{next_in, next_out, put_subscriber, with_sent, with_intake, with_offered, with_dequeued, AnswersSubscribe}
+use Rattle.feed_core.specs.Steps.{next_in, next_out, put_subscriber, AnswersSubscribe}
+use Rattle.feed_core.specs.laws.LaneMoves.{with_sent, with_intake, with_offered, with_dequeued}
 use Rattle.feed_core.specs.OneStep.{IsStep}
 use Rattle.feed_core.specs.Runs.{IsRun}
 use Rattle.feed_steps.specs.declared.event.Done.TheVariants as done
@@ -137,7 +138,7 @@ module _ (s : Setting) (Q : List Entry → Subscriber → Type 0) (kept : KeepsS
       at_venue (slice_get old.venues place) old d new _ each
       (λ v k. elim k [
         | inl f ↦ moved new old f.is.1 each
-        | inr a ↦ moved new _ a.new_is each
+        | inr a ↦ moved new _ a.answers.new_is each
       ]) h
   step_keeps old (Renew place name) d new each h =
       at_venue (slice_get old.venues place) old d new _ each (λ v k. moved new _ k.new_is each) h

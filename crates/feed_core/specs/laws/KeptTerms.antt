@@ -13,7 +13,8 @@ use Rattle.feed_steps.specs.declared.event.Done.{Done}
 use Rattle.feed_steps.specs.declared.event.Done.TheVariants as done
 use Rattle.feed_core.specs.Worlds.{empty_lane, is_full, Venue, Subscriber, World, Setting, new_world}
 use Rattle.feed_steps.specs.Steps.{Transition, Refused, Changes, push_next, consume_next, offer_next, dequeue_next, too_many_subscribers, unknown_venue, unknown_subscriber, Stays, Applies}
-use Rattle.feed_core.specs.Steps.{next_in, next_out, declare_help, put_subscriber, with_sent, with_intake, AnswersSubscribe}
+use Rattle.feed_core.specs.Steps.{next_in, next_out, declare_help, put_subscriber, AnswersSubscribe}
+use Rattle.feed_core.specs.laws.LaneMoves.{with_sent, with_intake}
 use Rattle.feed_core.specs.OneStep.{IsStep}
 use Rattle.feed_core.specs.Runs.{IsRun}
 use Rattle.feed_steps.specs.laws.Lists.{get_after_set, get_push}
@@ -121,7 +122,7 @@ module _ (s : Setting) where
       at_venue (slice_get old.venues place) old d new _ k
       (λ v t. elim t [
         | inl f ↦ moved new old f.is.1 k
-        | inr a ↦ moved new _ a.new_is (record { terms = k.terms; used = k.used })
+        | inr a ↦ moved new _ a.answers.new_is (record { terms = k.terms; used = k.used })
       ]) h
   step_keeps old (Renew place name) d new k h = at_venue (slice_get old.venues place) old d new _ k
       (λ v t. moved new _ t.new_is (record { terms = k.terms; used = k.used })) h

@@ -27,7 +27,8 @@ use Rattle.feed_steps.specs.declared.event.Done.TheVariants as done
 use Rattle.feed_core.specs.Worlds.{is_full, Venue, session_sent, Subscriber, World, Setting}
 use Rattle.line_arbiter.specs.Additions.{AddsArrival, AddsRenewal, AddsSkip}
 use Rattle.feed_steps.specs.Steps.{Transition, Refused, Changes, push_next, journal_item, offer_next, dequeue_next, journal_full, already_so, unknown_venue, unknown_subscriber, Stays, Applies}
-use Rattle.feed_core.specs.Steps.{next_in, next_out, add_subscriber, put_venue, with_sent, with_intake, with_offered, with_dequeued, AnswersSubscribe}
+use Rattle.feed_core.specs.Steps.{next_in, next_out, add_subscriber, put_venue, AnswersSubscribe}
+use Rattle.feed_core.specs.laws.LaneMoves.{with_sent, with_intake, with_offered, with_dequeued}
 use Rattle.feed_core.specs.OneStep.{IsStep}
 use Rattle.feed_core.specs.Runs.{IsRun}
 use Rattle.feed_steps.specs.laws.Lists.{get_after_set, get_at_set, get_off_set}
@@ -176,21 +177,21 @@ module _ (s : Setting) (May : Event → Type 0) (R : List Entry → ℕ → Venu
       at_venue (slice_get old.venues place) old place d new _ refl each
       (λ v here k. elim k [
         | inl f ↦ moved new old f.is.1 each
-        | inr a ↦ moved new _ a.new_is
+        | inr a ↦ moved new _ a.answers.new_is
             (put old place _ each
-            (kept.packet old.entries place v line bytes a.packet a.rest a.answer a.history may
-            a.spells a.taken here))
+            (kept.packet old.entries place v line bytes a.packet a.rest a.answers.answer
+            a.answers.history may a.spells a.answers.adds here))
       ]) h
   step_keeps old (Renew place name) d new may each h =
       at_venue (slice_get old.venues place) old place d new _ refl each
       (λ v here k. moved new _ k.new_is
       (put old place _ each
-      (kept.renew old.entries place v name k.answer k.history k.renewed here))) h
+      (kept.renew old.entries place v name k.answer k.history k.adds here))) h
   step_keeps old (Skip place number) d new may each h =
       at_venue (slice_get old.venues place) old place d new _ refl each
       (λ v here k. moved new _ k.new_is
       (put old place _ each
-      (kept.skip old.entries place v number k.answer k.history may k.skipped here))) h
+      (kept.skip old.entries place v number k.answer k.history may k.adds here))) h
   step_keeps old (Push place) d new may each h =
       at_venue (slice_get old.venues place) old place d new _ refl each
       (λ v here k. push_case old place v (is_full s.lane v.lane)

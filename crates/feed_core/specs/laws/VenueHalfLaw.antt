@@ -1,8 +1,9 @@
 -- The venue half: what each venue keeps through a run, from the empty world on.
-use Rattle.std.proofs.Common.{◌≡◌, ℕ, zero, suc, ◌+◌, ◌≤◌, List, [], ◌∷◌, ◌++◌, length, map, Some, Result, Ok, Err, refl, sym, ap, subst, ◌∙◌, arith, append_assoc, length-append}
-use Rattle.std.specs.Prelude.{slice_get, Contains}
-use Rattle.std.specs.List.{AllByRecursion}
-use Rattle.std.proofs.lemmas.List.Elements.{All-contains_itself, recursion_from_All}
+use Rattle.std.proofs.Common.{◌≡◌, ℕ, zero, suc, ◌+◌, ◌<◌, ◌≤◌, List, [], ◌∷◌, ◌++◌, length, map, Some, Result, Ok, Err, refl, sym, ap, subst, ◌∙◌, arith, append_assoc, length-append}
+use Rattle.std.specs.Prelude.{◌≢◌, slice_get, Contains}
+use Rattle.std.specs.List.{AllByRecursion, AllPairs}
+use Rattle.std.proofs.lemmas.List.Elements.{All-contains_itself, Contains-get_or, recursion_from_All}
+use Rattle.std.proofs.lemmas.List.Quantifiers.{all_pairs_push}
 use Rattle.feed_types.specs.declared.item.Numbered.{Numbered}
 use Rattle.feed_types.specs.declared.line.LineId.{LineId}
 use Rattle.feed_types.specs.Sessions.{Session}
@@ -16,13 +17,13 @@ use Rattle.feed_types.specs.Prefix.{IsPrefix}
 use Rattle.line_arbiter.specs.Streams.{IsComplete, closed_of, part_of, stream_of}
 use Rattle.line_arbiter.specs.Answered.{IsAnswered, AreAnswered}
 use Rattle.line_arbiter.specs.Renewals.{HasEnded}
-use Rattle.line_arbiter.specs.Histories.{Begun, History, new_session, after_input, all_begun, items_of, streams_of}
+use Rattle.line_arbiter.specs.Histories.{Begun, History, new_session, after_input, all_begun, items_of, names_of, streams_of}
 use Rattle.line_arbiter.specs.OfSession.{IsOfSession, AreOfSession, GivesSession, SkipsWithin, session_parts}
-use Rattle.line_arbiter.specs.laws.Histories.{items_push}
-use Rattle.line_arbiter.specs.laws.Arrivals.{all_push}
+use Rattle.line_arbiter.specs.laws.Histories.{items_push, names_next, names_same}
+use Rattle.line_arbiter.specs.laws.Arrivals.{all_map, all_push}
 use Rattle.line_arbiter.specs.laws.Below.{answered_grows, all_sent}
 use Rattle.line_arbiter.specs.laws.StreamGrowth.{closed_same, closed_skip}
-use Rattle.line_arbiter.specs.laws.AnsweredHistories.{IsSessionOver, IsAnsweredThroughout, new_answered, answered_arrival}
+use Rattle.line_arbiter.specs.laws.AnsweredHistories.{IsSessionOver, IsAnsweredThroughout, new_answered, answered_arrival, sessions_in_sequence}
 use Rattle.line_arbiter.specs.laws.Giving.{gives_session}
 use Rattle.line_arbiter.specs.laws.Fronts.{front_is}
 use Rattle.feed_steps.specs.declared.event.Event.{Event}
@@ -289,19 +290,17 @@ gives window s b answered only named =
 are_session : (window : ℕ) (s : Session) (v : Venue)
     → ServesItsStreams window v → IsOnly s v.history
     → AreSession s v.history
-are_session window s v k only = record {
-  earlier = each v.history.earlier k.answered.over only.earlier;
-  present = λ named. gives window s v.history.present k.answered.answered only.present named;
-}
+are_session window s v k only =
+    all_push (λ b. IsBegunAs s b → GivesSession s b.packets) v.history.earlier v.history.present
+    (each v.history.earlier k.answered.over only.earlier)
+    (λ named. gives window s v.history.present k.answered.answered only.present named)
   where
     each : (bs : List Begun) → AllByRecursion (IsSessionOver window) bs
         → AllByRecursion (λ b. AllByRecursion (IsArrivalOf s) b.packets) bs
-        → AllByRecursion (λ b. IsBegunAs s b → GivesSession s b.packets × IsComplete b.packets) bs
+        → AllByRecursion (λ b. IsBegunAs s b → GivesSession s b.packets) bs
     each [] over all = tt
-    each (b ∷ bs) over all = (
-      λ named. (gives window s b over.0.answered all.0 named, over.0.complete),
-      each bs over.1 all.1,
-    )
+    each (b ∷ bs) over all =
+        (λ named. gives window s b over.0.answered all.0 named, each bs over.1 all.1)
 
 -- ---- session by session
 
@@ -325,15 +324,8 @@ by_session Brought (s ∷ ss) (b ∷ bs) known named all =
 known_of : (s : Session) (h : History) → AreSession s h → Known s (all_begun h)
 unfolding Known
 known_of s h are =
-    all_push (λ b. IsBegunAs s b → stream_of b.packets ≡ session_parts s b.packets) h.earlier
-    h.present
-    (streams h.earlier are.earlier) (λ named. (are.present named).stream)
-  where
-    streams : (bs : List Begun)
-        → AllByRecursion (λ b. IsBegunAs s b → GivesSession s b.packets × IsComplete b.packets) bs
-        → AllByRecursion (λ b. IsBegunAs s b → stream_of b.packets ≡ session_parts s b.packets) bs
-    streams [] all = tt
-    streams (b ∷ bs) all = (λ named. ((all.0 named).0).stream, streams bs all.1)
+    all_map (λ (b : Begun) (gives : IsBegunAs s b → GivesSession s b.packets).
+    λ named. (gives named).stream) (all_begun h) are
 
 -- ---- what was given up
 
@@ -395,6 +387,56 @@ among_through s events ds w run =
     (new_at (λ place v. AreAmong events place v.history) s.sessions
     (λ i name. record { earlier = tt; present = tt })) run
 
+-- ---- the sessions' names
+
+abbrev AreDistinct : History → Type 0
+AreDistinct h = AllPairs (λ x y. x ≢ y) (names_of h)
+
+distinct_renewed : (sent : ℕ) (name : List ℕ) (old : History) (answer : Result ℕ RenewFault)
+    (new : History) → AddsRenewal sent name old answer new → AreDistinct old → AreDistinct new
+distinct_renewed sent name old (Ok ordinal) new r k =
+    let names = names_of old in
+    subst (λ (x : History). AreDistinct x) (sym r.is)
+    (subst (λ (xs : List (List ℕ)). AllPairs (λ x y. x ≢ y) xs) (sym (names_next old name))
+    (all_pairs_push (λ x y. x ≢ y) names name k (λ j d within same.
+    r.right.1 (subst (λ (x : List ℕ). Contains names x) same
+    (Contains-get_or names j d within)))))
+distinct_renewed sent name old (Err fault) new r k =
+    subst (λ (x : History). AreDistinct x) (sym r.is) k
+
+distinct_more : (old : History) (x : Input) → AreDistinct old → AreDistinct (after_input old x)
+distinct_more old x k =
+    subst (λ (xs : List (List ℕ)). AllPairs (λ x y. x ≢ y) xs) (names_same old x) k
+
+distinct_skipped : (sent number : ℕ) (old : History) (answer : Result (Unit {0}) SkipFault)
+    (new : History) → AddsSkip sent number old answer new → AreDistinct old → AreDistinct new
+distinct_skipped sent number old (Ok _) new r k =
+    subst (λ (x : History). AreDistinct x) (sym r.is) (distinct_more old (Skip number) k)
+distinct_skipped sent number old (Err fault) new r k =
+    subst (λ (x : History). AreDistinct x) (sym r.is) k
+
+distinct_moves : (s : Setting)
+    → KeepsVenueStep s (λ e. Unit {0}) (λ place v. AreDistinct v.history)
+distinct_moves s = record {
+  packet = λ place v line bytes p rest answer h may spells taken k.
+      subst (λ (x : History). AreDistinct x) (sym taken.is)
+      (distinct_more v.history (arrival_of line p answer) k);
+  renew = λ place v name answer h r k.
+      distinct_renewed (session_sent v) name v.history answer h r k;
+  skip = λ place v number answer h may r k.
+      distinct_skipped (session_sent v) number v.history answer h r k;
+  push = λ place v x e k. k;
+  consume = λ place v x e k. k;
+}
+
+distinct_through : (s : Setting) (events : List Event) (ds : List Done) (w : World)
+    → IsRun s (new_world s) events ds w → EachVenue (λ place v. AreDistinct v.history) w
+distinct_through s events ds w run =
+    run_keeps s (λ e. Unit {0}) (λ place v. AreDistinct v.history) (distinct_moves s)
+    (new_world s) events ds w (none_asked events)
+    (new_at (λ place v. AreDistinct v.history) s.sessions
+    (λ i name j k d before within. let one : k < 1 = within in absurd (omega arith))) run
+
 -- ---- the half
 
 pub venue_half : (s : Setting) (events : List Event) (ds : List Done) (w : World)
@@ -408,6 +450,9 @@ venue_half s events ds w run place v at =
     λ t may. are_session s.window t v k (only_through s place t events ds w may run v at) in
     record {
       items = items;
+      sequence =
+          sessions_in_sequence s.window v.history k.answered
+          (distinct_through s events ds w run place v at);
       skips =
           all_push (λ b. AllByRecursion (IsAmong events place) b.packets) v.history.earlier
           v.history.present among.earlier among.present;

@@ -107,38 +107,42 @@ all_but_last P [] b all = (tt, all.0)
 all_but_last P (c ∷ bs) b all =
     let rest = all_but_last P bs b all.1 in ((all.0, rest.0), rest.1)
 
-are_whole : (s : Session) (h : History) → AreArrivals (all_begun h) → AreSession s h → AreWhole s h
-are_whole s h arrivals are =
+are_whole : (s : Session) (h : History) → AreArrivals (all_begun h)
+    → AllByRecursion (λ b. IsComplete b.packets) h.earlier → AreSession s h → AreWhole s h
+are_whole s h arrivals over are =
     let all = all_but_last (λ b. AllByRecursion IsArrival b.packets) h.earlier h.present arrivals in
+    let each =
+    all_but_last (λ b. IsBegunAs s b → GivesSession s b.packets) h.earlier h.present are in
     record {
-      earlier = wholes h.earlier all.0 are.earlier;
+      earlier = wholes h.earlier all.0 over each.0;
       present = λ name.
-          (let gives = are.present (record {
+          (let gives = each.1 (record {
             name = name;
             within = arrivals_within s h.present.packets all.1;
           }) in
           (gives, to_gap s h.present.packets all.1 gives));
     }
   where
-    wholes : (bs : List Begun) → AreArrivals bs
-        → AllByRecursion (λ b. IsBegunAs s b → GivesSession s b.packets × IsComplete b.packets) bs
+    wholes : (bs : List Begun) → AreArrivals bs → AllByRecursion (λ b. IsComplete b.packets) bs
+        → AllByRecursion (λ b. IsBegunAs s b → GivesSession s b.packets) bs
         → AllByRecursion (λ b. b.name ≡ s.name → GivesSession s b.packets
         × (stream_of b.packets ≡ whole_session s)) bs
-    wholes [] arrivals all = tt
-    wholes (b ∷ bs) arrivals all = (
+    wholes [] arrivals over all = tt
+    wholes (b ∷ bs) arrivals over all = (
       λ name. (let given = all.0 (record {
         name = name;
         within = arrivals_within s b.packets arrivals.0;
       }) in
-          (given.0, whole s b.packets arrivals.0 given.0 given.1)),
-      wholes bs arrivals.1 all.1,
+          (given, whole s b.packets arrivals.0 given over.0)),
+      wholes bs arrivals.1 over.1 all.1,
     )
 
 pub session_whole : (events : List Event) (place : ℕ) (all : List Numbered) (h : History)
     → AreVenueItems events place all h → GiveNothingUp place events
     → (s : Session) → BringOnly place events s → AreWhole s h
 session_whole events place all h are none s may =
-    are_whole s h (nothing_skipped events place all h are none) (are.session s may)
+    are_whole s h (nothing_skipped events place all h are none) are.sequence.over
+    (are.session s may)
 
 -- ---- session by session
 
