@@ -21,11 +21,14 @@ use Rattle.feed_core.specs.Worlds.{inside, Venue}
 abbrev pub waiting : Venue → List Numbered
 waiting v = inside v.lane ++ drop (length v.lane.sent) (streams_of v.history)
 
--- the premise: a packet of the session's name that the event brings to the venue is of the session
+-- the premise: a packet of the session's name that these bytes are is of the session
+abbrev pub SpellOnly : Session → List ℕ → Type 0
+SpellOnly s bytes =
+    (p : Content) (rest : List ℕ) → Spells bytes p rest → p.session ≡ s.name → IsOfSession s p
+
+-- so is one that the event brings to the venue
 abbrev pub BringsOnly : ℕ → Session → Event → Type 0
-BringsOnly place s (Packet venue line bytes) =
-    venue ≡ place → (p : Content) (rest : List ℕ)
-    → Spells bytes.now p rest → p.session ≡ s.name → IsOfSession s p
+BringsOnly place s (Packet venue line bytes) = venue ≡ place → SpellOnly s bytes.now
 BringsOnly place s _ = Unit {0}
 
 abbrev pub BringOnly : ℕ → List Event → Session → Type 0
@@ -55,24 +58,28 @@ AreBegunAs _ _ = ⊥
 abbrev pub AreSession : Session → History → Type 0
 AreSession s h = AllByRecursion (λ b. IsBegunAs s b → GivesSession s b.packets) (all_begun h)
 
--- The items of the venue at a place, which has this history: they are its streams, which are in
--- sequence, whatever came. Each session of which the events bring the packets alone is the one that
--- came under its name. Where that holds of all sessions that the venue began, the items are these
--- sessions' parts, the last of which goes up to the first gap: each message before the gap was
--- taken or given up, and the one at the gap was not. What was given up is what events gave up;
--- where they gave up nothing, each session is one part, from its first message on (the law
--- `items_without_skips`).
-pub record AreVenueItems (events : List Event) (place : ℕ) (all : List Numbered) (h : History)
-    : Type 0 where
+-- The items of a venue that has this history: they are its streams, which are in sequence, whatever
+-- came. Each session of which the packets alone came is the one that came under its name. Where
+-- that holds of all sessions that the venue began, the items are these sessions' parts, the last of
+-- which goes up to the first gap: each message before the gap was taken or given up, and the one at
+-- the gap was not. What was given up is what skips that came gave up; where they gave up nothing,
+-- each session is one part, from its first message on (the law `items_without_skips`).
+pub record AreItemsOf (Came : Input → Type 0) (CameAlone : Session → Type 0)
+    (all : List Numbered) (h : History) : Type 0 where
   pub items : all ≡ streams_of h
   pub sequence : AreSessionsInSequence h
-  pub skips : AllByRecursion (λ b. AllByRecursion (IsAmong events place) b.packets) (all_begun h)
-  pub session : (s : Session) → BringOnly place events s → AreSession s h
+  pub skips : AllByRecursion (λ b. AllByRecursion Came b.packets) (all_begun h)
+  pub session : (s : Session) → CameAlone s → AreSession s h
   pub sessions : (began : List Session) → AreBegunAs began (all_begun h)
-      → AllByRecursion (BringOnly place events) began
+      → AllByRecursion CameAlone began
       → all ≡ parts_of_sessions began (all_begun h)
   pub taken : AreTaken h.present.packets (front_of h.present.packets)
   pub gap : carried h.present.packets (front_of h.present.packets + 1) ≡ None
+
+-- the items of the venue at a place, of what events bring there
+abbrev pub AreVenueItems : List Event → ℕ → List Numbered → History → Type 0
+AreVenueItems events place all h =
+    AreItemsOf (IsAmong events place) (BringOnly place events) all h
 
 -- The half: consumed and then waiting are the venue's items.
 abbrev pub VenueHalf : List Event → ℕ → Venue → Type 0

@@ -25,8 +25,8 @@ use Rattle.feed_text.specs.Emitted.{gap_emitted, items_emitted, EmitsFault, Emit
 use Rattle.feed_text.specs.Formats.{TimedRecord, timed_record, what_of}
 use Rattle.feed_text.specs.SinkEvents.{TimedEvent, at_time}
 use Rattle.feed_text.specs.Tellings.{lasts_told, told_of}
-use Rattle.feed_text.specs.Texts.{new_histories, HasJournalRoom}
-use Rattle.feed_text.specs.Told.{AreAllTaken, TakenEmit, told_by_records, told_first, IsToldOf, IsToldOfAll, IsToldToFull}
+use Rattle.feed_text.specs.Texts.{new_histories, EmitsAll, HasJournalRoom}
+use Rattle.feed_text.specs.Told.{told_by_records, IsToldUpTo, IsToldOf, IsToldOfAll, IsToldToFull}
 
 -- the laws of packets and of their answers
 pub record Single : Type 0 where
@@ -215,44 +215,55 @@ one_by config (r ∷ rs) old now es fs x y n1 n2 one same equal (m, first, other
     ∙ ap (λ (l : List TimedEvent). at_time r.time (told_of config.symbols.now fs head) ++ l) tails
 
 one_first : (config : ReplayConfig) (ts us : List TimedRecord) (x y : List ReplayEvent)
-    (hs ks : List History) → Single → ts ≡ us → (a : TakenEmit config ts x hs)
-    → (b : TakenEmit config us y ks)
-    → told_first config ts x hs a ≡ told_first config us y ks b
+    (hs ks : List History) → Single → ts ≡ us → (a : EmitsAll config (map what_of ts) x hs)
+    → (b : EmitsAll config (map what_of us) y ks)
+    → told_by_records config ts (new_histories config) [] x hs a
+    ≡ told_by_records config us (new_histories config) [] y ks b
 one_first config ts us x y hs ks one same a =
-    subst (λ (l : List TimedRecord). (b : TakenEmit config l y ks) → told_first config ts x hs
-    a ≡ told_first config l y ks b) same
+    subst (λ (l : List TimedRecord). (b : EmitsAll config (map what_of l) y ks)
+    → told_by_records config ts (new_histories config) [] x hs a
+    ≡ told_by_records config l (new_histories config) [] y ks b) same
     (λ b. one_by config ts (new_histories config) (new_histories config) [] [] x y
     hs ks one refl refl a b)
 
+-- what is told of the same records is the same
+told_same : (config : ReplayConfig) (records left rest : List TimedRecord) (t u : List TimedEvent)
+    → Single → (a : IsToldUpTo config records left t) → (b : IsToldUpTo config records rest u)
+    → a.taken ≡ b.taken → t ≡ u
+told_same config records left rest t u one a b same =
+    a.told_is ∙ one_first config a.taken b.taken a.emitted b.emitted a.histories b.histories one
+    same a.emits b.emits ∙ sym b.told_is
+
 one_all : (config : ReplayConfig) (records ts us : List TimedRecord) (x y : List ReplayEvent)
-    (hs ks : List History) → Single → AreAllTaken config records ts hs
-    → AreAllTaken config records us ks → TakenEmit config ts x hs → TakenEmit config us y ks
+    (hs ks : List History) → Single
+    → AreTakenOf config records (new_histories config) ts [] hs
+    → AreTakenOf config records (new_histories config) us [] ks
+    → EmitsAll config (map what_of ts) x hs → EmitsAll config (map what_of us) y ks
     → (ts ≡ us) × (hs ≡ ks)
 one_all config records ts us x y hs ks one a b e f =
     let same = one_taken config records ts us (new_histories config) hs ks one a b in (
       same,
       (one_told config.window config.gaps (map what_of us) (new_histories config) hs ks x y one
-          (subst (λ (l : List TimedRecord). TakenEmit config l x hs) same e) f).1,
+          (subst (λ (l : List TimedRecord). EmitsAll config (map what_of l) x hs) same e) f).1,
     )
 
 pub one_of_all : (config : ReplayConfig) (records : List TimedRecord) (t u : List TimedEvent)
     → Single → IsToldOfAll config records t → IsToldOfAll config records u → t ≡ u
 one_of_all config records t u one a b =
-    let x = one_all config records a.taken b.taken a.emitted b.emitted a.histories b.histories one
-    a.are_taken b.are_taken a.emits b.emits in
-    let same = one_first config a.taken b.taken a.emitted b.emitted a.histories b.histories
-    one x.0 a.emits b.emits in
-    a.told_is ∙ ap (λ (l : List TimedEvent). l ++ at_time None (lasts_told 0 a.histories)) same
-    ∙ ap (λ (hs : List History). told_first config b.taken b.emitted b.histories b.emits
-    ++ at_time None (lasts_told 0 hs)) x.1 ∙ sym b.told_is
+    let c = a.is in
+    let d = b.is in
+    let x = one_all config records c.taken d.taken c.emitted d.emitted c.histories d.histories one
+    c.are_taken d.are_taken c.emits d.emits in
+    let same = told_same config records [] [] a.first b.first one c d x.0 in
+    a.told_is ∙ ap (λ (l : List TimedEvent). l ++ at_time None (lasts_told 0 c.histories)) same
+    ∙ ap (λ (hs : List History). b.first ++ at_time None (lasts_told 0 hs)) x.1 ∙ sym b.told_is
 
 pub one_of : (config : ReplayConfig) (records : List TimedRecord) (t u : List TimedEvent) → Single
     → IsToldOf config records t → IsToldOf config records u → t ≡ u
 one_of config records t u one a b =
     let x = one_all config records a.taken b.taken a.emitted b.emitted a.histories b.histories one
     a.are_taken b.are_taken a.emits b.emits in
-    a.told_is ∙ one_first config a.taken b.taken a.emitted b.emitted a.histories b.histories one x.0
-    a.emits b.emits ∙ sym b.told_is
+    told_same config records [] [] t u one a b x.0
 
 -- what had room up to the next event is the same prefix
 one_front : (limit : ℕ) (old : List Entry) (f g : List ReplayEvent) (x y : ReplayEvent)
@@ -317,12 +328,12 @@ record Filled (config : ReplayConfig) (old : List Entry) (rs ts : List TimedReco
 
 filled : (config : ReplayConfig) (records : List TimedRecord) (t : List TimedEvent)
     (x : IsToldToFull config records t)
-    → Filled config [] records x.taken (new_histories config) x.emitted
+    → Filled config [] records x.before.taken (new_histories config) x.before.emitted
 filled config records t x = record {
   read_last = x.read_last;
-  mid = x.histories;
-  are = x.are_taken;
-  emits = x.emits;
+  mid = x.before.histories;
+  are = x.before.are_taken;
+  emits = x.before.emits;
   last = x.last;
   left = x.left;
   is_last = x.is_last;
@@ -331,8 +342,8 @@ filled config records t x = record {
   others = x.others;
   after = x.after;
   tells = x.last_emits;
-  room = room_behind config x.emitted x.first x.room;
-  full = full_behind config x.emitted x.first x.next x.full;
+  room = room_behind config x.before.emitted x.first x.room;
+  full = full_behind config x.before.emitted x.first x.next x.full;
 }
 
 -- the first of what was taken, and what came after it
@@ -505,20 +516,20 @@ pub one_full : (config : ReplayConfig) (records : List TimedRecord) (t u : List 
     → IsToldToFull config records t → IsToldToFull config records u → t ≡ u
 unfolding filled
 one_full config records t u one a b =
-    let s = filled_once config [] records a.taken b.taken (new_histories config) a.emitted b.emitted
+    let c = a.before in
+    let d = b.before in
+    let s = filled_once config [] records c.taken d.taken (new_histories config) c.emitted d.emitted
     one (filled config records t a) (filled config records u b) in
-    let same = one_first config a.taken b.taken a.emitted b.emitted a.histories b.histories one
-    s.taken a.emits b.emits in
+    let same = told_same config records (a.read_last ∷ []) (b.read_last ∷ []) a.told_before
+    b.told_before one c d s.taken in
     let T : TimedRecord → List ReplayEvent → List ReplayEvent
     → List TimedEvent = λ last emitted first. at_time last.time (told_of config.symbols.now
     (entries_of [] emitted) first) in
-    a.told_is ∙ ap (λ (l : List TimedEvent). l ++ T a.last a.emitted a.first) same
-    ∙ ap (λ (r : TimedRecord). told_first config b.taken b.emitted b.histories b.emits
-    ++ T r a.emitted a.first) s.last
-    ∙ ap (λ (l : List ReplayEvent). told_first config b.taken b.emitted b.histories b.emits
-    ++ T b.last l a.first) s.emitted
-    ∙ ap (λ (l : List ReplayEvent). told_first config b.taken b.emitted b.histories b.emits
-    ++ T b.last b.emitted l) s.first ∙ sym b.told_is
+    a.told_is ∙ ap (λ (l : List TimedEvent). l ++ T a.last c.emitted a.first) same
+    ∙ ap (λ (r : TimedRecord). b.told_before ++ T r c.emitted a.first) s.last
+    ∙ ap (λ (l : List ReplayEvent). b.told_before ++ T b.last l a.first) s.emitted
+    ∙ ap (λ (l : List ReplayEvent). b.told_before ++ T b.last d.emitted l) s.first
+    ∙ sym b.told_is
 
 -- what all has room isn't full
 all_or_full : (config : ReplayConfig) (old : List Entry) (rs ts us : List TimedRecord)
@@ -560,5 +571,5 @@ all_or_full config old rs (t ∷ ts) (u ∷ us) hs new e f one (others, told, mi
 pub not_both : (config : ReplayConfig) (records : List TimedRecord) (t u : List TimedEvent) → Single
     → IsToldOf config records t → IsToldToFull config records u → ⊥
 not_both config records t u one a b =
-    all_or_full config [] records a.taken b.taken (new_histories config) a.histories a.emitted
-    b.emitted one a.are_taken a.emits a.room (filled config records u b)
+    all_or_full config [] records a.taken b.before.taken (new_histories config) a.histories
+    a.emitted b.before.emitted one a.are_taken a.emits a.room (filled config records u b)

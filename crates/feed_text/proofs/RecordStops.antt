@@ -22,7 +22,7 @@ use Rattle.feed_text.specs.laws.Entries.{entries_more}
 use Rattle.feed_text.proofs.Tales.{SinkLaws}
 use Rattle.feed_text.proofs.Taking.{taken_more}
 use Rattle.feed_text.proofs.ToldRecords.{next_time, tells_after, tells_is, told_both}
-use Rattle.feed_text.proofs.TakenRecords.{TakenSo, at_state, some_after, told_at}
+use Rattle.feed_text.proofs.TakenRecords.{TakenSo, at_state, some_after, told_at, told_up_to}
 
 -- either all events have room, or the first ones up to one that has none
 room_or_full : (limit : ℕ) (old : List Entry) (hs : List ReplayEvent) → length old ≤ limit
@@ -67,9 +67,6 @@ module _ {K : Type 0} {taking : SinkTaking K} (sinks : SinkLaws taking)
       → IsToldToFull config records (x.told
       ++ at_time last.time (told_of config.symbols.now (entries_of [] x.emitted) first))
   full_told {hs = hs} {after = after} {t = t} r last left x is first next others emits room full =
-      let e = tells_is config x.taken (new_histories config) [] x.emitted x.told hs x.tells in
-      let T : List TimedEvent = at_time last.time (told_of config.symbols.now
-      (entries_of [] x.emitted) first) in
       let has : entries_of [] (x.emitted ++ first) ≡ entries_of t.entries first = entries_more []
       x.emitted first ∙ ap (λ (es : List Entry). entries_of es first) (sym x.entries) in
       let past : entries_of [] (x.emitted ++ first ++ next ∷ []) ≡ entries_of
@@ -78,12 +75,9 @@ module _ {K : Type 0} {taking : SinkTaking K} (sinks : SinkLaws taking)
       ∙ entries_more [] x.emitted (first ++ next ∷ [])
       ∙ ap (λ (es : List Entry). entries_of es (first ++ next ∷ [])) (sym x.entries) in
       record {
-        taken = x.taken;
         read_last = r;
-        emitted = x.emitted;
-        histories = hs;
-        are_taken = x.are_taken;
-        emits = e.0;
+        told_before = x.told;
+        before = told_up_to sinks config x;
         last = last;
         left = left;
         is_last = is;
@@ -94,7 +88,7 @@ module _ {K : Type 0} {taking : SinkTaking K} (sinks : SinkLaws taking)
         last_emits = emits;
         room = rw (has, ← x.journal) room;
         full = rw (past, ← x.journal) full;
-        told_is = ap (λ (l : List TimedEvent). l ++ T) e.1;
+        told_is = refl;
       }
 
   -- the journal was full within a record, or within a skip before it
@@ -151,18 +145,19 @@ module _ {K : Type 0} {taking : SinkTaking K} (sinks : SinkLaws taking)
         sym (append-nil T),
       ) in
       let e = tells_is config (x.taken ++ last ∷ []) (new_histories config) [] (x.emitted
-      ++ emitted) (x.told ++ T) after tells in
-      record {
-        taken = x.taken ++ last ∷ [];
-        left = left;
-        emitted = x.emitted ++ emitted;
-        histories = after;
-        are_taken = taken_more config records x.taken (last ∷ []) (new_histories config) (r ∷ []) hs
-            left after x.are_taken (left, emitted, after, is, emits, (refl, refl));
-        emits = e.0;
-        room = rw (has, ← x.journal) room;
-        told_is = e.1;
-      }
+      ++ emitted) (x.told ++ T) after tells in (
+        left,
+        record {
+          taken = x.taken ++ last ∷ [];
+          emitted = x.emitted ++ emitted;
+          histories = after;
+          are_taken = taken_more config records x.taken (last ∷ []) (new_histories config) (r ∷ []) hs
+              left after x.are_taken (left, emitted, after, is, emits, (refl, refl));
+          emits = e.0;
+          room = rw (has, ← x.journal) room;
+          told_is = e.1;
+        },
+      )
 
   -- the sink failed within a record, or within a skip before it
   pub stopped_within : {records : List TimedRecord} {before : K} {hs : List History}

@@ -15,11 +15,9 @@ use Rattle.feed_text.specs.ReplayStates.{SinkTaking, ReplayState}
 use Rattle.feed_text.specs.Running.{ClosesSink, RanToEnd, ShowsBefore, StoppedAt, StopsShown}
 use Rattle.feed_text.specs.SinkEvents.{TimedEvent, at_time}
 use Rattle.feed_text.specs.Tellings.{lasts_told}
-use Rattle.feed_text.specs.Texts.{new_histories}
-use Rattle.feed_text.specs.Told.{IsToldOf, IsToldSome, told_facts, told_first}
+use Rattle.feed_text.specs.Told.{IsToldOf, IsToldSome, told_facts}
 use Rattle.feed_text.proofs.Tales.{SinkLaws}
-use Rattle.feed_text.proofs.ToldRecords.{tells_is}
-use Rattle.feed_text.proofs.TakenRecords.{at_state, so_room, so_shown, told_of_records, told_of_some}
+use Rattle.feed_text.proofs.TakenRecords.{at_state, so_shown, told_up_to}
 use Rattle.feed_text.proofs.RecordStops.{stopped_full, stopped_within}
 use Rattle.feed_text.proofs.ReadRecords.{InLaws, record_read}
 use Rattle.feed_text.proofs.Runs.{Ran}
@@ -45,7 +43,7 @@ module _ {R S F K : Type 0} {reading : Reading R} {parsing : Parsing S F} {takin
         left = left;
         came_to = came;
         told = y.told;
-        is = told_of_records sinks config y;
+        is = told_up_to sinks config y;
         took = (y.took, shown);
       }
 
@@ -66,7 +64,7 @@ module _ {R S F K : Type 0} {reading : Reading R} {parsing : Parsing S F} {takin
     came_to = inl refl;
     told = x.has.so.told ++ [];
     is = inl (subst (IsToldSome config x.records) (sym (append-nil x.has.so.told))
-        (told_of_some sinks config x.has.so));
+        ([], told_up_to sinks config x.has.so));
     took = sinks.fails_after before t.sink after x.has.so.told [] x.has.so.took failed;
   }
 
@@ -179,8 +177,6 @@ module _ {R S F K : Type 0} {reading : Reading R} {parsing : Parsing S F} {takin
   ran_to_end {calls = calls} {from = from} {mid = mid} {start = start} {format = format}
       {before = before} {t = t} none whole few ends x =
       let y = x.has.so in
-      let e = tells_is config y.taken (new_histories config) [] y.emitted y.told
-      x.has.histories y.tells in
       record {
         records = x.records;
         calls = _;
@@ -190,15 +186,11 @@ module _ {R S F K : Type 0} {reading : Reading R} {parsing : Parsing S F} {takin
             x.records format) none x.read;
         is_whole = whole;
         end = ends;
-        taken = y.taken;
-        emitted = y.emitted;
-        histories = x.has.histories;
-        are_taken = y.are_taken;
-        emits = e.0;
-        room = so_room sinks config y;
+        told = y.told;
+        is = told_up_to sinks config y;
         follow = x.has.follow;
         count = x.has.count;
-        took = subst (λ (l : List TimedEvent). taking.takes before l t.sink) e.1 y.took;
+        took = y.took;
       }
 
 module _ {R S F K : Type 0} {reading : Reading R} {parsing : Parsing S F} {taking : SinkTaking K}
@@ -210,7 +202,7 @@ module _ {R S F K : Type 0} {reading : Reading R} {parsing : Parsing S F} {takin
       → AnswersRun reading parsing taking is_shown config (told_facts config) from to
       start finish before after r
   closed_by {before = before} {mid = mid} venues after is_shown (Ok done) x c =
-      let T : List TimedEvent = at_time None (lasts_told 0 x.histories) in
+      let T : List TimedEvent = at_time None (lasts_told 0 x.is.histories) in
       record {
         records = x.records;
         calls = x.calls;
@@ -219,25 +211,16 @@ module _ {R S F K : Type 0} {reading : Reading R} {parsing : Parsing S F} {takin
         read = x.read;
         left = (refl, x.is_whole);
         came_to = (x.within, x.end);
-        told = told_first config x.taken x.emitted x.histories x.emits ++ T;
-        is = record {
-          taken = x.taken;
-          emitted = x.emitted;
-          histories = x.histories;
-          are_taken =
-              x.are_taken;
-          emits = x.emits;
-          room = x.room;
-          told_is = refl;
-        };
+        told = x.told ++ T;
+        is = record { first = x.told; is = x.is; told_is = refl };
         took = (
           sinks.takes_more before mid after _ T x.took
-              (c.0 config.window x.histories x.follow),
+              (c.0 config.window x.is.histories x.follow),
           c.1,
         );
       }
   closed_by {before = before} {mid = mid} venues after is_shown (Err SinkFailed) x c =
-      let T : List TimedEvent = at_time None (lasts_told 0 x.histories) in
+      let T : List TimedEvent = at_time None (lasts_told 0 x.is.histories) in
       record {
         records = x.records;
         calls = x.calls;
@@ -246,17 +229,10 @@ module _ {R S F K : Type 0} {reading : Reading R} {parsing : Parsing S F} {takin
         read = x.read;
         left = tt;
         came_to = inr x.end;
-        told = told_first config x.taken x.emitted x.histories x.emits ++ T;
-        is = inr (inr (record {
-          taken = x.taken;
-          emitted = x.emitted;
-          histories = x.histories;
-          are_taken = x.are_taken;
-          emits = x.emits;
-          room = x.room;
-          told_is = refl;
-        }));
-        took = sinks.fails_after before mid after _ T x.took (c config.window x.histories x.follow);
+        told = x.told ++ T;
+        is = inr (inr (record { first = x.told; is = x.is; told_is = refl }));
+        took = sinks.fails_after before mid after _ T x.took
+            (c config.window x.is.histories x.follow);
       }
   closed_by venues after is_shown (Err ReadFailed) x c = absurd c
   closed_by venues after is_shown (Err (Bad fault)) x c = absurd c

@@ -16,7 +16,7 @@ use Rattle.feed_text.specs.Running.{IsReplayStart, KeepsVenues, TakesNext, TookS
 use Rattle.feed_text.specs.SinkEvents.{TimedEvent, at_time}
 use Rattle.feed_text.specs.Tellings.{told_of}
 use Rattle.feed_text.specs.Texts.{HasJournalRoom, new_histories}
-use Rattle.feed_text.specs.Told.{IsToldOf, IsToldSome}
+use Rattle.feed_text.specs.Told.{IsToldUpTo}
 use Rattle.feed_text.specs.laws.Entries.{entries_more}
 use Rattle.feed_text.proofs.Tales.{SinkLaws, tale_from, tale_with}
 use Rattle.feed_text.proofs.Taking.{taken_longer, taken_more}
@@ -181,35 +181,17 @@ module _ {K : Type 0} {taking : SinkTaking K} (sinks : SinkLaws taking)
       (x : TakenSo taking config records left before hs t) → HasJournalRoom config x.emitted
   so_room x = rw (← x.entries, ← x.journal) x.within
 
-  -- what was told of all records
-  pub told_of_records : {records : List TimedRecord} {before : K} {hs : List History}
-      {t : ReplayState K} (x : TakenSo taking config records [] before hs t)
-      → IsToldOf config records x.told
-  told_of_records {hs = hs} x =
+  -- what was told of those that are not left
+  abbrev pub told_up_to : {records left : List TimedRecord} {before : K} {hs : List History}
+      {t : ReplayState K} (x : TakenSo taking config records left before hs t)
+      → IsToldUpTo config records left x.told
+  told_up_to {hs = hs} x =
       let e = tells_is config x.taken (new_histories config) [] x.emitted x.told hs x.tells in
       record {
         taken = x.taken;
         emitted = x.emitted;
         histories = hs;
         are_taken = x.are_taken;
-        emits = e.0;
-        room = so_room x;
-        told_is = e.1;
-      }
-
-  -- and of some
-  pub told_of_some : {records left : List TimedRecord} {before : K} {hs : List History}
-      {t : ReplayState K} (x : TakenSo taking config records left before hs t)
-      → IsToldSome config records x.told
-  told_of_some {left = left} {hs = hs} x =
-      let e = tells_is config x.taken (new_histories config) [] x.emitted x.told hs x.tells in
-      record {
-        taken = x.taken;
-        left = left;
-        emitted = x.emitted;
-        histories = hs;
-        are_taken =
-            x.are_taken;
         emits = e.0;
         room = so_room x;
         told_is = e.1;

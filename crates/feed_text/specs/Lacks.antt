@@ -8,7 +8,8 @@ use Rattle.feed_text.specs.Devices.{Reading}
 use Rattle.line_arbiter.specs.LastSent.{last_gap}
 use Rattle.feed_text.specs.EventReplays.{venues_in}
 use Rattle.feed_text.specs.Formats.{TimedRecord, Parsing, HasReadRecords}
-use Rattle.feed_text.specs.Told.{AreAllTaken}
+use Rattle.feed_text.specs.Rules.{AreTakenOf}
+use Rattle.feed_text.specs.Texts.{new_histories}
 
 -- what a venue lacks by its gap
 abbrev pub lack_by : ℕ → Option Request → List Lack
@@ -35,5 +36,5 @@ pub record AppendsLacks {R S F : Type 0} (reading : Reading R) (parsing : Parsin
   pub end : reading.ends mid to
   pub taken : List TimedRecord
   pub histories : List History
-  pub are_taken : AreAllTaken config records taken histories
+  pub are_taken : AreTakenOf config records (new_histories config) taken [] histories
   pub lacks : new ≡ old ++ lacks_of config.window 0 histories

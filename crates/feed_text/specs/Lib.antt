@@ -23,6 +23,7 @@ pub mod EventLines
 pub mod OwnFormats
 pub mod OwnFormatLaws
 pub mod Told
+pub mod ToldJournal
 pub mod EventReplays
 pub mod Running
 pub mod StandardError

@@ -17,8 +17,8 @@ use Rattle.feed_text.specs.ReplayStates.{SinkTaking, ReplayState, EmitsInto, Goe
 use Rattle.feed_text.specs.Rules.{AreTakenOf, IsTakenNext, PutsIn}
 use Rattle.feed_text.specs.SinkEvents.{TimedEvent, at_time}
 use Rattle.feed_text.specs.Tellings.{lasts_told}
-use Rattle.feed_text.specs.Texts.{HasJournalRoom, new_histories}
-use Rattle.feed_text.specs.Told.{AreAllTaken, TakenEmit, told_facts, told_first}
+use Rattle.feed_text.specs.Texts.{new_histories}
+use Rattle.feed_text.specs.Told.{IsToldUpTo, told_facts}
 
 -- The venues stay as many, and gap lines are asked for as before.
 pub record KeepsVenues (from to : VenueList) : Type 0 where
@@ -137,15 +137,11 @@ pub record RanToEnd {R S F K : Type 0} (reading : Reading R) (parsing : Parsing 
       []
   pub is_whole : parsing.is_whole finish
   pub end : reading.ends mid to
-  pub taken : List TimedRecord
-  pub emitted : List ReplayEvent
-  pub histories : List History
-  pub are_taken : AreAllTaken config records taken histories
-  pub emits : TakenEmit config taken emitted histories
-  pub room : HasJournalRoom config emitted
-  pub follow : FollowAll config.window vs histories
+  pub told : List TimedEvent
+  pub is : IsToldUpTo config records [] told
+  pub follow : FollowAll config.window vs is.histories
   pub count : length vs ≡ venues_in config
-  pub took : taking.takes before (told_first config taken emitted histories emits) after
+  pub took : taking.takes before told after
 
 -- The results of reading a capture to its end, before the venues' last events.
 abbrev pub RunsToEnd : {R S F K : Type 0} (reading : Reading R) (parsing : Parsing S F)

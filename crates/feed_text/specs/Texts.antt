@@ -13,12 +13,6 @@ use Rattle.feed_text.specs.Emitted.{Emits}
 abbrev pub event_notices : List (List ℕ) → List Entry → ReplayEvent → List Notice
 event_notices symbols entries h = notices_since symbols entries (entries_after entries h)
 
--- the notices of events, one after another
-abbrev pub notices_emitted : List (List ℕ) → List Entry → List ReplayEvent → List Notice
-notices_emitted symbols entries [] = []
-notices_emitted symbols entries (h ∷ hs) =
-    event_notices symbols entries h ++ notices_emitted symbols (entries_after entries h) hs
-
 -- the histories of venues to which nothing came
 abbrev pub new_histories : ReplayConfig → List History
 new_histories config = map new_history config.sessions.now

@@ -21,82 +21,55 @@ told_by_records config (r ∷ rs) old entries emitted new (mid, first, others, o
     at_time r.time (told_of config.symbols.now entries first)
     ++ told_by_records config rs mid (entries_of entries first) others new rest
 
--- records that are taken emit these events, and lead to these histories
-abbrev pub TakenEmit : ReplayConfig → List TimedRecord → List ReplayEvent → List History → Type 0
-TakenEmit config taken emitted histories = EmitsAll config (map what_of taken) emitted histories
-
--- what is told of them, from an empty journal on
-abbrev pub told_first : (config : ReplayConfig) (taken : List TimedRecord)
-    (emitted : List ReplayEvent) (histories : List History)
-    → TakenEmit config taken emitted histories → List TimedEvent
-told_first config taken emitted histories emits =
-    told_by_records config taken (new_histories config) [] emitted histories emits
-
--- of these records, all of which were read, these are taken, and lead to these histories: the
--- records themselves, and the skips that the rule puts in
-abbrev pub AreAllTaken : ReplayConfig → List TimedRecord → List TimedRecord → List History → Type 0
-AreAllTaken config records taken histories =
-    AreTakenOf config records (new_histories config) taken [] histories
-
--- what is told of records that have room in the journal, without the venues' last events
-pub record IsToldOf (config : ReplayConfig) (records : List TimedRecord) (told : List TimedEvent)
-    : Type 0 where
-  pub taken : List TimedRecord
-  pub emitted : List ReplayEvent
-  pub histories : List History
-  pub are_taken : AreAllTaken config records taken histories
-  pub emits : TakenEmit config taken emitted histories
-  pub room : HasJournalRoom config emitted
-  pub told_is : told ≡ told_first config taken emitted histories emits
-
--- what is told of a whole capture: the same, and then the venues' last events
-pub record IsToldOfAll (config : ReplayConfig) (records : List TimedRecord)
+-- What is told of records of which these are left: of the others these are taken, the records
+-- themselves and the skips that the rule puts in; they emit these events, which have room in the
+-- journal, and lead to these histories.
+pub record IsToldUpTo (config : ReplayConfig) (records left : List TimedRecord)
     (told : List TimedEvent) : Type 0 where
   pub taken : List TimedRecord
-  pub emitted : List ReplayEvent
-  pub histories : List History
-  pub are_taken : AreAllTaken config records taken histories
-  pub emits : TakenEmit config taken emitted histories
-  pub room : HasJournalRoom config emitted
-  pub told_is : told ≡ told_first config taken emitted histories emits
-      ++ at_time None (lasts_told 0 histories)
-
--- what is told of some of the records, which have room in the journal
-pub record IsToldSome (config : ReplayConfig) (records : List TimedRecord)
-    (told : List TimedEvent) : Type 0 where
-  pub taken : List TimedRecord
-  pub left : List TimedRecord
   pub emitted : List ReplayEvent
   pub histories : List History
   pub are_taken : AreTakenOf config records (new_histories config) taken left histories
-  pub emits : TakenEmit config taken emitted histories
+  pub emits : EmitsAll config (map what_of taken) emitted histories
   pub room : HasJournalRoom config emitted
-  pub told_is : told ≡ told_first config taken emitted histories emits
+  pub told_is : told
+      ≡ told_by_records config taken (new_histories config) [] emitted histories emits
 
--- What is told up to a full journal: all that is taken before the last one has room, which is the
--- record that was read last, or a skip before it; its first events have room, too, and the next one
--- would add an entry past the journal's end.
+-- what is told of records, without the venues' last events; and of some of them
+abbrev pub IsToldOf : ReplayConfig → List TimedRecord → List TimedEvent → Type 0
+IsToldOf config records told = IsToldUpTo config records [] told
+
+abbrev pub IsToldSome : ReplayConfig → List TimedRecord → List TimedEvent → Type 0
+IsToldSome config records told = (left : List TimedRecord) × IsToldUpTo config records left told
+
+-- what is told of a whole capture: of its records, and then the venues' last events
+pub record IsToldOfAll (config : ReplayConfig) (records : List TimedRecord)
+    (told : List TimedEvent) : Type 0 where
+  pub first : List TimedEvent
+  pub is : IsToldUpTo config records [] first
+  pub told_is : told ≡ first ++ at_time None (lasts_told 0 is.histories)
+
+-- What is told up to a full journal: all that is taken before the last one, which is the record
+-- that was read last, or a skip before it; its first events have room, too, and the next one would
+-- add an entry past the journal's end.
 pub record IsToldToFull (config : ReplayConfig) (records : List TimedRecord)
     (told : List TimedEvent) : Type 0 where
-  pub taken : List TimedRecord
   pub read_last : TimedRecord
-  pub emitted : List ReplayEvent
-  pub histories : List History
-  pub are_taken : AreTakenOf config records (new_histories config) taken (read_last ∷ []) histories
-  pub emits : TakenEmit config taken emitted histories
+  pub told_before : List TimedEvent
+  pub before : IsToldUpTo config records (read_last ∷ []) told_before
   pub last : TimedRecord
   pub left : List TimedRecord
-  pub is_last : IsTakenNext config histories (read_last ∷ []) last left
+  pub is_last : IsTakenNext config before.histories (read_last ∷ []) last left
   pub first : List ReplayEvent
   pub next : ReplayEvent
   pub others : List ReplayEvent
   pub after : List History
-  pub last_emits : EmitsRecord config.window config.gaps last.what histories
+  pub last_emits : EmitsRecord config.window config.gaps last.what before.histories
       (first ++ next ∷ others) after
-  pub room : HasJournalRoom config (emitted ++ first)
-  pub full : config.journal < length (entries_of [] (emitted ++ first ++ next ∷ []))
-  pub told_is : told ≡ told_first config taken emitted histories emits
-      ++ at_time last.time (told_of config.symbols.now (entries_of [] emitted) first)
+  pub room : HasJournalRoom config (before.emitted ++ first)
+  pub full : config.journal < length (entries_of [] (before.emitted ++ first ++ next ∷ []))
+  pub told_is : told ≡ told_before
+      ++ at_time last.time (told_of config.symbols.now (entries_of [] before.emitted) first)
 
 -- What a definition says of what is told of records, of a whole capture, up to a full journal, and
 -- of some records.

@@ -1,5 +1,5 @@
 //! Laws of the definitions.
-ghost use Rattle.std.specs.Prelude.{◌≡◌, ℕ, Bool, List, Ok, Some, All, slice_get};
+ghost use Rattle.std.specs.Prelude.{◌≡◌, ℕ, Bool, List, [], Ok, Some, All, slice_get};
 ghost use Rattle.line_arbiter.specs.Histories.{History, skip_after, streams_of};
 ghost use Rattle.feed_text.specs.declared.replay.ReplayConfig.{ReplayConfig};
 ghost use Rattle.feed_text.specs.Capture.{CaptureRecord, HoldsBytes, IsRecord, NoRecord, capture_of};
@@ -8,10 +8,10 @@ ghost use Rattle.feed_text.specs.Emitted.{Emits, EmitsAt};
 ghost use Rattle.feed_text.specs.EventReplays.{venues_in};
 ghost use Rattle.feed_text.specs.Formats.{TimedRecord};
 ghost use Rattle.feed_text.specs.SinkEvents.{TimedEvent};
-ghost use Rattle.feed_text.specs.Texts.{EmitsAll};
-ghost use Rattle.feed_text.specs.Told.{AreAllTaken, IsToldOf, IsToldOfAll, IsToldToFull};
+ghost use Rattle.feed_text.specs.Texts.{EmitsAll, new_histories};
+ghost use Rattle.feed_text.specs.Told.{IsToldOf, IsToldOfAll, IsToldToFull};
 ghost use Rattle.run_settings.specs.declared.skip_rule.SkipRule.{SkipRule};
-ghost use Rattle.feed_text.specs.Rules.{SkipsAt, skip_at};
+ghost use Rattle.feed_text.specs.Rules.{AreTakenOf, SkipsAt, skip_at};
 ghost use Rattle.feed_text.specs.VenueItems.{items_taken};
 
 /// A capture has one reading: where the same bytes are records and then a rest that begins with
@@ -68,7 +68,7 @@ pub fn items_are_the_streams()
 pub fn rules_put_in_skips_that_are_made()
     ensures never { (config : ReplayConfig) (records taken : List TimedRecord)
         (histories : List History) → config.skips ≡ SkipRule.Never
-        → AreAllTaken config records taken histories → taken ≡ records }
+        → AreTakenOf config records (new_histories config) taken [] histories → taken ≡ records }
     ensures made { (rule : SkipRule) (window number : ℕ) (gaps : Bool) (r : CaptureRecord)
         (h after : History) (emitted : List ReplayEvent) → SkipsAt rule window r h number
         → EmitsAt window gaps (skip_at r number) h emitted after

@@ -40,8 +40,8 @@ use Rattle.feed_text.specs.ReplayEvents.{ReplayEvent, packet_answered, item_take
 use Rattle.line_arbiter.specs.LastSent.{last_sent}
 use Rattle.feed_text.specs.Emitted.{items_emitted, EmitsRecord, Emits}
 use Rattle.feed_text.specs.laws.Entries.{entries_more}
-use Rattle.feed_core.specs.VenueHalf.{BringsOnly, BringOnly}
-use Rattle.replay_run.specs.Events.{event_of, consumed_all, world_of, outcomes_of, IsReplayRun}
+use Rattle.replay_run.specs.Events.{consumed_all, world_of, outcomes_of, IsReplayRun}
+use Rattle.replay_run.specs.ToldHeadline.{HoldsOnly, HoldOnly}
 use Rattle.replay_run.specs.Moving.{ComesThrough}
 use Rattle.replay_run.proofs.ListPlaces.{get_map, get_set_here}
 use Rattle.replay_run.proofs.RecordRuns.{items_len}
@@ -468,12 +468,12 @@ reaches s window place k (m ∷ ms) P hs ten wide f u there =
 
 -- the records hold packets of the session alone
 held : (s : Session) (place : ℕ) (p : Content) → IsContent p → p.ignored ≡ 0 → IsOfSession s p
-    → BringsOnly place s (event_of (datagram_record place A (spelling p)))
+    → HoldsOnly place s (datagram_record place A (spelling p))
 held s place p content none of at q rest reads name =
     subst (IsOfSession s) (same_packet (spelling p) p q [] rest (spells p content none) reads) of
 
 hold : (s : Session) (window place k : ℕ) (ms : List (List ℕ)) → length s.name ≡ 10 → AreFrom s k ms
-    → BringOnly place (map event_of (records_from place s.name k ms)) s
+    → HoldOnly place (records_from place s.name k ms) s
 hold s window place k [] ten f =
     let all : k ≡ length s.items = (let a = f.all in omega arith) in
     let small : k + 1 < 2 ^ 64 = (let a = f.small in omega arith) in (

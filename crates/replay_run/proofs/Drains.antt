@@ -11,7 +11,8 @@ use Rattle.feed_steps.specs.declared.event.Done.{Done}
 use Rattle.feed_steps.specs.declared.event.Done.TheVariants as done
 use Rattle.feed_core.specs.Worlds.{is_full, Venue, World, Setting}
 use Rattle.feed_steps.specs.Steps.{Applies, Refused, push_next, journal_item, consume_next, journal_full, Intake}
-use Rattle.feed_core.specs.Steps.{next_in, next_out, with_sent, with_intake}
+use Rattle.feed_core.specs.Steps.{next_in, next_out}
+use Rattle.feed_core.specs.laws.LaneMoves.{with_sent, with_intake}
 use Rattle.feed_core.specs.OneStep.{IsStep}
 use Rattle.feed_core.specs.Runs.{IsRun}
 use Rattle.feed_text.specs.ReplayEvents.{item_taken, entries_of}

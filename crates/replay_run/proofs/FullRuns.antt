@@ -19,7 +19,8 @@ use Rattle.feed_steps.specs.declared.event.Done.{Done}
 use Rattle.feed_steps.specs.declared.event.Done.TheVariants as outcome
 use Rattle.feed_core.specs.Worlds.{Venue, World, Setting, new_venue, new_world}
 use Rattle.feed_steps.specs.Steps.{Applies, Refused, Changes, journal_item, consume_next, journal_full, already_so}
-use Rattle.feed_core.specs.Steps.{next_out, declare_help, with_intake}
+use Rattle.feed_core.specs.Steps.{next_out, declare_help}
+use Rattle.feed_core.specs.laws.LaneMoves.{with_intake}
 use Rattle.feed_core.specs.OneStep.{IsStep}
 use Rattle.feed_core.specs.Runs.{IsRun}
 use Rattle.feed_steps.specs.Steps as parts
@@ -39,14 +40,14 @@ use Rattle.feed_text.specs.laws.Entries.{entries_more}
 use Rattle.feed_text.specs.laws.Entries.{entries_grow}
 use Rattle.line_arbiter.specs.laws.AnsweredHistories.{IsAnsweredThroughout}
 use Rattle.feed_text.specs.laws.VenueItemsLaw.{Each, items_same, items_other, new_each, all_kept, taken_are_streams}
-use Rattle.replay_run.specs.Events.{slice_of, drains, outcomes_by, outcomes_of, replay_setting, consumed_all, world_of, event_of}
+use Rattle.replay_run.specs.Events.{slice_of, drains, outcomes_by, outcomes_of, replay_setting, consumed_all, world_of}
 use Rattle.replay_run.specs.Full.{StopsAt, IsRunToFull}
+use Rattle.replay_run.specs.ToldHeadline.{HoldsOnly, HoldOnly}
 use Rattle.replay_run.proofs.ListPlaces.{get_map, get_set_here}
 use Rattle.replay_run.proofs.EmittedEvents.{at_venue, outcomes_more, run_more}
 use Rattle.replay_run.proofs.Drains.{at, venue_at, venue_more, push_step, drain, with_venues}
 use Rattle.replay_run.proofs.RecordRuns.{items_len, packet_begins, ready_behind, skip_begins, skip_behind}
 use Rattle.replay_run.proofs.RunSessions.{all_more, drains_only, events_only}
-use Rattle.replay_run.proofs.RunNotices.{notices_all}
 use Rattle.replay_run.proofs.Runs.{RanAll, all_ran, begins}
 
 -- ---- the event that finds no room
@@ -463,8 +464,7 @@ last_ran s gaps lane hs after E r emitted first others next each t room short =
 
 stops_only : (place : ℕ) (session : Session) (r : CaptureRecord)
     (events : List Event) (refused : Event)
-    → StopsAt r events refused → BringsOnly place session (event_of r)
-    → BringOnly place events session
+    → StopsAt r events refused → HoldsOnly place session r → BringOnly place events session
 stops_only place session (datagram_record venue line bytes) events refused x may =
     subst (λ (es : List Event). BringOnly place es session) (sym x.1) (
       may,
@@ -482,8 +482,7 @@ stops_only place session (self_help_record venue on) events refused x may =
     subst (λ (es : List Event). BringOnly place es session) (sym x.0) tt
 
 only_front : (place : ℕ) (session : Session) (rs : List CaptureRecord) (r : CaptureRecord)
-    → BringOnly place (map event_of (rs ++ r ∷ [])) session
-    → BringOnly place (map event_of rs) session × BringsOnly place session (event_of r)
+    → HoldOnly place (rs ++ r ∷ []) session → HoldOnly place rs session × HoldsOnly place session r
 only_front place session [] r all = (tt, all.0)
 only_front place session (x ∷ rs) r all = (let f = only_front place session rs r all.1
     in ((all.0, f.0), f.1))
@@ -491,43 +490,44 @@ only_front place session (x ∷ rs) r all = (let f = only_front place session rs
 pub full_run : (config : ReplayConfig) (lane : ℕ) (filters : List Terms)
     (records : List TimedRecord)
     (told : List TimedEvent) → 1 ≤ lane → (x : IsToldToFull config records told)
-    → IsRunToFull (replay_setting config lane filters) (map what_of x.taken)
-    x.last.what (x.emitted ++ x.first)
+    → IsRunToFull (replay_setting config lane filters) (map what_of x.before.taken)
+    x.last.what (x.before.emitted ++ x.first)
 full_run config lane filters records told some x =
-    let earlier : List CaptureRecord = map what_of x.taken in
+    let before = x.before in
+    let earlier : List CaptureRecord = map what_of before.taken in
     let last : CaptureRecord = x.last.what in
     let s : Setting = replay_setting config lane filters in
-    let hs : List History = x.histories in
-    let E : List Entry = entries_of [] x.emitted in
+    let hs : List History = before.histories in
+    let E : List Entry = entries_of [] before.emitted in
     let F : List Entry = entries_of E x.first in
-    let told_first : entries_of [] (x.emitted ++ x.first) ≡ F = entries_more [] x.emitted x.first in
+    let told_first : entries_of [] (before.emitted ++ x.first) ≡ F = entries_more [] before.emitted x.first in
     let room : length F ≤ config.journal = subst (λ (l : List Entry). length l ≤ config.journal)
     told_first x.room in
-    let past_end : entries_of [] (x.emitted ++ x.first ++ x.next ∷ []) ≡ entries_after F x.next =
-    entries_more [] (x.emitted ++ x.first) (x.next ∷ [])
+    let past_end : entries_of [] (before.emitted ++ x.first ++ x.next ∷ []) ≡ entries_after F x.next =
+    entries_more [] (before.emitted ++ x.first) (x.next ∷ [])
     ∙ ap (λ (l : List Entry). entries_after l x.next) told_first in
     let short : config.journal < length (entries_after F x.next) =
     subst (λ (l : List Entry). config.journal < length l) past_end x.full in
     let before_fits : length E ≤ config.journal = (let g = entries_grow E x.first in omega arith) in
-    let ran : RanAll s earlier (map new_history config.sessions.now) [] x.emitted hs =
-    all_ran s config.gaps some earlier (map new_history config.sessions.now) hs [] x.emitted
-    (new_each config) x.emits before_fits in
-    let run : IsRun s (new_world s) ran.0 (outcomes_of [] x.emitted) (world_of hs E) =
-    subst (λ (w : World). IsRun s w ran.0 (outcomes_of [] x.emitted) (world_of hs E))
+    let ran : RanAll s earlier (map new_history config.sessions.now) [] before.emitted hs =
+    all_ran s config.gaps some earlier (map new_history config.sessions.now) hs [] before.emitted
+    (new_each config) before.emits before_fits in
+    let run : IsRun s (new_world s) ran.0 (outcomes_of [] before.emitted) (world_of hs E) =
+    subst (λ (w : World). IsRun s w ran.0 (outcomes_of [] before.emitted) (world_of hs E))
     (with_venues [] (map consumed_all (map new_history config.sessions.now))
     (map new_venue config.sessions.now)
     (begins config.sessions.now)) ran.2 in
-    let l : LastRan s last hs E x.emitted x.first =
-    last_ran s config.gaps some hs x.after E last x.emitted x.first x.others x.next
-    (all_kept config earlier x.emitted hs x.emits) x.last_emits room short in
-    let whole : outcomes_of [] x.emitted ++ (outcomes_of E x.first ++ l.pushed) ≡ outcomes_of []
-    (x.emitted ++ x.first) ++ l.pushed =
-    sym (append_assoc (outcomes_of [] x.emitted) (outcomes_of E x.first) l.pushed)
-    ∙ ap (λ (ds : List Done). ds ++ l.pushed) (sym (outcomes_more [] x.emitted x.first)) in
-    let all : IsRun s (new_world s) (ran.0 ++ l.events) (outcomes_of [] (x.emitted ++ x.first)
+    let l : LastRan s last hs E before.emitted x.first =
+    last_ran s config.gaps some hs x.after E last before.emitted x.first x.others x.next
+    (all_kept config earlier before.emitted hs before.emits) x.last_emits room short in
+    let whole : outcomes_of [] before.emitted ++ (outcomes_of E x.first ++ l.pushed) ≡ outcomes_of []
+    (before.emitted ++ x.first) ++ l.pushed =
+    sym (append_assoc (outcomes_of [] before.emitted) (outcomes_of E x.first) l.pushed)
+    ∙ ap (λ (ds : List Done). ds ++ l.pushed) (sym (outcomes_more [] before.emitted x.first)) in
+    let all : IsRun s (new_world s) (ran.0 ++ l.events) (outcomes_of [] (before.emitted ++ x.first)
     ++ l.pushed) l.full =
     subst (λ (ds : List Done). IsRun s (new_world s) (ran.0 ++ l.events) ds l.full) whole
-    (run_more s (new_world s) (world_of hs E) l.full ran.0 l.events (outcomes_of [] x.emitted)
+    (run_more s (new_world s) (world_of hs E) l.full ran.0 l.events (outcomes_of [] before.emitted)
     (outcomes_of E x.first ++ l.pushed) run l.run) in
     record {
       before = ran.0;
@@ -543,10 +543,9 @@ full_run config lane filters records told some x =
       full = l.full;
       run = all;
       entries = l.entries_are ∙ sym told_first;
-      items = l.items (λ place h there. taken_are_streams config earlier x.emitted hs
-          x.emits place h there);
-      notices = notices_all s.symbols [] (x.emitted ++ x.first);
-      headline = headline s (ran.0 ++ l.events) (outcomes_of [] (x.emitted ++ x.first)
+      items = l.items (λ place h there. taken_are_streams config earlier before.emitted hs
+          before.emits place h there);
+      headline = headline s (ran.0 ++ l.events) (outcomes_of [] (before.emitted ++ x.first)
           ++ l.pushed) l.full all;
       next = l.next;
     }

@@ -5,8 +5,9 @@ pub mod RecordRuns
 pub mod RunSessions
 pub mod RunSkips
 pub mod RunItems
-pub mod RunNotices
 pub mod Runs
 pub mod FullRuns
 mod Coming
+pub mod ToldJournals
+pub mod Tells
 pub mod Prints

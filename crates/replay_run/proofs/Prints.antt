@@ -1,49 +1,16 @@
--- What is told is what a run leads to.
-use Rattle.std.proofs.Common.{ℕ, List, Result, Ok, Err, map, inl, inr}
+-- Where what is told has a headline, so has a replay.
+use Rattle.std.proofs.Common.{ℕ, List, [], Result, Ok, Err, inl, inr}
 use Rattle.feed_text.specs.declared.replay.ReplayConfig.{ReplayConfig}
 use Rattle.feed_text.specs.declared.replay_stop.ReplayStop.{ReplayStop}
 use Rattle.feed_text.specs.declared.replay_stop.ReplayStop.TheVariants.{ReadFailed, SinkFailed, Bad, Short, TooManyTurns, JournalFull, NoMemory}
 use Rattle.feed_text.specs.Devices.{Reading}
 use Rattle.feed_text.specs.EventReplays.{AnswersRun, IsToldPart, ReadAndTold}
-use Rattle.feed_text.specs.Formats.{Parsing, TimedRecord, what_of}
+use Rattle.feed_text.specs.Formats.{Parsing, TimedRecord}
 use Rattle.feed_text.specs.ReplayStates.{SinkTaking}
 use Rattle.feed_text.specs.SinkEvents.{TimedEvent}
-use Rattle.feed_text.specs.Told.{IsToldOf, IsToldOfAll, IsToldSome, IsToldToFull, ToldFacts, told_facts}
-use Rattle.replay_run.specs.Printed.{IsToldOfPartRun, IsToldOfRun, IsToldOfRunToFull, IsToldOfWholeRun, facts_of_run}
-use Rattle.replay_run.proofs.Runs.{replay_run}
-use Rattle.replay_run.proofs.FullRuns.{full_run}
-
-pub told_of_run : (config : ReplayConfig) (records : List TimedRecord) (told : List TimedEvent)
-    → IsToldOf config records told → IsToldOfRun config records told
-told_of_run config records told x = record {
-  is = x;
-  run = λ lane filters some. replay_run config lane filters (map what_of x.taken) x.emitted
-      x.histories some x.emits x.room;
-}
-
-pub told_of_whole_run : (config : ReplayConfig) (records : List TimedRecord)
-    (told : List TimedEvent)
-    → IsToldOfAll config records told → IsToldOfWholeRun config records told
-told_of_whole_run config records told x = record {
-  is = x;
-  run = λ lane filters some. replay_run config lane filters (map what_of x.taken) x.emitted
-      x.histories some x.emits x.room;
-}
-
-pub told_of_part_run : (config : ReplayConfig) (records : List TimedRecord) (told : List TimedEvent)
-    → IsToldSome config records told → IsToldOfPartRun config records told
-told_of_part_run config records told x = record {
-  is = x;
-  run = λ lane filters some. replay_run config lane filters (map what_of x.taken) x.emitted
-      x.histories some x.emits x.room;
-}
-
-pub told_to_full : (config : ReplayConfig) (records : List TimedRecord) (told : List TimedEvent)
-    → IsToldToFull config records told → IsToldOfRunToFull config records told
-told_to_full config records told x =
-    record { is = x; run = λ lane filters some. full_run config lane filters records told some x }
-
--- ---- where more is said of what is told
+use Rattle.feed_text.specs.Told.{ToldFacts, told_facts}
+use Rattle.replay_run.specs.Printed.{facts_of_run}
+use Rattle.replay_run.proofs.Tells.{told_of_run, told_of_run_to_full, told_of_whole_run}
 
 -- all that meets one definition meets the other, too
 record Implies (one other : ToldFacts) : Type 0 where
@@ -112,8 +79,8 @@ module _ {R S F K : Type 0} (reading : Reading R) (parsing : Parsing S F) (takin
   replays_run answer x =
       by_more (told_facts config) (facts_of_run config)
       (record {
-        records = told_of_run config;
+        records = λ rs told. told_of_run config rs [] told;
         capture = told_of_whole_run config;
-        full = told_to_full config;
-        some = told_of_part_run config;
+        full = told_of_run_to_full config;
+        some = λ rs told x. (x.0, told_of_run config rs x.0 told x.1);
       }) answer x

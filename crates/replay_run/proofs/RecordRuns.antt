@@ -20,7 +20,8 @@ use Rattle.feed_steps.specs.declared.event.Done.{Done}
 use Rattle.feed_steps.specs.declared.event.Done.TheVariants as done
 use Rattle.feed_core.specs.Worlds.{Venue, session_count, session_sent, World, Setting}
 use Rattle.feed_steps.specs.Steps.{Applies, Refused, Changes, journal_full, already_so}
-use Rattle.feed_core.specs.Steps.{declare_help, RefusesBytes, AnswersRenewal, AnswersSkip}
+use Rattle.feed_core.specs.Steps.{declare_help, RefusesBytes, Answers}
+use Rattle.line_arbiter.specs.Additions.{AddsRenewal, AddsSkip}
 use Rattle.feed_core.specs.OneStep.{IsStep}
 use Rattle.feed_core.specs.Runs.{IsRun}
 use Rattle.feed_steps.specs.Steps as parts
@@ -133,17 +134,19 @@ module _ (s : Setting) (gaps : Bool) (lane : 1 ≤ s.lane) (hs : List History)
           packet = t.packet;
           rest = t.rest;
           spells = t.spells;
-          answer = t.answer;
-          history = new;
-          taken = record {
-            right =
-                subst (λ (n : ℕ). IsOutcome h.present.name s.window n
-                h.present.packets t.packet t.answer)
-                (sym (counted h)) t.taken.right;
-            is = t.taken.is;
+          answers = record {
+            answer = t.answer;
+            history = new;
+            adds = record {
+              right =
+                  subst (λ (n : ℕ). IsOutcome h.present.name s.window n
+                  h.present.packets t.packet t.answer)
+                  (sym (counted h)) t.taken.right;
+              is = t.taken.is;
+            };
+            outcome_is = refl;
+            new_is = refl;
           };
-          outcome_is = refl;
-          new_is = refl;
         }))
 
     -- the items that it made ready follow the streams
@@ -226,11 +229,13 @@ module _ (s : Setting) (gaps : Bool) (lane : 1 ≤ s.lane) (hs : List History)
         let w : World = world_of hs entries in
         let d : Done = parts.skip_done number t.answer in
         let mid : World = at (map consumed_all hs) venue (venue_at new (streams_of h)) entries in
-        at_venue w venue (consumed_all h) d mid (λ v. AnswersSkip venue v number w d mid) there_is
+        at_venue w venue (consumed_all h) d mid
+        (λ v. Answers (AddsSkip (session_sent v) number v.history) (parts.skip_done number) venue v
+        w d mid) there_is
         (record {
           answer = t.answer;
           history = new;
-          skipped = record {
+          adds = record {
             right = subst (λ (n : ℕ). IsSkip h.present.packets n number t.answer)
                 (sym (counted h)) t.skipped.right;
             is = t.skipped.is;
@@ -271,11 +276,13 @@ module _ (s : Setting) (gaps : Bool) (lane : 1 ≤ s.lane) (hs : List History)
         ∙ ap (λ (xs : List Numbered). streams_of h ++ xs) (ap (items_taken venue) t.emitted_is)
         ∙ append-nil (streams_of h) in
         let step : IsStep s w (Renew venue name) d mid =
-        at_venue w venue (consumed_all h) d mid (λ v. AnswersRenewal venue v name w d mid) there_is
+        at_venue w venue (consumed_all h) d mid
+        (λ v. Answers (AddsRenewal (session_sent v) name v.history) parts.renewal_done venue v
+        w d mid) there_is
         (record {
           answer = t.answer;
           history = new;
-          renewed =
+          adds =
               record {
                 right =
                     subst (λ (n : ℕ). IsRenewal (names_of h) (end_of h.present.packets) n name

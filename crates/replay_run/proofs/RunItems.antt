@@ -1,5 +1,5 @@
 -- The items that were emitted.
-use Rattle.std.proofs.Common.{◌≡◌, ℕ, Bool, true, false, List, [], ◌∷◌, ◌++◌, map, sym, ap, ◌∙◌, append_assoc, append-nil}
+use Rattle.std.proofs.Common.{◌≡◌, ℕ, Bool, true, false, List, [], ◌∷◌, ◌++◌, sym, ap, ◌∙◌, append_assoc, append-nil}
 use Rattle.std.specs.Prelude.{if◌then◌else◌}
 use Rattle.feed_types.specs.declared.item.Numbered.{Numbered}
 use Rattle.feed_types.specs.declared.journal.Entry.{Entry}
@@ -8,23 +8,27 @@ use Rattle.nbbo_book.specs.Eligible.{is_so}
 use Rattle.journal_book.specs.ItemsIn.{items_in}
 use Rattle.journal_book.specs.ItemLaws.{items_put}
 use Rattle.line_arbiter.specs.Histories.{History, all_begun, streams_of}
+use Rattle.line_arbiter.specs.laws.Arrivals.{all_map}
 use Rattle.feed_steps.specs.declared.event.Event.{Event}
-use Rattle.feed_core.specs.VenueHalf.{AreVenueItems, VenueHalf}
+use Rattle.feed_core.specs.VenueHalf.{AreItemsOf, VenueHalf}
 use Rattle.feed_text.specs.Capture.{CaptureRecord}
 use Rattle.feed_text.specs.ReplayEvents.{ReplayEvent, packet_answered, packet_refused, item_taken, gap_left, renewal_answered, skip_answered, self_help_declared, entries_after, entries_of}
 use Rattle.feed_text.specs.VenueItems.{taken_by, items_taken}
-use Rattle.replay_run.specs.Events.{event_of, AreEvents, consumed_all}
+use Rattle.replay_run.specs.Events.{AreEvents, consumed_all}
+use Rattle.replay_run.specs.ToldHeadline.{HoldOnly, IsRecorded}
 use Rattle.replay_run.proofs.RunSessions.{events_only}
-use Rattle.replay_run.proofs.RunSkips.{all_map, among_one}
+use Rattle.replay_run.proofs.RunSkips.{among_one}
 
 pub venue_items : (place : ℕ) (records : List CaptureRecord) (events : List Event)
     (emitted : List ReplayEvent)
     (h : History) → items_taken place emitted ≡ streams_of h
     → VenueHalf events place (consumed_all h)
-    → AreEvents records events → AreVenueItems (map event_of records) place
-    (items_taken place emitted) h
+    → AreEvents records events
+    → AreItemsOf (IsRecorded records place) (HoldOnly place records) (items_taken place emitted)
+    h
 venue_items place records events emitted h items half are = record {
   items = items;
+  sequence = half.sequence;
   skips = all_map (λ b. all_map (among_one records events place are) b.packets)
       (all_begun h) half.skips;
   session = λ s may. half.session s (events_only place s records events are may);

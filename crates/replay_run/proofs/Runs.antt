@@ -21,8 +21,7 @@ use Rattle.replay_run.proofs.ListPlaces.{get_map}
 use Rattle.replay_run.proofs.EmittedEvents.{outcomes_more, run_more}
 use Rattle.replay_run.proofs.Drains.{with_venues}
 use Rattle.replay_run.proofs.RecordRuns.{record_ran, run_as}
-use Rattle.replay_run.proofs.RunItems.{journaled_items, venue_items}
-use Rattle.replay_run.proofs.RunNotices.{notices_all}
+use Rattle.replay_run.proofs.RunItems.{venue_items}
 
 -- ---- records
 
@@ -106,6 +105,4 @@ replay_run config lane filters records emitted hs some emits room =
       items = λ place h at. venue_items place records ran.0 emitted h
           (taken_are_streams config records emitted hs emits place h at)
           (head.venues place (consumed_all h) (get_map consumed_all hs place h at)) ran.1;
-      journaled = λ place. journaled_items place [] emitted;
-      notices = notices_all s.symbols [] emitted;
     }

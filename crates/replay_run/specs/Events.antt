@@ -1,12 +1,10 @@
 -- A replay as a run of the machine over events: each record is an event, and each item that is
 -- ready after it is pushed and consumed at once.
-use Rattle.std.specs.Prelude.{◌≡◌, ℕ, zero, suc, ◌+◌, List, [], ◌∷◌, ◌++◌, length, map, Some, slice_get, if◌then◌else◌}
+use Rattle.std.specs.Prelude.{◌≡◌, ◌≤◌, ℕ, zero, suc, ◌+◌, List, [], ◌∷◌, ◌++◌, length, map, Some, slice_get, if◌then◌else◌}
 use Rattle.std.specs.Borrow.{Bor}
 use Rattle.feed_types.specs.declared.journal.Entry.{Entry}
 use Rattle.mold_packet.specs.Faults.{code_of}
 use Rattle.nbbo_book.specs.Eligible.{is_so}
-use Rattle.journal_book.specs.Changes.{changes_of}
-use Rattle.journal_book.specs.ItemsIn.{items_in}
 use Rattle.line_arbiter.specs.Histories.{History, streams_of}
 use Rattle.filter_terms.specs.declared.terms.Terms.{Terms}
 use Rattle.feed_steps.specs.declared.event.Event.{Event}
@@ -16,13 +14,13 @@ use Rattle.feed_steps.specs.declared.event.Done.TheVariants as done
 use Rattle.feed_core.specs.Worlds.{Venue, World, Setting, new_world}
 use Rattle.feed_steps.specs.Steps.{packet_done, renewal_done, skip_done, already_so}
 use Rattle.feed_core.specs.Runs.{IsRun}
-use Rattle.feed_core.specs.VenueHalf.{AreVenueItems}
+use Rattle.feed_core.specs.VenueHalf.{AreItemsOf}
 use Rattle.feed_core.specs.Headline.{Headline}
 use Rattle.feed_text.specs.declared.replay.ReplayConfig.{ReplayConfig}
 use Rattle.feed_text.specs.Capture.{CaptureRecord, datagram_record, renewal_record, skip_record, self_help_record, record_venue}
 use Rattle.feed_text.specs.ReplayEvents.{ReplayEvent, packet_answered, packet_refused, item_taken, gap_left, renewal_answered, skip_answered, self_help_declared, entries_after, entries_of}
-use Rattle.feed_text.specs.Texts.{notices_emitted}
 use Rattle.feed_text.specs.VenueItems.{items_taken}
+use Rattle.replay_run.specs.ToldHeadline.{HoldOnly, IsRecorded}
 
 -- a slice of these bytes, wherever they are
 abbrev pub slice_of : List ℕ → Bor (List ℕ)
@@ -95,10 +93,7 @@ world_of histories entries = record {
 -- What these records emit is a run of the machine: over the records as events, with the outcomes
 -- that were emitted, to the world of these histories and of what was journaled; and the headline
 -- holds of it. The items that were emitted of a venue are the venue's, where the premise on
--- sessions
--- is one on the records alone, and they are the journal's of the venue. The notices that were
--- emitted, in order, are the changes of the national best: a filter would let those through that
--- meet its terms.
+-- sessions is one on the records alone.
 pub record IsReplayRun (s : Setting) (records : List CaptureRecord) (emitted : List ReplayEvent)
     (histories : List History) : Type 0 where
   pub events : List Event
@@ -107,6 +102,10 @@ pub record IsReplayRun (s : Setting) (records : List CaptureRecord) (emitted : L
       (world_of histories (entries_of [] emitted))
   pub headline : Headline s events (world_of histories (entries_of [] emitted))
   pub items : (place : ℕ) (h : History) → slice_get histories place ≡ Some h
-      → AreVenueItems (map event_of records) place (items_taken place emitted) h
-  pub journaled : (place : ℕ) → items_in (entries_of [] emitted) place ≡ items_taken place emitted
-  pub notices : notices_emitted s.symbols [] emitted ≡ changes_of s.symbols (entries_of [] emitted)
+      → AreItemsOf (IsRecorded records place) (HoldOnly place records)
+      (items_taken place emitted) h
+
+-- it holds whatever the lanes hold, and whatever filters are handed in, of which a replay uses none
+abbrev pub InAnySetting : ReplayConfig → (Setting → Type 0) → Type 0
+InAnySetting config Is =
+    (lane : ℕ) (filters : List Terms) → 1 ≤ lane → Is (replay_setting config lane filters)

@@ -1,3 +1,4 @@
+pub mod ToldHeadline
 pub mod Events
 pub mod Full
 pub mod Moving

@@ -1,52 +1,49 @@
--- What a sink is told of a replay is what a run of the machine leads to.
-use Rattle.std.specs.Prelude.{◌≤◌, ℕ, List, ◌++◌, map}
-use Rattle.filter_terms.specs.declared.terms.Terms.{Terms}
-use Rattle.feed_core.specs.Worlds.{Setting}
+-- What a sink is told of a replay: its events, and the headline of them.
+use Rattle.std.specs.Prelude.{ℕ, List, [], ◌∷◌, ◌++◌, map}
+use Rattle.feed_types.specs.declared.item.Numbered.{Numbered}
 use Rattle.feed_text.specs.declared.replay.ReplayConfig.{ReplayConfig}
 use Rattle.feed_text.specs.Formats.{TimedRecord, what_of}
+use Rattle.feed_text.specs.ReplayEvents.{entries_of}
 use Rattle.feed_text.specs.SinkEvents.{TimedEvent}
-use Rattle.feed_text.specs.Told.{IsToldOf, IsToldOfAll, IsToldSome, IsToldToFull, ToldFacts}
-use Rattle.replay_run.specs.Events.{replay_setting, IsReplayRun}
-use Rattle.replay_run.specs.Full.{IsRunToFull}
+use Rattle.feed_text.specs.Told.{IsToldOfAll, IsToldToFull, IsToldUpTo, ToldFacts}
+use Rattle.feed_text.specs.ToldJournal.{items_of_venue}
+use Rattle.replay_run.specs.ToldHeadline.{TellsHeadline}
 
--- it holds whatever the lanes hold, and whatever filters are handed in, of which a replay uses none
-abbrev pub InAnySetting : ReplayConfig → (Setting → Type 0) → Type 0
-InAnySetting config Is =
-    (lane : ℕ) (filters : List Terms) → 1 ≤ lane → Is (replay_setting config lane filters)
+-- what is told, where all that is taken has room: of each venue all of its items are told
+abbrev pub TellsAll : {config : ReplayConfig} {records left : List TimedRecord}
+    {first : List TimedEvent} → IsToldUpTo config records left first → List TimedEvent → Type 0
+TellsAll {config = config} is told =
+    TellsHeadline config.symbols.now (map what_of is.taken) is.histories (entries_of [] is.emitted)
+    (λ place. items_of_venue place told) told
 
--- what is told of records, where the events of what is taken of them are a run
-pub record IsToldOfRun (config : ReplayConfig) (records : List TimedRecord)
+-- what is told of records of which these are left
+pub record IsToldOfRun (config : ReplayConfig) (records left : List TimedRecord)
     (told : List TimedEvent) : Type 0 where
-  pub is : IsToldOf config records told
-  pub run : InAnySetting config
-      (λ s. IsReplayRun s (map what_of is.taken) is.emitted is.histories)
+  pub is : IsToldUpTo config records left told
+  pub headline : TellsAll is told
 
--- what is told of a whole capture, where the events of what is taken of its records are a run
+-- what is told of a whole capture
 pub record IsToldOfWholeRun (config : ReplayConfig) (records : List TimedRecord)
     (told : List TimedEvent) : Type 0 where
-  pub is : IsToldOfAll config records told
-  pub run : InAnySetting config
-      (λ s. IsReplayRun s (map what_of is.taken) is.emitted is.histories)
+  pub whole : IsToldOfAll config records told
+  pub headline : TellsAll whole.is told
 
--- what is told of some of the records, where the events of what is taken of them are a run
-pub record IsToldOfPartRun (config : ReplayConfig) (records : List TimedRecord)
-    (told : List TimedEvent) : Type 0 where
-  pub is : IsToldSome config records told
-  pub run : InAnySetting config
-      (λ s. IsReplayRun s (map what_of is.taken) is.emitted is.histories)
-
--- what is told up to a full journal, where the events of what is taken are a run up to it
+-- What is told up to a full journal: after what is told of a venue, these are its other items,
+-- which find no room.
 pub record IsToldOfRunToFull (config : ReplayConfig) (records : List TimedRecord)
     (told : List TimedEvent) : Type 0 where
-  pub is : IsToldToFull config records told
-  pub run : InAnySetting config
-      (λ s. IsRunToFull s (map what_of is.taken) is.last.what (is.emitted ++ is.first))
+  pub full : IsToldToFull config records told
+  pub waiting : ℕ → List Numbered
+  pub headline : TellsHeadline config.symbols.now
+      (map what_of (full.before.taken ++ full.last ∷ [])) full.after
+      (entries_of [] (full.before.emitted ++ full.first))
+      (λ place. items_of_venue place told ++ waiting place) told
 
--- what a sink is told is what a run leads to
+-- what a sink is told, with its headline
 abbrev pub facts_of_run : ReplayConfig → ToldFacts
 facts_of_run config = record {
-  OfRecords = IsToldOfRun config;
+  OfRecords = λ records told. IsToldOfRun config records [] told;
   OfCapture = IsToldOfWholeRun config;
   ToFull = IsToldOfRunToFull config;
-  OfSome = IsToldOfPartRun config;
+  OfSome = λ records told. (left : List TimedRecord) × IsToldOfRun config records left told;
 }

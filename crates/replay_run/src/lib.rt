@@ -8,7 +8,7 @@
 //! [`replay`] says so, for any format of captures and any sink.
 #![tactic(auto)]
 
-ghost use Rattle.std.specs.Prelude.{◌≡◌, ◌<◌, ◌≤◌, ◌+◌, ◌^◌, ℕ, List, OnOk, Some, length, slice_get};
+ghost use Rattle.std.specs.Prelude.{◌≡◌, ◌<◌, ◌≤◌, ◌+◌, ◌++◌, ◌^◌, ℕ, List, OnOk, Some, length, map, slice_get};
 ghost use Rattle.std.specs.List.{AllByRecursion};
 ghost use Rattle.mold_packet.specs.Block.{IsMessage};
 ghost use Rattle.line_arbiter.specs.Histories.{History};
@@ -18,16 +18,17 @@ ghost use Rattle.feed_core.specs.Worlds.{Setting};
 ghost use Rattle.feed_text.specs.declared.replay.ReplayConfig.{ReplayConfig};
 ghost use Rattle.feed_text.specs.Capture.{CaptureRecord};
 ghost use Rattle.feed_text.specs.EventReplays.{AnswersRun, venues_in};
-ghost use Rattle.feed_text.specs.Formats.{TimedRecord};
+ghost use Rattle.feed_text.specs.Formats.{TimedRecord, what_of};
 ghost use Rattle.feed_text.specs.Lacks.{AppendsLacks};
 ghost use Rattle.feed_text.specs.ReplayEvents.{ReplayEvent};
 ghost use Rattle.feed_text.specs.Replays.{CanReplay};
 ghost use Rattle.feed_text.specs.SinkEvents.{TimedEvent};
 ghost use Rattle.feed_text.specs.Texts.{EmitsAll, HasJournalRoom};
-ghost use Rattle.feed_text.specs.Told.{IsToldOf, IsToldOfAll, IsToldSome, IsToldToFull};
-ghost use Rattle.replay_run.specs.Events.{IsReplayRun, replay_setting};
+ghost use Rattle.feed_text.specs.Told.{IsToldToFull, IsToldUpTo};
+ghost use Rattle.replay_run.specs.Events.{InAnySetting, IsReplayRun, replay_setting};
+ghost use Rattle.replay_run.specs.Full.{IsRunToFull};
 ghost use Rattle.replay_run.specs.Moving.{ComesThrough};
-ghost use Rattle.replay_run.specs.Printed.{IsToldOfPartRun, IsToldOfRun, IsToldOfRunToFull, IsToldOfWholeRun, facts_of_run};
+ghost use Rattle.replay_run.specs.Printed.{facts_of_run};
 
 use feed_text::replay::{ReplayConfig, replay_events};
 use feed_text::{CaptureIn, EventSink, Lack, RecordFormat, Replayed};
@@ -43,19 +44,17 @@ pub fn a_replay_is_a_run()
         → IsReplayRun (replay_setting config lane filters) records emitted histories }
 {}
 
-/// So what is told of records, of some of them, of a whole capture and up to a full journal is
-/// that of a run.
+/// So what is told of all records or of some of them, and up to a full journal, is that of a run,
+/// whatever the lanes hold.
 pub fn what_is_told_is_of_a_run()
-    ensures records { (config : ReplayConfig) (records : List TimedRecord)
-        (told : List TimedEvent)
-        → IsToldOf config records told → IsToldOfRun config records told }
-    ensures capture { (config : ReplayConfig) (records : List TimedRecord)
-        (told : List TimedEvent)
-        → IsToldOfAll config records told → IsToldOfWholeRun config records told }
-    ensures some { (config : ReplayConfig) (records : List TimedRecord) (told : List TimedEvent)
-        → IsToldSome config records told → IsToldOfPartRun config records told }
+    ensures room { (config : ReplayConfig) (records left : List TimedRecord)
+        (told : List TimedEvent) → (is : IsToldUpTo config records left told)
+        → InAnySetting config
+        (λ s. IsReplayRun s (map what_of is.taken) is.emitted is.histories) }
     ensures full { (config : ReplayConfig) (records : List TimedRecord) (told : List TimedEvent)
-        → IsToldToFull config records told → IsToldOfRunToFull config records told }
+        → (is : IsToldToFull config records told)
+        → InAnySetting config (λ s. IsRunToFull s (map what_of is.before.taken) is.last.what
+        (is.before.emitted ++ is.first)) }
 {}
 
 /// And the machine moves: whatever the messages of a session are, some events bring its packets to

@@ -1,14 +1,14 @@
-use Rattle.replay_run.proofs.Prints.{told_of_part_run, told_of_run, told_of_whole_run, told_to_full}
+use Rattle.std.proofs.Common.{map}
+use Rattle.feed_text.specs.Formats.{what_of}
+use Rattle.replay_run.proofs.FullRuns.{full_run}
+use Rattle.replay_run.proofs.Runs.{replay_run}
 use Rattle.replay_run.proofs.what_is_told_is_of_a_run.Goals as goal
 
-pub returns-clause-records : goal.returns-clause-records
-returns-clause-records c = told_of_run
-
-pub returns-clause-capture : goal.returns-clause-capture
-returns-clause-capture c = told_of_whole_run
-
-pub returns-clause-some : goal.returns-clause-some
-returns-clause-some c = told_of_part_run
+pub returns-clause-room : goal.returns-clause-room
+returns-clause-room c config records left told is lane filters some =
+    replay_run config lane filters (map what_of is.taken) is.emitted is.histories some is.emits
+    is.room
 
 pub returns-clause-full : goal.returns-clause-full
-returns-clause-full c = told_to_full
+returns-clause-full c config records told is lane filters some =
+    full_run config lane filters records told some is
