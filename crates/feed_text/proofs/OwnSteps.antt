@@ -1,6 +1,6 @@
 -- What the own format's bytes begin with.
 use Rattle.std.proofs.Common.{◌≡◌, ℕ, ◌<◌, List, [], ◌∷◌, ◌++◌, length, drop, None, append-nil, refl, sym, ap, ◌∙◌, arith, inl, inr, length-append}
-use Rattle.feed_text.specs.Capture.{CaptureRecord, IsUnfinished, IsWanted, bytes_of_record}
+use Rattle.feed_text.specs.Capture.{CaptureRecord, WantsMore, IsWanted, bytes_of_record}
 use Rattle.feed_text.specs.Formats.{TakesPiece, timed_record}
 use Rattle.feed_text.specs.OwnFormats.{ReadsOwn}
 
@@ -23,7 +23,7 @@ own_piece venues len bytes r is front =
 
 -- less than a record
 pub own_unfinished : (venues n : ℕ) (bytes : List ℕ) → IsWanted venues bytes n
-    → IsUnfinished venues bytes
+    → WantsMore venues bytes
 own_unfinished venues n [] w = inl refl
 own_unfinished venues n (b ∷ bs) (inl w) = inr (record { some = omega arith; cut = inl w.0 })
 own_unfinished venues n (b ∷ bs) (inr w) =

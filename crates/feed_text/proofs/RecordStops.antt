@@ -151,9 +151,8 @@ module _ {K : Type 0} {taking : SinkTaking K} (sinks : SinkLaws taking)
           taken = x.taken ++ last ∷ [];
           emitted = x.emitted ++ emitted;
           histories = after;
-          are_taken =
-              taken_more config records x.taken (last ∷ []) (new_histories config) (r ∷ []) hs
-              left after x.are_taken (left, emitted, after, is, emits, (refl, refl));
+          are_taken = taken_more config records x.taken (last ∷ []) (new_histories config)
+              (r ∷ []) hs left after x.are_taken (left, emitted, after, is, emits, (refl, refl));
           emits = e.0;
           room = rw (has, ← x.journal) room;
           told_is = e.1;

@@ -108,8 +108,8 @@ pub record IsShort (venues : ℕ) (rest : List ℕ) : Type 0 where
   pub cut : (length rest < 4) ⊎ (IsHeader venues rest × (length rest < 4 + len_at rest))
 
 -- no record, and no wrong one: nothing, or less than a record
-abbrev pub IsUnfinished : ℕ → List ℕ → Type 0
-IsUnfinished venues rest = (rest ≡ []) ⊎ IsShort venues rest
+abbrev pub WantsMore : ℕ → List ℕ → Type 0
+WantsMore venues rest = (rest ≡ []) ⊎ IsShort venues rest
 
 -- no whole record begins the bytes: there are none, or they begin no record, or less than one
 abbrev pub NoRecord : ℕ → List ℕ → Type 0

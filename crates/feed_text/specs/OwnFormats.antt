@@ -1,6 +1,6 @@
 -- The project's own format.
 use Rattle.std.specs.Prelude.{◌≡◌, ℕ, List, map}
-use Rattle.feed_text.specs.Capture.{IsBadRecord, IsUnfinished, capture_of}
+use Rattle.feed_text.specs.Capture.{IsBadRecord, WantsMore, capture_of}
 use Rattle.feed_text.specs.Formats.{TimedRecord, Parsing, what_of, without_time}
 
 -- The bytes are these records, whose times aren't known, and then the rest.
@@ -17,7 +17,7 @@ is_bad_own venues bytes fault = IsBadRecord venues bytes
 abbrev pub own_parsing : Parsing ℕ (Unit {0})
 own_parsing = record {
   reads = ReadsOwn;
-  wants = IsUnfinished;
+  wants = WantsMore;
   is_bad = is_bad_own;
   is_whole = λ venues. Unit {0};
 }

@@ -1,5 +1,5 @@
 -- The notices of events, and what all records of a capture emit.
-use Rattle.std.specs.Prelude.{◌≤◌, List, [], ◌∷◌, ◌++◌, length, map, ℕ}
+use Rattle.std.specs.Prelude.{◌≤◌, List, [], length, map, ℕ}
 use Rattle.feed_types.specs.declared.journal.Entry.{Entry}
 use Rattle.feed_types.specs.declared.journal.Notice.{Notice}
 use Rattle.line_arbiter.specs.Histories.{History, new_history}

@@ -1,6 +1,6 @@
 //! The project's own format.
 ghost use Rattle.std.specs.Prelude.{◌≡◌, ◌≤◌};
-ghost use Rattle.feed_text.specs.Capture.{IsUnfinished};
+ghost use Rattle.feed_text.specs.Capture.{WantsMore};
 ghost use Rattle.feed_text.specs.OwnFormats.{ReadsOwn, is_bad_own};
 ghost use Rattle.feed_text.specs.OwnFormatLaws.{reads_none_own, reads_more_own, reads_longer_own, reads_venues_own};
 
@@ -39,7 +39,7 @@ impl RecordFormat for OwnFormat {
 
     ghost reads = { ReadsOwn };
 
-    ghost wants = { IsUnfinished };
+    ghost wants = { WantsMore };
 
     ghost is_bad = { is_bad_own };
 

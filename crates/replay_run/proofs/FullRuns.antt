@@ -500,10 +500,12 @@ full_run config lane filters records told some x =
     let hs : List History = before.histories in
     let E : List Entry = entries_of [] before.emitted in
     let F : List Entry = entries_of E x.first in
-    let told_first : entries_of [] (before.emitted ++ x.first) ≡ F = entries_more [] before.emitted x.first in
+    let told_first : entries_of [] (before.emitted ++ x.first) ≡ F =
+    entries_more [] before.emitted x.first in
     let room : length F ≤ config.journal = subst (λ (l : List Entry). length l ≤ config.journal)
     told_first x.room in
-    let past_end : entries_of [] (before.emitted ++ x.first ++ x.next ∷ []) ≡ entries_after F x.next =
+    let past_end : entries_of [] (before.emitted ++ x.first ++ x.next ∷ [])
+    ≡ entries_after F x.next =
     entries_more [] (before.emitted ++ x.first) (x.next ∷ [])
     ∙ ap (λ (l : List Entry). entries_after l x.next) told_first in
     let short : config.journal < length (entries_after F x.next) =
@@ -520,8 +522,8 @@ full_run config lane filters records told some x =
     let l : LastRan s last hs E before.emitted x.first =
     last_ran s config.gaps some hs x.after E last before.emitted x.first x.others x.next
     (all_kept config earlier before.emitted hs before.emits) x.last_emits room short in
-    let whole : outcomes_of [] before.emitted ++ (outcomes_of E x.first ++ l.pushed) ≡ outcomes_of []
-    (before.emitted ++ x.first) ++ l.pushed =
+    let whole : outcomes_of [] before.emitted ++ (outcomes_of E x.first ++ l.pushed)
+    ≡ outcomes_of [] (before.emitted ++ x.first) ++ l.pushed =
     sym (append_assoc (outcomes_of [] before.emitted) (outcomes_of E x.first) l.pushed)
     ∙ ap (λ (ds : List Done). ds ++ l.pushed) (sym (outcomes_more [] before.emitted x.first)) in
     let all : IsRun s (new_world s) (ran.0 ++ l.events) (outcomes_of [] (before.emitted ++ x.first)

@@ -1,5 +1,5 @@
 -- What is told of a replay is its headline.
-use Rattle.std.proofs.Common.{◌≡◌, ◌≤◌, ℕ, Bool, List, [], ◌∷◌, ◌++◌, length, map, Some, None, refl, sym, ap, subst, ◌∙◌, arith, append_assoc, append-nil}
+use Rattle.std.proofs.Common.{◌≡◌, ℕ, Bool, List, [], ◌∷◌, ◌++◌, length, map, Some, None, refl, sym, ap, subst, ◌∙◌, arith, append_assoc, append-nil}
 use Rattle.std.specs.Prelude.{slice_get}
 use Rattle.std.proofs.lemmas.Grind.{flat_map-append}
 use Rattle.std.proofs.lemmas.List.{map-append}
@@ -18,7 +18,7 @@ use Rattle.feed_text.specs.ReplayEvents.{ReplayEvent, entries_of}
 use Rattle.feed_text.specs.SinkEvents.{SinkEvent, TimedEvent, at_time}
 use Rattle.feed_text.specs.Tellings.{lasts_told, told_of}
 use Rattle.feed_text.specs.Texts.{EmitsAll, new_histories}
-use Rattle.feed_text.specs.Told.{IsToldOfAll, IsToldToFull, IsToldUpTo, told_by_records}
+use Rattle.feed_text.specs.Told.{IsToldOfAll, IsToldToFull, IsToldUpTo}
 use Rattle.feed_text.specs.ToldJournal.{bests_in, entries_in, entry_told, items_of_venue, notice_told}
 use Rattle.feed_text.specs.VenueItems.{items_taken, taken_by}
 use Rattle.feed_text.specs.laws.Entries.{entries_more}
