@@ -1,24 +1,20 @@
 -- One piece of a packet capture: what it counts, and the step that it is.
-use Rattle.std.proofs.Common.{◌≡◌, ℕ, List, [], ◌∷◌, ◌++◌, Option, Some, None, length, drop, refl, sym, ap, subst, ◌∙◌, append-nil, inl, inr, arith}
+use Rattle.std.proofs.Common.{◌≡◌, ℕ, List, [], ◌∷◌, ◌++◌, Option, Some, None, length, drop, refl, sym, subst, append-nil, inl, inr, arith}
 use Rattle.std.proofs.lemmas.List.{drop-append-le}
-use Rattle.std.specs.List.{AllZip, sum_by}
-use Rattle.std.specs.Option.{option_to_list}
 use Rattle.feed_types.specs.declared.line.LineId.{LineId}
 use Rattle.feed_types.specs.declared.line.LineId.TheVariants.{A, B, Recovery}
 use Rattle.feed_types.specs.Text.{line_letter}
 use Rattle.packet_capture.specs.declared.fault.CaptureFault.{CaptureFault}
 use Rattle.packet_capture.specs.declared.stop.Stop.{Stop}
 use Rattle.packet_capture.specs.declared.stop.Stop.TheVariants as stops
-use Rattle.packet_capture.specs.Captures.{Context, PieceContent, IsPiece, StopsReading, frames_in, frames_of, list_of}
+use Rattle.packet_capture.specs.Captures.{Context, PieceContent, IsPiece, StopsReading, frames_in, list_of}
 use Rattle.packet_capture.specs.Frames.{FrameContent}
 use Rattle.feed_text.specs.Capture.{CaptureRecord, IsKind, IsRecord, record_of}
 use Rattle.feed_text.specs.declared.record_format.Step.{Step}
 use Rattle.feed_text.specs.declared.record_format.Step.TheVariants.{Came, Passed, Wants, Bad}
 use Rattle.feed_text.specs.Formats.{TimedRecord, TakesPiece, StepsTo, timed_record}
 use Rattle.run_settings.specs.declared.captured_line.CapturedLine.{CapturedLine}
-use Rattle.line_captures.specs.declared.progress.Progress.{Progress}
-use Rattle.line_captures.specs.Counts.{CountsFrame, CountsPieces, IsFate, counts_after, falls_after, last_after, piece_after, timed_after, times_of}
-use Rattle.feed_types.specs.FullCounts.{count_after}
+use Rattle.line_captures.specs.Counts.{CountsPieces}
 use Rattle.run_settings.specs.Lists.{AreOfVenues}
 use Rattle.line_captures.specs.Records.{AreOfFrame, IsOfLine}
 use Rattle.line_captures.specs.PacketFormats.{PacketState, AreTimed, ReadsPackets, IsStepOf, IsStopStep, wants_packets, is_bad_packets}
@@ -59,60 +55,6 @@ pub silent_timed : (lines : List CapturedLine) (p : PieceContent) → p.frame �
     → AreTimed lines (frames_in p) []
 silent_timed lines p unframed = subst (λ (o : Option FrameContent). AreTimed lines (list_of o) [])
     (sym unframed) refl
-
--- ---- counts
-
--- what one piece counts, with a frame
-pub counts_frame : (lines : List CapturedLine) (before pieced timed after : Progress)
-    (p : PieceContent) (f : FrameContent) → pieced ≡ piece_after before p
-    → timed ≡ timed_after pieced f.time → after ≡ record timed { counts = after.counts }
-    → CountsFrame lines f timed.counts after.counts → p.frame ≡ Some f
-    → CountsPieces lines before (p ∷ []) after
-counts_frame lines before pieced timed after p f piece time last counts framed =
-    let frames : frames_of (p ∷ []) ≡ f
-    ∷ [] = ap (λ (o : Option FrameContent). list_of o ++ []) framed in
-    let times : times_of (frames_of (p ∷ [])) ≡ option_to_list f.time = ap times_of frames
-    ∙ append-nil (option_to_list f.time) in
-    let Z : List FrameContent → Type 0 = λ fs. AllZip (IsFate lines) fs (counts.fate ∷ []) in
-    let sum : p.len ≡ sum_by (λ (piece : PieceContent). piece.len) (p ∷ []) = omega arith in
-    let start : timed ≡ timed_after (piece_after before p) f.time = time
-    ∙ ap (λ (x : Progress). timed_after x f.time) piece in
-    record {
-      fates = counts.fate ∷ [];
-      are = subst Z (sym frames) (counts.is, tt);
-      position = ap (λ (x : Progress). x.position) last ∙ ap (λ (x : Progress). x.position) start
-          ∙ ap (count_after before.position) sum;
-      second_start = ap (λ (x : Progress). x.second_start) last
-          ∙ ap (λ (x : Progress). x.second_start) start;
-      last_time = ap (λ (x : Progress). x.last_time) last ∙ ap (λ (x : Progress). x.last_time) start
-          ∙ ap (last_after before.last_time) (sym times);
-      counts = counts.after_is
-          ∙ ap (λ (x : Progress). counts_after x.counts (counts.fate ∷ []) 0) start
-          ∙ ap (λ n. counts_after before.counts (counts.fate ∷ []) (falls_after before.last_time n))
-          (sym times);
-      drops = ap (λ (x : Progress). x.drops) last ∙ ap (λ (x : Progress). x.drops) start;
-    }
-
--- and without one
-pub counts_silent : (lines : List CapturedLine) (before after : Progress) (p : PieceContent)
-    → after ≡ piece_after before p → p.frame ≡ None → CountsPieces lines before (p ∷ []) after
-counts_silent lines before after p piece unframed =
-    let frames : frames_of (p ∷ []) ≡ [] = ap (λ (o : Option FrameContent). list_of o ++ [])
-    unframed in
-    let times : times_of (frames_of (p ∷ [])) ≡ [] = ap times_of frames in
-    let Z : List FrameContent → Type 0 = λ fs. AllZip (IsFate lines) fs [] in
-    let sum : p.len ≡ sum_by (λ (piece : PieceContent). piece.len) (p ∷ []) = omega arith in
-    record {
-      fates = [];
-      are = subst Z (sym frames) tt;
-      position = ap (λ (x : Progress). x.position) piece ∙ ap (count_after before.position) sum;
-      second_start = ap (λ (x : Progress). x.second_start) piece;
-      last_time = ap (λ (x : Progress). x.last_time) piece
-          ∙ ap (last_after before.last_time) (sym times);
-      counts = ap (λ (x : Progress). x.counts) piece
-          ∙ ap (λ n. counts_after before.counts [] (falls_after before.last_time n)) (sym times);
-      drops = ap (λ (x : Progress). x.drops) piece;
-    }
 
 -- ---- steps
 

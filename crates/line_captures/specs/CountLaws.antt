@@ -1,15 +1,16 @@
 -- Laws of counts: pieces after pieces are counted one after the other.
-use Rattle.std.proofs.Common.{◌≡◌, ℕ, zero, suc, ◌+◌, List, [], ◌∷◌, ◌++◌, Option, refl, sym, ap, subst, ◌∙◌, arith}
+use Rattle.std.proofs.Common.{◌≡◌, ℕ, zero, suc, ◌+◌, List, [], ◌∷◌, ◌++◌, Option, Some, None, append-nil, refl, sym, ap, subst, ◌∙◌, arith}
 use Rattle.std.specs.List.{AllZip, count_by, sum_by}
+use Rattle.std.specs.Option.{option_to_list}
 use Rattle.std.proofs.lemmas.List.Sums.{sum_by-append}
 use Rattle.std.proofs.lemmas.Grind.{flat_map-append}
 use Rattle.std.specs.Prelude.{Bool, cond}
-use Rattle.packet_capture.specs.Captures.{PieceContent, frames_in, frames_of}
+use Rattle.packet_capture.specs.Captures.{PieceContent, frames_in, frames_of, list_of}
 use Rattle.packet_capture.specs.Frames.{FrameContent}
 use Rattle.run_settings.specs.declared.captured_line.CapturedLine.{CapturedLine}
 use Rattle.line_captures.specs.declared.frame_counts.FrameCounts.{FrameCounts}
 use Rattle.line_captures.specs.declared.progress.Progress.{Progress}
-use Rattle.line_captures.specs.Counts.{FrameFate, IsFate, CountsPieces, counts_after, falls_after, last_after, second_after, second_of, times_in, times_of, is_without, is_no_ip, is_no_udp, is_fragment, is_cut, is_malformed, is_unreadable, goes_elsewhere, goes_to_line}
+use Rattle.line_captures.specs.Counts.{FrameFate, IsFate, CountsFrame, CountsPieces, counts_after, falls_after, last_after, piece_after, timed_after, second_after, second_of, times_in, times_of, is_without, is_no_ip, is_no_udp, is_fragment, is_cut, is_malformed, is_unreadable, goes_elsewhere, goes_to_line}
 use Rattle.feed_types.specs.FullCounts.{count_after}
 use Rattle.line_captures.specs.declared.drop_counts.DropCounts.{DropCounts}
 use Rattle.line_captures.specs.DropCounts.{drops_after, drops_of}
@@ -159,4 +160,58 @@ counts_then lines a b c ps qs x y =
           (falls_after b.last_time (times_of (frames_of qs)))
           ∙ ap (λ n. counts_after a.counts (x.fates ++ y.fates) n) (falls_of a b ps qs x times);
       drops = y.drops ∙ ap (λ d. drops_of d qs) x.drops ∙ sym (drops_both a.drops ps qs);
+    }
+
+-- ---- one piece
+
+-- what one piece counts, with a frame
+pub counts_frame : (lines : List CapturedLine) (before pieced timed after : Progress)
+    (p : PieceContent) (f : FrameContent) → pieced ≡ piece_after before p
+    → timed ≡ timed_after pieced f.time → after ≡ record timed { counts = after.counts }
+    → CountsFrame lines f timed.counts after.counts → p.frame ≡ Some f
+    → CountsPieces lines before (p ∷ []) after
+counts_frame lines before pieced timed after p f piece time last counts framed =
+    let frames : frames_of (p ∷ []) ≡ f
+    ∷ [] = ap (λ (o : Option FrameContent). list_of o ++ []) framed in
+    let times : times_of (frames_of (p ∷ [])) ≡ option_to_list f.time = ap times_of frames
+    ∙ append-nil (option_to_list f.time) in
+    let Z : List FrameContent → Type 0 = λ fs. AllZip (IsFate lines) fs (counts.fate ∷ []) in
+    let sum : p.len ≡ sum_by (λ (piece : PieceContent). piece.len) (p ∷ []) = omega arith in
+    let start : timed ≡ timed_after (piece_after before p) f.time = time
+    ∙ ap (λ (x : Progress). timed_after x f.time) piece in
+    record {
+      fates = counts.fate ∷ [];
+      are = subst Z (sym frames) (counts.is, tt);
+      position = ap (λ (x : Progress). x.position) last ∙ ap (λ (x : Progress). x.position) start
+          ∙ ap (count_after before.position) sum;
+      second_start = ap (λ (x : Progress). x.second_start) last
+          ∙ ap (λ (x : Progress). x.second_start) start;
+      last_time = ap (λ (x : Progress). x.last_time) last ∙ ap (λ (x : Progress). x.last_time) start
+          ∙ ap (last_after before.last_time) (sym times);
+      counts = counts.after_is
+          ∙ ap (λ (x : Progress). counts_after x.counts (counts.fate ∷ []) 0) start
+          ∙ ap (λ n. counts_after before.counts (counts.fate ∷ []) (falls_after before.last_time n))
+          (sym times);
+      drops = ap (λ (x : Progress). x.drops) last ∙ ap (λ (x : Progress). x.drops) start;
+    }
+
+-- and without one
+pub counts_silent : (lines : List CapturedLine) (before after : Progress) (p : PieceContent)
+    → after ≡ piece_after before p → p.frame ≡ None → CountsPieces lines before (p ∷ []) after
+counts_silent lines before after p piece unframed =
+    let frames : frames_of (p ∷ []) ≡ [] = ap (λ (o : Option FrameContent). list_of o ++ [])
+    unframed in
+    let times : times_of (frames_of (p ∷ [])) ≡ [] = ap times_of frames in
+    let Z : List FrameContent → Type 0 = λ fs. AllZip (IsFate lines) fs [] in
+    let sum : p.len ≡ sum_by (λ (piece : PieceContent). piece.len) (p ∷ []) = omega arith in
+    record {
+      fates = [];
+      are = subst Z (sym frames) tt;
+      position = ap (λ (x : Progress). x.position) piece ∙ ap (count_after before.position) sum;
+      second_start = ap (λ (x : Progress). x.second_start) piece;
+      last_time = ap (λ (x : Progress). x.last_time) piece
+          ∙ ap (last_after before.last_time) (sym times);
+      counts = ap (λ (x : Progress). x.counts) piece
+          ∙ ap (λ n. counts_after before.counts [] (falls_after before.last_time n)) (sym times);
+      drops = ap (λ (x : Progress). x.drops) piece;
     }

@@ -59,7 +59,7 @@ impl SaidCounts {
 
 /// What a capture says so far of frames that were dropped.
 #[derive(Clone, Copy, Debug, PartialEq, Eq)]
-pub(crate) struct DropCounts {
+pub struct DropCounts {
     before_packets: u64,
     by_interface: SaidCounts,
     by_system: SaidCounts,
@@ -78,7 +78,7 @@ impl DropCounts {
     }
 
     /// Returns how many frames were dropped.
-    pub(crate) fn dropped(&self) -> DroppedFrames
+    pub fn dropped(&self) -> DroppedFrames
         ensures { result ≡ dropped_of self.now }
     {
         DroppedFrames {

@@ -61,14 +61,14 @@ impl FrameCounts {
     }
 
     /// Counts a frame whose datagram goes to no line.
-    pub(crate) fn add_elsewhere(&mut self)
+    pub fn add_elsewhere(&mut self)
         ensures { self.new ≡ counts_after self.old (elsewhere ∷ []) 0 }
     {
         self.elsewhere = count_after(self.elsewhere);
     }
 
     /// Counts a frame that carries no datagram.
-    pub(crate) fn add_fault(&mut self, fault: FrameFault)
+    pub fn add_fault(&mut self, fault: FrameFault)
         ensures { self.new ≡ counts_after self.old (no_datagram fault ∷ []) 0 }
     {
         match fault {

@@ -26,7 +26,8 @@ mod piece_step;
 mod progress;
 
 pub use conversion::convert;
-pub use drop_counts::DroppedFrames;
+pub use drop_counts::{DropCounts, DroppedFrames};
 pub use frame_counts::FrameCounts;
 pub use laws::each_frame_is_counted;
 pub use packet_format::PacketFormat;
+pub use progress::Progress;

@@ -8,23 +8,23 @@ use crate::drop_counts::DropCounts;
 use crate::frame_counts::FrameCounts;
 use packet_capture::Piece;
 
-/// How far a capture was read.
+/// How far a capture was read, and what its frames are.
 #[derive(Clone, Copy, Debug, PartialEq, Eq)]
-pub(crate) struct Progress {
+pub struct Progress {
     /// How many bytes the pieces had that were read.
-    pub(crate) position: u64,
+    pub position: u64,
     /// At which byte the first record began whose frame has no byte and had none on the wire. The
     /// header of a savefile behind another one is such a record.
-    pub(crate) second_start: Option<u64>,
+    pub second_start: Option<u64>,
     /// The time of the last frame that had one.
-    pub(crate) last_time: u64,
-    pub(crate) counts: FrameCounts,
-    pub(crate) drops: DropCounts,
+    pub last_time: u64,
+    pub counts: FrameCounts,
+    pub drops: DropCounts,
 }
 
 impl Progress {
     /// Returns the progress before the first piece.
-    pub(crate) fn new() -> Progress
+    pub fn new() -> Progress
         ensures { result ≡ new_progress }
     {
         Progress {
@@ -55,7 +55,7 @@ impl Progress {
     /// Counts the bytes of a piece, and takes what it says of dropped frames, and whether it seems
     /// to be where a second capture begins.
     #[inline(always)]
-    pub(crate) fn add_piece(&mut self, piece: &Piece<'_>)
+    pub fn add_piece(&mut self, piece: &Piece<'_>)
         ensures { self.new ≡ piece_after self.old (piece_of piece.now) }
     {
         self.drops.add(piece.dropped);
@@ -68,7 +68,7 @@ impl Progress {
     }
 
     /// Counts a frame where its time is before that of the frame before.
-    pub(crate) fn add_time(&mut self, time: Option<u64>)
+    pub fn add_time(&mut self, time: Option<u64>)
         ensures { self.new ≡ timed_after self.old time }
     {
         if let Some(time) = time {

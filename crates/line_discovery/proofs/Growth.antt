@@ -13,7 +13,7 @@ use Rattle.line_discovery.specs.KeyedRowLaws.{IsKeying, grows_at, has_at, none_g
 use Rattle.line_discovery.specs.KeyedRows.{AreApart, grown_by, has_row, rows_grown}
 use Rattle.line_discovery.specs.Keys.{same_key}
 use Rattle.line_discovery.specs.Spans.{span_of, wider}
-use Rattle.line_discovery.specs.Tables.{IsLineTable, by_line, row_over, row_with, up_to_most}
+use Rattle.line_discovery.specs.Tables.{IsLineTable, by_line, keys_of, row_over, row_with, up_to_most}
 use Rattle.line_discovery.proofs.SameKeys.{key_is, key_same}
 
 -- ---- spans
@@ -92,6 +92,25 @@ by_test : (rows : List LineRow) (s : Sighting) (b : Bool)
 by_test rows s b test =
     ap (λ (x : Bool). cond x (map (grown s) rows)
     (map (grown s) rows ++ row_with s (row_over s.key []) ∷ [])) (sym test)
+
+-- a row that grows keeps its key
+
+kept_key : (s : Sighting) (r : LineRow) (b : Bool) → (cond b (row_with s r) r).key ≡ r.key
+kept_key s r true = refl
+kept_key s r false = refl
+
+keys_kept : (s : Sighting) (rows : List LineRow) → keys_of (map (grown s) rows) ≡ keys_of rows
+keys_kept s [] = refl
+keys_kept s (r ∷ rows) =
+    ap (λ (k : LineKey). k ∷ keys_of (map (grown s) rows)) (kept_key s r (same_key r.key s.key))
+    ∙ ap (λ (ks : List LineKey). r.key ∷ ks) (keys_kept s rows)
+
+pub keys_grown : (rows : List LineRow) (s : Sighting) → has_row by_line rows s.key ≡ true
+    → keys_of rows ≡ keys_of (rows_grown by_line row_with rows s)
+keys_grown rows s has =
+    sym (keys_kept s rows)
+    ∙ ap keys_of (by_test rows s true
+    (or_left (has_row by_line rows s.key) (nat_le 4096 (length rows)) has))
 
 pub line_grows : (rows : List LineRow) (s : Sighting) (i : ℕ) (r : LineRow) → AreApart by_line rows
     → slice_get rows i ≡ Some r → same_key r.key s.key ≡ true

@@ -2,4 +2,5 @@ pub mod SameKeys
 pub mod Growth
 pub mod Reading
 pub mod Putting
-pub mod SecondLines
+pub mod ThreeRows
+pub mod RowPlaces

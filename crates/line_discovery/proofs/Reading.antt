@@ -10,55 +10,73 @@ use Rattle.packet_capture.specs.Frames.{FrameContent}
 use Rattle.feed_text.specs.declared.record_format.Step.{Step}
 use Rattle.feed_text.specs.declared.record_format.Step.TheVariants.{Came, Passed, Wants, Bad}
 use Rattle.feed_text.specs.Formats.{TakesPiece, StepsTo}
+use Rattle.line_captures.specs.declared.frame_counts.FrameCounts.{FrameCounts}
+use Rattle.line_captures.specs.declared.progress.Progress.{Progress}
+use Rattle.line_captures.specs.Counts.{IsFate, counts_after, piece_after, timed_after}
+use Rattle.line_captures.specs.CountLaws.{counts_frame, counts_silent}
 use Rattle.line_discovery.specs.declared.counts.SurveyCounts.{SurveyCounts}
 use Rattle.line_discovery.specs.declared.fate.Fate.{Fate}
+use Rattle.line_discovery.specs.declared.fate.Fate.TheVariants.{Packet, Other, NoDatagram}
 use Rattle.line_discovery.specs.declared.sighting.Sighting.{Sighting}
 use Rattle.line_discovery.specs.declared.survey.LineSurvey.{LineSurvey}
-use Rattle.line_discovery.specs.Sightings.{HasFate, blanks_in, others_in, packets_in}
+use Rattle.line_discovery.specs.Sightings.{HasFate, frame_fate, others_in, packets_in}
 use Rattle.line_discovery.specs.Surveys.{CountsFate, CountsSightings, StopsSurvey, ReadsSurvey, is_bad_piece, wants_piece}
 use Rattle.packet_capture.specs.laws.Fronts.{piece_len, few_unread}
 
 -- ---- counts
 
+is_fate : (f : FrameContent) (fate : Fate) → HasFate f fate → IsFate [] f (frame_fate fate)
+is_fate f (Packet s) h = (h.0, h.1, λ place line e takes. absurd cc)
+is_fate f (Other s) h = (h.0, h.1, λ place line e takes. absurd cc)
+is_fate f (NoDatagram fault) h = h
+
 -- what one piece counts, with a frame
-pub counts_frame : (before mid after : SurveyCounts) (p : PieceContent) (f : FrameContent)
-    (fate : Fate) → mid ≡ record before { position = before.position ++ p.len ∷ [] }
+pub counts_sighting : (before mid after : SurveyCounts) (pieced : Progress) (p : PieceContent)
+    (f : FrameContent) (fate : Fate) → pieced ≡ piece_after before.progress p
+    → mid ≡ record before { progress = timed_after pieced f.time }
     → CountsFate fate mid after → HasFate f fate → p.frame ≡ Some f
     → CountsSightings before (p ∷ []) after
-counts_frame before mid after p f fate bytes counted is framed =
+counts_sighting before mid after pieced p f fate piece timed counted is framed =
     let frames : frames_of (p ∷ []) ≡ f ∷ [] =
     ap (λ (o : Option FrameContent). list_of o ++ []) framed in
     let Z : List FrameContent → Type 0 = λ fs. AllZip HasFate fs (fate ∷ []) in
+    let time : mid.progress ≡ timed_after pieced f.time =
+    ap (λ (x : SurveyCounts). x.progress) timed in
+    let counts : after.progress.counts
+    ≡ counts_after mid.progress.counts (frame_fate fate ∷ []) 0 =
+    ap (λ (x : Progress). x.counts) counted.progress in
+    let last : after.progress ≡ record mid.progress { counts = after.progress.counts } =
+    counted.progress
+    ∙ ap (λ (c : FrameCounts). record mid.progress { counts = c }) (sym counts) in
     record {
       fates = fate ∷ [];
       are = subst Z (sym frames) (is, tt);
-      position = counted.position ∙ ap (λ (x : SurveyCounts). x.position) bytes;
-      blanks = counted.blanks
-          ∙ ap (λ (x : SurveyCounts). x.blanks ++ blanks_in fate) bytes
-          ∙ ap (λ (l : List ℕ). before.blanks ++ l) (sym (append-nil (blanks_in fate)));
+      progress = counts_frame [] before.progress pieced mid.progress after.progress p f piece time
+          last
+          (record { fate = frame_fate fate; is = is_fate f fate is; after_is = counts }) framed;
       lines = counted.lines
-          ∙ ap (λ (x : SurveyCounts). x.lines ++ packets_in fate) bytes
+          ∙ ap (λ (x : SurveyCounts). x.lines ++ packets_in fate) timed
           ∙ ap (λ (l : List Sighting). before.lines ++ l) (sym (append-nil (packets_in fate)));
       others = counted.others
-          ∙ ap (λ (x : SurveyCounts). x.others ++ others_in fate) bytes
+          ∙ ap (λ (x : SurveyCounts). x.others ++ others_in fate) timed
           ∙ ap (λ (l : List Sighting). before.others ++ l) (sym (append-nil (others_in fate)));
     }
 
 -- and without one
-pub counts_silent : (before after : SurveyCounts) (p : PieceContent)
-    → after ≡ record before { position = before.position ++ p.len ∷ [] } → p.frame ≡ None
+pub sights_none : (before after : SurveyCounts) (p : PieceContent)
+    → after ≡ record before { progress = piece_after before.progress p } → p.frame ≡ None
     → CountsSightings before (p ∷ []) after
-counts_silent before after p bytes unframed =
+sights_none before after p piece unframed =
     let frames : frames_of (p ∷ []) ≡ [] =
     ap (λ (o : Option FrameContent). list_of o ++ []) unframed in
     let Z : List FrameContent → Type 0 = λ fs. AllZip HasFate fs [] in
     record {
       fates = [];
       are = subst Z (sym frames) tt;
-      position = ap (λ (x : SurveyCounts). x.position) bytes;
-      blanks = ap (λ (x : SurveyCounts). x.blanks) bytes ∙ sym (append-nil before.blanks);
-      lines = ap (λ (x : SurveyCounts). x.lines) bytes ∙ sym (append-nil before.lines);
-      others = ap (λ (x : SurveyCounts). x.others) bytes ∙ sym (append-nil before.others);
+      progress = counts_silent [] before.progress after.progress p
+          (ap (λ (x : SurveyCounts). x.progress) piece) unframed;
+      lines = ap (λ (x : SurveyCounts). x.lines) piece ∙ sym (append-nil before.lines);
+      others = ap (λ (x : SurveyCounts). x.others) piece ∙ sym (append-nil before.others);
     }
 
 -- ---- steps

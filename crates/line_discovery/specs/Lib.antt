@@ -6,6 +6,8 @@ pub mod Surveys
 pub mod SurveyLaws
 pub mod SurveyTexts
 pub mod Places
+pub mod SessionWords
+pub mod Standings
 pub mod LineWords
 pub mod KeyedRows
 pub mod KeyedRowLaws

@@ -1,107 +1,70 @@
--- The words by which `nbbo` reads the lines of a capture: a venue has the two lines at which a
--- session came.
-use Rattle.std.specs.Prelude.{ℕ, Bool, true, false, ◌&&◌, ◌||◌, ◌==◌, List, [], ◌∷◌, ◌++◌, codes, drop, filter, find, flat_map, length, nat_le, Option, None, Some, if◌then◌else◌}
-use Rattle.std.specs.Char.{is_ascii_alphanumeric}
-use Rattle.std.specs.List.{list_all}
-use Rattle.feed_types.specs.Symbols.{filling_of, is_space, name_of}
+-- The words by which `nbbo` reads the lines of a capture: of each venue its session and its two
+-- lines, the first 16 venues, and before them the sessions that they leave out.
+use Rattle.std.specs.Prelude.{ℕ, List, [], ◌∷◌, ◌++◌, codes, drop, flat_map, take, if◌then◌else◌}
 use Rattle.line_discovery.specs.declared.line_key.LineKey.{LineKey}
 use Rattle.line_discovery.specs.declared.line_row.LineRow.{LineRow}
-use Rattle.line_discovery.specs.Keys.{same_key, same_session}
-use Rattle.line_discovery.specs.Places.{other_key, place_text, session_name}
+use Rattle.line_discovery.specs.declared.standing.Standing.{Standing}
+use Rattle.line_discovery.specs.declared.standing.Standing.TheVariants.{Venue}
+use Rattle.line_discovery.specs.declared.words.VenueLines.{VenueLines}
+use Rattle.line_discovery.specs.Places.{is_before, place_text, session_name}
+use Rattle.line_discovery.specs.SessionWords.{session_word}
+use Rattle.line_discovery.specs.Standings.{left_of, left_row, standing_of}
 
--- ---- names
+-- ---- venues
 
--- a byte that stands for itself in a list and in a shell: a letter, a digit, or one of %+-./:@_
-abbrev pub is_plain_byte : ℕ → Bool
-is_plain_byte b =
-    is_ascii_alphanumeric b || b == 37 || b == 43 || b == 45 || b == 46 || b == 47 || b == 58
-    || b == 64 || b == 95
+-- two lines, by address and port, whichever came first
+abbrev pub pair_of : LineKey → LineKey → VenueLines
+pair_of one other =
+    if is_before one other then record { a = one; b = other } else record { a = other; b = one }
 
--- a name of such bytes, and then spaces, which --sessions needn't be given
-abbrev pub is_plain_name : List ℕ → Bool
-is_plain_name name =
-    nat_le 1 (length (name_of name))
-    && (list_all is_plain_byte (name_of name) && list_all is_space (filling_of name))
+abbrev pub venue_by : LineRow → Standing → List VenueLines
+venue_by row (Venue other) = pair_of row.key other.key ∷ []
+venue_by row _ = []
 
--- ---- the rows of a venue
+abbrev pub venue_of : List LineRow → LineRow → List VenueLines
+venue_of rows row = venue_by row (standing_of rows row)
 
--- the same session
-abbrev pub is_of_session : LineRow → LineRow → Bool
-is_of_session row r = same_session r.key.session row.key.session
-
--- the rows of a row's session, in order
-abbrev pub session_lines : List LineRow → LineRow → List LineRow
-session_lines rows row = filter (is_of_session row) rows
-
--- the second of two rows that there are, where this is the first of them
-abbrev pub second_line : LineRow → List LineRow → Option LineRow
-second_line row (a ∷ b ∷ []) = if same_key a.key row.key then Some b else None
-second_line row _ = None
-
--- the same address and port
-abbrev pub is_at_place : LineRow → LineRow → Bool
-is_at_place row r = same_key (other_key r.key) (other_key row.key)
-
-abbrev pub is_this : LineRow → Option LineRow → Bool
-is_this row None = false
-is_this row (Some r) = same_key r.key row.key
-
--- the first row at its address and port
-abbrev pub is_first_at : List LineRow → LineRow → Bool
-is_first_at rows row = is_this row (find (is_at_place row) rows)
-
--- whether two rows of a session can be written as the lines of a venue: each is the first at its
--- address and port, and the session's name is a plain one
-abbrev pub are_lines : List LineRow → LineRow → LineRow → Bool
-are_lines rows row other =
-    is_plain_name (session_name row.key.session)
-    && (is_first_at rows row && is_first_at rows other)
-
-abbrev pub other_if : List LineRow → LineRow → Option LineRow → Option LineRow
-other_if rows row None = None
-other_if rows row (Some other) = if are_lines rows row other then Some other else None
-
--- the second line of the venue whose first line this row is, if it is one: its session has just
--- these two rows
-abbrev pub second_line_of : List LineRow → LineRow → Option LineRow
-second_line_of rows row = other_if rows row (second_line row (session_lines rows row))
+-- the venues, by when their sessions first came
+abbrev pub venues_of : List LineRow → List VenueLines
+venues_of rows = flat_map (venue_of rows) rows
 
 -- ---- words
 
-abbrev pub session_word : List ℕ → List ℕ
-session_word name = codes "," ++ name
+abbrev pub session_of : VenueLines → List ℕ
+session_of v = session_word (session_name v.a.session)
 
-abbrev pub lines_word : LineKey → LineKey → List ℕ
-lines_word a b =
-    codes "," ++ (place_text a.address a.port ++ (codes "," ++ place_text b.address b.port))
+abbrev pub lines_of : VenueLines → List ℕ
+lines_of v =
+    place_text v.a.address v.a.port ++ (codes "," ++ place_text v.b.address v.b.port)
 
--- the session of a venue, and its lines, of the row of its first line; nothing of another row
-abbrev pub session_by : LineRow → Option LineRow → List ℕ
-session_by row None = []
-session_by row (Some other) = session_word (name_of (session_name row.key.session))
+-- the others, each after a comma
+abbrev pub more_sessions : List VenueLines → List ℕ
+more_sessions venues = flat_map (λ v. codes "," ++ session_of v) venues
 
-abbrev pub lines_by : LineRow → Option LineRow → List ℕ
-lines_by row None = []
-lines_by row (Some other) = lines_word row.key other.key
+abbrev pub more_lines : List VenueLines → List ℕ
+more_lines venues = flat_map (λ v. codes "," ++ lines_of v) venues
 
-abbrev pub session_word_of : List LineRow → LineRow → List ℕ
-session_word_of rows row = session_by row (second_line_of rows row)
+-- the words for a venue and more of them
+abbrev pub named_words : VenueLines → List VenueLines → List ℕ
+named_words v more =
+    codes "\nsessions at two addresses and ports:\n--sessions="
+    ++ (session_of v
+    ++ (more_sessions more
+    ++ (codes " --lines=" ++ (lines_of v ++ (more_lines more ++ codes "\n")))))
 
-abbrev pub lines_word_of : List LineRow → LineRow → List ℕ
-lines_word_of rows row = lines_by row (second_line_of rows row)
+-- the words for some venues: an empty line without one, so that the last line has words or nothing
+abbrev pub words_with : List VenueLines → List ℕ
+words_with [] = codes "\n"
+words_with (v ∷ more) = named_words v more
 
--- the words with sessions and lines
-abbrev pub words_with : List ℕ → List ℕ → List ℕ
-words_with sessions lines =
-    codes "\nsessions at two addresses and ports:\n--sessions=" ++ (sessions
-    ++ (codes " --lines=" ++ (lines ++ codes "\n")))
+-- ---- at most 16 venues, and the sessions of the others
 
--- the same of sessions and lines that each stand after a comma, if there are any
-abbrev pub words_by : List ℕ → List ℕ → List ℕ
-words_by sessions lines =
-    if (length sessions == 0) || (length lines == 0) then []
-    else words_with (drop 1 sessions) (drop 1 lines)
+abbrev pub past_row : VenueLines → List ℕ
+past_row v = left_row v.a.session (codes "is past the first 16 venues")
 
+abbrev pub words_by : List VenueLines → List ℕ
+words_by venues = flat_map past_row (drop 16 venues) ++ words_with (take 16 venues)
+
+-- the sessions that are left out, and the words
 abbrev pub words_of : List LineRow → List ℕ
-words_of rows =
-    words_by (flat_map (session_word_of rows) rows) (flat_map (lines_word_of rows) rows)
+words_of rows = flat_map (left_of rows) rows ++ words_by (venues_of rows)

@@ -1,10 +1,10 @@
 -- The fates of frames: what a frame shows of the lines of a capture.
 use Rattle.std.specs.Prelude.{◌≡◌, ◌⊎◌, ℕ, Bool, true, ◌&&◌, nat_le, ◌==◌, List, [], ◌∷◌, length, Option, None, Some, if◌then◌else◌}
 use Rattle.std.specs.List.{list_all}
-use Rattle.packet_capture.specs.declared.fault.FrameFault.{FrameFault}
 use Rattle.packet_capture.specs.Datagrams.{DatagramContent, CarriesDatagram}
 use Rattle.packet_capture.specs.FrameFaults.{HasFrameFault}
 use Rattle.packet_capture.specs.Frames.{FrameContent}
+use Rattle.line_captures.specs.Counts.{FrameFate, elsewhere, no_datagram}
 use Rattle.mold_packet.specs.declared.fault.PacketFault.{PacketFault}
 use Rattle.mold_packet.specs.Content.{Content, Spells, last_number}
 use Rattle.mold_packet.specs.Faults.{HasFault}
@@ -70,26 +70,27 @@ abbrev pub IsShown : DatagramContent → Option ℕ → Fate → Type 0
 IsShown d time (Packet s) =
     (packet : Content) × IsPacket d.bytes packet × (s ≡ packet_sighting d time packet)
 IsShown d time (Other s) = IsNoPacket d.bytes × (s ≡ other_sighting d time)
-IsShown d time NoDatagram = ⊥
+IsShown d time (NoDatagram fault) = ⊥
 
 -- the fate of a frame: its datagram is shown, or it carries none
 abbrev pub HasFate : FrameContent → Fate → Type 0
-HasFate frame NoDatagram = (fault : FrameFault) × HasFrameFault frame.link frame.bytes fault
+HasFate frame (NoDatagram fault) = HasFrameFault frame.link frame.bytes fault
 HasFate frame fate =
     (d : DatagramContent) × CarriesDatagram frame.link frame.bytes d × IsShown d frame.time fate
 
--- the packets, the other datagrams, and a 1 for each frame without a datagram
+-- the packets, and the other datagrams
 abbrev pub packets_in : Fate → List Sighting
 packets_in (Packet s) = s ∷ []
 packets_in (Other s) = []
-packets_in NoDatagram = []
+packets_in (NoDatagram fault) = []
 
 abbrev pub others_in : Fate → List Sighting
 others_in (Packet s) = []
 others_in (Other s) = s ∷ []
-others_in NoDatagram = []
+others_in (NoDatagram fault) = []
 
-abbrev pub blanks_in : Fate → List ℕ
-blanks_in (Packet s) = []
-blanks_in (Other s) = []
-blanks_in NoDatagram = 1 ∷ []
+-- a fate as a replay of the capture has it that reads no line
+abbrev pub frame_fate : Fate → FrameFate
+frame_fate (Packet s) = elsewhere
+frame_fate (Other s) = elsewhere
+frame_fate (NoDatagram fault) = no_datagram fault

@@ -1,15 +1,15 @@
 -- Laws of surveys as a format.
-use Rattle.std.proofs.Common.{◌≡◌, ℕ, List, [], ◌∷◌, ◌++◌, map, drop, append_assoc, append-nil, refl, sym, ap, subst, ◌∙◌}
+use Rattle.std.proofs.Common.{◌≡◌, ℕ, List, [], ◌∷◌, ◌++◌, drop, append_assoc, append-nil, refl, sym, ap, subst, ◌∙◌}
 use Rattle.std.specs.Prelude.{flat_map}
 use Rattle.std.specs.List.{AllZip}
 use Rattle.std.proofs.lemmas.Grind.{flat_map-append}
-use Rattle.std.proofs.lemmas.List.{map-append}
 use Rattle.packet_capture.specs.Captures.{Context, PieceContent, ArePieces, frames_in, frames_of}
 use Rattle.packet_capture.specs.Frames.{FrameContent}
 use Rattle.feed_text.specs.Formats.{TimedRecord}
+use Rattle.line_captures.specs.CountLaws.{counts_none as none_counted, counts_then as then_counted}
 use Rattle.line_discovery.specs.declared.counts.SurveyCounts.{SurveyCounts}
 use Rattle.line_discovery.specs.declared.survey.LineSurvey.{LineSurvey}
-use Rattle.line_discovery.specs.Sightings.{HasFate, blanks_in, others_in, packets_in}
+use Rattle.line_discovery.specs.Sightings.{HasFate, others_in, packets_in}
 use Rattle.line_discovery.specs.Surveys.{CountsSightings, ReadsSurvey}
 
 -- the same pieces, of what is the same
@@ -43,18 +43,11 @@ added_both {B = B} f a b c xs ys e d =
     ∙ append_assoc a (flat_map f xs) (flat_map f ys)
     ∙ ap (λ (l : List B). a ++ l) (sym (flat_map-append f xs ys))
 
-mapped_both : {A B : Type 0} (f : A → B) (a b c : List B) (xs ys : List A)
-    → b ≡ a ++ map f xs → c ≡ b ++ map f ys → c ≡ a ++ map f (xs ++ ys)
-mapped_both {B = B} f a b c xs ys e d =
-    d ∙ ap (λ (l : List B). l ++ map f ys) e ∙ append_assoc a (map f xs) (map f ys)
-    ∙ ap (λ (l : List B). a ++ l) (sym (map-append f xs ys))
-
 counts_none : (counts : SurveyCounts) → CountsSightings counts [] counts
 counts_none counts = record {
   fates = [];
   are = tt;
-  position = sym (append-nil counts.position);
-  blanks = sym (append-nil counts.blanks);
+  progress = none_counted [] counts.progress;
   lines = sym (append-nil counts.lines);
   others = sym (append-nil counts.others);
 }
@@ -67,9 +60,7 @@ counts_then a b c ps qs x y =
       fates = x.fates ++ y.fates;
       are = subst Z (sym (flat_map-append frames_in ps qs))
           (zip_both HasFate (frames_of ps) (frames_of qs) x.fates y.fates x.are y.are);
-      position = mapped_both (λ (p : PieceContent). p.len) a.position b.position c.position ps qs
-          x.position y.position;
-      blanks = added_both blanks_in a.blanks b.blanks c.blanks x.fates y.fates x.blanks y.blanks;
+      progress = then_counted [] a.progress b.progress c.progress ps qs x.progress y.progress;
       lines = added_both packets_in a.lines b.lines c.lines x.fates y.fates x.lines y.lines;
       others = added_both others_in a.others b.others c.others x.fates y.fates x.others y.others;
     }

@@ -1,7 +1,8 @@
 -- What was counted of a capture, as a table and as JSON (RFC 8259).
-use Rattle.std.specs.Prelude.{ℕ, ◌-◌, ◌==◌, ◌||◌, List, [], ◌∷◌, ◌++◌, codes, decimal, flat_map, length, sum, take, Option, None, Some, option_map, if◌then◌else◌}
+use Rattle.std.specs.Prelude.{ℕ, ◌+◌, ◌-◌, ◌==◌, ◌||◌, List, [], ◌∷◌, ◌++◌, codes, decimal, flat_map, length, take, Option, None, Some, option_map, if◌then◌else◌}
 use Rattle.run_settings.specs.declared.formats.StatsFormat.{StatsFormat}
 use Rattle.run_settings.specs.declared.formats.StatsFormat.TheVariants.{Table, Json}
+use Rattle.line_captures.specs.declared.frame_counts.FrameCounts.{FrameCounts}
 use Rattle.line_discovery.specs.declared.counts.SurveyCounts.{SurveyCounts}
 use Rattle.line_discovery.specs.declared.line_key.LineKey.{LineKey}
 use Rattle.line_discovery.specs.declared.line_row.LineRow.{LineRow}
@@ -39,13 +40,17 @@ low_of span = option_map (λ s. s.low) span
 abbrev pub high_of : Option Span → Option ℕ
 high_of span = option_map (λ s. s.high) span
 
+-- the frames that carry no datagram, of whatever kind
+abbrev pub blanks_of : FrameCounts → ℕ
+blanks_of f = up_to_most (f.no_ip + f.no_udp + f.fragments + f.cut + f.malformed + f.not_read)
+
 -- the other datagrams and where they went, frames without a datagram, and datagrams that are in no
 -- row
 abbrev pub rest_of : SurveyCounts → SurveyRest
 rest_of c = record {
   others = up_to_most (length c.others);
   addresses = length (rows_of c.others);
-  blanks = up_to_most (sum c.blanks);
+  blanks = blanks_of c.progress.counts;
   unlisted = unlisted_of c.lines;
   unlisted_others = unlisted_of c.others;
 }

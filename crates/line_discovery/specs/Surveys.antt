@@ -1,5 +1,5 @@
 -- Surveys of packet captures: a format without records, of which the frames are counted.
-use Rattle.std.specs.Prelude.{◌≡◌, ◌≢◌, ℕ, List, [], ◌++◌, map, flat_map}
+use Rattle.std.specs.Prelude.{◌≡◌, ◌≢◌, ℕ, List, [], ◌∷◌, ◌++◌, flat_map}
 use Rattle.std.specs.List.{AllZip}
 use Rattle.packet_capture.specs.declared.fault.CaptureFault.{CaptureFault}
 use Rattle.packet_capture.specs.declared.reader.Format.TheVariants.{Start}
@@ -9,26 +9,27 @@ use Rattle.packet_capture.specs.Captures.{PieceContent, ArePieces, StopsReading,
 use Rattle.feed_text.specs.declared.record_format.Step.{Step}
 use Rattle.feed_text.specs.declared.record_format.Step.TheVariants.{Wants, Bad}
 use Rattle.feed_text.specs.Formats.{TimedRecord, Parsing}
+use Rattle.line_captures.specs.Counts.{CountsPieces, counts_after, new_progress}
 use Rattle.line_discovery.specs.declared.counts.SurveyCounts.{SurveyCounts}
 use Rattle.line_discovery.specs.declared.fate.Fate.{Fate}
 use Rattle.line_discovery.specs.declared.survey.LineSurvey.{LineSurvey}
-use Rattle.line_discovery.specs.Sightings.{HasFate, blanks_in, others_in, packets_in}
+use Rattle.line_discovery.specs.Sightings.{HasFate, frame_fate, others_in, packets_in}
 
 abbrev pub new_counts : SurveyCounts
-new_counts = record { position = []; blanks = []; lines = []; others = [] }
+new_counts = record { progress = new_progress; lines = []; others = [] }
 
 -- before the first piece
 abbrev pub new_survey : LineSurvey
 new_survey = record { capture = new_context; counts = new_counts }
 
--- These pieces were counted: their bytes, and their frames by their fates.
+-- These pieces were counted, as a replay counts them that reads no line, and their datagrams by the
+-- fates of their frames.
 pub record CountsSightings (before : SurveyCounts)
     (pieces : List PieceContent) (after : SurveyCounts)
     : Type 0 where
   pub fates : List Fate
   pub are : AllZip HasFate (frames_of pieces) fates
-  pub position : after.position ≡ before.position ++ map (λ piece. piece.len) pieces
-  pub blanks : after.blanks ≡ before.blanks ++ flat_map blanks_in fates
+  pub progress : CountsPieces [] before.progress pieces after.progress
   pub lines : after.lines ≡ before.lines ++ flat_map packets_in fates
   pub others : after.others ≡ before.others ++ flat_map others_in fates
 
@@ -66,8 +67,9 @@ survey_parsing = record {
 
 -- the counts after a frame of this fate
 pub record CountsFate (fate : Fate) (before after : SurveyCounts) : Type 0 where
-  pub position : after.position ≡ before.position
-  pub blanks : after.blanks ≡ before.blanks ++ blanks_in fate
+  pub progress : after.progress ≡ record before.progress {
+    counts = counts_after before.progress.counts (frame_fate fate ∷ []) 0;
+  }
   pub lines : after.lines ≡ before.lines ++ packets_in fate
   pub others : after.others ≡ before.others ++ others_in fate
 

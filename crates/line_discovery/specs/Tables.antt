@@ -36,6 +36,9 @@ by_line = record {
 abbrev pub rows_of : List Sighting → List LineRow
 rows_of seen = keyed_rows by_line seen
 
+abbrev pub keys_of : List LineRow → List LineKey
+keys_of rows = map (λ r. r.key) rows
+
 -- how many datagrams are in some row
 abbrev pub listed_in : List LineRow → ℕ
 listed_in rows = up_to_most (sum_by (λ r. r.packets) rows)

@@ -5,17 +5,16 @@ ghost use Rattle.line_discovery.specs.Surveys.{CountsFate, CountsSightings, new_
 
 use crate::fate::{Fate, fate_of};
 use crate::table::Table;
-use crate::tally::Tally;
+use line_captures::Progress;
 use packet_capture::Piece;
 use std::alloc::{AllocError, Global};
 
 /// What was counted of the pieces of a capture.
 #[derive(Drop)]
 pub struct SurveyCounts {
-    /// The bytes of the pieces.
-    pub position: Tally,
-    /// A 1 for each frame that carries no UDP datagram.
-    pub blanks: Tally,
+    /// How far the capture was read, and its frames by their kinds. No line is known, so each
+    /// datagram is one to no line.
+    pub progress: Progress,
     /// The packets.
     pub lines: Table,
     /// The other datagrams.
@@ -28,8 +27,7 @@ impl SurveyCounts {
         ensures { IfOk result (λ c. c ≡ new_counts) }
     {
         Ok(SurveyCounts {
-            position: Tally::none(),
-            blanks: Tally::none(),
+            progress: Progress::new(),
             lines: Table::new(alloc)?,
             others: Table::new(alloc)?,
         })
@@ -40,9 +38,15 @@ impl SurveyCounts {
         ensures { CountsFate fate.now self.old self.new }
     {
         match fate {
-            Fate::Packet(sighting) => self.lines.count(sighting),
-            Fate::Other(sighting) => self.others.count(sighting),
-            Fate::NoDatagram => self.blanks.add(1),
+            Fate::Packet(sighting) => {
+                self.progress.counts.add_elsewhere();
+                self.lines.count(sighting);
+            }
+            Fate::Other(sighting) => {
+                self.progress.counts.add_elsewhere();
+                self.others.count(sighting);
+            }
+            Fate::NoDatagram(fault) => self.progress.counts.add_fault(*fault),
         }
     }
 
@@ -50,10 +54,11 @@ impl SurveyCounts {
     pub(crate) fn count_piece(&mut self, piece: &Piece<'_>)
         ensures { CountsSightings self.old (piece_of piece.now ∷ []) self.new }
     {
-        self.position.add(piece.len as u64);
+        self.progress.add_piece(piece);
         let Some(frame) = piece.frame else {
             return;
         };
+        self.progress.add_time(frame.time);
         self.count_fate(&fate_of(&frame));
     }
 }

@@ -1,12 +1,11 @@
 //! The fate of a frame in a survey.
-ghost use Rattle.std.specs.Prelude.{◌≡◌};
 ghost use Rattle.packet_capture.specs.Datagrams.{datagram_content};
 ghost use Rattle.packet_capture.specs.Frames.{frame_of};
 ghost use Rattle.line_discovery.specs.Sightings.{HasFate, IsShown};
 
 use crate::sighting::{Sighting, is_printable_name, other_sighting, packet_sighting};
 use mold_packet::read_packet;
-use packet_capture::{Datagram, Frame, read_datagram};
+use packet_capture::{Datagram, Frame, FrameFault, read_datagram};
 
 /// The fate of a frame in a survey.
 #[derive(Clone, Copy, Debug, PartialEq, Eq)]
@@ -15,8 +14,8 @@ pub enum Fate {
     Packet(Sighting),
     /// It carries another datagram.
     Other(Sighting),
-    /// It carries no UDP datagram.
-    NoDatagram,
+    /// It carries no UDP datagram, which is this fault.
+    NoDatagram(FrameFault),
 }
 
 /// What a datagram shows that came at this time.
@@ -37,6 +36,6 @@ pub(crate) fn fate_of(frame: &Frame<'_>) -> Fate
 {
     match read_datagram(frame.link, frame.bytes) {
         Ok(datagram) => shown(&datagram, frame.time),
-        Err(_) => Fate::NoDatagram,
+        Err(fault) => Fate::NoDatagram(fault),
     }
 }

@@ -1,13 +1,14 @@
 //! What was counted of a capture, as JSON.
 ghost use Rattle.std.specs.Prelude.{◌≡◌, ◌++◌, IfOk, OnOk, flat_map};
 ghost use Rattle.line_discovery.specs.SurveyTexts.{escaped_code, json_head, json_members, json_of, json_rest, json_line, session_name, text_of_survey};
+ghost use Rattle.line_discovery.specs.Tables.{rows_of};
 
 use crate::counts::SurveyCounts;
 use crate::line_key::LineKey;
 use crate::line_row::LineRow;
 use crate::pieces::{CellStyle, put_cells, put_place};
 use crate::rest::{SurveyRest, rest_of};
-use crate::table::packets_at;
+use crate::table::Table;
 use crate::text::{high_of, low_of, other_key, session_name};
 use run_settings::StatsFormat;
 use std::alloc::{AllocError, Global};
@@ -52,8 +53,9 @@ fn put_head(alloc: Global, text: &mut Vec<u8>, key: &LineKey) -> Result<(), Allo
 }
 
 /// Appends what was counted of a line.
-fn put_members(text: &mut Vec<u8>, others: &[LineRow], row: &LineRow) -> Result<(), AllocError>
-    ensures { OnOk result (text.new.items ≡ text.old.items ++ json_members others.now row.now) }
+fn put_members(text: &mut Vec<u8>, others: &Table, row: &LineRow) -> Result<(), AllocError>
+    ensures { OnOk result (text.new.items
+        ≡ text.old.items ++ json_members (rows_of others.now) row.now) }
 {
     let members = [
         ("\",\"packets\":", Some(row.packets)),
@@ -63,7 +65,7 @@ fn put_members(text: &mut Vec<u8>, others: &[LineRow], row: &LineRow) -> Result<
         (",\"bytes\":", Some(row.bytes)),
         (
             ",\"other_datagrams\":",
-            Some(packets_at(others, &other_key(&row.key))),
+            Some(others.packets_of(&other_key(&row.key))),
         ),
         (",\"first_time_ns\":", low_of(row.times)),
         (",\"last_time_ns\":", high_of(row.times)),
@@ -76,10 +78,11 @@ fn put_members(text: &mut Vec<u8>, others: &[LineRow], row: &LineRow) -> Result<
 fn put_row(
     alloc: Global,
     text: &mut Vec<u8>,
-    others: &[LineRow],
+    others: &Table,
     row: &LineRow,
 ) -> Result<(), AllocError>
-    ensures { OnOk result (text.new.items ≡ text.old.items ++ json_line others.now row.now) }
+    ensures { OnOk result (text.new.items
+        ≡ text.old.items ++ json_line (rows_of others.now) row.now) }
 {
     put_head(alloc, text, &row.key)?;
     put_members(text, others, row)
@@ -89,11 +92,11 @@ fn put_row(
 fn put_rows(
     alloc: Global,
     text: &mut Vec<u8>,
-    others: &[LineRow],
+    others: &Table,
     rows: &[LineRow],
 ) -> Result<(), AllocError>
     ensures { OnOk result (text.new.items
-        ≡ text.old.items ++ flat_map (json_line others.now) rows.now) }
+        ≡ text.old.items ++ flat_map (json_line (rows_of others.now)) rows.now) }
 {
     for row in rows {
         put_row(alloc, text, others, row)?;
@@ -120,12 +123,12 @@ fn put_rest(text: &mut Vec<u8>, rest: &SurveyRest) -> Result<(), AllocError>
 fn put_json(
     alloc: Global,
     text: &mut Vec<u8>,
-    others: &[LineRow],
+    others: &Table,
     rows: &[LineRow],
     rest: &SurveyRest,
 ) -> Result<(), AllocError>
     ensures { OnOk result (text.new.items
-        ≡ text.old.items ++ json_of others.now rows.now rest.now) }
+        ≡ text.old.items ++ json_of (rows_of others.now) rows.now rest.now) }
 {
     put_rows(alloc, text, others, rows)?;
     put_rest(text, rest)
@@ -137,12 +140,6 @@ pub(crate) fn json_text(alloc: Global, counts: &SurveyCounts) -> Result<Vec<u8>,
 {
     let mut text = Vec::new(alloc);
     let rest = rest_of(counts);
-    put_json(
-        alloc,
-        &mut text,
-        counts.others.rows(),
-        counts.lines.rows(),
-        &rest,
-    )?;
+    put_json(alloc, &mut text, &counts.others, counts.lines.rows(), &rest)?;
     Ok(text)
 }

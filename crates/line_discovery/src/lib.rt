@@ -5,11 +5,13 @@
 //! datagram is a [`Sighting`] with a [`LineKey`], its address, port and session, and each key has a
 //! [`LineRow`].
 //!
-//! Contract: of the pieces that were read each frame has its fate, and the sightings are those of
-//! the fates, in order (`specs/Surveys.antt`, over `specs/Sightings.antt`). The rows of a [`Table`]
-//! are those of its sightings: a filter by the key, then a count, a sum or a span
-//! (`specs/Tables.antt`). [`LineSurvey::text`] is exactly the table or the JSON of these rows
-//! (`specs/SurveyTexts.antt`).
+//! Contract: the pieces that were read are counted as `line_captures` counts them, each frame has
+//! its fate, and the sightings are those of the fates, in order (`specs/Surveys.antt`, over
+//! `specs/Sightings.antt`). The rows of a [`Table`] are those of its sightings: a filter by the
+//! key, then a count, a sum or a span (`specs/Tables.antt`). [`LineSurvey::text`] is exactly the
+//! table or the JSON of these rows (`specs/SurveyTexts.antt`); the table ends with the words for
+//! the venues, after the sessions that they leave out (`specs/LineWords.antt`,
+//! `specs/Standings.antt`).
 //!
 //! Begin at `survey.rt`, then `table.rt`.
 #![tactic(auto)]
@@ -21,13 +23,13 @@ mod line_key;
 mod line_row;
 mod pieces;
 mod place;
-mod plain_name;
 mod rest;
+mod session_word;
 mod sighting;
 mod span;
+mod standing;
 mod survey;
 mod table;
-mod tally;
 mod text;
 mod words;
 
@@ -39,4 +41,3 @@ pub use sighting::Sighting;
 pub use span::Span;
 pub use survey::LineSurvey;
 pub use table::Table;
-pub use tally::Tally;

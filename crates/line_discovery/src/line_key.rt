@@ -5,7 +5,7 @@ ghost use Rattle.line_discovery.specs.Keys.{same_key, same_session};
 use packet_capture::Address;
 
 /// A line as a capture shows it: where its datagrams go, and their session.
-#[derive(Clone, Copy, Debug, PartialEq, Eq)]
+#[derive(Clone, Copy, Debug, PartialEq, Eq, Hash)]
 pub struct LineKey {
     /// The address of one machine or of a group.
     pub address: Address,

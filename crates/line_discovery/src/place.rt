@@ -1,7 +1,8 @@
-//! Addresses as texts.
+//! Addresses as texts, and their order.
 ghost use Rattle.std.specs.Prelude.{◌≡◌, IfOk, string_bytes};
-ghost use Rattle.line_discovery.specs.Places.{place_text};
+ghost use Rattle.line_discovery.specs.Places.{is_before, is_lower_address, place_text};
 
+use crate::line_key::LineKey;
 use packet_capture::Address;
 use std::alloc::{AllocError, Global};
 use std::net::{Ipv4Addr, Ipv6Addr, SocketAddrV4, SocketAddrV6};
@@ -18,4 +19,29 @@ pub(crate) fn place_text(alloc: Global, address: Address, port: u16) -> Result<S
             SocketAddrV6::new(Ipv6Addr::from_octets(octets), port, 0, 0).to_string(alloc)
         }
     }
+}
+
+/// Returns whether an address comes before another by its bytes. All of IPv4 come before those of
+/// IPv6.
+fn is_lower_address(one: &Address, other: &Address) -> bool
+    ensures { result ≡ is_lower_address one.now other.now }
+{
+    match (one, other) {
+        (Address::V4(one), Address::V4(other)) => {
+            u32::from_be_bytes(*one) < u32::from_be_bytes(*other)
+        }
+        (Address::V4(_), Address::V6(_)) => true,
+        (Address::V6(_), Address::V4(_)) => false,
+        (Address::V6(one), Address::V6(other)) => {
+            u128::from_be_bytes(*one) < u128::from_be_bytes(*other)
+        }
+    }
+}
+
+/// Returns whether a line comes before another by its address, and at the same one by its port.
+pub(crate) fn is_before(one: &LineKey, other: &LineKey) -> bool
+    ensures { result ≡ is_before one.now other.now }
+{
+    is_lower_address(&one.address, &other.address)
+        || (!is_lower_address(&other.address, &one.address) && one.port < other.port)
 }

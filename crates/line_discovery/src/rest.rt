@@ -1,8 +1,9 @@
 //! What of a capture is in no row.
 ghost use Rattle.std.specs.Prelude.{◌≡◌};
-ghost use Rattle.line_discovery.specs.SurveyTexts.{rest_of};
+ghost use Rattle.line_discovery.specs.SurveyTexts.{blanks_of, rest_of};
 
 use crate::counts::SurveyCounts;
+use line_captures::FrameCounts;
 
 /// What of a capture is in no row of its table.
 #[derive(Clone, Copy, Debug, PartialEq, Eq)]
@@ -19,6 +20,19 @@ pub struct SurveyRest {
     pub unlisted_others: u64,
 }
 
+/// Returns how many frames carry no UDP datagram.
+fn blanks_of(frames: &FrameCounts) -> u64
+    ensures { result ≡ blanks_of frames.now }
+{
+    frames
+        .no_ip
+        .saturating_add(frames.no_udp)
+        .saturating_add(frames.fragments)
+        .saturating_add(frames.cut)
+        .saturating_add(frames.malformed)
+        .saturating_add(frames.not_read)
+}
+
 /// Returns what of the counts is in no row.
 pub(crate) fn rest_of(counts: &SurveyCounts) -> SurveyRest
     ensures { result ≡ rest_of counts.now }
@@ -26,7 +40,7 @@ pub(crate) fn rest_of(counts: &SurveyCounts) -> SurveyRest
     SurveyRest {
         others: counts.others.total(),
         addresses: counts.others.rows().len() as u64,
-        blanks: counts.blanks.sum(),
+        blanks: blanks_of(&counts.progress.counts),
         unlisted: counts.lines.unlisted(),
         unlisted_others: counts.others.unlisted(),
     }

@@ -1,5 +1,6 @@
 //! Surveys of packet captures.
-ghost use Rattle.std.specs.Prelude.{◌≡◌, IfOk, length, sum};
+ghost use Rattle.std.specs.Prelude.{◌≡◌, IfOk, length};
+ghost use Rattle.line_captures.specs.DropCounts.{dropped_of};
 ghost use Rattle.line_discovery.specs.Surveys.{StopsSurvey, ReadsSurvey, is_bad_piece, is_begun, new_survey, wants_piece};
 ghost use Rattle.line_discovery.specs.SurveyLaws.{survey_longer, survey_more, survey_none, survey_venues};
 ghost use Rattle.line_discovery.specs.SurveyTexts.{text_of_survey};
@@ -8,6 +9,7 @@ ghost use Rattle.line_discovery.specs.Tables.{up_to_most};
 use crate::counts::SurveyCounts;
 use crate::text::text_of;
 use feed_text::{RecordFormat, Step};
+use line_captures::{DroppedFrames, FrameCounts};
 use packet_capture::{CaptureFault, CaptureReader, Stop, read_as_bytes_come};
 use run_settings::StatsFormat;
 use std::alloc::{AllocError, Global};
@@ -33,9 +35,31 @@ impl LineSurvey {
 
     /// Returns at which byte of the capture the next piece begins, counted from 0.
     pub fn position(&self) -> u64
-        ensures { result ≡ up_to_most (sum self.now.counts.position) }
+        ensures { result ≡ self.now.counts.progress.position }
     {
-        self.counts.position.sum()
+        self.counts.progress.position
+    }
+
+    /// Returns how many frames are of each kind. No line is known, so each datagram is one to no
+    /// line.
+    pub fn frames(&self) -> FrameCounts
+        ensures { result ≡ self.now.counts.progress.counts }
+    {
+        self.counts.progress.counts
+    }
+
+    /// Returns how many frames were dropped, as the capture says.
+    pub fn dropped(&self) -> DroppedFrames
+        ensures { result ≡ dropped_of self.now.counts.progress.drops }
+    {
+        self.counts.progress.drops.dropped()
+    }
+
+    /// Returns at which byte a second capture seems to begin, counted from 0, if one does.
+    pub fn second_start(&self) -> Option<u64>
+        ensures { result ≡ self.now.counts.progress.second_start }
+    {
+        self.counts.progress.second_start
     }
 
     /// Returns how many packets there were.

@@ -1,14 +1,16 @@
 //! The table of the lines that were seen.
-ghost use Rattle.std.specs.Prelude.{◌≡◌, ◌≤◌, [], ◌∷◌, ◌++◌, Some, false, true, IfNone, IfOk, IfSome, length, slice_get, vec_capacity};
+ghost use Rattle.std.specs.Prelude.{◌≡◌, ◌+◌, ◌≤◌, [], ◌∷◌, ◌++◌, Some, true, IfOk, length, slice_get, vec_capacity};
+ghost use Rattle.indexmap.specs.IndexSet.{index_set_len, spare};
 ghost use Rattle.line_discovery.specs.declared.line_row.LineRow.{LineRow};
-ghost use Rattle.line_discovery.specs.KeyedRows.{AreApart, has_row, rows_grown};
+ghost use Rattle.line_discovery.specs.KeyedRows.{AreApart, rows_grown};
 ghost use Rattle.line_discovery.specs.Keys.{same_key};
-ghost use Rattle.line_discovery.specs.Tables.{by_line, listed_in, packets_at, row_with, rows_of, unlisted_of, up_to_most};
+ghost use Rattle.line_discovery.specs.Tables.{by_line, keys_of, listed_in, packets_at, row_with, rows_of, unlisted_of, up_to_most};
 
-use crate::line_key::{LineKey, is_same};
+use crate::line_key::LineKey;
 use crate::line_row::LineRow;
 use crate::sighting::Sighting;
 use feed_types::Past;
+use indexmap::IndexSet;
 use std::alloc::{AllocError, Global};
 use std::marker::Model;
 
@@ -19,42 +21,26 @@ const MOST: usize = 4_096;
 /// Contracts see the datagrams.
 #[derive(Drop)]
 pub struct Table {
+    /// The rows' keys, in order: a key has the place of its row.
+    keys: IndexSet<LineKey>,
     rows: Vec<LineRow>,
-    /// Where the row stands in which was counted last.
-    last: usize,
     count: u64,
     past: Past<Sighting>,
 }
 
 impl Model for Table {
-    ghost use Rattle.std.specs.Prelude.{List, ◌≤◌, vec_capacity};
+    ghost use Rattle.std.specs.Prelude.{◌≡◌, ◌+◌, List, ◌≤◌, vec_capacity};
+    ghost use Rattle.indexmap.specs.IndexSet.{index_set_len, spare};
     ghost use Rattle.line_discovery.specs.declared.sighting.Sighting.{Sighting};
-    ghost use Rattle.line_discovery.specs.Tables.{IsLineTable};
+    ghost use Rattle.line_discovery.specs.Tables.{IsLineTable, keys_of};
 
     ghost Value = { List Sighting };
 
     ghost view = { λ t. t.past.items };
 
     ghost invariant = { λ t.
-        IsLineTable t.rows.items t.count t.past.items × (4096 ≤ vec_capacity t.rows) };
-}
-
-/// Where the row of this key stands, if there is one. The row at `last` is looked at first, since
-/// datagrams of one line often follow each other.
-fn place_of(rows: &[LineRow], last: usize, key: &LineKey) -> Option<usize>
-    ensures found { IfSome result (λ place. (row : LineRow) × (slice_get rows.now place ≡ Some row)
-        × (same_key row.key key.now ≡ true)) }
-    ensures none { IfNone result (has_row by_line rows.now key.now ≡ false) }
-{
-    if last < rows.len() && is_same(&rows[last].key, key) {
-        return Some(last);
-    }
-    for place in 0..rows.len() {
-        if is_same(&rows[place].key, key) {
-            return Some(place);
-        }
-    }
-    None
+        IsLineTable t.rows.items t.count t.past.items × (t.keys.keys ≡ keys_of t.rows.items)
+        × (4096 ≤ vec_capacity t.rows) × (4096 ≤ index_set_len t.keys + spare t.keys) };
 }
 
 /// Counts a datagram in the row at this place, which is that of its line.
@@ -68,26 +54,38 @@ fn grow_at(rows: &mut [LineRow], place: usize, sighting: &Sighting)
 }
 
 /// Counts a datagram in the row of its line, in a new one where there is none, unless there are
-/// 4,096. Returns where that row stands, or `last`.
-fn count_in(rows: &mut Vec<LineRow>, last: usize, sighting: &Sighting) -> usize
+/// 4,096.
+fn count_in(keys: &mut IndexSet<LineKey>, rows: &mut Vec<LineRow>, sighting: &Sighting)
     requires apart { AreApart by_line rows.old.items }
+    requires keyed { keys.old.keys ≡ keys_of rows.old.items }
     requires room { 4096 ≤ vec_capacity rows.old }
+    requires spare { 4096 ≤ index_set_len keys.old + spare keys.old }
     requires few { length rows.old.items ≤ 4096 }
     ensures rows { rows.new.items ≡ rows_grown by_line row_with rows.old.items sighting.now }
+    ensures keyed { keys.new.keys ≡ keys_of rows.new.items }
     ensures room { 4096 ≤ vec_capacity rows.new }
+    ensures spare { 4096 ≤ index_set_len keys.new + spare keys.new }
 {
-    match place_of(rows.as_slice(), last, &sighting.key) {
-        Some(place) => {
-            grow_at(rows.as_mut_slice(), place, sighting);
-            place
-        }
+    match keys.get_index_of(&sighting.key) {
+        Some(place) => grow_at(rows.as_mut_slice(), place, sighting),
         None if rows.len() < MOST => {
             let mut row = LineRow::empty(sighting.key);
             row.grow(sighting);
+            let _is_new = keys.insert(sighting.key).unwrap();
             rows.push_reserved(row);
-            rows.len() - 1
         }
-        None => last,
+        None => {}
+    }
+}
+
+/// How many datagrams the row of this key has, 0 without one.
+fn packets_at(keys: &IndexSet<LineKey>, rows: &[LineRow], key: &LineKey) -> u64
+    requires { keys.now.keys ≡ keys_of rows.now }
+    ensures { result ≡ packets_at rows.now key.now }
+{
+    match keys.get_index_of(key) {
+        Some(place) => rows[place].packets,
+        None => 0,
     }
 }
 
@@ -102,26 +100,14 @@ fn listed_in(rows: &[LineRow]) -> u64
     listed
 }
 
-/// How many datagrams the row of this key has, 0 without one.
-pub(crate) fn packets_at(rows: &[LineRow], key: &LineKey) -> u64
-    ensures { result ≡ packets_at rows.now key.now }
-{
-    for row in rows {
-        if is_same(&row.key, key) {
-            return row.packets;
-        }
-    }
-    0
-}
-
 impl Table {
     /// Returns the table of no datagram. It takes all its memory, some 500 kB.
     pub(crate) fn new(alloc: Global) -> Result<Table, AllocError>
         ensures { IfOk result (λ t. t ≡ []) }
     {
         Ok(Table {
+            keys: IndexSet::with_capacity(alloc, MOST)?,
             rows: Vec::with_capacity(alloc, MOST)?,
-            last: 0,
             count: 0,
             past: Past::new(),
         })
@@ -131,7 +117,7 @@ impl Table {
     pub(crate) fn count(&mut self, sighting: &Sighting)
         ensures { self.new ≡ self.old ++ sighting.now ∷ [] }
     {
-        self.last = count_in(&mut self.rows, self.last, sighting);
+        count_in(&mut self.keys, &mut self.rows, sighting);
         self.count = self.count.saturating_add(1);
         self.past = self.past.with(sighting);
     }
@@ -141,6 +127,13 @@ impl Table {
         ensures { result.now ≡ rows_of self.now }
     {
         self.rows.as_slice()
+    }
+
+    /// Returns how many datagrams the row of this key has, 0 without one.
+    pub(crate) fn packets_of(&self, key: &LineKey) -> u64
+        ensures { result ≡ packets_at (rows_of self.now) key.now }
+    {
+        packets_at(&self.keys, self.rows.as_slice(), key)
     }
 
     /// Returns how many datagrams came.

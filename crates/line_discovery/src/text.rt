@@ -1,6 +1,7 @@
 //! What was counted of a capture, as a table.
 ghost use Rattle.std.specs.Prelude.{◌≡◌, ◌++◌, IfOk, OnOk, flat_map};
 ghost use Rattle.line_discovery.specs.SurveyTexts.{high_of, low_of, other_key, session_name, table_head, table_of, table_rest, table_row, text_of_survey};
+ghost use Rattle.line_discovery.specs.Tables.{rows_of};
 
 use crate::counts::SurveyCounts;
 use crate::json::json_text;
@@ -9,7 +10,7 @@ use crate::line_row::LineRow;
 use crate::pieces::{CellStyle, put_cells, put_place};
 use crate::rest::{SurveyRest, rest_of};
 use crate::span::Span;
-use crate::table::packets_at;
+use crate::table::Table;
 use crate::words::put_words;
 use run_settings::StatsFormat;
 use std::alloc::{AllocError, Global};
@@ -79,10 +80,11 @@ pub(crate) fn session_name(session: &Option<[u8; 10]>) -> &[u8]
 fn put_row(
     alloc: Global,
     text: &mut Vec<u8>,
-    others: &[LineRow],
+    others: &Table,
     row: &LineRow,
 ) -> Result<(), AllocError>
-    ensures { OnOk result (text.new.items ≡ text.old.items ++ table_row others.now row.now) }
+    ensures { OnOk result (text.new.items
+        ≡ text.old.items ++ table_row (rows_of others.now) row.now) }
 {
     let counts = [
         (" ", Some(row.packets)),
@@ -90,7 +92,7 @@ fn put_row(
         (" ", low_of(row.numbers)),
         (" ", high_of(row.numbers)),
         (" ", Some(row.bytes)),
-        (" ", Some(packets_at(others, &other_key(&row.key)))),
+        (" ", Some(others.packets_of(&other_key(&row.key)))),
     ];
     let times = [(" ", low_of(row.times)), (" ", high_of(row.times))];
     put_place(alloc, text, 24, &row.key)?;
@@ -105,11 +107,11 @@ fn put_row(
 fn put_rows(
     alloc: Global,
     text: &mut Vec<u8>,
-    others: &[LineRow],
+    others: &Table,
     rows: &[LineRow],
 ) -> Result<(), AllocError>
     ensures { OnOk result (text.new.items
-        ≡ text.old.items ++ flat_map (table_row others.now) rows.now) }
+        ≡ text.old.items ++ flat_map (table_row (rows_of others.now)) rows.now) }
 {
     for row in rows {
         put_row(alloc, text, others, row)?;
@@ -150,12 +152,12 @@ fn put_head(text: &mut Vec<u8>) -> Result<(), AllocError>
 fn put_table(
     alloc: Global,
     text: &mut Vec<u8>,
-    others: &[LineRow],
+    others: &Table,
     rows: &[LineRow],
     rest: &SurveyRest,
 ) -> Result<(), AllocError>
     ensures { OnOk result (text.new.items
-        ≡ text.old.items ++ table_of others.now rows.now rest.now) }
+        ≡ text.old.items ++ table_of (rows_of others.now) rows.now rest.now) }
 {
     put_head(text)?;
     put_rows(alloc, text, others, rows)?;
@@ -169,13 +171,7 @@ fn table_text(alloc: Global, counts: &SurveyCounts) -> Result<Vec<u8>, AllocErro
 {
     let mut text = Vec::new(alloc);
     let rest = rest_of(counts);
-    put_table(
-        alloc,
-        &mut text,
-        counts.others.rows(),
-        counts.lines.rows(),
-        &rest,
-    )?;
+    put_table(alloc, &mut text, &counts.others, counts.lines.rows(), &rest)?;
     Ok(text)
 }
 

@@ -1,200 +1,163 @@
 //! The words by which `nbbo` reads the lines of a capture.
-ghost use Rattle.std.specs.Prelude.{◌≡◌, ◌==◌, ◌++◌, IfOk, OnOk, flat_map, take};
-ghost use Rattle.feed_types.specs.Symbols.{name_of};
-ghost use Rattle.line_discovery.specs.LineWords.{are_lines, is_at_place, is_first_at, is_of_session, lines_word_of, lines_by, lines_word, second_line_of, second_line, session_lines, session_word_of, session_by, session_word, words_by, words_of, words_with};
+ghost use Rattle.std.specs.Prelude.{◌≡◌, ◌++◌, IfOk, OnOk, flat_map};
+ghost use Rattle.line_discovery.specs.LineWords.{lines_of, more_lines, more_sessions, named_words, pair_of, past_row, session_of, venue_by, venues_of, words_by, words_of, words_with};
 
-use crate::line_key::{LineKey, is_same, is_same_session};
+use crate::line_key::LineKey;
 use crate::line_row::LineRow;
-use crate::place::place_text;
-use crate::plain_name::{front_of, is_plain_name};
-use crate::text::{other_key, session_name};
+use crate::place::{is_before, place_text};
+use crate::session_word::put_session_word;
+use crate::standing::{Standing, put_left_out, put_left_row, standing_of};
+use crate::text::session_name;
+use feed_types::MAX_VENUES;
 use std::alloc::{AllocError, Global};
 
-/// Returns whether two rows are of the same address and port.
-fn is_at_place(row: &LineRow, one: &LineRow) -> bool
-    ensures { result ≡ is_at_place row.now one.now }
-{
-    is_same(&other_key(&one.key), &other_key(&row.key))
+/// The lines of a venue, by address and port.
+#[derive(Clone, Copy, Debug, PartialEq, Eq)]
+pub(crate) struct VenueLines {
+    pub(crate) a: LineKey,
+    pub(crate) b: LineKey,
 }
 
-/// Returns whether no row before this one has its address and port.
-fn is_first_at(rows: &[LineRow], row: &LineRow) -> bool
-    ensures { result ≡ is_first_at rows.now row.now }
+/// Returns two lines by address and port.
+fn pair_of(one: &LineKey, other: &LineKey) -> VenueLines
+    ensures { result ≡ pair_of one.now other.now }
 {
-    for one in rows {
-        if is_at_place(row, one) {
-            return is_same(&one.key, &row.key);
-        }
+    if is_before(one, other) {
+        return VenueLines { a: *one, b: *other };
     }
-    false
+    VenueLines { a: *other, b: *one }
 }
 
-/// Returns whether two rows are of the same session.
-fn is_of_session(row: &LineRow, one: &LineRow) -> bool
-    ensures { result ≡ is_of_session row.now one.now }
-{
-    is_same_session(&one.key.session, &row.key.session)
-}
-
-/// Returns the first rows of a row's session, in order, at most three. Fails where memory is
-/// refused.
-fn session_lines(alloc: Global, rows: &[LineRow], row: &LineRow) -> Result<Vec<LineRow>, AllocError>
-    ensures { IfOk result (λ lines. lines.items ≡ take 3 (session_lines rows.now row.now)) }
-{
-    rows.iter()
-        .copied()
-        .filter(|one| is_of_session(row, one))
-        .take(3)
-        .collect(alloc)
-}
-
-/// Returns the second of two rows, where a row is the first of them.
-fn second_line(row: &LineRow, lines: &[LineRow]) -> Option<LineRow>
-    ensures { result ≡ second_line row.now lines.now }
-{
-    match lines {
-        [first, second] => {
-            if is_same(&first.key, &row.key) {
-                return Some(*second);
-            }
-            None
-        }
-        _ => None,
-    }
-}
-
-/// Returns the second row of a row's session, where there are two and this row is the first. Fails
-/// where memory is refused.
-fn other_line(alloc: Global, rows: &[LineRow], row: &LineRow) -> Result<Option<LineRow>, AllocError>
-    ensures { IfOk result (λ other. other ≡ second_line row.now (session_lines rows.now row.now)) }
-{
-    let lines = session_lines(alloc, rows, row)?;
-    Ok(second_line(row, lines.as_slice()))
-}
-
-/// Returns whether two rows of a session can be written as the lines of a venue.
-fn are_lines(rows: &[LineRow], row: &LineRow, other: &LineRow) -> bool
-    ensures { result ≡ are_lines rows.now row.now other.now }
-{
-    is_plain_name(session_name(&row.key.session))
-        && is_first_at(rows, row)
-        && is_first_at(rows, other)
-}
-
-/// Returns the second line of the venue whose first line this row is, if it is one. Fails where
-/// memory is refused.
-fn second_line_of(
-    alloc: Global,
-    rows: &[LineRow],
+/// Appends the venue of which this row is the first, if it is that of one.
+fn push_venue(
+    venues: &mut Vec<VenueLines>,
     row: &LineRow,
-) -> Result<Option<LineRow>, AllocError>
-    ensures { IfOk result (λ second. second ≡ second_line_of rows.now row.now) }
+    standing: &Standing,
+) -> Result<(), AllocError>
+    ensures { OnOk result (venues.new.items
+        ≡ venues.old.items ++ venue_by row.now standing.now) }
 {
-    match other_line(alloc, rows, row)? {
-        None => Ok(None),
-        Some(other) => {
-            if are_lines(rows, row, &other) {
-                return Ok(Some(other));
-            }
-            Ok(None)
-        }
+    match standing {
+        Standing::Venue(other) => Ok(venues.push(pair_of(&row.key, &other.key))?),
+        _ => Ok(()),
     }
 }
 
-/// Appends a session after a comma.
-fn put_session(text: &mut Vec<u8>, name: &[u8]) -> Result<(), AllocError>
-    ensures { OnOk result (text.new.items ≡ text.old.items ++ session_word name.now) }
+/// Returns the venues, by when their sessions first came. Fails where memory is refused.
+fn venues_of(alloc: Global, rows: &[LineRow]) -> Result<Vec<VenueLines>, AllocError>
+    ensures { IfOk result (λ venues. venues.items ≡ venues_of rows.now) }
 {
-    text.extend_from_slice(b",")?;
-    text.extend_from_slice(name)
+    let mut venues = Vec::new(alloc);
+    for row in rows {
+        push_venue(&mut venues, row, &standing_of(alloc, rows, row)?)?;
+    }
+    Ok(venues)
 }
 
-/// Appends two lines, each after a comma.
-fn put_lines(alloc: Global, text: &mut Vec<u8>, a: &LineKey, b: &LineKey) -> Result<(), AllocError>
-    ensures { OnOk result (text.new.items ≡ text.old.items ++ lines_word a.now b.now) }
+/// Appends the session of a venue.
+fn put_session(text: &mut Vec<u8>, venue: &VenueLines) -> Result<(), AllocError>
+    ensures { OnOk result (text.new.items ≡ text.old.items ++ session_of venue.now) }
 {
-    let first = place_text(alloc, a.address, a.port)?;
-    let second = place_text(alloc, b.address, b.port)?;
-    text.extend_from_slice(b",")?;
+    put_session_word(text, session_name(&venue.a.session))
+}
+
+/// Appends the lines of a venue.
+fn put_lines(alloc: Global, text: &mut Vec<u8>, venue: &VenueLines) -> Result<(), AllocError>
+    ensures { OnOk result (text.new.items ≡ text.old.items ++ lines_of venue.now) }
+{
+    let first = place_text(alloc, venue.a.address, venue.a.port)?;
+    let second = place_text(alloc, venue.b.address, venue.b.port)?;
     text.extend_from_slice(first.as_bytes())?;
     text.extend_from_slice(b",")?;
     text.extend_from_slice(second.as_bytes())
 }
 
-/// Appends the session of the venue whose first line this row is, if it is one.
-fn put_session_at(
-    alloc: Global,
-    text: &mut Vec<u8>,
-    rows: &[LineRow],
-    row: &LineRow,
-) -> Result<(), AllocError>
-    ensures { OnOk result (text.new.items ≡ text.old.items ++ session_word_of rows.now row.now) }
+/// Appends the sessions of venues, each after a comma.
+fn put_more_sessions(text: &mut Vec<u8>, venues: &[VenueLines]) -> Result<(), AllocError>
+    ensures { OnOk result (text.new.items ≡ text.old.items ++ more_sessions venues.now) }
 {
-    match second_line_of(alloc, rows, row)? {
-        None => Ok(()),
-        Some(_) => put_session(text, front_of(session_name(&row.key.session))),
-    }
-}
-
-/// Appends the lines of the venue whose first line this row is, if it is one.
-fn put_lines_at(
-    alloc: Global,
-    text: &mut Vec<u8>,
-    rows: &[LineRow],
-    row: &LineRow,
-) -> Result<(), AllocError>
-    ensures { OnOk result (text.new.items ≡ text.old.items ++ lines_word_of rows.now row.now) }
-{
-    match second_line_of(alloc, rows, row)? {
-        None => Ok(()),
-        Some(other) => put_lines(alloc, text, &row.key, &other.key),
-    }
-}
-
-/// Appends the sessions of all venues, each after a comma.
-fn put_sessions(alloc: Global, text: &mut Vec<u8>, rows: &[LineRow]) -> Result<(), AllocError>
-    ensures { OnOk result (text.new.items
-        ≡ text.old.items ++ flat_map (session_word_of rows.now) rows.now) }
-{
-    for row in rows {
-        put_session_at(alloc, text, rows, row)?;
+    for venue in venues {
+        text.extend_from_slice(b",")?;
+        put_session(text, venue)?;
     }
     Ok(())
 }
 
-/// Appends the lines of all venues, each after a comma.
-fn put_all_lines(alloc: Global, text: &mut Vec<u8>, rows: &[LineRow]) -> Result<(), AllocError>
-    ensures { OnOk result (text.new.items
-        ≡ text.old.items ++ flat_map (lines_word_of rows.now) rows.now) }
+/// Appends the lines of venues, each two after a comma.
+fn put_more_lines(
+    alloc: Global,
+    text: &mut Vec<u8>,
+    venues: &[VenueLines],
+) -> Result<(), AllocError>
+    ensures { OnOk result (text.new.items ≡ text.old.items ++ more_lines venues.now) }
 {
-    for row in rows {
-        put_lines_at(alloc, text, rows, row)?;
+    for venue in venues {
+        text.extend_from_slice(b",")?;
+        put_lines(alloc, text, venue)?;
     }
     Ok(())
 }
 
-/// Appends the words with sessions and lines.
-fn put_with(text: &mut Vec<u8>, sessions: &[u8], lines: &[u8]) -> Result<(), AllocError>
-    ensures { OnOk result (text.new.items ≡ text.old.items ++ words_with sessions.now lines.now) }
+/// Appends the words for a venue and more of them.
+fn put_named(
+    alloc: Global,
+    text: &mut Vec<u8>,
+    first: &VenueLines,
+    more: &[VenueLines],
+) -> Result<(), AllocError>
+    ensures { OnOk result (text.new.items
+        ≡ text.old.items ++ named_words first.now more.now) }
 {
     text.extend_from_slice(b"\nsessions at two addresses and ports:\n--sessions=")?;
-    text.extend_from_slice(sessions)?;
+    put_session(text, first)?;
+    put_more_sessions(text, more)?;
     text.extend_from_slice(b" --lines=")?;
-    text.extend_from_slice(lines)?;
+    put_lines(alloc, text, first)?;
+    put_more_lines(alloc, text, more)?;
     text.extend_from_slice(b"\n")
 }
 
-/// Appends the words with these sessions and lines, each after a comma: nothing without one.
-fn put_both(text: &mut Vec<u8>, sessions: &[u8], lines: &[u8]) -> Result<(), AllocError>
-    ensures { OnOk result (text.new.items ≡ text.old.items ++ words_by sessions.now lines.now) }
+/// Appends the words for some venues, or an empty line.
+fn put_words_with(
+    alloc: Global,
+    text: &mut Vec<u8>,
+    venues: &[VenueLines],
+) -> Result<(), AllocError>
+    ensures { OnOk result (text.new.items ≡ text.old.items ++ words_with venues.now) }
 {
-    if sessions.len() == 0 || lines.len() == 0 {
-        return Ok(());
+    match venues {
+        [first, more @ ..] => put_named(alloc, text, first, more),
+        _ => text.extend_from_slice(b"\n"),
     }
-    put_with(text, &sessions[1..], &lines[1..])
 }
 
-/// Appends the words for the venues of which a session came at two addresses and ports.
+/// Appends the session of a venue that is one too many.
+fn put_past_row(text: &mut Vec<u8>, venue: &VenueLines) -> Result<(), AllocError>
+    ensures { OnOk result (text.new.items ≡ text.old.items ++ past_row venue.now) }
+{
+    put_left_row(text, &venue.a.session, "is past the first 16 venues")
+}
+
+/// Appends the sessions of the venues that are too many.
+fn put_past(text: &mut Vec<u8>, venues: &[VenueLines]) -> Result<(), AllocError>
+    ensures { OnOk result (text.new.items ≡ text.old.items ++ flat_map past_row venues.now) }
+{
+    for venue in venues {
+        put_past_row(text, venue)?;
+    }
+    Ok(())
+}
+
+/// Appends the words for the first 16 venues, and before them the sessions of the others.
+fn put_words_by(alloc: Global, text: &mut Vec<u8>, venues: &[VenueLines]) -> Result<(), AllocError>
+    ensures { OnOk result (text.new.items ≡ text.old.items ++ words_by venues.now) }
+{
+    let (named, past) = venues.split_at(MAX_VENUES.min(venues.len()));
+    put_past(text, past)?;
+    put_words_with(alloc, text, named)
+}
+
+/// Appends the sessions that are left out, and the words for the venues.
 pub(crate) fn put_words(
     alloc: Global,
     text: &mut Vec<u8>,
@@ -202,9 +165,7 @@ pub(crate) fn put_words(
 ) -> Result<(), AllocError>
     ensures { OnOk result (text.new.items ≡ text.old.items ++ words_of rows.now) }
 {
-    let mut sessions = Vec::new(alloc);
-    put_sessions(alloc, &mut sessions, rows)?;
-    let mut lines = Vec::new(alloc);
-    put_all_lines(alloc, &mut lines, rows)?;
-    put_both(text, sessions.as_slice(), lines.as_slice())
+    let venues = venues_of(alloc, rows)?;
+    put_left_out(alloc, text, rows)?;
+    put_words_by(alloc, text, venues.as_slice())
 }

@@ -1,6 +1,7 @@
 pub mod CaptureCounts
 pub mod Keeping
 pub mod NamedLines
+pub mod NoPacket
 pub mod PrintedTexts
 pub mod SaidLacks
 pub mod StatsTexts

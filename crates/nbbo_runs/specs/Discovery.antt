@@ -1,5 +1,5 @@
 -- Runs that list the lines of a packet capture.
-use Rattle.std.specs.Prelude.{◌≡◌, ℕ, List, ◌∷◌, length, sum, Result}
+use Rattle.std.specs.Prelude.{◌≡◌, ℕ, zero, suc, List, [], ◌∷◌, ◌++◌, codes, length, Result, Ok, Err}
 use Rattle.std.specs.Result.{result_and}
 use Rattle.clap.specs.Walk.{Text}
 use Rattle.packet_capture.specs.declared.fault.CaptureFault.{CaptureFault}
@@ -8,12 +8,13 @@ use Rattle.feed_text.specs.declared.replay_stop.ReplayStop.{ReplayStop}
 use Rattle.feed_text.specs.Devices.{Reading, Writing}
 use Rattle.feed_text.specs.StandardError.{SaysEach}
 use Rattle.line_captures.specs.Conversions.{AnswersConversion}
+use Rattle.line_captures.specs.DropCounts.{dropped_of}
 use Rattle.line_discovery.specs.declared.survey.LineSurvey.{LineSurvey}
 use Rattle.line_discovery.specs.Surveys.{new_survey, survey_parsing}
 use Rattle.line_discovery.specs.SurveyTexts.{text_of_survey}
 use Rattle.line_discovery.specs.Tables.{up_to_most}
 use Rattle.command_words.specs.CommandLine.{AsksDiscovery}
-use Rattle.nbbo_runs.specs.CaptureTexts.{capture_outcome_texts}
+use Rattle.nbbo_runs.specs.CaptureTexts.{capture_outcome_texts, dropped_texts, lost_texts, other_texts, protocols_texts, second_texts}
 use Rattle.nbbo_runs.specs.Ending.{ending_status}
 use Rattle.nbbo_runs.specs.Hints.{hint_text}
 use Rattle.nbbo_runs.specs.Printing.{PrintsText}
@@ -34,6 +35,31 @@ pub record Discovers {R W : Type 0} (reading : Reading R) (writing : Writing W)
       printed
   pub ends : outcome ≡ result_and printed read
 
+-- that no datagram is a packet, by how many are
+abbrev pub no_packet_texts : ℕ → List (List ℕ)
+no_packet_texts zero = codes "nbbo: no datagram is a MoldUDP64 packet\n" ∷ []
+no_packet_texts (suc more) = []
+
+-- the line of an outcome; of a whole capture, that no datagram is a packet
+abbrev pub survey_outcome_texts : Result (Unit {0}) (ReplayStop CaptureFault) → ℕ → ℕ
+    → List (List ℕ)
+survey_outcome_texts (Ok done) position packets = no_packet_texts packets
+survey_outcome_texts (Err stop) position packets =
+    capture_outcome_texts (Err stop) position packets
+
+-- after a survey: the frames without a datagram by their kinds, those out of time order, those that
+-- were dropped, the outcome, and where a second capture seems to begin
+abbrev pub survey_texts : LineSurvey → Result (Unit {0}) (ReplayStop CaptureFault)
+    → List (List ℕ)
+survey_texts s outcome =
+    let progress = s.counts.progress in
+    protocols_texts progress.counts
+    ++ (lost_texts progress.counts
+    ++ (other_texts progress.counts
+    ++ (dropped_texts (dropped_of progress.drops)
+    ++ (survey_outcome_texts outcome progress.position (up_to_most (length s.counts.lines))
+    ++ second_texts outcome progress.second_start))))
+
 -- The same, of which nothing was read before. Standard error has the hint, and then what is to be
 -- said of the outcome.
 pub record RunsDiscovery {R W E : Type 0} (devices : Devices R W E) (format : StatsFormat)
@@ -44,8 +70,7 @@ pub record RunsDiscovery {R W E : Type 0} (devices : Devices R W E) (format : St
       new_survey finish before.output after.output outcome
   pub says : SaysEach devices.telling
       (hint_text terminals.input
-      ∷ capture_outcome_texts outcome (up_to_most (sum finish.counts.position))
-      (up_to_most (length finish.counts.lines)))
+      ∷ survey_texts finish outcome)
       before.errors after.errors
   pub ends : status ≡ ending_status outcome
 

@@ -56,7 +56,7 @@ fn write_datagrams<E: TextOut>(all: u64, counts: &FrameCounts, errors: &mut E)
 }
 
 /// Writes how many frames carry another protocol.
-fn write_protocols<E: TextOut>(counts: &FrameCounts, errors: &mut E)
+pub(crate) fn write_protocols<E: TextOut>(counts: &FrameCounts, errors: &mut E)
     ensures { SaysEach (record { adds = E.adds; failures = E.failures })
         (protocols_texts counts.now) errors.old errors.new }
 {
@@ -73,7 +73,7 @@ fn write_protocols<E: TextOut>(counts: &FrameCounts, errors: &mut E)
 }
 
 /// Writes what a line may have lost.
-fn write_lost<E: TextOut>(counts: &FrameCounts, errors: &mut E)
+pub(crate) fn write_lost<E: TextOut>(counts: &FrameCounts, errors: &mut E)
     ensures { SaysEach (record { adds = E.adds; failures = E.failures })
         (lost_texts counts.now) errors.old errors.new }
 {
@@ -87,7 +87,7 @@ fn write_lost<E: TextOut>(counts: &FrameCounts, errors: &mut E)
 }
 
 /// Writes what else is to be known of the frames.
-fn write_other<E: TextOut>(counts: &FrameCounts, errors: &mut E)
+pub(crate) fn write_other<E: TextOut>(counts: &FrameCounts, errors: &mut E)
     ensures { SaysEach (record { adds = E.adds; failures = E.failures })
         (other_texts counts.now) errors.old errors.new }
 {

@@ -1,7 +1,11 @@
 //! Runs that list the lines of a packet capture.
-ghost use Rattle.nbbo_runs.specs.Discovery.{Discovers, RunsDiscovery};
+ghost use Rattle.std.specs.Prelude.{codes};
+ghost use Rattle.feed_text.specs.StandardError.{SaysEach};
+ghost use Rattle.nbbo_runs.specs.Discovery.{Discovers, RunsDiscovery, no_packet_texts, survey_outcome_texts, survey_texts};
 
-use crate::capture_report::write_outcome;
+use crate::capture_report::{
+    write_dropped, write_lost, write_other, write_outcome, write_protocols, write_second,
+};
 use crate::config::MAX_TURNS;
 use crate::ending::status_of;
 use crate::hints::input_hint;
@@ -36,6 +40,42 @@ fn discover<R: CaptureIn, W: TextOut>(
     printed.and(read)
 }
 
+/// Writes that no datagram is a packet, where none is.
+fn write_no_packet<E: TextOut>(packets: u64, errors: &mut E)
+    ensures { SaysEach (record { adds = E.adds; failures = E.failures })
+        (no_packet_texts packets) errors.old errors.new }
+{
+    if packets != 0 {
+        return;
+    }
+    write_stderr("nbbo: no datagram is a MoldUDP64 packet\n", errors);
+}
+
+/// Writes the line of an outcome, if it has one.
+fn write_survey_outcome<E: TextOut>(outcome: &Outcome, position: u64, packets: u64, errors: &mut E)
+    ensures { SaysEach (record { adds = E.adds; failures = E.failures })
+        (survey_outcome_texts outcome.now position packets) errors.old errors.new }
+{
+    match outcome {
+        Ok(()) => write_no_packet(packets, errors),
+        Err(_) => write_outcome(outcome, position, packets, errors),
+    }
+}
+
+/// Writes what there is to say of a capture that was surveyed.
+fn write_survey<E: TextOut>(survey: &LineSurvey, outcome: &Outcome, errors: &mut E)
+    ensures { SaysEach (record { adds = E.adds; failures = E.failures })
+        (survey_texts survey.now outcome.now) errors.old errors.new }
+{
+    let frames = survey.frames();
+    write_protocols(&frames, errors);
+    write_lost(&frames, errors);
+    write_other(&frames, errors);
+    write_dropped(&survey.dropped(), errors);
+    write_survey_outcome(outcome, survey.position(), survey.packets(), errors);
+    write_second(outcome, survey.second_start(), errors);
+}
+
 /// Lists the lines of the packet capture that the input is, on the output. Returns the status of
 /// the program.
 pub fn run_discovery<R: CaptureIn, W: TextOut, E: TextOut>(
@@ -68,6 +108,6 @@ pub fn run_discovery<R: CaptureIn, W: TextOut, E: TextOut>(
         return status_of(&outcome);
     };
     let outcome = discover(alloc, format, &mut survey, input, output);
-    write_outcome(&outcome, survey.position(), survey.packets(), errors);
+    write_survey(&survey, &outcome, errors);
     status_of(&outcome)
 }

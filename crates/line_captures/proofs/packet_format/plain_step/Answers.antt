@@ -4,7 +4,8 @@ use Rattle.packet_capture.specs.Frames.{frame_of}
 use Rattle.feed_text.specs.Capture.{record_of}
 use Rattle.line_captures.specs.declared.progress.Progress.{Progress}
 use Rattle.line_captures.specs.PacketFormats.{record_on_line}
-use Rattle.line_captures.proofs.Packets.{counts_frame, none_timed, one_timed, record_ok}
+use Rattle.line_captures.specs.CountLaws.{counts_frame}
+use Rattle.line_captures.proofs.Packets.{none_timed, one_timed, record_ok}
 use Rattle.line_captures.proofs.packet_format.plain_step.Goals as goal
 
 pub returns-in-Some-clause-step : goal.returns-in-Some-clause-step

@@ -1,13 +1,13 @@
 use Rattle.std.proofs.Common.{ℕ, List, Option, Some, [], ◌∷◌, ◌++◌, ap, ◌∙◌, codes}
 use Rattle.line_discovery.specs.SurveyTexts.{cells_text, high_of, low_of, other_key}
-use Rattle.line_discovery.specs.Tables.{packets_at}
+use Rattle.line_discovery.specs.Tables.{packets_at, rows_of}
 use Rattle.line_discovery.proofs.Putting.{put_last, put_two}
 use Rattle.line_discovery.proofs.json.put_members.Goals as goal
 
 pub returns : goal.returns
 returns c =
     let row = c.args.row.now in
-    let others = c.args.others.now in
+    let others = rows_of c.args.others.now in
     let old = c.args.text.now.items in
     let mid = c.put_cells.new.text.items in
     let end = c.extend_from_slice.new.self.items in
@@ -28,12 +28,12 @@ returns c =
     let n = packets_at others (other_key row.key) in
     let x = low_of row.times in
     let y = high_of row.times in
-    let count = c.packets_at.ensures ∙ ap (packets_at others) c.other_key.ensures in
+    let count = c.packets_of.ensures ∙ ap (packets_at others) c.other_key.ensures in
     put_two r old mid end (Cells a b n x y) (codes "}\n")
     (c.in_ok-put_cells.ensures
-    ∙ ap (λ (v : Option ℕ). old ++ Cells v c.high_of.result c.packets_at.result c.low_of-2.result
+    ∙ ap (λ (v : Option ℕ). old ++ Cells v c.high_of.result c.packets_of.result c.low_of-2.result
     c.high_of-2.result) c.low_of.ensures
-    ∙ ap (λ (v : Option ℕ). old ++ Cells a v c.packets_at.result c.low_of-2.result
+    ∙ ap (λ (v : Option ℕ). old ++ Cells a v c.packets_of.result c.low_of-2.result
     c.high_of-2.result) c.high_of.ensures
     ∙ ap (λ (m : ℕ). old ++ Cells a b m c.low_of-2.result c.high_of-2.result) count
     ∙ ap (λ (v : Option ℕ). old ++ Cells a b n v c.high_of-2.result) c.low_of-2.ensures

@@ -1,11 +1,9 @@
-use Rattle.std.proofs.Common.{List, ℕ, Err, length, refl, subst}
+use Rattle.std.proofs.Common.{List, ℕ, Err, refl, subst}
 use Rattle.feed_text.specs.declared.replay_stop.ReplayStop.TheVariants.{NoMemory}
 use Rattle.feed_text.specs.Devices.{Reading, Writing}
-use Rattle.feed_text.specs.StandardError.{Says, SaysEach}
+use Rattle.feed_text.specs.StandardError.{Says}
 use Rattle.line_discovery.specs.declared.survey.LineSurvey.{LineSurvey}
 use Rattle.line_discovery.specs.Surveys.{new_survey}
-use Rattle.line_discovery.specs.Tables.{up_to_most}
-use Rattle.nbbo_runs.specs.CaptureTexts.{capture_outcome_texts}
 use Rattle.nbbo_runs.specs.Discovery.{Discovers}
 use Rattle.nbbo_runs.proofs.discovery.run_discovery.Goals as goal
 
@@ -48,8 +46,6 @@ returns g c =
     let finish = c.discover-outcome.new.survey in
     let outcome = c.discover-outcome.result in
     let hinted = c.write_stderr.new.errors in
-    let told = c.write_outcome-2.new.errors in
-    let lines = up_to_most (length finish.counts.lines) in
     record {
       finish = finish;
       outcome = outcome;
@@ -61,11 +57,7 @@ returns g c =
         hinted,
         subst (λ (text : List ℕ). Says telling text c.args.errors.now hinted)
             c.input_hint.ensures c.write_stderr.ensures,
-        subst (λ (n : ℕ). SaysEach telling (capture_outcome_texts outcome n lines) hinted told)
-            c.position.ensures
-            (subst (λ (n : ℕ). SaysEach telling
-            (capture_outcome_texts outcome c.position.result n) hinted told)
-            c.packets.ensures c.write_outcome-2.ensures),
+        c.write_survey.ensures,
       );
       ends = c.status_of-2.ensures;
     }

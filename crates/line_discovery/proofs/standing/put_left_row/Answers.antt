@@ -1,6 +1,6 @@
-use Rattle.std.proofs.Common.{codes}
+use Rattle.std.proofs.Common.{ℕ, List, ◌++◌, ap, ◌∙◌, codes}
 use Rattle.line_discovery.proofs.Putting.{put_last, put_two}
-use Rattle.line_discovery.proofs.words.put_with.Goals as goal
+use Rattle.line_discovery.proofs.standing.put_left_row.Goals as goal
 
 pub returns : goal.returns
 returns c =
@@ -11,7 +11,11 @@ returns c =
     let three = c.extend_from_slice-3.new.self.items in
     let four = c.extend_from_slice-4.new.self.items in
     put_two r c.args.text.now.items one new _ _ c.in_ok-extend_from_slice.ensures.items
-    (put_two r one two new _ _ c.in_ok-extend_from_slice-2.ensures.items
+    (put_two r one two new _ _
+    (c.in_ok-extend_from_slice-2.ensures.items
+    ∙ ap (λ (t : List ℕ). one ++ t) c.session_name.ensures)
     (put_two r two three new _ _ c.in_ok-extend_from_slice-3.ensures.items
-    (put_two r three four new _ _ c.in_ok-extend_from_slice-4.ensures.items
+    (put_two r three four new _ _
+    (c.in_ok-extend_from_slice-4.ensures.items
+    ∙ ap (λ (t : List ℕ). three ++ t) c.as_bytes.ensures.value)
     (put_last r four new (codes "\n") c.extend_from_slice-5.ensures.items))))

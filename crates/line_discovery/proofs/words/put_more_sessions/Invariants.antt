@@ -1,0 +1,7 @@
+use Rattle.std.proofs.Common.{◌≡◌, ◌++◌, take}
+use Rattle.line_discovery.specs.LineWords.{more_sessions}
+use Rattle.line_discovery.proofs.words.put_more_sessions.Given as goal
+
+abbrev pub invariant-loop-venue : goal.invariant-loop-venue
+invariant-loop-venue l = l.text.items ≡ l.fn.text.items
+    ++ more_sessions (take l.venue-index l.venues)

@@ -1,7 +1,0 @@
-use Rattle.std.proofs.Common.{◌≡◌, ◌++◌, flat_map, take}
-use Rattle.line_discovery.specs.LineWords.{session_word_of}
-use Rattle.line_discovery.proofs.words.put_sessions.Given as goal
-
-abbrev pub invariant-loop-row : goal.invariant-loop-row
-invariant-loop-row l = l.text.items ≡ l.fn.text.items
-    ++ flat_map (session_word_of l.rows) (take l.row-index l.rows)
