@@ -6,7 +6,7 @@ use Rattle.line_discovery.specs.declared.line_row.LineRow.{LineRow}
 use Rattle.line_discovery.specs.declared.standing.Standing.{Standing}
 use Rattle.line_discovery.specs.declared.standing.Standing.TheVariants.{Venue}
 use Rattle.line_discovery.specs.declared.words.VenueLines.{VenueLines}
-use Rattle.line_discovery.specs.Places.{is_before, place_text, session_name}
+use Rattle.line_discovery.specs.Places.{is_lower_place, place_text, session_name}
 use Rattle.line_discovery.specs.SessionWords.{session_word}
 use Rattle.line_discovery.specs.Standings.{left_of, left_row, standing_of}
 
@@ -15,18 +15,18 @@ use Rattle.line_discovery.specs.Standings.{left_of, left_row, standing_of}
 -- two lines, by address and port, whichever came first
 abbrev pub pair_of : LineKey → LineKey → VenueLines
 pair_of one other =
-    if is_before one other then record { a = one; b = other } else record { a = other; b = one }
+    if is_lower_place one other then record { a = one; b = other } else record { a = other; b = one }
 
 abbrev pub venue_by : LineRow → Standing → List VenueLines
 venue_by row (Venue other) = pair_of row.key other.key ∷ []
 venue_by row _ = []
 
-abbrev pub venue_of : List LineRow → LineRow → List VenueLines
-venue_of rows row = venue_by row (standing_of rows row)
+abbrev pub venue_found : List LineRow → LineRow → List VenueLines
+venue_found rows row = venue_by row (standing_of rows row)
 
 -- the venues, by when their sessions first came
 abbrev pub venues_of : List LineRow → List VenueLines
-venues_of rows = flat_map (venue_of rows) rows
+venues_of rows = flat_map (venue_found rows) rows
 
 -- ---- words
 

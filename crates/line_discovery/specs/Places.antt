@@ -29,7 +29,7 @@ is_lower_address (V6 a) (V4 b) = false
 is_lower_address (V6 a) (V6 b) = nat_lt (from_be_bytes w128 a) (from_be_bytes w128 b)
 
 -- a line comes before another by its address, and at the same one by its port
-abbrev pub is_before : LineKey → LineKey → Bool
-is_before a b =
+abbrev pub is_lower_place : LineKey → LineKey → Bool
+is_lower_place a b =
     is_lower_address a.address b.address
     || (not (is_lower_address b.address a.address) && nat_lt a.port b.port)

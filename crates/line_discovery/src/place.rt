@@ -1,6 +1,6 @@
 //! Addresses as texts, and their order.
 ghost use Rattle.std.specs.Prelude.{◌≡◌, IfOk, string_bytes};
-ghost use Rattle.line_discovery.specs.Places.{is_before, is_lower_address, place_text};
+ghost use Rattle.line_discovery.specs.Places.{is_lower_place, is_lower_address, place_text};
 
 use crate::line_key::LineKey;
 use packet_capture::Address;
@@ -39,8 +39,8 @@ fn is_lower_address(one: &Address, other: &Address) -> bool
 }
 
 /// Returns whether a line comes before another by its address, and at the same one by its port.
-pub(crate) fn is_before(one: &LineKey, other: &LineKey) -> bool
-    ensures { result ≡ is_before one.now other.now }
+pub(crate) fn is_lower_place(one: &LineKey, other: &LineKey) -> bool
+    ensures { result ≡ is_lower_place one.now other.now }
 {
     is_lower_address(&one.address, &other.address)
         || (!is_lower_address(&other.address, &one.address) && one.port < other.port)

@@ -4,7 +4,7 @@ ghost use Rattle.line_discovery.specs.LineWords.{lines_of, more_lines, more_sess
 
 use crate::line_key::LineKey;
 use crate::line_row::LineRow;
-use crate::place::{is_before, place_text};
+use crate::place::{is_lower_place, place_text};
 use crate::session_word::put_session_word;
 use crate::standing::{Standing, put_left_out, put_left_row, standing_of};
 use crate::text::session_name;
@@ -22,7 +22,7 @@ pub(crate) struct VenueLines {
 fn pair_of(one: &LineKey, other: &LineKey) -> VenueLines
     ensures { result ≡ pair_of one.now other.now }
 {
-    if is_before(one, other) {
+    if is_lower_place(one, other) {
         return VenueLines { a: *one, b: *other };
     }
     VenueLines { a: *other, b: *one }
