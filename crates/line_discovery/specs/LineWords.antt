@@ -15,7 +15,8 @@ use Rattle.line_discovery.specs.Standings.{left_of, left_row, standing_of}
 -- two lines, by address and port, whichever came first
 abbrev pub pair_of : LineKey → LineKey → VenueLines
 pair_of one other =
-    if is_lower_place one other then record { a = one; b = other } else record { a = other; b = one }
+    if is_lower_place one other
+    then record { a = one; b = other } else record { a = other; b = one }
 
 abbrev pub venue_by : LineRow → Standing → List VenueLines
 venue_by row (Venue other) = pair_of row.key other.key ∷ []
