@@ -1,7 +1,11 @@
-pub mod Asking
+pub mod CapturedLists
 mod Listing
 mod Naming
-mod Spelling
-pub mod CapturedLists
+pub mod OptionReading
+pub mod OptionTables
 pub mod PeriodReading
+pub mod Refusing
+mod Spelling
+pub mod Subcommands
 pub mod TimeReading
+pub mod Windows

@@ -1,5 +1,5 @@
 -- The symbols that words name.
-use Rattle.std.proofs.Common.{◌≡◌, ◌<◌, ◌≤◌, ℕ, ◌∙◌, sym, subst, List, length, map, true, false, arith}
+use Rattle.std.proofs.Common.{Err, ◌≡◌, ◌<◌, ◌≤◌, ℕ, ◌∙◌, sym, subst, List, length, map, true, false, arith}
 use Rattle.std.specs.Borrow.{Bor}
 use Rattle.std.specs.List.{IsDistinct, list_all}
 use Rattle.std.specs.Str.{bytes_eq}
@@ -7,8 +7,8 @@ use Rattle.std.proofs.lemmas.List.{length-map}
 use Rattle.std.proofs.lemmas.List.Folds.{list_all-map}
 use Rattle.std.proofs.lemmas.Simd.{map-map}
 use Rattle.feed_types.specs.Symbols.{filled, is_symbol_name}
-use Rattle.command_words.specs.Symbols.{HasSymbolsFault, NameSymbols, named_symbols}
-use Rattle.command_words.specs.declared.symbols.SymbolsFault.TheVariants.{BadSymbol, TooManySymbols, DuplicateSymbol}
+use Rattle.command_words.specs.Symbols.{NameSymbols, NamesSymbols, named_symbols}
+use Rattle.command_words.specs.declared.refusal.Refusal.TheVariants.{BadSymbol, TooManySymbols, DuplicateSymbol}
 
 -- the texts of references
 abbrev pub texts : List (Bor (List ℕ)) → List (List ℕ)
@@ -33,11 +33,11 @@ symbols_named words symbols names few e distinct = record {
 }
 
 pub one_is_bad : (words : List (Bor (List ℕ))) → list_all (λ word. is_symbol_name word.now)
-    words ≡ false → HasSymbolsFault (texts words) BadSymbol
+    words ≡ false → NamesSymbols (texts words) (Err BadSymbol)
 one_is_bad words bad = list_all-map is_symbol_name (λ word. word.now) words ∙ bad
 
 pub are_too_many : (words : List (Bor (List ℕ))) → list_all (λ word. is_symbol_name word.now)
-    words ≡ true → 4096 < length words → HasSymbolsFault (texts words) TooManySymbols
+    words ≡ true → 4096 < length words → NamesSymbols (texts words) (Err TooManySymbols)
 are_too_many words names many = (
   list_all-map is_symbol_name (λ word. word.now) words ∙ names,
   omega (arith, many, length-map words (λ word. word.now)),
@@ -46,7 +46,7 @@ are_too_many words names many = (
 pub one_is_twice : (words : List (Bor (List ℕ))) (symbols : List (List ℕ))
     → list_all (λ word. is_symbol_name word.now) words ≡ true → length words ≤ 4096
     → AreNamed words symbols → (IsDistinct bytes_eq symbols → ⊥)
-    → HasSymbolsFault (texts words) DuplicateSymbol
+    → NamesSymbols (texts words) (Err DuplicateSymbol)
 one_is_twice words symbols names few e twice = (
   list_all-map is_symbol_name (λ word. word.now) words ∙ names,
   omega (arith, few, length-map words (λ word. word.now)),

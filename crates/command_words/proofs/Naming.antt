@@ -8,7 +8,7 @@ use Rattle.std.proofs.lemmas.Bool.{le-leb, lt-leb}
 use Rattle.std.proofs.lemmas.List.Folds.{list_all-map}
 use Rattle.std.proofs.lemmas.Simd.{map-map}
 use Rattle.command_words.specs.Sessions.{names_in, is_session_name, filled_name, sessions_in}
-use Rattle.command_words.specs.declared.sessions.SessionsFault.TheVariants.{BadSession, TooManySessions}
+use Rattle.command_words.specs.declared.refusal.Refusal.TheVariants.{BadSession, TooManySessions}
 
 -- the texts of these references are the names of the list
 abbrev pub AreNamesOf : List (Bor (List ℕ)) → List ℕ → Type 0

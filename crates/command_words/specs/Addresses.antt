@@ -1,15 +1,16 @@
 -- The addresses on the command line, this project's own format: an address is an IP address and a
 -- port, as std reads it (1.2.3.4:5, or [::1]:5). The list of lines has two for each venue,
 -- separated by commas: line A's and then line B's.
-use Rattle.std.specs.Prelude.{◌≡◌, ◌≢◌, ◌⊎◌, ℕ, ◌*◌, List, [], ◌∷◌, Option, Some, None, length}
+use Rattle.std.specs.Prelude.{◌≡◌, ◌≢◌, ℕ, ◌*◌, List, [], ◌∷◌, Option, Result, length}
 use Rattle.std.specs.List.{All}
 use Rattle.std.specs.Net.Addr.{IsUnspecifiedV4, IsUnspecifiedV6, MatchIp, is_ipv4}
 use Rattle.std.specs.Net.Grammar.{IsSocketText}
 use Rattle.std.specs.Net.Socket.{socket_ip, socket_port}
 use Rattle.std.specs.declared.net.socket_addr.SocketAddr.{SocketAddr}
+use Rattle.command_words.specs.Readings.{Finds, IfGiven, Only, OrNoMemory, Then}
 use Rattle.command_words.specs.Sessions.{names_in}
-use Rattle.command_words.specs.declared.addresses.LinesFault.{LinesFault}
-use Rattle.command_words.specs.declared.addresses.LinesFault.TheVariants.{BadLines, NoMemory}
+use Rattle.command_words.specs.declared.refusal.Refusal.{Refusal}
+use Rattle.command_words.specs.declared.refusal.Refusal.TheVariants.{BadLines, BadMetrics, BadRequest}
 
 -- the texts spell these things, one by one
 abbrev pub AreSpelled : {X : Type 0} → (List ℕ → X → Type 0) → List (List ℕ) → List X → Type 0
@@ -23,10 +24,8 @@ pub record NameLines (list : List ℕ) (venues : ℕ) (lines : List SocketAddr) 
   pub spelled : AreSpelled IsSocketText (names_in list) lines
   pub two_each : length lines ≡ 2 * venues
 
--- Why a list names no lines. Memory may be refused at any time.
-abbrev pub HasLinesFault : List ℕ → ℕ → LinesFault → Type 0
-HasLinesFault list venues BadLines = (lines : List SocketAddr) → NameLines list venues lines → ⊥
-HasLinesFault list venues NoMemory = Unit {0}
+abbrev pub ReadsLines : List ℕ → (venues : ℕ) → Result (List SocketAddr) Refusal → Type 0
+ReadsLines list venues = OrNoMemory (Finds (NameLines list venues) BadLines)
 
 -- `0.0.0.0` or `::`, which is the address of no machine
 abbrev pub IsUnspecified : SocketAddr → Type 0
@@ -40,27 +39,16 @@ IsAskable lines address =
     × All (λ line. is_ipv4 (socket_ip line) ≡ is_ipv4 (socket_ip address)) lines
 
 -- the address at which metrics are served, if there is one
-abbrev pub NamesMetrics : Option (List ℕ) → Option SocketAddr → Type 0
-NamesMetrics None None = Unit {0}
-NamesMetrics None (Some address) = ⊥
-NamesMetrics (Some text) None = ⊥
-NamesMetrics (Some text) (Some address) = IsSocketText text address
+abbrev pub ReadsMetrics : Option (List ℕ) → Result (Option SocketAddr) Refusal → Type 0
+ReadsMetrics = IfGiven (λ text. Finds (IsSocketText text) BadMetrics)
 
--- the text that is given for it is no address
-abbrev pub NamesNoMetrics : Option (List ℕ) → Type 0
-NamesNoMetrics None = ⊥
-NamesNoMetrics (Some text) = (address : SocketAddr) → IsSocketText text address → ⊥
+-- an address to which the lines' requests can be sent
+abbrev pub ReadsAskable : List SocketAddr → List ℕ → Result SocketAddr Refusal → Type 0
+ReadsAskable lines text =
+    Then (Finds (IsSocketText text) BadRequest)
+    (λ address. Only (IsAskable lines address) BadRequest address)
 
 -- the address to which these lines' requests go, if there is one
-abbrev pub NamesRequest : List SocketAddr → Option (List ℕ) → Option SocketAddr → Type 0
-NamesRequest lines None None = Unit {0}
-NamesRequest lines None (Some address) = ⊥
-NamesRequest lines (Some text) None = ⊥
-NamesRequest lines (Some text) (Some address) = IsSocketText text address × IsAskable lines address
-
--- the text that is given for it is no address, or one to which no request can be sent
-abbrev pub NamesNoRequest : List SocketAddr → Option (List ℕ) → Type 0
-NamesNoRequest lines None = ⊥
-NamesNoRequest lines (Some text) =
-    ((address : SocketAddr) → IsSocketText text address → ⊥)
-    ⊎ ((address : SocketAddr) × IsSocketText text address × (IsAskable lines address → ⊥))
+abbrev pub ReadsRequest : List SocketAddr → Option (List ℕ)
+    → Result (Option SocketAddr) Refusal → Type 0
+ReadsRequest lines = IfGiven (ReadsAskable lines)

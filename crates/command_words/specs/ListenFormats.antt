@@ -1,48 +1,28 @@
 -- The form of the best lines of a run that listens.
-use Rattle.std.specs.Prelude.{◌≡◌, ◌⊎◌, Bool, true, false, List, ℕ, Option, Some, None}
-use Rattle.command_words.specs.BestFormats.{format_named}
-use Rattle.command_words.specs.TimeStyles.{best_format_in, time_style_named}
-use Rattle.command_words.specs.declared.listen_format.ListenFormatFault.{ListenFormatFault}
-use Rattle.command_words.specs.declared.listen_format.ListenFormatFault.TheVariants.{BadFormat, FormatUnfollowed, BadStyle, TimesWithoutCsv}
+use Rattle.std.specs.Prelude.{ℕ, Bool, true, false, List, Option, Some, None, Result, Ok, Err}
+use Rattle.std.specs.Option.{ok_or}
 use Rattle.run_settings.specs.declared.formats.BestFormat.{BestFormat}
 use Rattle.run_settings.specs.declared.formats.BestFormat.TheVariants.{Text}
-use Rattle.run_settings.specs.declared.formats.TimeStyle.{TimeStyle}
+use Rattle.command_words.specs.BestFormats.{format_named}
+use Rattle.command_words.specs.Readings.{and_then}
+use Rattle.command_words.specs.TimeStyles.{best_format_in, time_style_named}
+use Rattle.command_words.specs.declared.refusal.Refusal.{Refusal}
+use Rattle.command_words.specs.declared.refusal.Refusal.TheVariants.{BadFormat, BadTimeStyle, FormatUnfollowed, TimesWithoutCsv}
 
--- Best lines that are printed as they come are in the format that is named, and others, and those
--- for which none is named, are text.
-abbrev pub NamesListenName : (follow : Bool) → Option (List ℕ) → BestFormat → Type 0
-NamesListenName follow None format = format ≡ Text
-NamesListenName false (Some name) format = ⊥
-NamesListenName true (Some name) format = format_named name ≡ Some format
+-- Best lines are text where no format is named, and one may be named only where they are printed as
+-- they come.
+abbrev pub listen_name_in : (follow : Bool) → Option (List ℕ) → Result BestFormat Refusal
+listen_name_in follow None = Ok Text
+listen_name_in false (Some name) = Err FormatUnfollowed
+listen_name_in true (Some name) = ok_or (format_named name) BadFormat
 
--- Their times are in the style that is named, if one is.
-abbrev pub NamesListenFormat : (follow : Bool) → (name times : Option (List ℕ)) → BestFormat
-    → Type 0
-NamesListenFormat follow name None format = NamesListenName follow name format
-NamesListenFormat follow name (Some times) format =
-    (plain : BestFormat) × NamesListenName follow name plain
-    × (style : TimeStyle) × (time_style_named times ≡ Some style)
-    × (best_format_in style plain ≡ Some format)
+-- the format with its times in the style that is named, if one is
+abbrev pub listen_style_in : (times : Option (List ℕ)) → BestFormat → Result BestFormat Refusal
+listen_style_in None plain = Ok plain
+listen_style_in (Some times) plain =
+    and_then (ok_or (time_style_named times) BadTimeStyle)
+    (λ style. ok_or (best_format_in style plain) TimesWithoutCsv)
 
--- A format is named where best lines aren't printed as they come, or one that there isn't.
-abbrev pub HasListenNameFault : (follow : Bool) → Option (List ℕ) → ListenFormatFault → Type 0
-HasListenNameFault follow None fault = ⊥
-HasListenNameFault false (Some name) fault = fault ≡ FormatUnfollowed
-HasListenNameFault true (Some name) fault = (format_named name ≡ None) × (fault ≡ BadFormat)
-
--- The format is one, and a style is named that there isn't, or where it isn't csv.
-abbrev pub HasListenStyleFault : (follow : Bool) → (name times : Option (List ℕ))
-    → ListenFormatFault → Type 0
-HasListenStyleFault follow name (Some times) BadStyle =
-    (plain : BestFormat) × NamesListenName follow name plain × (time_style_named times ≡ None)
-HasListenStyleFault follow name (Some times) TimesWithoutCsv =
-    (plain : BestFormat) × NamesListenName follow name plain
-    × (style : TimeStyle) × (time_style_named times ≡ Some style)
-    × (best_format_in style plain ≡ None)
-HasListenStyleFault follow name times _ = ⊥
-
--- The format is looked at first.
-abbrev pub HasListenFormatFault : (follow : Bool) → (name times : Option (List ℕ))
-    → ListenFormatFault → Type 0
-HasListenFormatFault follow name times fault =
-    HasListenNameFault follow name fault ⊎ HasListenStyleFault follow name times fault
+abbrev pub listen_format_in : (follow : Bool) → (name times : Option (List ℕ))
+    → Result BestFormat Refusal
+listen_format_in follow name times = and_then (listen_name_in follow name) (listen_style_in times)

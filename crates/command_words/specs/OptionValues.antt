@@ -1,13 +1,16 @@
 -- The values of options, in the rows in which the crate clap tells them: lists, numbers and flags.
-use Rattle.std.specs.Prelude.{◌≡◌, ◌≤◌, [], ℕ, List, Bool, true, false, Option, Some, None, codes, if◌then◌else◌, unwrap_or}
+use Rattle.std.specs.Prelude.{ℕ, ◌<◌, ◌^◌, ◌&&◌, nat_lt, nat_le, [], List, Bool, false, Option, Some, None, codes, length, if◌then◌else◌, option_and_then, unwrap_or}
+use Rattle.std.specs.Char.{digit_value}
+use Rattle.std.specs.List.{list_all}
+use Rattle.std.specs.Option.{option_map_or}
 use Rattle.std.specs.Str.{bytes_eq}
-use Rattle.std.specs.Str.Parse.{IsNumeral, digits_value, without_leading_plus}
+use Rattle.std.specs.Str.Parse.{digits_value, without_leading_plus}
 use Rattle.clap.specs.Walk.{Row, Text, all_of, first_of}
 
 -- the values of the options of this command, where that is the subcommand
-abbrev pub rows_of_command : (command : Text) → Option (Text × List Row) → List Row
-rows_of_command command None = []
-rows_of_command command (Some (name, rows)) = if bytes_eq name command then rows else []
+abbrev pub rows_of_command : (command : Text) → Option (Text × List Row) → Option (List Row)
+rows_of_command command None = None
+rows_of_command command (Some (name, rows)) = if bytes_eq name command then Some rows else None
 
 -- the list of sessions, empty where none is given
 abbrev pub list_in : List Row → Text
@@ -21,30 +24,27 @@ lines_in rows = unwrap_or (first_of (codes "lines") rows) []
 abbrev pub symbol_words_in : List Row → List Text
 symbol_words_in rows = unwrap_or (all_of (codes "symbols") rows) []
 
--- the window that a text gives: its number, where that is one from 1 to 65535
-abbrev pub IsWindowOf : Option Text → ℕ → Type 0
-IsWindowOf None window = window ≡ 4096
-IsWindowOf (Some text) window =
-    let number = digits_value 10 (without_leading_plus text) in
-    IsNumeral 10 (without_leading_plus text) → 1 ≤ number → number ≤ 65535 → window ≡ number
+-- decimal digits, one or more
+abbrev pub is_numeral : Text → Bool
+is_numeral digits = nat_lt 0 (length digits) && list_all (λ c. nat_lt (digit_value c) 10) digits
 
--- the count that a text gives: its number, where that is one up to 4294967295; without a text it is
--- `usual`
-abbrev pub IsCount : (usual : ℕ) → Option Text → ℕ → Type 0
-IsCount usual None count = count ≡ usual
-IsCount usual (Some text) count =
-    let number = digits_value 10 (without_leading_plus text) in
-    IsNumeral 10 (without_leading_plus text) → number ≤ 4294967295 → count ≡ number
+-- the number that digits spell, if it has 32 bits
+abbrev pub number_of_digits : Text → Option ℕ
+number_of_digits digits =
+    if is_numeral digits && nat_lt (digits_value 10 digits) (2 ^ 32)
+    then Some (digits_value 10 digits) else None
 
--- the number that a text gives, where there is one: the number that it is, up to 4294967295
-abbrev pub IsGivenCount : Option Text → Option ℕ → Type 0
-IsGivenCount None count = count ≡ None
-IsGivenCount (Some text) count =
-    let number = digits_value 10 (without_leading_plus text) in
-    IsNumeral 10 (without_leading_plus text) → number ≤ 4294967295 → count ≡ Some number
+-- the number that a text spells, with a plus before it or without one
+abbrev pub number_given : Option Text → Option ℕ
+number_given text = option_and_then (λ t. number_of_digits (without_leading_plus t)) text
 
--- a flag that is given has the value true, and one that isn't has the value false
-pub record IsFlag (text : Option Text) (flag : Bool) : Type 0 where
-  pub given : text ≡ Some (codes "true") → flag ≡ true
-  pub absent : text ≡ Some (codes "false") → flag ≡ false
-  pub unknown : text ≡ None → flag ≡ false
+-- the window that a text gives, from 1 to 65535, by default 4096
+abbrev pub in_window : ℕ → ℕ
+in_window number = if nat_le 1 number && nat_le number 65535 then number else 4096
+
+abbrev pub window_in : Option Text → ℕ
+window_in text = option_map_or in_window (number_given text) 4096
+
+-- a flag that is given has the value true
+abbrev pub is_flag_set : Option Text → Bool
+is_flag_set text = option_map_or (λ t. bytes_eq t (codes "true")) text false

@@ -1,6 +1,6 @@
 -- The list of senders on the command line: a sender is an IP address, or one with a port, as std
 -- reads them, and commas stand between senders.
-use Rattle.std.specs.Prelude.{◌≡◌, ℕ, List, Option, Some, None}
+use Rattle.std.specs.Prelude.{◌≡◌, ◌⊎◌, ℕ, List, Option, Some, None, Result, Ok, Err}
 use Rattle.std.specs.Net.Grammar.{IsIpText, IsSocketText}
 use Rattle.std.specs.Net.Socket.{socket_ip, socket_port}
 use Rattle.std.specs.declared.net.ip_addr.IpAddr.{IpAddr}
@@ -10,8 +10,8 @@ use Rattle.run_settings.specs.declared.sender.Senders.{Senders}
 use Rattle.run_settings.specs.declared.sender.Senders.TheVariants.{Any, These}
 use Rattle.command_words.specs.Addresses.{AreSpelled}
 use Rattle.command_words.specs.Sessions.{names_in}
-use Rattle.command_words.specs.declared.sender_list.SendersFault.{SendersFault}
-use Rattle.command_words.specs.declared.sender_list.SendersFault.TheVariants.{BadSender, NoMemory}
+use Rattle.command_words.specs.declared.refusal.Refusal.{Refusal}
+use Rattle.command_words.specs.declared.refusal.Refusal.TheVariants.{BadSender, NoMemory}
 
 -- the text spells this address and port
 pub record SpellsPort (text : List ℕ) (address : IpAddr) (port : ℕ) : Type 0 where
@@ -36,9 +36,13 @@ NameSenders (Some list) Any = ⊥
 NameSenders (Some list) (These senders) =
     AreSpelled IsSenderText (names_in list) senders.items
 
--- Why a list names no senders. Memory may be refused at any time.
-abbrev pub HasSendersFault : Option (List ℕ) → SendersFault → Type 0
-HasSendersFault None fault = ⊥
-HasSendersFault (Some list) BadSender =
+-- the list names no senders
+abbrev pub NamesNoSenders : Option (List ℕ) → Type 0
+NamesNoSenders None = ⊥
+NamesNoSenders (Some list) =
     (senders : List Sender) → AreSpelled IsSenderText (names_in list) senders → ⊥
-HasSendersFault (Some list) NoMemory = Unit {0}
+
+abbrev pub ReadsSenders : Option (List ℕ) → Result Senders Refusal → Type 0
+ReadsSenders list (Ok senders) = NameSenders list senders
+ReadsSenders list (Err refusal) =
+    (refusal ≡ NoMemory) ⊎ ((refusal ≡ BadSender) × NamesNoSenders list)

@@ -2,8 +2,9 @@
 -- first sessions in order, separated by commas.
 use Rattle.std.specs.Prelude.{ℕ, ◌-◌, Bool, ◌&&◌, nat_le, ◌==◌, if◌then◌else◌, List, ◌++◌, length, map, replicate, Result, Ok, Err}
 use Rattle.std.specs.List.{list_all, slice_split}
-use Rattle.command_words.specs.declared.sessions.SessionsFault.{SessionsFault}
-use Rattle.command_words.specs.declared.sessions.SessionsFault.TheVariants.{BadSession, TooManySessions}
+use Rattle.command_words.specs.Readings.{Gives, OrNoMemory}
+use Rattle.command_words.specs.declared.refusal.Refusal.{Refusal}
+use Rattle.command_words.specs.declared.refusal.Refusal.TheVariants.{BadSession, TooManySessions}
 
 -- the texts before, between and after the commas
 abbrev pub names_in : List ℕ → List (List ℕ)
@@ -22,10 +23,13 @@ abbrev pub filled_name : List ℕ → List ℕ
 filled_name name = name ++ replicate (10 - length name) 32
 
 -- the sessions of a list; a wrong name is reported before that there are more than 16
-abbrev pub sessions_in : List ℕ → Result (List (List ℕ)) SessionsFault
+abbrev pub sessions_in : List ℕ → Result (List (List ℕ)) Refusal
 sessions_in list =
     if list_all is_session_name (names_in list)
     then (if nat_le (length (names_in list)) 16
     then Ok (map filled_name (names_in list))
     else Err TooManySessions)
     else Err BadSession
+
+abbrev pub ReadsSessions : List ℕ → Result (List (List ℕ)) Refusal → Type 0
+ReadsSessions list = OrNoMemory (Gives (sessions_in list))

@@ -1,23 +1,17 @@
 -- The span of time by the options --from and --to.
-use Rattle.std.specs.Prelude.{◌≡◌, ◌⊎◌, ℕ, Bool, true, false, not, nat_lt, List, Option, None, Some, IsSome}
+use Rattle.std.specs.Prelude.{ℕ, Bool, true, false, not, nat_lt, ◌&&◌, List, Option, None, Some, is_some, Result, Ok, Err, if◌then◌else◌}
 use Rattle.run_settings.specs.TimeSpans.{is_bounded}
 use Rattle.run_settings.specs.declared.run_output.RunOutput.{RunOutput}
 use Rattle.run_settings.specs.declared.run_output.RunOutput.TheVariants.{Lines}
 use Rattle.run_settings.specs.declared.time_span.TimeSpan.{TimeSpan}
-use Rattle.command_words.specs.declared.span_words.SpanFault.{SpanFault}
-use Rattle.command_words.specs.declared.span_words.SpanFault.TheVariants.{BadTime, ToBeforeFrom, SpanOfLines, SpanWithoutLines}
+use Rattle.command_words.specs.Readings.{Finds, Gives, IfGiven, Then}
 use Rattle.command_words.specs.TimeWords.{SpellsTime}
+use Rattle.command_words.specs.declared.refusal.Refusal.{Refusal}
+use Rattle.command_words.specs.declared.refusal.Refusal.TheVariants.{BadTime, ToBeforeFrom, SpanOfLines, SpanWithoutLines}
 
--- a text that is given spells the time
-abbrev pub NamesTime : Option (List ℕ) → Option ℕ → Type 0
-NamesTime None None = Unit {0}
-NamesTime (Some text) (Some time) = SpellsTime text time
-NamesTime _ _ = ⊥
-
--- a text is given that spells no time
-abbrev pub NamesNoTime : Option (List ℕ) → Type 0
-NamesNoTime None = ⊥
-NamesNoTime (Some text) = (time : ℕ) → SpellsTime text time → ⊥
+-- the time that a text spells, if one is given
+abbrev pub ReadsTime : Option (List ℕ) → Result (Option ℕ) Refusal → Type 0
+ReadsTime = IfGiven (λ text. Finds (SpellsTime text) BadTime)
 
 -- the end isn't before the begin
 abbrev pub is_in_order : Option ℕ → Option ℕ → Bool
@@ -29,29 +23,20 @@ abbrev pub is_reported : RunOutput → Bool
 is_reported Lines = false
 is_reported _ = true
 
--- the texts of --from and --to name the times of a span
-pub record NamesTimes (from to : Option (List ℕ)) (span : TimeSpan) : Type 0 where
-  pub from_is : NamesTime from span.from
-  pub to_is : NamesTime to span.to
+-- The span of these times, where the output has rows or statistics and --lines is given, without
+-- which there is no time.
+abbrev pub span_in : (output : RunOutput) (lines : Option (List ℕ)) → TimeSpan
+    → Result TimeSpan Refusal
+span_in output lines span =
+    if not (is_in_order span.from span.to) then Err ToBeforeFrom
+    else if is_bounded span && not (is_reported output) then Err SpanOfLines
+    else if is_bounded span && not (is_some lines) then Err SpanWithoutLines
+    else Ok span
 
--- They name the span, where the output has rows or statistics and --lines is given, without which
--- there is no time.
-pub record NamesSpan (output : RunOutput) (from to lines : Option (List ℕ)) (span : TimeSpan)
-    : Type 0 where
-  pub names : NamesTimes from to span
-  pub in_order : is_in_order span.from span.to ≡ true
-  pub reported : is_bounded span ≡ true → is_reported output ≡ true
-  pub timed : is_bounded span ≡ true → IsSome lines
-
--- They name none.
-abbrev pub HasSpanFault : (output : RunOutput) (from to lines : Option (List ℕ)) → SpanFault
-    → Type 0
-HasSpanFault output from to lines BadTime =
-    NamesNoTime from ⊎ ((time : Option ℕ) × NamesTime from time × NamesNoTime to)
-HasSpanFault output from to lines ToBeforeFrom =
-    (span : TimeSpan) × NamesTimes from to span × (is_in_order span.from span.to ≡ false)
-HasSpanFault output from to lines SpanOfLines =
-    (span : TimeSpan) × NamesTimes from to span × (is_bounded span ≡ true)
-    × (is_reported output ≡ false)
-HasSpanFault output from to lines SpanWithoutLines =
-    (span : TimeSpan) × NamesTimes from to span × (is_bounded span ≡ true) × (lines ≡ None)
+-- the span by the texts of --from and --to, which are looked at in that order
+abbrev pub ReadsSpan : (output : RunOutput) (from to lines : Option (List ℕ))
+    → Result TimeSpan Refusal → Type 0
+ReadsSpan output from to lines =
+    Then (ReadsTime from)
+    (λ first. Then (ReadsTime to)
+    (λ last. Gives (span_in output lines (record { from = first; to = last }))))

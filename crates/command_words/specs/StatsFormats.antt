@@ -1,9 +1,12 @@
 -- The form in which the counts of a capture, or of a run that listens, are printed.
-use Rattle.std.specs.Prelude.{◌≡◌, ℕ, List, Option, Some, None, codes, if◌then◌else◌}
+use Rattle.std.specs.Prelude.{ℕ, List, Option, Some, None, Result, Ok, Err, codes, if◌then◌else◌}
 use Rattle.std.specs.Str.{bytes_eq}
 use Rattle.run_settings.specs.declared.formats.StatsFormat.{StatsFormat}
-use Rattle.run_settings.specs.declared.listen_stats.ListenStats.{ListenStats}
 use Rattle.run_settings.specs.declared.formats.StatsFormat.TheVariants.{Table, Json}
+use Rattle.run_settings.specs.declared.listen_stats.ListenStats.{ListenStats}
+use Rattle.command_words.specs.Readings.{mapped, named_or}
+use Rattle.command_words.specs.declared.refusal.Refusal.{Refusal}
+use Rattle.command_words.specs.declared.refusal.Refusal.TheVariants.{BadFormat}
 
 -- the form of this name
 abbrev pub stats_format_named : List ℕ → Option StatsFormat
@@ -12,28 +15,14 @@ stats_format_named name =
     else if bytes_eq name (codes "json") then Some Json else None
 
 -- the counts are printed in the form that is named, or as a table
-abbrev pub NamesStatsFormat : Option (List ℕ) → StatsFormat → Type 0
-NamesStatsFormat None format = format ≡ Table
-NamesStatsFormat (Some name) format = stats_format_named name ≡ Some format
+abbrev pub stats_format_in : Option (List ℕ) → Result StatsFormat Refusal
+stats_format_in = named_or stats_format_named Table BadFormat
 
--- a form is named that there isn't
-abbrev pub NamesNoStatsFormat : Option (List ℕ) → Type 0
-NamesNoStatsFormat None = ⊥
-NamesNoStatsFormat (Some name) = stats_format_named name ≡ None
-
--- ---- of a run that listens
-
--- Counts are printed every so many seconds, where that is said, in the form that is named, or as
--- lines and a table. Where it isn't said none are printed, and no form is named.
-abbrev pub NamesListenStats : (seconds : Option ℕ) → Option (List ℕ) → Option ListenStats → Type 0
-NamesListenStats None None stats = stats ≡ None
-NamesListenStats None (Some name) stats = ⊥
-NamesListenStats (Some seconds) name None = ⊥
-NamesListenStats (Some seconds) name (Some stats) =
-    (stats.seconds ≡ seconds) × NamesStatsFormat name stats.format
-
--- A form is named where no counts are printed, or one that there isn't.
-abbrev pub HasListenStatsFault : (seconds : Option ℕ) → Option (List ℕ) → Type 0
-HasListenStatsFault None None = ⊥
-HasListenStatsFault None (Some name) = Unit {0}
-HasListenStatsFault (Some seconds) name = NamesNoStatsFormat name
+-- A run that listens prints counts every so many seconds, where that is said, in the form that is
+-- named, or as lines and a table. Where it isn't said none are printed, and no form may be named.
+abbrev pub listen_stats_in : (seconds : Option ℕ) → Option (List ℕ)
+    → Result (Option ListenStats) Refusal
+listen_stats_in None None = Ok None
+listen_stats_in None (Some name) = Err BadFormat
+listen_stats_in (Some seconds) name =
+    mapped (λ f. Some (record { seconds = seconds; format = f })) (stats_format_in name)

@@ -1,5 +1,6 @@
 -- The style in which rows have times, by the option --times.
-use Rattle.std.specs.Prelude.{◌≡◌, ℕ, List, Option, Some, None, IsSome, codes, if◌then◌else◌, option_map}
+use Rattle.std.specs.Prelude.{ℕ, List, Option, Some, None, Result, Ok, Err, codes, if◌then◌else◌, option_map}
+use Rattle.std.specs.Option.{ok_or}
 use Rattle.std.specs.Str.{bytes_eq}
 use Rattle.run_settings.specs.declared.formats.BestFormat.{BestFormat}
 use Rattle.run_settings.specs.declared.formats.BestFormat.TheVariants as bests
@@ -10,8 +11,9 @@ use Rattle.run_settings.specs.declared.formats.TimeStyle.TheVariants.{Seconds, U
 use Rattle.run_settings.specs.declared.period_style.PeriodStyle.{PeriodStyle}
 use Rattle.run_settings.specs.declared.run_output.RunOutput.{RunOutput}
 use Rattle.run_settings.specs.declared.run_output.RunOutput.TheVariants.{Lines, Bests, Stats, Gaps, Periods, BestTimes}
-use Rattle.command_words.specs.declared.time_style.TimeStyleFault.{TimeStyleFault}
-use Rattle.command_words.specs.declared.time_style.TimeStyleFault.TheVariants.{BadStyle, TimesWithoutCsv, TimesWithoutLines}
+use Rattle.command_words.specs.Readings.{and_then}
+use Rattle.command_words.specs.declared.refusal.Refusal.{Refusal}
+use Rattle.command_words.specs.declared.refusal.Refusal.TheVariants.{BadTimeStyle, TimesWithoutCsv, TimesWithoutLines}
 
 -- the style of this name
 abbrev pub time_style_named : List ℕ → Option TimeStyle
@@ -42,20 +44,15 @@ output_in style (Gaps format) = option_map (λ f. Gaps f) (row_format_in style f
 output_in style (Periods periods) = option_map (λ p. Periods p) (styled_periods style periods)
 output_in style (BestTimes periods) = option_map (λ p. BestTimes p) (styled_periods style periods)
 
--- The text of --times, where it is given, names the style of the rows of this output, which have
--- times with --lines.
-abbrev pub NamesStyle : RunOutput → (times lines : Option (List ℕ)) → RunOutput → Type 0
-NamesStyle plain None lines output = output ≡ plain
-NamesStyle plain (Some name) lines output =
-    (style : TimeStyle) × (time_style_named name ≡ Some style)
-    × (output_in style plain ≡ Some output) × IsSome lines
+-- the output of rows whose times a packet capture gives
+abbrev pub timed_output : (lines : Option (List ℕ)) → RunOutput → Result RunOutput Refusal
+timed_output None output = Err TimesWithoutLines
+timed_output (Some list) output = Ok output
 
--- It names none, or there are no comma-separated values, or these have no times.
-abbrev pub HasStyleFault : RunOutput → (times lines : Option (List ℕ)) → TimeStyleFault → Type 0
-HasStyleFault plain None lines fault = ⊥
-HasStyleFault plain (Some name) lines BadStyle = time_style_named name ≡ None
-HasStyleFault plain (Some name) lines TimesWithoutCsv =
-    (style : TimeStyle) × (time_style_named name ≡ Some style) × (output_in style plain ≡ None)
-HasStyleFault plain (Some name) lines TimesWithoutLines =
-    (style : TimeStyle) × (time_style_named name ≡ Some style)
-    × (output : RunOutput) × (output_in style plain ≡ Some output) × (lines ≡ None)
+-- The text of --times, where it is given, names the style of the rows of this output. These are
+-- comma-separated values, and have times with --lines.
+abbrev pub styled_in : RunOutput → (times lines : Option (List ℕ)) → Result RunOutput Refusal
+styled_in plain None lines = Ok plain
+styled_in plain (Some name) lines =
+    and_then (ok_or (time_style_named name) BadTimeStyle)
+    (λ style. and_then (ok_or (output_in style plain) TimesWithoutCsv) (timed_output lines))

@@ -1,10 +1,12 @@
-//! The texts of a command.
-ghost use Rattle.std.specs.Prelude.{◌≡◌, false};
+//! The texts of a command, and a command with its texts and options.
+ghost use Rattle.std.specs.Prelude.{◌≡◌, IfOk, false, map};
 ghost use Rattle.clap.specs.Simple.{app_of, new_app};
 ghost use Rattle.clap.specs.declared.builder.command.Command.TheViews.{out-Command as fields_of};
+ghost use Rattle.command_words.specs.OptionForms.{with_option_rules};
 
+use crate::option_table::{CommandOption, with_options};
 use clap::Command;
-use std::alloc::Global;
+use std::alloc::{AllocError, Global};
 
 /// The texts of a command.
 #[derive(Clone, Copy)]
@@ -21,7 +23,7 @@ pub struct CommandTexts<'a> {
     pub end: &'a str,
 }
 
-/// The command with what its helps begin with.
+/// Returns the command with what its helps begin with.
 fn described<'a>(command: Command<'a>, texts: CommandTexts<'a>) -> Command<'a>
     ensures app { app_of result ≡ app_of command.entry }
     ensures local { (fields_of result).has_globals ≡ (fields_of command.entry).has_globals }
@@ -32,7 +34,7 @@ fn described<'a>(command: Command<'a>, texts: CommandTexts<'a>) -> Command<'a>
         .override_usage(texts.usage)
 }
 
-/// The command with what its helps end with.
+/// Returns the command with what its helps end with.
 fn ended<'a>(command: Command<'a>, texts: CommandTexts<'a>) -> Command<'a>
     ensures app { app_of result ≡ app_of command.entry }
     ensures local { (fields_of result).has_globals ≡ (fields_of command.entry).has_globals }
@@ -40,10 +42,25 @@ fn ended<'a>(command: Command<'a>, texts: CommandTexts<'a>) -> Command<'a>
     command.after_help(texts.example).after_long_help(texts.end)
 }
 
-/// The command of this name with its texts, and without options.
-pub fn texts_command<'a>(alloc: Global, name: &'a str, texts: CommandTexts<'a>) -> Command<'a>
+/// Returns the command of this name with its texts, and without options.
+fn texts_command<'a>(alloc: Global, name: &'a str, texts: CommandTexts<'a>) -> Command<'a>
     ensures app { app_of result ≡ new_app name.now }
     ensures local { (fields_of result).has_globals ≡ false }
 {
     ended(described(Command::new(alloc, name), texts), texts)
+}
+
+/// Returns the command of this name with its texts and options.
+pub fn command_with<'a>(
+    alloc: Global,
+    name: &'a str,
+    texts: CommandTexts<'a>,
+    options: &[CommandOption<'a>],
+) -> Result<Command<'a>, AllocError>
+    ensures app { IfOk result (λ c. app_of c
+        ≡ with_option_rules (new_app name.entry.now)
+        (map (λ o. (o.name.now, o.form)) options.now)) }
+    ensures local { IfOk result (λ c. (fields_of c).has_globals ≡ false) }
+{
+    with_options(alloc, texts_command(alloc, name, texts), options)
 }

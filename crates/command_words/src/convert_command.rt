@@ -1,16 +1,14 @@
-//! `nbbo convert`: its texts and its option, whose rule stands in `specs/Options.antt`.
-ghost use Rattle.std.specs.Prelude.{◌≡◌, IfOk, false, codes};
-ghost use Rattle.clap.specs.Simple.{app_of, new_app};
-ghost use Rattle.clap.specs.Walk.{rule_of};
+//! `nbbo convert`: its texts and its options.
+ghost use Rattle.std.specs.Prelude.{◌≡◌, IfOk, false};
+ghost use Rattle.clap.specs.Simple.{app_of};
 ghost use Rattle.clap.specs.declared.builder.command.Command.TheViews.{out-Command as fields_of};
 ghost use Rattle.command_words.specs.Commands.{convert_app};
-ghost use Rattle.command_words.specs.Options.{lines_rule};
 
-use crate::command_texts::{CommandTexts, texts_command};
+use crate::command_texts::{CommandTexts, command_with};
 use crate::limits::text;
-use crate::option_forms::required_option;
+use crate::option_table::{CommandOption, OptionForm};
 use crate::options::CAPTURED_LINES_HELP;
-use clap::{Arg, Command};
+use clap::Command;
 use std::alloc::{AllocError, Global};
 
 /// `convert`, in one line.
@@ -46,39 +44,31 @@ Status:
 
 Standard error also counts what was passed over, as of 'nbbo replay --lines'.");
 
+/// The texts of `convert`.
+const TEXTS: CommandTexts<'static> = CommandTexts {
+    about: ABOUT,
+    long_about: LONG_ABOUT,
+    usage: USAGE,
+    example: EXAMPLE,
+    end: END,
+};
+
 /// `--lines LIST`.
-fn converted_lines_option<'a>(alloc: Global) -> Arg<'a>
-    ensures rule { rule_of result ≡ lines_rule }
-    ensures local { result.global ≡ false }
-{
-    required_option(
-        alloc,
-        "lines",
-        "LIST",
-        "Where the lines' datagrams go: an address for line A and one for B of each venue",
-        CAPTURED_LINES_HELP,
-    )
-}
+const LINES: CommandOption<'static> = CommandOption {
+    name: "lines",
+    value: "LIST",
+    form: OptionForm::Required,
+    help: "Where the lines' datagrams go: an address for line A and one for B of each venue",
+    long_help: CAPTURED_LINES_HELP,
+};
 
-/// The texts of `convert`, without its option.
-fn convert_texts<'a>(alloc: Global) -> Command<'a>
-    ensures app { app_of result ≡ new_app (codes "convert") }
-    ensures local { (fields_of result).has_globals ≡ false }
-{
-    let texts = CommandTexts {
-        about: ABOUT,
-        long_about: LONG_ABOUT,
-        usage: USAGE,
-        example: EXAMPLE,
-        end: END,
-    };
-    texts_command(alloc, "convert", texts)
-}
+/// The options of `convert`, in the order in which its help has them.
+const OPTIONS: &[CommandOption<'static>] = &[LINES];
 
-/// The whole of `convert`.
+/// Returns the whole of `convert`.
 pub fn convert_command<'a>(alloc: Global) -> Result<Command<'a>, AllocError>
     ensures app { IfOk result (λ c. app_of c ≡ convert_app) }
     ensures local { IfOk result (λ c. (fields_of c).has_globals ≡ false) }
 {
-    convert_texts(alloc).arg(converted_lines_option(alloc))
+    command_with(alloc, "convert", TEXTS, OPTIONS)
 }

@@ -1,14 +1,12 @@
-//! `nbbo lines`: its texts and its option, whose rule stands in `specs/Options.antt`.
-ghost use Rattle.std.specs.Prelude.{◌≡◌, IfOk, false, codes};
-ghost use Rattle.clap.specs.Simple.{app_of, new_app};
-ghost use Rattle.clap.specs.Walk.{rule_of};
+//! `nbbo lines`: its texts and its options.
+ghost use Rattle.std.specs.Prelude.{◌≡◌, IfOk, false};
+ghost use Rattle.clap.specs.Simple.{app_of};
 ghost use Rattle.clap.specs.declared.builder.command.Command.TheViews.{out-Command as fields_of};
 ghost use Rattle.command_words.specs.Commands.{discovering_app};
-ghost use Rattle.command_words.specs.Options.{format_rule};
 
-use crate::command_texts::{CommandTexts, texts_command};
-use crate::option_forms::valued_option;
-use clap::{Arg, Command};
+use crate::command_texts::{CommandTexts, command_with};
+use crate::option_table::{CommandOption, OptionForm};
+use clap::Command;
 use std::alloc::{AllocError, Global};
 
 /// `lines`, in one line.
@@ -67,43 +65,33 @@ Status:
      'nbbo replay --lines'
   2  the command line was refused: 'bad format' where the format is none of those";
 
-const FORMAT_HELP: &str = "\
-The format of the rows: 'table', as without this option, or 'json', an object on a line of
-its own for each";
+/// The texts of `lines`.
+const TEXTS: CommandTexts<'static> = CommandTexts {
+    about: ABOUT,
+    long_about: LONG_ABOUT,
+    usage: USAGE,
+    example: EXAMPLE,
+    end: END,
+};
 
 /// `--format FORMAT`.
-fn rows_format_option<'a>(alloc: Global) -> Arg<'a>
-    ensures rule { rule_of result ≡ format_rule }
-    ensures local { result.global ≡ false }
-{
-    valued_option(
-        alloc,
-        "format",
-        "FORMAT",
-        "The format of the rows: table or json",
-        FORMAT_HELP,
-    )
-}
+const FORMAT: CommandOption<'static> = CommandOption {
+    name: "format",
+    value: "FORMAT",
+    form: OptionForm::Text,
+    help: "The format of the rows: table or json",
+    long_help: "\
+The format of the rows: 'table', as without this option, or 'json', an object on a line of
+its own for each",
+};
 
-/// The texts of `lines`, without its option.
-fn discovery_texts<'a>(alloc: Global) -> Command<'a>
-    ensures app { app_of result ≡ new_app (codes "lines") }
-    ensures local { (fields_of result).has_globals ≡ false }
-{
-    let texts = CommandTexts {
-        about: ABOUT,
-        long_about: LONG_ABOUT,
-        usage: USAGE,
-        example: EXAMPLE,
-        end: END,
-    };
-    texts_command(alloc, "lines", texts)
-}
+/// The options of `lines`, in the order in which its help has them.
+const OPTIONS: &[CommandOption<'static>] = &[FORMAT];
 
-/// The whole of `lines`.
+/// Returns the whole of `lines`.
 pub fn discovery_command<'a>(alloc: Global) -> Result<Command<'a>, AllocError>
     ensures app { IfOk result (λ c. app_of c ≡ discovering_app) }
     ensures local { IfOk result (λ c. (fields_of c).has_globals ≡ false) }
 {
-    discovery_texts(alloc).arg(rows_format_option(alloc))
+    command_with(alloc, "lines", TEXTS, OPTIONS)
 }

@@ -1,19 +1,20 @@
 //! What the words of the command line ask for.
 //!
 //! Contract: of any words, [`settings`] returns the [`Task`] that they ask for, with its settings,
-//! or the [`Refusal`] that they get: a text and a status. `specs/CommandLine.antt` says which of
-//! them, over clap's reading of the words (`specs/Commands.antt`, `specs/OptionValues.antt`), what
-//! the options of each command give (`specs/FeedRequests.antt`, `specs/RunRequests.antt`,
-//! `specs/ListenRequests.antt`) and the definitions of each kind of value (`specs/Sessions.antt`,
-//! `specs/Symbols.antt`, `specs/Addresses.antt`, `specs/CapturedLines.antt`,
-//! `specs/BestFormats.antt`, `specs/StatsFormats.antt`, `specs/StatsOutputs.antt`,
-//! `specs/PeriodWords.antt`, `specs/TimeStyles.antt`, `specs/SkipRules.antt`,
-//! `specs/EndRules.antt`, `specs/SenderLists.antt`).
+//! or the [`Refusal`] that they get: a text and a status. `ReadsWords` of `specs/CommandLine.antt`
+//! says which of them, over clap's reading of the words (`specs/Commands.antt`,
+//! `specs/OptionValues.antt`). What the options of a command give, and the order in which they are
+//! looked at, stands in `specs/RunRequests.antt` and `specs/ListenRequests.antt`, over
+//! `specs/FeedRequests.antt` and in the words of `specs/Readings.antt`. Each kind of value has a
+//! file of its own (`specs/Sessions.antt`, `specs/Symbols.antt`, `specs/Addresses.antt`,
+//! `specs/CapturedLines.antt`, `specs/BestFormats.antt`, `specs/StatsFormats.antt`,
+//! `specs/StatsOutputs.antt`, `specs/PeriodWords.antt`, `specs/TimeStyles.antt`,
+//! `specs/SpanWords.antt`, `specs/SkipRules.antt`, `specs/EndRules.antt`,
+//! `specs/SenderLists.antt`).
 //!
-//! Begin with `command_line.rt`, then `commands.rt` and a command, as `listen_command.rt`. An
-//! option stands with its texts in `options.rt` if commands share it, else in `listen_options.rt`,
-//! `replay_options.rt` or with its command; its rule in the file of that name in `specs/`. Both are
-//! of a form of `option_forms.rt`.
+//! Begin with `command_line.rt`, then `listen_words.rt`. An option stands with its texts in the
+//! table of its command, or in `options.rt` if commands share it. Its form is one of
+//! `option_table.rt`, whose rule `specs/OptionForms.antt` has.
 #![tactic(auto)]
 
 mod addresses;
@@ -25,22 +26,21 @@ mod commands;
 mod convert_command;
 mod discovery_command;
 mod end_rule;
+mod feed_words;
 mod limits;
 mod listen_command;
-mod listen_counts;
 mod listen_format;
 mod listen_options;
-mod listen_stats;
-mod option_forms;
+mod listen_words;
+mod option_table;
+mod option_values;
 mod options;
 mod period_words;
 mod refusal;
 mod replay_command;
-mod replay_options;
 mod run_words;
 mod sender_list;
 mod sessions;
-mod skip_words;
 mod span_words;
 mod stats_command;
 mod stats_format;

@@ -1,19 +1,11 @@
-//! `nbbo listen`: its texts, and its options one after the other.
-ghost use Rattle.std.specs.Prelude.{◌≡◌, IfOk, false, codes};
-ghost use Rattle.clap.specs.Simple.{app_of, new_app};
+//! `nbbo listen`: its texts and its options.
+ghost use Rattle.std.specs.Prelude.{◌≡◌, IfOk, false};
+ghost use Rattle.clap.specs.Simple.{app_of};
 ghost use Rattle.clap.specs.declared.builder.command.Command.TheViews.{out-Command as fields_of};
-ghost use Rattle.command_words.specs.Commands.{listen_app, listen_ends_app, listen_follow_app, listen_form_app, listen_lines_app, listen_peers_app, listen_room_app, listen_sockets_app, listen_stats_app, listen_stops_app, listen_waits_app};
+ghost use Rattle.command_words.specs.Commands.{listen_app};
 
-use crate::command_texts::{CommandTexts, texts_command};
-use crate::listen_format::listen_format_option;
-use crate::listen_options::{
-    buffer_option, complete_flag, datagrams_option, follow_flag, from_option, kept_option,
-    lines_option, live_join_flag, live_journal_option, metrics_option, request_option,
-    seconds_option, skip_after_option, stats_format_option, stats_option, until_input_ends_flag,
-    which_end_option,
-};
-use crate::options::{sessions_option, symbols_argument, window_option};
-use crate::time_style::times_option;
+use crate::command_texts::{CommandTexts, command_with};
+use crate::listen_options::LISTEN_OPTIONS;
 use clap::Command;
 use std::alloc::{AllocError, Global};
 
@@ -141,127 +133,19 @@ nothing came in two seconds after they were asked for:
   nbbo: second N venue V lacks COUNT messages from NUMBER
 .. no longer lacks COUNT .., has no reply to requests for COUNT ..";
 
-/// The texts of `listen`, without its options.
-fn listen_texts<'a>(alloc: Global) -> Command<'a>
-    ensures app { app_of result ≡ new_app (codes "listen") }
-    ensures local { (fields_of result).has_globals ≡ false }
-{
-    let texts = CommandTexts {
-        about: ABOUT,
-        long_about: LONG_ABOUT,
-        usage: USAGE,
-        example: EXAMPLE,
-        end: LINES,
-    };
-    texts_command(alloc, "listen", texts)
-}
+/// The texts of `listen`.
+const TEXTS: CommandTexts<'static> = CommandTexts {
+    about: ABOUT,
+    long_about: LONG_ABOUT,
+    usage: USAGE,
+    example: EXAMPLE,
+    end: LINES,
+};
 
-/// `listen` with its options that say what is received, and where.
-fn listen_lines_command<'a>(alloc: Global) -> Result<Command<'a>, AllocError>
-    ensures app { IfOk result (λ c. app_of c ≡ listen_lines_app) }
-    ensures local { IfOk result (λ c. (fields_of c).has_globals ≡ false) }
-{
-    listen_texts(alloc)
-        .arg(sessions_option(alloc))?
-        .arg(lines_option(alloc))
-}
-
-/// `listen` with its options that say with whom it speaks, too.
-fn listen_peers_command<'a>(alloc: Global) -> Result<Command<'a>, AllocError>
-    ensures app { IfOk result (λ c. app_of c ≡ listen_peers_app) }
-    ensures local { IfOk result (λ c. (fields_of c).has_globals ≡ false) }
-{
-    listen_lines_command(alloc)?
-        .arg(request_option(alloc))?
-        .arg(from_option(alloc))
-}
-
-/// `listen` with its options that say how long a gap is waited for, too.
-fn listen_waits_command<'a>(alloc: Global) -> Result<Command<'a>, AllocError>
-    ensures app { IfOk result (λ c. app_of c ≡ listen_waits_app) }
-    ensures local { IfOk result (λ c. (fields_of c).has_globals ≡ false) }
-{
-    listen_peers_command(alloc)?
-        .arg(live_join_flag(alloc))?
-        .arg(skip_after_option(alloc))
-}
-
-/// `listen` with its options that say how much is kept, too.
-fn listen_room_command<'a>(alloc: Global) -> Result<Command<'a>, AllocError>
-    ensures app { IfOk result (λ c. app_of c ≡ listen_room_app) }
-    ensures local { IfOk result (λ c. (fields_of c).has_globals ≡ false) }
-{
-    listen_waits_command(alloc)?
-        .arg(window_option(alloc))?
-        .arg(live_journal_option(alloc))
-}
-
-/// `listen` with its options that say how much a line's socket reads and holds, too.
-fn listen_sockets_command<'a>(alloc: Global) -> Result<Command<'a>, AllocError>
-    ensures app { IfOk result (λ c. app_of c ≡ listen_sockets_app) }
-    ensures local { IfOk result (λ c. (fields_of c).has_globals ≡ false) }
-{
-    listen_room_command(alloc)?
-        .arg(datagrams_option(alloc))?
-        .arg(buffer_option(alloc))
-}
-
-/// `listen` with its options that say what ends a line, and what a lack at the end is, too.
-fn listen_ends_command<'a>(alloc: Global) -> Result<Command<'a>, AllocError>
-    ensures app { IfOk result (λ c. app_of c ≡ listen_ends_app) }
-    ensures local { IfOk result (λ c. (fields_of c).has_globals ≡ false) }
-{
-    listen_sockets_command(alloc)?
-        .arg(which_end_option(alloc))?
-        .arg(complete_flag(alloc))
-}
-
-/// `listen` with its options that end the run, too.
-fn listen_stops_command<'a>(alloc: Global) -> Result<Command<'a>, AllocError>
-    ensures app { IfOk result (λ c. app_of c ≡ listen_stops_app) }
-    ensures local { IfOk result (λ c. (fields_of c).has_globals ≡ false) }
-{
-    listen_ends_command(alloc)?
-        .arg(seconds_option(alloc))?
-        .arg(until_input_ends_flag(alloc))
-}
-
-/// `listen` with its options that print changes as they come, too.
-fn listen_follow_command<'a>(alloc: Global) -> Result<Command<'a>, AllocError>
-    ensures app { IfOk result (λ c. app_of c ≡ listen_follow_app) }
-    ensures local { IfOk result (λ c. (fields_of c).has_globals ≡ false) }
-{
-    listen_stops_command(alloc)?
-        .arg(follow_flag(alloc))?
-        .arg(kept_option(alloc))
-}
-
-/// `listen` with its options for the form of best lines, too.
-fn listen_form_command<'a>(alloc: Global) -> Result<Command<'a>, AllocError>
-    ensures app { IfOk result (λ c. app_of c ≡ listen_form_app) }
-    ensures local { IfOk result (λ c. (fields_of c).has_globals ≡ false) }
-{
-    listen_follow_command(alloc)?
-        .arg(listen_format_option(alloc))?
-        .arg(times_option(alloc))
-}
-
-/// `listen` with its options for counts on standard error, too.
-fn listen_stats_command<'a>(alloc: Global) -> Result<Command<'a>, AllocError>
-    ensures app { IfOk result (λ c. app_of c ≡ listen_stats_app) }
-    ensures local { IfOk result (λ c. (fields_of c).has_globals ≡ false) }
-{
-    listen_form_command(alloc)?
-        .arg(stats_option(alloc))?
-        .arg(stats_format_option(alloc))
-}
-
-/// The whole of `listen`.
+/// Returns the whole of `listen`.
 pub fn listen_command<'a>(alloc: Global) -> Result<Command<'a>, AllocError>
     ensures app { IfOk result (λ c. app_of c ≡ listen_app) }
     ensures local { IfOk result (λ c. (fields_of c).has_globals ≡ false) }
 {
-    listen_stats_command(alloc)?
-        .arg(metrics_option(alloc))?
-        .arg(symbols_argument(alloc))
+    command_with(alloc, "listen", TEXTS, LISTEN_OPTIONS)
 }

@@ -1,34 +1,21 @@
-//! The options that several commands share: of each its texts and its argument, as `clap` takes it.
-//! Its rule stands in `specs/Options.antt`.
-ghost use Rattle.std.specs.Prelude.{◌≡◌, false};
-ghost use Rattle.clap.specs.Walk.{rule_of};
-ghost use Rattle.command_words.specs.Options.{captured_lines_rule, from_time_rule, join_rule, journal_rule, sessions_rule, skip_gaps_rule, symbols_rule, to_time_rule, window_rule};
+//! The options that several commands share, with their texts.
 
 use crate::limits::text;
-use crate::option_forms::{flag_option, from_zero, required_option, valued_option};
-use clap::{Arg, value_parser};
-use feed_types::MAX_WINDOW;
-use std::alloc::Global;
-
-const SESSIONS_HELP: &str = text!("\
-The first session of each venue, venue 0's first: 1 to " MAX_VENUES " names parted by commas. A
-name has 1 to 10 characters of printable ASCII (bytes 20 to 7e) and is filled on the
-right with spaces to ten bytes. Write --sessions=LIST where the list begins with '-'");
+use crate::option_table::{CommandOption, OptionForm};
 
 /// `--sessions LIST`.
-pub fn sessions_option<'a>(alloc: Global) -> Arg<'a>
-    ensures rule { rule_of result ≡ sessions_rule }
-    ensures local { result.global ≡ false }
-{
-    required_option(
-        alloc,
-        "sessions",
-        "LIST",
-        text!("The first session of each venue, 1 to " MAX_VENUES " names parted by commas"),
-        SESSIONS_HELP,
-    )
-}
+pub const SESSIONS: CommandOption<'static> = CommandOption {
+    name: "sessions",
+    value: "LIST",
+    form: OptionForm::Required,
+    help: text!("The first session of each venue, 1 to " MAX_VENUES " names parted by commas"),
+    long_help: text!("\
+The first session of each venue, venue 0's first: 1 to " MAX_VENUES " names parted by commas. A
+name has 1 to 10 characters of printable ASCII (bytes 20 to 7e) and is filled on the
+right with spaces to ten bytes. Write --sessions=LIST where the list begins with '-'"),
+};
 
+/// The long help of `--lines` of a packet capture.
 pub const CAPTURED_LINES_HELP: &str = "\
 Says that the input is a packet capture (pcap or pcapng), and where the lines' datagrams
 go in it: two addresses for each venue, line A's and then line B's, venue 0's first,
@@ -37,161 +24,108 @@ and a port, as 239.1.1.1:26400 or [ff02::1]:26400. One of zeros, as 0.0.0.0:2640
 what goes to that port at any address; a datagram goes to the first line that takes it";
 
 /// `--lines LIST` of a command that also reads captures of the project's own format.
-pub fn captured_lines_option<'a>(alloc: Global) -> Arg<'a>
-    ensures rule { rule_of result ≡ captured_lines_rule }
-    ensures local { result.global ≡ false }
-{
-    valued_option(
-        alloc,
-        "lines",
-        "LIST",
-        "Reads a packet capture (pcap or pcapng): two addresses for each venue, A's and then B's",
-        CAPTURED_LINES_HELP,
-    )
-}
-
-const WINDOW_HELP: &str = text!("\
-How many messages past the last item sent a venue holds while it waits for those
-between: 1 to " MAX_WINDOW ". A packet that goes further is 'ahead': it is known of, not taken");
+pub const CAPTURED_LINES: CommandOption<'static> = CommandOption {
+    name: "lines",
+    value: "LIST",
+    form: OptionForm::Text,
+    help: "Reads a packet capture (pcap or pcapng): two addresses for each venue, A's and then B's",
+    long_help: CAPTURED_LINES_HELP,
+};
 
 /// `--window N`.
-pub fn window_option<'a>(alloc: Global) -> Arg<'a>
-    ensures rule { rule_of result ≡ window_rule }
-    ensures local { result.global ≡ false }
-{
-    let option = valued_option(
-        alloc,
-        "window",
-        "N",
-        text!("How many messages a venue holds past the last item sent, 1 to " MAX_WINDOW),
-        WINDOW_HELP,
-    );
-    option
-        .value_parser(value_parser!(u32).range(1..=i64::from(MAX_WINDOW)))
-        .default_value(text!(DEFAULT_WINDOW))
-}
-
-const JOURNAL_HELP: &str = text!("\
-How many items and declarations of self-help there is room for: 0 to " MAX_COUNT ". A
-run that needs more ends there, with status 1");
+pub const WINDOW: CommandOption<'static> = CommandOption {
+    name: "window",
+    value: "N",
+    form: OptionForm::Window,
+    help: text!("How many messages a venue holds past the last item sent, 1 to " MAX_WINDOW),
+    long_help: text!("\
+How many messages past the last item sent a venue holds while it waits for those
+between: 1 to " MAX_WINDOW ". A packet that goes further is 'ahead': it is known of, not taken"),
+};
 
 /// `--journal N`.
-pub fn journal_option<'a>(alloc: Global) -> Arg<'a>
-    ensures rule { rule_of result ≡ journal_rule }
-    ensures local { result.global ≡ false }
-{
-    let option = valued_option(
-        alloc,
-        "journal",
-        "N",
-        text!("How many items and declarations of self-help there may be, 0 to " MAX_COUNT),
-        JOURNAL_HELP,
-    );
-    from_zero(option).default_value(text!(DEFAULT_COUNT))
-}
+pub const JOURNAL: CommandOption<'static> = CommandOption {
+    name: "journal",
+    value: "N",
+    form: OptionForm::Journal,
+    help: text!("How many items and declarations of self-help there may be, 0 to " MAX_COUNT),
+    long_help: text!("\
+How many items and declarations of self-help there is room for: 0 to " MAX_COUNT ". A
+run that needs more ends there, with status 1"),
+};
 
-const JOIN_HELP: &str = "\
+/// `--join` of a command that reads captures.
+pub const JOIN: CommandOption<'static> = CommandOption {
+    name: "join",
+    value: "",
+    form: OptionForm::Flag,
+    help: "Begins with a session's first packet, also where that lies past the window",
+    long_help: "\
 Joins a session that is under way: where the first packet of it that comes lies past the
 window, the messages before that packet are given up, as by a record of kind K, and the
 sequence begins with it. Without this option such packets are 'ahead': nothing of them is
-taken";
+taken",
+};
 
-/// `--join` of a command that reads captures.
-pub fn join_flag<'a>(alloc: Global) -> Arg<'a>
-    ensures rule { rule_of result ≡ join_rule }
-    ensures local { result.global ≡ false }
-{
-    flag_option(
-        alloc,
-        "join",
-        "Begins with a session's first packet, also where that lies past the window",
-        JOIN_HELP,
-    )
-}
-
-const SKIP_GAPS_HELP: &str = "\
+/// `--skip-gaps`.
+pub const SKIP_GAPS: CommandOption<'static> = CommandOption {
+    name: "skip-gaps",
+    value: "",
+    form: OptionForm::Flag,
+    help: "Gives up messages that are missing where a packet lies past the window",
+    long_help: "\
 Gives up what is missing where a packet lies past the window, as a record of kind K does:
 the messages up to the first one that has come, and again as long as the packet lies past
 the window. What was given up and comes later changes nothing. A packet is 'ahead' only
 where it has more messages than the window. Sessions that are under way are joined, too, so
-that --join beside it changes nothing";
+that --join beside it changes nothing",
+};
 
-/// `--skip-gaps`.
-pub fn skip_gaps_flag<'a>(alloc: Global) -> Arg<'a>
-    ensures rule { rule_of result ≡ skip_gaps_rule }
-    ensures local { result.global ≡ false }
-{
-    flag_option(
-        alloc,
-        "skip-gaps",
-        "Gives up messages that are missing where a packet lies past the window",
-        SKIP_GAPS_HELP,
-    )
-}
-
-const FROM_HELP: &str = "\
+/// `--from TIME`.
+pub const FROM_TIME: CommandOption<'static> = CommandOption {
+    name: "from",
+    value: "TIME",
+    form: OptionForm::Text,
+    help: "Prints of what came at this time or later, as 2026-11-28T14:30:00Z",
+    long_help: "\
 The rows or statistics are of what came at this time or later, in UTC as
 2026-11-28T14:30:00Z or with up to nine decimals of a second. All of the capture is
 replayed; only with --lines, by the times of the frames. Messages that a packet told of
-before are neither missing nor left out; a best stands from its first change on";
-
-/// `--from TIME`.
-pub fn from_time_option<'a>(alloc: Global) -> Arg<'a>
-    ensures rule { rule_of result ≡ from_time_rule }
-    ensures local { result.global ≡ false }
-{
-    valued_option(
-        alloc,
-        "from",
-        "TIME",
-        "Prints of what came at this time or later, as 2026-11-28T14:30:00Z",
-        FROM_HELP,
-    )
-}
-
-const TO_HELP: &str = "\
-The rows or statistics are of what came before this time, which is written as that of
---from and isn't before it";
+before are neither missing nor left out; a best stands from its first change on",
+};
 
 /// `--to TIME`.
-pub fn to_time_option<'a>(alloc: Global) -> Arg<'a>
-    ensures rule { rule_of result ≡ to_time_rule }
-    ensures local { result.global ≡ false }
-{
-    valued_option(
-        alloc,
-        "to",
-        "TIME",
-        "Prints of what came before this time",
-        TO_HELP,
-    )
-}
+pub const TO_TIME: CommandOption<'static> = CommandOption {
+    name: "to",
+    value: "TIME",
+    form: OptionForm::Text,
+    help: "Prints of what came before this time",
+    long_help: "\
+The rows or statistics are of what came before this time, which is written as that of
+--from and isn't before it",
+};
 
-const SYMBOLS_HELP: &str = text!("\
+/// `--times STYLE`.
+pub const TIMES: CommandOption<'static> = CommandOption {
+    name: "times",
+    value: "STYLE",
+    form: OptionForm::Text,
+    help: "How rows in csv have times: seconds or utc [default: seconds]",
+    long_help: "\
+How rows in csv have times: 'seconds', from 1970 on with nine places, as without this
+option; or 'utc', a date and a time of day in UTC with nine places, as RFC 3339 has them:
+2026-05-28T20:26:40.000003000Z. Only where rows are in csv and have times; what is in
+json has integers of nanoseconds anyway",
+};
+
+/// `SYMBOL..`, the symbols whose national best is printed.
+pub const SYMBOLS: CommandOption<'static> = CommandOption {
+    name: "symbols",
+    value: "SYMBOL",
+    form: OptionForm::Words,
+    help: text!("The symbols whose national best is printed, at most " MAX_SYMBOLS),
+    long_help: text!("\
 The symbols whose national best bid and offer is printed: at most " MAX_SYMBOLS " words, each
 once, of 1 to 8 characters of printable ASCII without a space (bytes 21 to 7e). Write
-'--' before them where one begins with '-'");
-
-/// The symbols whose national best is printed.
-pub fn symbols_argument<'a>(alloc: Global) -> Arg<'a>
-    ensures rule { rule_of result ≡ symbols_rule }
-    ensures local { result.global ≡ false }
-{
-    symbol_words(
-        alloc,
-        text!("The symbols whose national best is printed, at most " MAX_SYMBOLS),
-        SYMBOLS_HELP,
-    )
-}
-
-/// Words for symbols, with these texts.
-pub fn symbol_words<'a>(alloc: Global, help: &'a str, long_help: &'a str) -> Arg<'a>
-    ensures rule { rule_of result ≡ symbols_rule }
-    ensures local { result.global ≡ false }
-{
-    Arg::new(alloc, "symbols")
-        .value_name("SYMBOL")
-        .num_args(0..)
-        .help(help)
-        .long_help(long_help)
-}
+'--' before them where one begins with '-'"),
+};

@@ -1,19 +1,8 @@
 //! The reasons why the program has no settings.
 ghost use Rattle.std.specs.Prelude.{◌≡◌};
-ghost use Rattle.command_words.specs.CommandLine.{format_refusal_by, lines_refusal_by, refusal_by, refusal_status, refusal_text, senders_refusal_by, span_refusal_by, stats_refusal_by, style_refusal_by, symbols_refusal_by};
-ghost use Rattle.command_words.specs.declared.refusal.Refusal.TheVariants.{BadEnd, BadFormat, BestsWithoutEvery, BadMetrics, BadRequest, KeptUnfollowed, NoMemory};
+ghost use Rattle.command_words.specs.CommandLine.{refusal_status, refusal_text};
+ghost use Rattle.command_words.specs.declared.refusal.Refusal.TheVariants.{NoMemory};
 
-use crate::addresses::{LinesFault, MetricsFault, RequestFault};
-use crate::best_format::FormatFault;
-use crate::end_rule::EndRuleFault;
-use crate::listen_counts::KeptFault;
-use crate::listen_format::ListenFormatFault;
-use crate::sender_list::SendersFault;
-use crate::sessions::SessionsFault;
-use crate::span_words::SpanFault;
-use crate::stats_output::{BestsFault, StatsFault};
-use crate::symbols::SymbolsFault;
-use crate::time_style::TimeStyleFault;
 use std::alloc::AllocError;
 
 /// Why there are no settings.
@@ -80,7 +69,8 @@ pub enum Refusal {
 }
 
 impl Refusal {
-    /// The status of the program: 0 after help or the version, 1 where memory was refused, else 2.
+    /// Returns the status of the program: 0 after help or the version, 1 where memory was refused,
+    /// else 2.
     pub fn status(&self) -> u8
         ensures { result ≡ refusal_status self.now }
     {
@@ -100,8 +90,8 @@ impl Refusal {
         }
     }
 
-    /// The text that is printed, with its line ends: on standard output where the status is 0, else
-    /// on standard error.
+    /// Returns the text that is printed, with its line ends: on standard output where the status is
+    /// 0, else on standard error.
     pub fn text(&self) -> &str
         ensures { result.now ≡ refusal_text self.now }
     {
@@ -142,151 +132,5 @@ impl From<AllocError> for Refusal {
 
     fn from(_error: AllocError) -> Refusal {
         Refusal::NoMemory
-    }
-}
-
-impl From<SessionsFault> for Refusal {
-    ghost from_gives = { λ fault refusal. refusal ≡ refusal_by fault };
-
-    fn from(fault: SessionsFault) -> Refusal {
-        match fault {
-            SessionsFault::BadSession => Refusal::BadSession,
-            SessionsFault::TooManySessions => Refusal::TooManySessions,
-            SessionsFault::NoMemory => Refusal::NoMemory,
-        }
-    }
-}
-
-impl From<LinesFault> for Refusal {
-    ghost from_gives = { λ fault refusal. refusal ≡ lines_refusal_by fault };
-
-    fn from(fault: LinesFault) -> Refusal {
-        match fault {
-            LinesFault::BadLines => Refusal::BadLines,
-            LinesFault::NoMemory => Refusal::NoMemory,
-        }
-    }
-}
-
-impl From<RequestFault> for Refusal {
-    ghost from_gives = { λ _ refusal. refusal ≡ BadRequest };
-
-    fn from(_fault: RequestFault) -> Refusal {
-        Refusal::BadRequest
-    }
-}
-
-impl From<FormatFault> for Refusal {
-    ghost from_gives = { λ _ refusal. refusal ≡ BadFormat };
-
-    fn from(_fault: FormatFault) -> Refusal {
-        Refusal::BadFormat
-    }
-}
-
-impl From<StatsFault> for Refusal {
-    ghost from_gives = { λ fault refusal. refusal ≡ stats_refusal_by fault };
-
-    fn from(fault: StatsFault) -> Refusal {
-        match fault {
-            StatsFault::BadPeriod => Refusal::BadPeriod,
-            StatsFault::BadFormat => Refusal::BadFormat,
-            StatsFault::EveryWithoutLines => Refusal::EveryWithoutLines,
-            StatsFault::GapsWithEvery => Refusal::GapsWithEvery,
-        }
-    }
-}
-
-impl From<BestsFault> for Refusal {
-    ghost from_gives = { λ _ refusal. refusal ≡ BestsWithoutEvery };
-
-    fn from(_fault: BestsFault) -> Refusal {
-        Refusal::BestsWithoutEvery
-    }
-}
-
-impl From<SpanFault> for Refusal {
-    ghost from_gives = { λ fault refusal. refusal ≡ span_refusal_by fault };
-
-    fn from(fault: SpanFault) -> Refusal {
-        match fault {
-            SpanFault::BadTime => Refusal::BadTime,
-            SpanFault::ToBeforeFrom => Refusal::ToBeforeFrom,
-            SpanFault::SpanOfLines => Refusal::SpanOfLines,
-            SpanFault::SpanWithoutLines => Refusal::SpanWithoutLines,
-        }
-    }
-}
-
-impl From<TimeStyleFault> for Refusal {
-    ghost from_gives = { λ fault refusal. refusal ≡ style_refusal_by fault };
-
-    fn from(fault: TimeStyleFault) -> Refusal {
-        match fault {
-            TimeStyleFault::BadStyle => Refusal::BadTimeStyle,
-            TimeStyleFault::TimesWithoutCsv => Refusal::TimesWithoutCsv,
-            TimeStyleFault::TimesWithoutLines => Refusal::TimesWithoutLines,
-        }
-    }
-}
-
-impl From<EndRuleFault> for Refusal {
-    ghost from_gives = { λ _ refusal. refusal ≡ BadEnd };
-
-    fn from(_fault: EndRuleFault) -> Refusal {
-        Refusal::BadEnd
-    }
-}
-
-impl From<KeptFault> for Refusal {
-    ghost from_gives = { λ _ refusal. refusal ≡ KeptUnfollowed };
-
-    fn from(_fault: KeptFault) -> Refusal {
-        Refusal::KeptUnfollowed
-    }
-}
-
-impl From<ListenFormatFault> for Refusal {
-    ghost from_gives = { λ fault refusal. refusal ≡ format_refusal_by fault };
-
-    fn from(fault: ListenFormatFault) -> Refusal {
-        match fault {
-            ListenFormatFault::BadFormat => Refusal::BadFormat,
-            ListenFormatFault::FormatUnfollowed => Refusal::FormatUnfollowed,
-            ListenFormatFault::BadStyle => Refusal::BadTimeStyle,
-            ListenFormatFault::TimesWithoutCsv => Refusal::TimesWithoutCsv,
-        }
-    }
-}
-
-impl From<SendersFault> for Refusal {
-    ghost from_gives = { λ fault refusal. refusal ≡ senders_refusal_by fault };
-
-    fn from(fault: SendersFault) -> Refusal {
-        match fault {
-            SendersFault::BadSender => Refusal::BadSender,
-            SendersFault::NoMemory => Refusal::NoMemory,
-        }
-    }
-}
-
-impl From<MetricsFault> for Refusal {
-    ghost from_gives = { λ _ refusal. refusal ≡ BadMetrics };
-
-    fn from(_fault: MetricsFault) -> Refusal {
-        Refusal::BadMetrics
-    }
-}
-
-impl From<SymbolsFault> for Refusal {
-    ghost from_gives = { λ fault refusal. refusal ≡ symbols_refusal_by fault };
-
-    fn from(fault: SymbolsFault) -> Refusal {
-        match fault {
-            SymbolsFault::BadSymbol => Refusal::BadSymbol,
-            SymbolsFault::TooManySymbols => Refusal::TooManySymbols,
-            SymbolsFault::DuplicateSymbol => Refusal::DuplicateSymbol,
-            SymbolsFault::NoMemory => Refusal::NoMemory,
-        }
     }
 }

@@ -1,17 +1,15 @@
-//! `nbbo replay`: its texts, and its options one after the other.
-ghost use Rattle.std.specs.Prelude.{◌≡◌, IfOk, false, codes};
-ghost use Rattle.clap.specs.Simple.{app_of, new_app};
+//! `nbbo replay`: its texts and its options.
+ghost use Rattle.std.specs.Prelude.{◌≡◌, IfOk, false};
+ghost use Rattle.clap.specs.Simple.{app_of};
 ghost use Rattle.clap.specs.declared.builder.command.Command.TheViews.{out-Command as fields_of};
-ghost use Rattle.command_words.specs.Commands.{replay_app, replay_choices_app, replay_form_app, replay_input_app, replay_room_app, replay_skips_app, replay_span_app};
+ghost use Rattle.command_words.specs.Commands.{replay_app};
 
-use crate::command_texts::{CommandTexts, texts_command};
+use crate::command_texts::{CommandTexts, command_with};
 use crate::limits::text;
+use crate::option_table::{CommandOption, OptionForm};
 use crate::options::{
-    captured_lines_option, from_time_option, join_flag, journal_option, sessions_option,
-    skip_gaps_flag, symbols_argument, to_time_option, window_option,
+    CAPTURED_LINES, FROM_TIME, JOIN, JOURNAL, SESSIONS, SKIP_GAPS, SYMBOLS, TIMES, TO_TIME, WINDOW,
 };
-use crate::replay_options::{best_only_flag, format_option, gaps_flag};
-use crate::time_style::times_option;
 use clap::Command;
 use std::alloc::{AllocError, Global};
 
@@ -144,85 +142,72 @@ Status:
      '--from or --to without --lines'; 'bad time style': --times is neither seconds nor utc;
      '--times without rows in csv'; '--times without --lines'");
 
-/// The texts of `replay`, without its options.
-fn replay_texts<'a>(alloc: Global) -> Command<'a>
-    ensures app { app_of result ≡ new_app (codes "replay") }
-    ensures local { (fields_of result).has_globals ≡ false }
-{
-    let texts = CommandTexts {
-        about: ABOUT,
-        long_about: LONG_ABOUT,
-        usage: USAGE,
-        example: EXAMPLE,
-        end: LINES,
-    };
-    texts_command(alloc, "replay", texts)
-}
+/// The texts of `replay`.
+const TEXTS: CommandTexts<'static> = CommandTexts {
+    about: ABOUT,
+    long_about: LONG_ABOUT,
+    usage: USAGE,
+    example: EXAMPLE,
+    end: LINES,
+};
 
-/// `replay` with its options that say what is read.
-fn replay_input_command<'a>(alloc: Global) -> Result<Command<'a>, AllocError>
-    ensures app { IfOk result (λ c. app_of c ≡ replay_input_app) }
-    ensures local { IfOk result (λ c. (fields_of c).has_globals ≡ false) }
-{
-    replay_texts(alloc)
-        .arg(sessions_option(alloc))?
-        .arg(captured_lines_option(alloc))
-}
+/// `--gaps`.
+const GAPS: CommandOption<'static> = CommandOption {
+    name: "gaps",
+    value: "",
+    form: OptionForm::Flag,
+    help: "Prints after each datagram which messages are to be asked for, if any are missing",
+    long_help: "\
+Prints after each datagram, if messages are then missing, which ones to ask for first",
+};
 
-/// `replay` with its options that say how much is kept, too.
-fn replay_room_command<'a>(alloc: Global) -> Result<Command<'a>, AllocError>
-    ensures app { IfOk result (λ c. app_of c ≡ replay_room_app) }
-    ensures local { IfOk result (λ c. (fields_of c).has_globals ≡ false) }
-{
-    replay_input_command(alloc)?
-        .arg(window_option(alloc))?
-        .arg(journal_option(alloc))
-}
+/// `--best-only`.
+const BEST_ONLY: CommandOption<'static> = CommandOption {
+    name: "best-only",
+    value: "",
+    form: OptionForm::Flag,
+    help: "Prints the best lines alone",
+    long_help: "\
+Prints the best lines alone: the changes of the national best bid and offer",
+};
 
-/// `replay` with its options that say which gaps are given up, too.
-fn replay_skips_command<'a>(alloc: Global) -> Result<Command<'a>, AllocError>
-    ensures app { IfOk result (λ c. app_of c ≡ replay_skips_app) }
-    ensures local { IfOk result (λ c. (fields_of c).has_globals ≡ false) }
-{
-    replay_room_command(alloc)?
-        .arg(join_flag(alloc))?
-        .arg(skip_gaps_flag(alloc))
-}
+/// `--format FORMAT`.
+const FORMAT: CommandOption<'static> = CommandOption {
+    name: "format",
+    value: "FORMAT",
+    form: OptionForm::Text,
+    help: "The format of the best lines with --best-only: text, csv or json",
+    long_help: "\
+The format of the best lines with --best-only: 'text', as without this option; 'csv', a
+line with the columns' names and then a row each; or 'json', an object on a line each.
+Lines end in a line feed alone. A side that there isn't is three empty values in csv and
+null in json. Prices have four places. With --lines each row and object ends with the time
+of the datagram that caused it, in seconds from 1970 on with nine places, and an object
+also with 'time_ns', an integer of nanoseconds; empty or null where the packet capture
+has none. Without --best-only no format can be given",
+};
 
-/// `replay` with its options that say which lines are printed, too.
-fn replay_choices_command<'a>(alloc: Global) -> Result<Command<'a>, AllocError>
-    ensures app { IfOk result (λ c. app_of c ≡ replay_choices_app) }
-    ensures local { IfOk result (λ c. (fields_of c).has_globals ≡ false) }
-{
-    replay_skips_command(alloc)?
-        .arg(gaps_flag(alloc))?
-        .arg(best_only_flag(alloc))
-}
+/// The options of `replay`, in the order in which its help has them.
+const OPTIONS: &[CommandOption<'static>] = &[
+    SESSIONS,
+    CAPTURED_LINES,
+    WINDOW,
+    JOURNAL,
+    JOIN,
+    SKIP_GAPS,
+    GAPS,
+    BEST_ONLY,
+    FROM_TIME,
+    TO_TIME,
+    FORMAT,
+    TIMES,
+    SYMBOLS,
+];
 
-/// `replay` with its options that say of which time it prints, too.
-fn replay_span_command<'a>(alloc: Global) -> Result<Command<'a>, AllocError>
-    ensures app { IfOk result (λ c. app_of c ≡ replay_span_app) }
-    ensures local { IfOk result (λ c. (fields_of c).has_globals ≡ false) }
-{
-    replay_choices_command(alloc)?
-        .arg(from_time_option(alloc))?
-        .arg(to_time_option(alloc))
-}
-
-/// `replay` with its options that say in which form it prints, too.
-fn replay_form_command<'a>(alloc: Global) -> Result<Command<'a>, AllocError>
-    ensures app { IfOk result (λ c. app_of c ≡ replay_form_app) }
-    ensures local { IfOk result (λ c. (fields_of c).has_globals ≡ false) }
-{
-    replay_span_command(alloc)?
-        .arg(format_option(alloc))?
-        .arg(times_option(alloc))
-}
-
-/// The whole of `replay`.
+/// Returns the whole of `replay`.
 pub fn replay_command<'a>(alloc: Global) -> Result<Command<'a>, AllocError>
     ensures app { IfOk result (λ c. app_of c ≡ replay_app) }
     ensures local { IfOk result (λ c. (fields_of c).has_globals ≡ false) }
 {
-    replay_form_command(alloc)?.arg(symbols_argument(alloc))
+    command_with(alloc, "replay", TEXTS, OPTIONS)
 }

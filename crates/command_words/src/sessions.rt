@@ -1,33 +1,15 @@
 //! The list of sessions on the command line.
-ghost use Rattle.std.specs.Prelude.{◌≡◌, ◌≢◌, ◌≤◌, All, IfOk, IfErr, length, map, vec_len};
+ghost use Rattle.std.specs.Prelude.{◌≡◌, ◌≤◌, All, IfOk, length, map, vec_len};
 ghost use Rattle.std.specs.List.{list_all};
-ghost use Rattle.command_words.specs.Sessions.{is_session_byte, is_session_name, filled_name, sessions_in};
-ghost use Rattle.command_words.specs.declared.sessions.SessionsFault.TheVariants.{NoMemory};
+ghost use Rattle.command_words.specs.Readings.{mapped};
+ghost use Rattle.command_words.specs.Sessions.{ReadsSessions, filled_name, is_session_byte, is_session_name};
 
+use crate::refusal::Refusal;
 use feed_types::MAX_VENUES;
 use std::alloc::{AllocError, Global};
 
 /// The number of bytes of a session's name in a packet.
 const NAME_LEN: usize = 10;
-
-/// Why a list of sessions is refused.
-#[derive(Clone, Copy)]
-pub enum SessionsFault {
-    /// A name is empty, has more than ten bytes, or has a byte outside of `20` to `7e`.
-    BadSession,
-    /// There are more than 16 names.
-    TooManySessions,
-    /// Memory was refused.
-    NoMemory,
-}
-
-impl From<AllocError> for SessionsFault {
-    ghost from_gives = { λ _ e. e ≡ NoMemory };
-
-    fn from(_error: AllocError) -> SessionsFault {
-        SessionsFault::NoMemory
-    }
-}
 
 fn is_printable(bytes: &[u8]) -> bool
     ensures { result ≡ list_all is_session_byte bytes.now }
@@ -35,7 +17,7 @@ fn is_printable(bytes: &[u8]) -> bool
     bytes.iter().all(|&byte| 0x20 <= byte && byte <= 0x7e)
 }
 
-/// Whether `name` is 1 to 10 bytes of `20` to `7e`.
+/// Returns whether `name` is 1 to 10 bytes of `20` to `7e`.
 fn is_name(name: &[u8]) -> bool
     ensures { result ≡ is_session_name name.now }
 {
@@ -48,7 +30,7 @@ fn are_names(names: &[&str]) -> bool
     names.iter().all(|name| is_name(name.as_bytes()))
 }
 
-/// The name as packets carry it, filled on the right with spaces.
+/// Returns the name as packets carry it, filled on the right with spaces.
 fn filled(name: &[u8]) -> [u8; 10]
     requires { length name.now ≤ 10 }
     ensures { result ≡ filled_name name.now }
@@ -70,20 +52,19 @@ fn filled_all(alloc: Global, names: &[&str]) -> Result<Vec<[u8; 10]>, AllocError
     Ok(sessions)
 }
 
-/// The sessions that a list names, each with the ten bytes that packets carry.
+/// Returns the sessions that a list names, each with the ten bytes that packets carry.
 ///
 /// Names may be equal, all spaces, or differ only in the spaces at their ends.
-pub fn read_sessions(alloc: Global, list: &str) -> Result<Vec<[u8; 10]>, SessionsFault>
-    ensures ok { IfOk result (λ sessions. sessions_in list.now ≡ Ok sessions.items) }
-    ensures err { IfErr result (λ fault. fault ≢ NoMemory → sessions_in list.now ≡ Err fault) }
+pub fn read_sessions(alloc: Global, list: &str) -> Result<Vec<[u8; 10]>, Refusal>
+    ensures reads { ReadsSessions list.now (mapped (λ sessions. sessions.items) result) }
     ensures count { IfOk result (λ sessions. (1 ≤ vec_len sessions) × (vec_len sessions ≤ 16)) }
 {
     let names: Vec<&str> = list.split(',').collect(alloc)?;
     if !are_names(names.as_slice()) {
-        return Err(SessionsFault::BadSession);
+        return Err(Refusal::BadSession);
     }
     if names.len() > MAX_VENUES {
-        return Err(SessionsFault::TooManySessions);
+        return Err(Refusal::TooManySessions);
     }
     Ok(filled_all(alloc, names.as_slice())?)
 }

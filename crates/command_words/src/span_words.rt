@@ -1,51 +1,25 @@
 //! The span of time by the options `--from` and `--to`.
-ghost use Rattle.std.specs.Prelude.{◌≡◌, ◌⊎◌, ℕ, IfErr, IfOk, Option, option_map};
-ghost use Rattle.command_words.specs.SpanWords.{HasSpanFault, NamesNoTime, NamesSpan, NamesTime, NamesTimes, is_in_order, is_reported};
-ghost use Rattle.command_words.specs.declared.span_words.SpanFault.TheVariants.{BadTime};
+ghost use Rattle.std.specs.Prelude.{◌≡◌, option_map};
+ghost use Rattle.command_words.specs.SpanWords.{ReadsSpan, ReadsTime, is_in_order, is_reported, span_in};
 
+use crate::refusal::Refusal;
 use crate::time_words::read_time;
 use run_settings::{RunOutput, TimeSpan};
 
-/// Why there is no span.
-#[derive(Clone, Copy)]
-pub enum SpanFault {
-    /// A text is no time.
-    BadTime,
-    /// The end is before the beginning.
-    ToBeforeFrom,
-    /// All lines are printed.
-    SpanOfLines,
-    /// The input has no times.
-    SpanWithoutLines,
-}
-
-/// Why a text is no time.
-#[derive(Clone, Copy)]
-pub struct TimeFault;
-
-impl From<TimeFault> for SpanFault {
-    ghost from_gives = { λ _ fault. fault ≡ BadTime };
-
-    fn from(_fault: TimeFault) -> SpanFault {
-        SpanFault::BadTime
-    }
-}
-
-/// The time that the text of an option spells, if it is given.
-fn read_optional(text: Option<&str>) -> Result<Option<u64>, TimeFault>
-    ensures ok { IfOk result (NamesTime (option_map (λ text. text.now) text.entry)) }
-    ensures err { IfErr result (λ _. NamesNoTime (option_map (λ text. text.now) text.entry)) }
+/// Returns the time that the text of an option spells, if it is given.
+fn read_optional(text: Option<&str>) -> Result<Option<u64>, Refusal>
+    ensures { ReadsTime (option_map (λ text. text.now) text.entry) result }
 {
     match text {
         None => Ok(None),
         Some(text) => match read_time(text) {
             Some(time) => Ok(Some(time)),
-            None => Err(TimeFault),
+            None => Err(Refusal::BadTime),
         },
     }
 }
 
-/// Whether an end isn't before a beginning.
+/// Returns whether an end isn't before a beginning.
 fn is_in_order(from: Option<u64>, to: Option<u64>) -> bool
     ensures { result ≡ is_in_order from to }
 {
@@ -55,7 +29,7 @@ fn is_in_order(from: Option<u64>, to: Option<u64>) -> bool
     }
 }
 
-/// Whether rows or statistics are printed, and not all lines.
+/// Returns whether rows or statistics are printed, and not all lines.
 fn is_reported(output: &RunOutput) -> bool
     ensures { result ≡ is_reported output.now }
 {
@@ -66,43 +40,34 @@ fn is_reported(output: &RunOutput) -> bool
     }
 }
 
-/// The times that the texts of `--from` and `--to` name.
-fn read_times(from: Option<&str>, to: Option<&str>) -> Result<TimeSpan, SpanFault>
-    ensures ok { IfOk result (NamesTimes (option_map (λ text. text.now) from.entry)
-        (option_map (λ text. text.now) to.entry)) }
-    ensures err { IfErr result (λ fault. (fault ≡ BadTime)
-        × (NamesNoTime (option_map (λ text. text.now) from.entry)
-        ⊎ ((time : Option ℕ) × NamesTime (option_map (λ text. text.now) from.entry) time
-        × NamesNoTime (option_map (λ text. text.now) to.entry)))) }
+/// Returns the span of these times that this output is of, by the text of `--lines`.
+fn span_by(output: &RunOutput, lines: Option<&str>, span: TimeSpan) -> Result<TimeSpan, Refusal>
+    ensures { result ≡ span_in output.now (option_map (λ list. list.now) lines.entry) span }
 {
-    Ok(TimeSpan {
-        from: read_optional(from)?,
-        to: read_optional(to)?,
-    })
+    if !is_in_order(span.from, span.to) {
+        Err(Refusal::ToBeforeFrom)
+    } else if span.is_bounded() && !is_reported(output) {
+        Err(Refusal::SpanOfLines)
+    } else if span.is_bounded() && lines.is_none() {
+        Err(Refusal::SpanWithoutLines)
+    } else {
+        Ok(span)
+    }
 }
 
-/// The span in which events lie that this output is of, by the texts of `--from`, `--to` and
-/// `--lines`.
+/// Returns the span in which events lie that this output is of, by the texts of `--from`, `--to`
+/// and `--lines`.
 pub fn read_span(
     output: &RunOutput,
     from: Option<&str>,
     to: Option<&str>,
     lines: Option<&str>,
-) -> Result<TimeSpan, SpanFault>
-    ensures ok { IfOk result (NamesSpan output.now (option_map (λ text. text.now) from.entry)
-        (option_map (λ text. text.now) to.entry) (option_map (λ list. list.now) lines.entry)) }
-    ensures err { IfErr result (HasSpanFault output.now (option_map (λ text. text.now) from.entry)
-        (option_map (λ text. text.now) to.entry) (option_map (λ list. list.now) lines.entry)) }
+) -> Result<TimeSpan, Refusal>
+    ensures { ReadsSpan output.now (option_map (λ text. text.now) from.entry)
+        (option_map (λ text. text.now) to.entry) (option_map (λ list. list.now) lines.entry)
+        result }
 {
-    let span = read_times(from, to)?;
-    if !is_in_order(span.from, span.to) {
-        return Err(SpanFault::ToBeforeFrom);
-    }
-    if span.is_bounded() && !is_reported(output) {
-        return Err(SpanFault::SpanOfLines);
-    }
-    if span.is_bounded() && lines.is_none() {
-        return Err(SpanFault::SpanWithoutLines);
-    }
-    Ok(span)
+    let from = read_optional(from)?;
+    let to = read_optional(to)?;
+    span_by(output, lines, TimeSpan { from, to })
 }

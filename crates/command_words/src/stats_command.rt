@@ -1,20 +1,16 @@
-//! `nbbo stats`: its texts and its options, of which each rule stands in `specs/Options.antt`.
-ghost use Rattle.std.specs.Prelude.{◌≡◌, IfOk, false, codes};
-ghost use Rattle.clap.specs.Simple.{app_of, new_app};
-ghost use Rattle.clap.specs.Walk.{rule_of};
+//! `nbbo stats`: its texts and its options.
+ghost use Rattle.std.specs.Prelude.{◌≡◌, IfOk, false};
+ghost use Rattle.clap.specs.Simple.{app_of};
 ghost use Rattle.clap.specs.declared.builder.command.Command.TheViews.{out-Command as fields_of};
-ghost use Rattle.command_words.specs.Commands.{stats_app, stats_form_app, stats_gaps_app, stats_input_app, stats_periods_app, stats_skips_app, stats_span_app, stats_window_app};
-ghost use Rattle.command_words.specs.Options.{bests_rule, every_rule, format_rule, gaps_rule, symbols_rule};
+ghost use Rattle.command_words.specs.Commands.{stats_app};
 
-use crate::command_texts::{CommandTexts, texts_command};
+use crate::command_texts::{CommandTexts, command_with};
 use crate::limits::text;
-use crate::option_forms::{flag_option, valued_option};
+use crate::option_table::{CommandOption, OptionForm};
 use crate::options::{
-    captured_lines_option, from_time_option, join_flag, sessions_option, skip_gaps_flag,
-    symbol_words, to_time_option, window_option,
+    CAPTURED_LINES, FROM_TIME, JOIN, SESSIONS, SKIP_GAPS, TIMES, TO_TIME, WINDOW,
 };
-use crate::time_style::times_option;
-use clap::{Arg, Command};
+use clap::Command;
 use std::alloc::{AllocError, Global};
 
 /// `stats`, in one line.
@@ -120,185 +116,99 @@ Status:
 At the end of a whole capture standard error says what each venue still lacks, as of 'nbbo replay',
 and with --lines it counts what was passed over, as of 'nbbo replay --lines'.";
 
-const GAPS_HELP: &str = "\
+/// The texts of `stats`.
+const TEXTS: CommandTexts<'static> = CommandTexts {
+    about: ABOUT,
+    long_about: LONG_ABOUT,
+    usage: USAGE,
+    example: EXAMPLE,
+    end: END,
+};
+
+/// `--gaps` of `stats`.
+const GAPS: CommandOption<'static> = CommandOption {
+    name: "gaps",
+    value: "",
+    form: OptionForm::Flag,
+    help: "Prints a row for each gap in place of the counts",
+    long_help: "\
 Prints in place of the counts a row for each gap in the numbers of the messages, as it ends,
 and at the end of the capture those of the gaps that are open. A gap of line A, of line B,
 or of all lines together begins with a packet of it whose number is past the next one; what
 further packets leave out while it is open goes with it. It ends once the venue's sequence
-is past its last message";
-
-/// `--gaps` of `stats`.
-fn stats_gaps_flag<'a>(alloc: Global) -> Arg<'a>
-    ensures rule { rule_of result ≡ gaps_rule }
-    ensures local { result.global ≡ false }
-{
-    flag_option(
-        alloc,
-        "gaps",
-        "Prints a row for each gap in place of the counts",
-        GAPS_HELP,
-    )
-}
-
-const EVERY_HELP: &str = "\
-Prints a row for each line of each venue in each period of this length, in place of the
-counts: a whole number of milliseconds or seconds, as 100ms or 1s, from 1ms to 3600s.
-Only with --lines, by the times of the frames";
+is past its last message",
+};
 
 /// `--every PERIOD`.
-fn every_option<'a>(alloc: Global) -> Arg<'a>
-    ensures rule { rule_of result ≡ every_rule }
-    ensures local { result.global ≡ false }
-{
-    valued_option(
-        alloc,
-        "every",
-        "PERIOD",
-        "Prints rows of each period of this length in place of counts, as 100ms or 1s",
-        EVERY_HELP,
-    )
-}
+const EVERY: CommandOption<'static> = CommandOption {
+    name: "every",
+    value: "PERIOD",
+    form: OptionForm::Text,
+    help: "Prints rows of each period of this length in place of counts, as 100ms or 1s",
+    long_help: "\
+Prints a row for each line of each venue in each period of this length, in place of the
+counts: a whole number of milliseconds or seconds, as 100ms or 1s, from 1ms to 3600s.
+Only with --lines, by the times of the frames",
+};
 
-const BESTS_HELP: &str = "\
+/// `--bests` of `stats`.
+const BESTS: CommandOption<'static> = CommandOption {
+    name: "bests",
+    value: "",
+    form: OptionForm::Flag,
+    help: "Prints with --every how long venues had the national bests, and the spread",
+    long_help: "\
 Prints in place of the rows of --every a row for each venue of each symbol in each period:
 in which share of the period's time the best bid was the venue's, and the best offer, the
 first of those that were tied; in which share the symbol's bid was below its offer, in
-which it was locked, and in which crossed; and the mean spread meanwhile";
-
-/// `--bests` of `stats`.
-fn bests_flag<'a>(alloc: Global) -> Arg<'a>
-    ensures rule { rule_of result ≡ bests_rule }
-    ensures local { result.global ≡ false }
-{
-    flag_option(
-        alloc,
-        "bests",
-        "Prints with --every how long venues had the national bests, and the spread",
-        BESTS_HELP,
-    )
-}
-
-const FORMAT_HELP: &str = "\
-The format of the counts: 'table', as without this option, or 'json', an object on a line
-of its own. With --gaps or --every that of the rows: 'csv', as without this option, a line with the
-columns' names and then a row each; or 'json', an object on a line each";
+which it was locked, and in which crossed; and the mean spread meanwhile",
+};
 
 /// `--format FORMAT`.
-fn stats_format_option<'a>(alloc: Global) -> Arg<'a>
-    ensures rule { rule_of result ≡ format_rule }
-    ensures local { result.global ≡ false }
-{
-    valued_option(
-        alloc,
-        "format",
-        "FORMAT",
-        "The format of the counts: table or json; of rows: csv or json",
-        FORMAT_HELP,
-    )
-}
+const FORMAT: CommandOption<'static> = CommandOption {
+    name: "format",
+    value: "FORMAT",
+    form: OptionForm::Text,
+    help: "The format of the counts: table or json; of rows: csv or json",
+    long_help: "\
+The format of the counts: 'table', as without this option, or 'json', an object on a line
+of its own. With --gaps or --every that of the rows: 'csv', as without this option, a line with the
+columns' names and then a row each; or 'json', an object on a line each",
+};
 
-const SYMBOLS_HELP: &str = text!("\
+/// `SYMBOL..`, the symbols of whose national best the changes are counted.
+const COUNTED_SYMBOLS: CommandOption<'static> = CommandOption {
+    name: "symbols",
+    value: "SYMBOL",
+    form: OptionForm::Words,
+    help: text!("The symbols of whose national best the changes are counted, at most " MAX_SYMBOLS),
+    long_help: text!("\
 The symbols of whose national best bid and offer the changes are counted: at most " MAX_SYMBOLS "
 words, each once, of 1 to 8 characters of printable ASCII without a space (bytes 21 to
-7e). Write '--' before them where one begins with '-'. Without a symbol there are none");
+7e). Write '--' before them where one begins with '-'. Without a symbol there are none"),
+};
 
-/// The symbols of whose national best the changes are counted.
-fn counted_symbols_argument<'a>(alloc: Global) -> Arg<'a>
-    ensures rule { rule_of result ≡ symbols_rule }
-    ensures local { result.global ≡ false }
-{
-    symbol_words(
-        alloc,
-        text!("The symbols of whose national best the changes are counted, at most " MAX_SYMBOLS),
-        SYMBOLS_HELP,
-    )
-}
+/// The options of `stats`, in the order in which its help has them.
+const OPTIONS: &[CommandOption<'static>] = &[
+    SESSIONS,
+    CAPTURED_LINES,
+    WINDOW,
+    JOIN,
+    SKIP_GAPS,
+    GAPS,
+    EVERY,
+    BESTS,
+    FROM_TIME,
+    TO_TIME,
+    FORMAT,
+    TIMES,
+    COUNTED_SYMBOLS,
+];
 
-/// The texts of `stats`, without its options.
-fn stats_texts<'a>(alloc: Global) -> Command<'a>
-    ensures app { app_of result ≡ new_app (codes "stats") }
-    ensures local { (fields_of result).has_globals ≡ false }
-{
-    let texts = CommandTexts {
-        about: ABOUT,
-        long_about: LONG_ABOUT,
-        usage: USAGE,
-        example: EXAMPLE,
-        end: END,
-    };
-    texts_command(alloc, "stats", texts)
-}
-
-/// `stats` with its options that say what is read.
-fn stats_input_command<'a>(alloc: Global) -> Result<Command<'a>, AllocError>
-    ensures app { IfOk result (λ c. app_of c ≡ stats_input_app) }
-    ensures local { IfOk result (λ c. (fields_of c).has_globals ≡ false) }
-{
-    stats_texts(alloc)
-        .arg(sessions_option(alloc))?
-        .arg(captured_lines_option(alloc))
-}
-
-/// `stats` with its option that says how much is held, too.
-fn stats_window_command<'a>(alloc: Global) -> Result<Command<'a>, AllocError>
-    ensures app { IfOk result (λ c. app_of c ≡ stats_window_app) }
-    ensures local { IfOk result (λ c. (fields_of c).has_globals ≡ false) }
-{
-    stats_input_command(alloc)?.arg(window_option(alloc))
-}
-
-/// `stats` with its options that say which gaps are given up, too.
-fn stats_skips_command<'a>(alloc: Global) -> Result<Command<'a>, AllocError>
-    ensures app { IfOk result (λ c. app_of c ≡ stats_skips_app) }
-    ensures local { IfOk result (λ c. (fields_of c).has_globals ≡ false) }
-{
-    stats_window_command(alloc)?
-        .arg(join_flag(alloc))?
-        .arg(skip_gaps_flag(alloc))
-}
-
-/// `stats` with its option that asks for rows of gaps, too.
-fn stats_gaps_command<'a>(alloc: Global) -> Result<Command<'a>, AllocError>
-    ensures app { IfOk result (λ c. app_of c ≡ stats_gaps_app) }
-    ensures local { IfOk result (λ c. (fields_of c).has_globals ≡ false) }
-{
-    stats_skips_command(alloc)?.arg(stats_gaps_flag(alloc))
-}
-
-/// `stats` with its options that ask for rows of periods, too.
-fn stats_periods_command<'a>(alloc: Global) -> Result<Command<'a>, AllocError>
-    ensures app { IfOk result (λ c. app_of c ≡ stats_periods_app) }
-    ensures local { IfOk result (λ c. (fields_of c).has_globals ≡ false) }
-{
-    stats_gaps_command(alloc)?
-        .arg(every_option(alloc))?
-        .arg(bests_flag(alloc))
-}
-
-/// `stats` with its options that say of which time it prints, too.
-fn stats_span_command<'a>(alloc: Global) -> Result<Command<'a>, AllocError>
-    ensures app { IfOk result (λ c. app_of c ≡ stats_span_app) }
-    ensures local { IfOk result (λ c. (fields_of c).has_globals ≡ false) }
-{
-    stats_periods_command(alloc)?
-        .arg(from_time_option(alloc))?
-        .arg(to_time_option(alloc))
-}
-
-/// `stats` with its options that say in which form it prints, too.
-fn stats_form_command<'a>(alloc: Global) -> Result<Command<'a>, AllocError>
-    ensures app { IfOk result (λ c. app_of c ≡ stats_form_app) }
-    ensures local { IfOk result (λ c. (fields_of c).has_globals ≡ false) }
-{
-    stats_span_command(alloc)?
-        .arg(stats_format_option(alloc))?
-        .arg(times_option(alloc))
-}
-
-/// The whole of `stats`.
+/// Returns the whole of `stats`.
 pub fn stats_command<'a>(alloc: Global) -> Result<Command<'a>, AllocError>
     ensures app { IfOk result (λ c. app_of c ≡ stats_app) }
     ensures local { IfOk result (λ c. (fields_of c).has_globals ≡ false) }
 {
-    stats_form_command(alloc)?.arg(counted_symbols_argument(alloc))
+    command_with(alloc, "stats", TEXTS, OPTIONS)
 }

@@ -1,6 +1,5 @@
 pub mod CaptureCounts
 pub mod Keeping
-pub mod NamedLines
 pub mod NoPacket
 pub mod PrintedTexts
 pub mod SaidLacks

@@ -1,16 +1,19 @@
-use Rattle.std.proofs.Common.{rules, ℕ, ◌+◌, List, map, take, subst, sym}
+use Rattle.std.proofs.Common.{rules, inr, refl, ℕ, ◌+◌, List, map, take, subst, sym}
 use Rattle.command_words.specs.Addresses.{AreSpelled}
 use Rattle.std.specs.Net.Grammar.{IsSocketText}
 use Rattle.std.specs.declared.net.socket_addr.SocketAddr.{SocketAddr}
 use Rattle.command_words.proofs.Spelling.{AreSpelled-at, AreSpelled-more}
 use Rattle.command_words.proofs.addresses.spelled.Goals as goal
 
-pub returns-in_default-clause-err : goal.returns-in_default-clause-err
-returns-in_default-clause-err c = λ _ lines all.
-    let at = AreSpelled-at IsSocketText c.args.texts.now c.loop-text.text-index _ lines
-    c.loop-text-test.true all in
-    c.in_default.ensures at.0 (subst (λ (t : List ℕ). IsSocketText t at.0)
-    (sym c.as_bytes.ensures.value) at.1)
+pub returns-in_default-clause-reads : goal.returns-in_default-clause-reads
+returns-in_default-clause-reads c = inr (
+  refl,
+  λ lines all.
+      let at = AreSpelled-at IsSocketText c.args.texts.now c.loop-text.text-index _ lines
+      c.loop-text-test.true all in
+      c.in_default.ensures at.0 (subst (λ (t : List ℕ). IsSocketText t at.0)
+      (sym c.as_bytes.ensures.value) at.1),
+)
 
 pub loop-text-preserved : goal.loop-text-preserved
 loop-text-preserved c = (

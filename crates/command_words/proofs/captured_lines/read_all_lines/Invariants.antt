@@ -1,8 +1,8 @@
-use Rattle.std.proofs.Common.{ℕ, ◌≤◌}
-use Rattle.command_words.specs.CapturedLines.{HasCapturedLinesFault}
-use Rattle.command_words.specs.declared.addresses.LinesFault.TheVariants.{BadLines}
+use Rattle.std.proofs.Common.{Err, ℕ, ◌≤◌}
+use Rattle.command_words.specs.CapturedLines.{ReadsCapturedLines}
+use Rattle.command_words.specs.declared.refusal.Refusal.TheVariants.{BadLines}
 use Rattle.command_words.proofs.captured_lines.read_all_lines.Given as goal
 
 abbrev pub invariant-loop-fewer : goal.invariant-loop-fewer
 invariant-loop-fewer l = (venues : ℕ) → 1 ≤ venues → venues ≤ l.fewer
-    → HasCapturedLinesFault l.list venues BadLines
+    → ReadsCapturedLines l.list venues (Err BadLines)

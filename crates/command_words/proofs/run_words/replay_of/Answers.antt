@@ -1,42 +1,27 @@
-use Rattle.std.proofs.Common.{rules}
+use Rattle.std.proofs.Common.{rules, inl, inr, codes}
+use Rattle.std.specs.Prelude.{unwrap_or}
 use Rattle.std.proofs.lemmas.Result.{err_from_is_err_and}
 use Rattle.clap.specs.Matches.{found_of}
-use Rattle.clap.specs.Walk.{rows_of}
-use Rattle.command_words.specs.RunRequests.{GivesBadFormat, GivesOutput}
-use Rattle.command_words.proofs.Asking.{GivesNoRun-lines, GivesNoRun-span, GivesNoRun-style}
+use Rattle.clap.specs.Walk.{one_of, rows_of}
+use Rattle.command_words.specs.FeedRequests.{ReadsFeed}
+use Rattle.command_words.specs.OptionValues.{is_flag_set, number_given}
+use Rattle.command_words.specs.Readings.{Then}
+use Rattle.command_words.specs.RunRequests.{ReadsReplayOutput, ReadsRunOf}
+use Rattle.command_words.proofs.Subcommands.{onward}
 use Rattle.command_words.proofs.run_words.replay_of.Goals as goal
 
-pub returns-in_err-output-clause-err : goal.returns-in_err-output-clause-err
-returns-in_err-output-clause-err c =
-    let rows = rows_of (found_of c.args.replay.now) in
-    let residual = c.from_residual-in_err-output in
+pub returns-in_err-plain : goal.returns-in_err-plain
+returns-in_err-plain c =
+    let residual = c.from_residual-in_err-plain in
     let p = err_from_is_err_and residual.result residual.ensures.1 in
-    rw (p.1, p.2) (GivesNoRun-style rows (GivesOutput rows) (GivesBadFormat rows) c.in_ok-feed.feed
-    c.in_ok-plain.plain c.in_err-output.field-0.0 c.in_ok-feed.ensures.ok
-    c.in_ok-plain.ensures.ok (search rules))
+    rw (p.1, p.2) (inr (c.in_ok-feed.feed, search rules, inl (search rules)))
 
-pub returns-in_err-input-clause-err : goal.returns-in_err-input-clause-err
-returns-in_err-input-clause-err c =
+pub returns : goal.returns
+returns c =
     let rows = rows_of (found_of c.args.replay.now) in
-    let residual = c.from_residual-in_err-input in
-    let p = err_from_is_err_and residual.result residual.ensures.1 in
-    rw (p.1, p.2) (GivesNoRun-lines rows (GivesOutput rows) (GivesBadFormat rows) c.in_ok-feed.feed
-    c.in_ok-output.output c.in_err-input.field-0.0 c.in_ok-feed.ensures.ok
-    (record {
-      plain = c.in_ok-plain.plain;
-      given = c.in_ok-plain.ensures.ok;
-      styled = c.in_ok-output.ensures.ok;
-    }) (search rules))
-
-pub returns-in_err-span-clause-err : goal.returns-in_err-span-clause-err
-returns-in_err-span-clause-err c =
-    let rows = rows_of (found_of c.args.replay.now) in
-    let residual = c.from_residual-in_err-span in
-    let p = err_from_is_err_and residual.result residual.ensures.1 in
-    rw (p.1, p.2) (GivesNoRun-span rows (GivesOutput rows) (GivesBadFormat rows) c.in_ok-feed.feed
-    c.in_ok-output.output c.in_ok-input.input c.in_err-span.field-0.0 c.in_ok-feed.ensures.ok
-    (record {
-      plain = c.in_ok-plain.plain;
-      given = c.in_ok-plain.ensures.ok;
-      styled = c.in_ok-output.ensures.ok;
-    }) (search rules) (search rules))
+    let gaps = is_flag_set (one_of (codes "gaps") rows) in
+    onward (ReadsFeed rows (unwrap_or (number_given (one_of (codes "journal") rows)) 1000000))
+    (λ feed. Then (ReadsReplayOutput rows) (λ plain. ReadsRunOf rows feed gaps plain))
+    c.in_ok-feed.feed c.run_of.result (search rules)
+    (onward (ReadsReplayOutput rows) (λ plain. ReadsRunOf rows c.in_ok-feed.feed gaps plain)
+    c.in_ok-plain.plain c.run_of.result (search rules) (search rules))

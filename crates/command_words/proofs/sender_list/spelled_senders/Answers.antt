@@ -1,15 +1,18 @@
-use Rattle.std.proofs.Common.{rules, ℕ, ◌+◌, List, map, take, subst, sym}
+use Rattle.std.proofs.Common.{rules, inr, refl, ℕ, ◌+◌, List, map, take, subst, sym}
 use Rattle.run_settings.specs.declared.sender.Sender.{Sender}
 use Rattle.command_words.specs.Addresses.{AreSpelled}
 use Rattle.command_words.specs.SenderLists.{IsSenderText}
 use Rattle.command_words.proofs.Spelling.{AreSpelled-at, AreSpelled-more}
 use Rattle.command_words.proofs.sender_list.spelled_senders.Goals as goal
 
-pub returns-in_default-clause-err : goal.returns-in_default-clause-err
-returns-in_default-clause-err c = λ _ senders all.
-    let at = AreSpelled-at IsSenderText c.args.texts.now c.loop-text.text-index _ senders
-    c.loop-text-test.true all in
-    c.in_default.ensures at.0 at.1
+pub returns-in_default : goal.returns-in_default
+returns-in_default c = inr (
+  refl,
+  λ senders all.
+      let at = AreSpelled-at IsSenderText c.args.texts.now c.loop-text.text-index _ senders
+      c.loop-text-test.true all in
+      c.in_default.ensures at.0 at.1,
+)
 
 pub loop-text-preserved : goal.loop-text-preserved
 loop-text-preserved c =

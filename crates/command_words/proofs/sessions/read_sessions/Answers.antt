@@ -1,4 +1,4 @@
-use Rattle.std.proofs.Common.{rules, ◌∙◌, ap, lit<, map, ℕ, List, Ok}
+use Rattle.std.proofs.Common.{rules, inr, sym, ◌∙◌, ap, lit<, map, ℕ, List, Ok}
 use Rattle.std.specs.declared.alloc.AllocError.{AllocError}
 use Rattle.std.proofs.lemmas.Iterator.Consumers.{map_from_collect}
 use Rattle.std.proofs.lemmas.Iterator.Splits.{YieldsList-from_str_split}
@@ -12,17 +12,19 @@ cut c = ap (map (λ name. name.now)) c.as_slice.ensures.value
     (YieldsList-from_str_split 44 c.args.list.now (lit< tt) c.split.ensures.text
     c.split.ensures.has_more c.split.ensures.pattern)
 
-pub returns-then-not-are_names-clause-err : goal.returns-then-not-are_names-clause-err
-returns-then-not-are_names-clause-err c = λ _. sessions_in-bad _ c.args.list.now
-    (cut (goal.at.returns-then-not-are_names-clause-err c).After-are_names) (search rules)
+pub returns-then-not-are_names-clause-reads : goal.returns-then-not-are_names-clause-reads
+returns-then-not-are_names-clause-reads c =
+    inr (sym (sessions_in-bad _ c.args.list.now
+    (cut (goal.at.returns-then-not-are_names-clause-reads c).After-are_names) (search rules)))
 
-pub returns-then-len-gt-MAX_VENUES-clause-err : goal.returns-then-len-gt-MAX_VENUES-clause-err
-returns-then-len-gt-MAX_VENUES-clause-err c = λ _. sessions_in-too_many _ c.args.list.now
-    (cut (goal.at.returns-then-len-gt-MAX_VENUES-clause-err c).After-are_names)
-    (search rules) (search rules)
+pub returns-then-len-gt-MAX_VENUES-clause-reads : goal.returns-then-len-gt-MAX_VENUES-clause-reads
+returns-then-len-gt-MAX_VENUES-clause-reads c =
+    inr (sym (sessions_in-too_many _ c.args.list.now
+    (cut (goal.at.returns-then-len-gt-MAX_VENUES-clause-reads c).After-are_names)
+    (search rules) (search rules)))
 
-pub returns-clause-ok : goal.returns-clause-ok
-returns-clause-ok c =
-    let a = (goal.at.returns-clause-ok c).After-are_names in
-    sessions_in-ok _ c.args.list.now (cut a) (search rules) (search rules)
-    ∙ ap (λ (s : List (List ℕ)). Ok s) (search rules)
+pub returns-clause-reads : goal.returns-clause-reads
+returns-clause-reads c =
+    let a = (goal.at.returns-clause-reads c).After-are_names in
+    sym (sessions_in-ok _ c.args.list.now (cut a) (search rules) (search rules)
+    ∙ ap (λ (s : List (List ℕ)). Ok s) (search rules))

@@ -1,19 +1,17 @@
 use Rattle.std.proofs.Common.{List, inl, subst, sym}
 use Rattle.run_settings.specs.Lists.{AreOfVenues}
 use Rattle.run_settings.specs.declared.captured_line.CapturedLine.{CapturedLine}
-use Rattle.nbbo_runs.proofs.NamedLines.{named_of_venues}
 use Rattle.nbbo_runs.proofs.program_run.run.Goals as goal
 
 pub run_conversion-status-requires : goal.run_conversion-status-requires
 run_conversion-status-requires g c =
-    let asked = rw c.in-Ok-Convert.field-0-is at c.in-Ok-Convert.ensures.ok in
     subst (λ (lines : List CapturedLine). AreOfVenues 16 lines)
     (sym c.as_slice-lines.ensures.value)
-    (named_of_venues _ c.in-Ok-Convert.lines.items asked.given)
+    (rw c.in-Ok-Convert.field-0-is at c.in-Ok-Convert.ensures.venues)
 
 pub returns-in-Ok-Run : goal.returns-in-Ok-Run
 returns-in-Ok-Run g c =
-    let asked = rw c.in-Ok-Run.field-0-is at c.in-Ok-Run.ensures.ok in
+    let asked = rw c.in-Ok-Run.field-0-is at c.in-Ok-Run.ensures.reads in
     rw c.ended.ensures
     (inl (record {
       settings = c.in-Ok-Run.settings;

@@ -1,0 +1,13 @@
+use Rattle.std.proofs.Common.{rules, inl, inr, refl}
+use Rattle.std.proofs.lemmas.Result.{err_from_is_err_and}
+use Rattle.command_words.proofs.run_words.run_of.Goals as goal
+
+pub returns-in_err-span : goal.returns-in_err-span
+returns-in_err-span c =
+    let residual = c.from_residual-in_err-span in
+    let p = err_from_is_err_and residual.result residual.ensures.1 in
+    rw (p.1, p.2) (inr (
+      c.in_ok-output.output,
+      c.in_ok-output.ensures,
+      inr (c.in_ok-input.input, search rules, inl (search rules)),
+    ))
