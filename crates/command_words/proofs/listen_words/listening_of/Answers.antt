@@ -1,5 +1,6 @@
-use Rattle.std.proofs.Common.{rules, inl, inr, refl}
+use Rattle.std.proofs.Common.{rules, inl, inr, refl, subst, List, Ok, ℕ}
 use Rattle.std.proofs.lemmas.Result.{err_from_is_err_and}
+use Rattle.command_words.specs.Sessions.{ReadsSessions}
 use Rattle.command_words.proofs.listen_words.listening_of.Goals as goal
 
 pub returns-in_err-symbols : goal.returns-in_err-symbols
@@ -8,7 +9,8 @@ returns-in_err-symbols c =
     let p = err_from_is_err_and residual.result residual.ensures.1 in
     rw (p.1, p.2) (inr (
       c.in_ok-sessions.sessions.items,
-      search rules,
+      subst (λ (t : List ℕ). ReadsSessions t (Ok c.in_ok-sessions.sessions.items))
+          c.text_of.ensures c.in_ok-sessions.ensures.reads,
       inr (
         c.in_ok-lines.lines.items,
         search rules,
@@ -26,7 +28,8 @@ returns-in_err-end c =
     let p = err_from_is_err_and residual.result residual.ensures.1 in
     rw (p.1, p.2) (inr (
       c.in_ok-sessions.sessions.items,
-      search rules,
+      subst (λ (t : List ℕ). ReadsSessions t (Ok c.in_ok-sessions.sessions.items))
+          c.text_of.ensures c.in_ok-sessions.ensures.reads,
       inr (
         c.in_ok-lines.lines.items,
         search rules,
@@ -44,7 +47,8 @@ returns-in_err-kept c =
     let p = err_from_is_err_and residual.result residual.ensures.1 in
     rw (p.1, p.2) (inr (
       c.in_ok-sessions.sessions.items,
-      search rules,
+      subst (λ (t : List ℕ). ReadsSessions t (Ok c.in_ok-sessions.sessions.items))
+          c.text_of.ensures c.in_ok-sessions.ensures.reads,
       inr (
         c.in_ok-lines.lines.items,
         search rules,
@@ -66,7 +70,8 @@ returns-in_err-from c =
     let p = err_from_is_err_and residual.result residual.ensures.1 in
     rw (p.1, p.2) (inr (
       c.in_ok-sessions.sessions.items,
-      search rules,
+      subst (λ (t : List ℕ). ReadsSessions t (Ok c.in_ok-sessions.sessions.items))
+          c.text_of.ensures c.in_ok-sessions.ensures.reads,
       inr (
         c.in_ok-lines.lines.items,
         search rules,
@@ -96,7 +101,8 @@ returns-in_err-metrics c =
     let p = err_from_is_err_and residual.result residual.ensures.1 in
     rw (p.1, p.2) (inr (
       c.in_ok-sessions.sessions.items,
-      search rules,
+      subst (λ (t : List ℕ). ReadsSessions t (Ok c.in_ok-sessions.sessions.items))
+          c.text_of.ensures c.in_ok-sessions.ensures.reads,
       inr (
         c.in_ok-lines.lines.items,
         search rules,
@@ -126,7 +132,8 @@ returns-in_err-stats c =
     let p = err_from_is_err_and residual.result residual.ensures.1 in
     rw (p.1, p.2) (inr (
       c.in_ok-sessions.sessions.items,
-      search rules,
+      subst (λ (t : List ℕ). ReadsSessions t (Ok c.in_ok-sessions.sessions.items))
+          c.text_of.ensures c.in_ok-sessions.ensures.reads,
       inr (
         c.in_ok-lines.lines.items,
         search rules,
@@ -160,7 +167,8 @@ returns-in_err-format c =
     let p = err_from_is_err_and residual.result residual.ensures.1 in
     rw (p.1, p.2) (inr (
       c.in_ok-sessions.sessions.items,
-      search rules,
+      subst (λ (t : List ℕ). ReadsSessions t (Ok c.in_ok-sessions.sessions.items))
+          c.text_of.ensures c.in_ok-sessions.ensures.reads,
       inr (
         c.in_ok-lines.lines.items,
         search rules,
@@ -199,7 +207,8 @@ returns-in_err-format c =
 pub returns : goal.returns
 returns c = (
   c.in_ok-sessions.sessions.items,
-  search rules,
+  subst (λ (t : List ℕ). ReadsSessions t (Ok c.in_ok-sessions.sessions.items))
+      c.text_of.ensures c.in_ok-sessions.ensures.reads,
   (
     c.in_ok-lines.lines.items,
     search rules,

@@ -12,11 +12,11 @@ returns-in-Ok g c =
     let replayed = c.replay_in_span-replayed in
     rw c.into_writer.ensures (record {
       prints = span_prints _ (periods_taking writing) rows
-    replayed.result.sink
-    (periods_write writing c.args.output (record {
-      style = c.args.style;
-      venues = venues_in config;
-    }) rows replayed.result.sink c.in-Ok.ensures.rows)
-    replayed.ensures.run;
+          replayed.result.sink
+          (periods_write writing c.args.output (record {
+            style = c.args.style;
+            venues = venues_in config;
+          }) rows replayed.result.sink c.in-Ok.ensures.rows)
+          replayed.ensures.run;
       missing = replayed.ensures.missing;
     })

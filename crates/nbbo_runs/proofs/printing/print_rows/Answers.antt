@@ -10,8 +10,8 @@ returns-in-Ok g c =
     let replayed = c.replay_in_span-replayed in
     rw c.into_writer.ensures (record {
       prints = span_prints _ (rows_taking writing) rows
-    replayed.result.sink
-    (rows_write writing c.args.output c.args.style rows replayed.result.sink c.in-Ok.ensures.rows)
-    replayed.ensures.run;
+          replayed.result.sink
+          (rows_write writing c.args.output c.args.style rows replayed.result.sink c.in-Ok.ensures.rows)
+          replayed.ensures.run;
       missing = replayed.ensures.missing;
     })
