@@ -25,7 +25,8 @@ returns-in-Ok g c =
       prints = span_prints reading parsing c.args.config.now.replay _ _ _ _
           replayed.result.outcome c.args.config.now.span (rows_taking writing) rows
           replayed.result.sink
-          (rows_write writing c.args.output c.args.style rows replayed.result.sink c.in-Ok.ensures.rows)
+          (rows_write writing c.args.output c.args.style rows replayed.result.sink
+          c.in-Ok.ensures.rows)
           replayed.ensures.run;
       missing = replayed.ensures.missing;
     })
