@@ -172,18 +172,19 @@ span_writes writing span taking Shown writer_of text writer old new writes = rec
   failed = λ told failed. writes.failed (events_in span told) failed;
 }
 
-pub span_prints : {R S F W K : Type 0} {reading : Reading R} {writing : Writing W}
-    {parsing : Parsing S F} {config : ReplayConfig} (span : TimeSpan) (taking : SinkTaking K)
+pub span_prints : {R S F W K : Type 0} (reading : Reading R) {writing : Writing W}
+    (parsing : Parsing S F) (config : ReplayConfig) (from to : R) (start finish : S)
+    (outcome : Result (Unit {0}) (ReplayStop F)) (span : TimeSpan) (taking : SinkTaking K)
     {Shown : K → Type 0} {writer_of : K → W} {text : List TimedEvent → List ℕ} {writer : W}
-    (old new : K) {from to : R} {start finish : S} {outcome : Result (Unit {0}) (ReplayStop F)}
+    (old new : K)
     → WritesText writing taking Shown writer_of text writer old new
     → AnswersRun reading parsing (taking_in span taking) Shown config
     (facts_of_run config) from to start finish old new outcome
     → PrintsEvents reading writing parsing config (λ told. text (events_in span told))
     from to start finish writer (writer_of new) outcome
-span_prints {R} {S} {F} {W} {K} {reading} {writing} {parsing} {config} span taking {Shown}
+span_prints reading {writing} parsing config from to start finish outcome span taking {Shown}
     {writer_of} {text} {writer} old new writes run =
     sink_printed reading writing parsing config (facts_of_run config)
     (taking_in span taking) Shown writer_of (λ told. text (events_in span told)) writer
     old new (span_writes writing span taking Shown writer_of text writer old new writes)
-    _ _ _ _ _ run
+    from to start finish outcome run

@@ -37,7 +37,7 @@ use Rattle.nbbo_runs.specs.declared.terminals.Terminals.{Terminals}
 -- has the hint, then what venues lack and which symbols never came, if that is told, and then what
 -- is to be said of what was read and of the outcome, by `end_texts`.
 pub record RunsOver {R W E S F : Type 0} (devices : Devices R W E) (parsing : Parsing S F)
-    (Prints : Output R S F W) (end_texts : S → Result (Unit {0}) (ReplayStop F) → List (List ℕ))
+    (Prints : Output R W) (end_texts : S → Result (Unit {0}) (ReplayStop F) → List (List ℕ))
     (settings : RunSettings) (terminals : Terminals) (start : S)
     (before after : Streams R W E) (status : ℕ) : Type 0 where
   pub finish : S
