@@ -1,4 +1,4 @@
-use Rattle.std.proofs.Common.{List, inl, subst, sym}
+use Rattle.std.proofs.Common.{List, inl, inr, subst, sym}
 use Rattle.run_settings.specs.Lists.{AreOfVenues}
 use Rattle.run_settings.specs.declared.captured_line.CapturedLine.{CapturedLine}
 use Rattle.nbbo_runs.proofs.program_run.run.Goals as goal
@@ -18,3 +18,13 @@ returns-in-Ok-Run g c =
       asked = asked;
       runs = c.run_settings-status.ensures;
     }))
+
+pub returns-in-Ok-Convert : goal.returns-in-Ok-Convert
+returns-in-Ok-Convert g c =
+    let asked = rw c.in-Ok-Convert.field-0-is at c.in-Ok-Convert.ensures.reads in
+    rw c.ended-in-Ok-Convert.ensures
+    (inr (inl (record {
+      lines = c.as_slice-lines.result.now;
+      asked = (c.in-Ok-Convert.lines, sym c.as_slice-lines.ensures.value, asked);
+      runs = c.run_conversion-status.ensures;
+    })))
