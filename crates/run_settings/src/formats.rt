@@ -1,9 +1,9 @@
 //! The forms in which what a replay prints is passed on.
 
-/// How comma-separated values have times.
+/// How times are written.
 #[derive(Clone, Copy, Debug, PartialEq, Eq)]
 pub enum TimeStyle {
-    /// In seconds from 1970 on, with nine decimals.
+    /// As a number: of seconds from 1970 on, with nine decimals, or of nanoseconds.
     Seconds,
     /// As a date and a time of day in UTC, with nine decimals of a second.
     Utc,
@@ -17,13 +17,24 @@ pub enum BestFormat {
     /// A header line, and then a row of comma-separated values for each.
     Csv(TimeStyle),
     /// A JSON object for each, on a line of its own.
-    Json,
+    Json(TimeStyle),
 }
 
-/// The form of the counts of a capture.
+/// The form of the statistics of a capture.
+#[derive(Clone, Copy, Debug, PartialEq, Eq)]
+pub enum ReportFormat {
+    /// Tables.
+    Table(TimeStyle),
+    /// A header line, and then a row of comma-separated values for each figure.
+    Csv(TimeStyle),
+    /// One JSON object.
+    Json(TimeStyle),
+}
+
+/// The form of the lines that a capture has, and of the counts of a run that listens.
 #[derive(Clone, Copy, Debug, PartialEq, Eq)]
 pub enum StatsFormat {
-    /// A table for each venue, and one of the national bests.
+    /// A table.
     Table,
     /// One JSON object.
     Json,
@@ -35,5 +46,5 @@ pub enum RowFormat {
     /// A header line, and then a row of comma-separated values for each.
     Csv(TimeStyle),
     /// A JSON object for each, on a line of its own.
-    Json,
+    Json(TimeStyle),
 }

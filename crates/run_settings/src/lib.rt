@@ -35,7 +35,7 @@ mod time_span;
 pub use captured_line::CapturedLine;
 pub use end_rule::EndRule;
 pub use feed_settings::FeedSettings;
-pub use formats::{BestFormat, RowFormat, StatsFormat, TimeStyle};
+pub use formats::{BestFormat, ReportFormat, RowFormat, StatsFormat, TimeStyle};
 pub use line_list::{are_apart, lines_at};
 pub use listen_settings::ListenSettings;
 pub use listen_stats::ListenStats;

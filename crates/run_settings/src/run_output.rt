@@ -1,6 +1,6 @@
 //! The output of a run.
 
-use crate::formats::{BestFormat, RowFormat, StatsFormat};
+use crate::formats::{BestFormat, ReportFormat, RowFormat};
 use crate::period_style::PeriodStyle;
 
 /// What is printed of a replay.
@@ -11,7 +11,7 @@ pub enum RunOutput {
     /// The best lines alone, in a format.
     Bests(BestFormat),
     /// Statistics, in a format.
-    Stats(StatsFormat),
+    Stats(ReportFormat),
     /// The gaps alone, in a format.
     Gaps(RowFormat),
     /// Rows of what each line brought in each period.
