@@ -1,6 +1,7 @@
 pub mod FurtherOptions
 pub mod ListLaws
 pub mod Lists
+pub mod NextSessions
 pub mod RunInputs
 pub mod Senders
 pub mod TimeSpans

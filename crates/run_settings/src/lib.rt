@@ -1,14 +1,15 @@
 //! What a run of the program is asked to do, and how: the settings of each command, the lines whose
-//! datagrams a packet capture has, the rules for gaps and for ends of session, the senders whose
-//! datagrams are taken, and the forms in which best lines, statistics, gaps and periods are
-//! printed.
+//! datagrams a packet capture has, the rules for gaps and for ends of session, the sessions that
+//! follow a venue's own, the senders whose datagrams are taken, and the forms in which best lines,
+//! statistics, gaps and periods are printed.
 //!
 //! Contract: each value that a setting can have is in its range, by the invariants of the types:
-//! 1 to 16 sessions, each symbol once, two lines for each venue, the lines of a packet capture
-//! those of the feed's venues. [`lines_at`] makes the lines of a list of addresses, and
-//! [`are_apart`] says whether no two are of one address and port (`specs/Lists.antt`).
-//! [`Senders::takes_from`] says whether a datagram is of one of them (`specs/Senders.antt`), and
-//! [`TimeSpan::has`] whether a time lies in a span (`specs/TimeSpans.antt`).
+//! 1 to 16 sessions, each symbol once, two lines for each venue, the lines of a packet capture and
+//! the next sessions those of the feed's venues. [`lines_at`] makes the lines of a list of
+//! addresses, and [`are_apart`] says whether no two are of one address and port
+//! (`specs/Lists.antt`). [`Senders::takes_from`] says whether a datagram is of one of them
+//! (`specs/Senders.antt`), and [`TimeSpan::has`] whether a time lies in a span
+//! (`specs/TimeSpans.antt`).
 //!
 //! `command_words` reads settings from words, and the runs take them: neither waits for the other.
 //!
@@ -23,6 +24,7 @@ mod further_options;
 mod line_list;
 mod listen_settings;
 mod listen_stats;
+mod next_session;
 mod period_length;
 mod period_style;
 mod run_input;
@@ -39,6 +41,7 @@ pub use formats::{BestFormat, ReportFormat, RowFormat, StatsFormat, TimeStyle};
 pub use line_list::{are_apart, lines_at};
 pub use listen_settings::ListenSettings;
 pub use listen_stats::ListenStats;
+pub use next_session::NextSession;
 pub use period_length::PeriodLength;
 pub use period_style::PeriodStyle;
 pub use run_input::RunInput;
