@@ -9,7 +9,7 @@ use Rattle.line_arbiter.specs.Outcomes.{IsOutcome}
 use Rattle.line_arbiter.specs.States.{State}
 use Rattle.line_arbiter.specs.Streams.{front_of, held_count, missing_count}
 use Rattle.run_settings.specs.declared.skip_rule.SkipRule.{SkipRule}
-use Rattle.run_settings.specs.declared.skip_rule.SkipRule.TheVariants.{Never, Join, Gaps}
+use Rattle.run_settings.specs.declared.skip_rule.SkipRule.TheVariants.{Never, Join, Gaps, After}
 use Rattle.feed_text.specs.declared.replay.ReplayConfig.{ReplayConfig}
 use Rattle.feed_text.specs.Capture.{CaptureRecord, datagram_record, renewal_record, skip_record, self_help_record, record_venue}
 use Rattle.feed_text.specs.Formats.{TimedRecord, timed_record}
@@ -37,6 +37,7 @@ abbrev pub Allows : SkipRule → History → Type 0
 Allows Never h = ⊥
 Allows Join h = IsFresh h
 Allows Gaps h = Unit {0}
+Allows (After ms) h = ⊥
 
 -- the first number past the front that has come: that of a held message, or the packet's own
 abbrev pub first_come : ℕ → History → Content → ℕ

@@ -24,6 +24,7 @@ fn allows(rule: SkipRule, cursors: &ArbiterStatus) -> bool
         SkipRule::Never => false,
         SkipRule::Join => cursors.front == 0 && cursors.held == 0,
         SkipRule::Gaps => true,
+        SkipRule::After(_) => false,
     }
 }
 
