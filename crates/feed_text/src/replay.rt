@@ -25,7 +25,7 @@ use crate::unread::ReadBuffer;
 use crate::venues::Venues;
 use feed_types::SymbolName;
 use journal_book::NumberedBook;
-use run_settings::SkipRule;
+use run_settings::{NextSession, SkipRule};
 use std::alloc::{AllocError, Global};
 
 /// The settings of a replay.
@@ -46,6 +46,9 @@ pub struct ReplayConfig<'a> {
     pub gaps: bool,
     /// When a replay gives up what a venue lacks, beside the capture's own skips.
     pub skips: SkipRule,
+    /// The sessions that follow the venues' first ones, in the order in which those of a venue
+    /// follow one another.
+    pub next_sessions: &'a [NextSession],
     /// The most calls of the reader that may be made.
     pub turns: u64,
 }

@@ -515,6 +515,7 @@ config_of s = record {
   journal = s.journal;
   gaps = false;
   skips = Never;
+  next_sessions = record { ref_ptr = (0, 0); now = [] };
   turns = 0;
 }
 
