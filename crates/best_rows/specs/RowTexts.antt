@@ -38,14 +38,14 @@ json_side (Some b) =
     codes "{\"venue\":" ++ decimal b.venue ++ codes ",\"price\":" ++ price_text b.price
     ++ codes ",\"size\":" ++ decimal b.size ++ codes "}"
 
-unfoldable pub json_row : RowTime → Notice → List ℕ
-json_row time n =
+unfoldable pub json_row : TimeStyle → RowTime → Notice → List ℕ
+json_row style time n =
     codes "{\"notice\":" ++ decimal n.number ++ codes ",\"position\":" ++ decimal n.position
     ++ codes ",\"symbol\":" ++ quoted 92 (name_of n.symbol)
     ++ codes ",\"bid\":" ++ json_side n.national.bid
     ++ codes ",\"offer\":" ++ json_side n.national.offer
     ++ codes ",\"state\":\"" ++ state_text (state_of n.national) ++ codes "\""
-    ++ json_time time ++ codes "}\n"
+    ++ json_time style time ++ codes "}\n"
 
 -- ---- by format
 
@@ -53,7 +53,7 @@ json_row time n =
 abbrev pub has_times : BestFormat → Bool
 has_times Text = false
 has_times (Csv style) = true
-has_times Json = true
+has_times (Json style) = true
 
 -- the name of the times' column
 abbrev pub time_name : Bool → List ℕ
@@ -66,13 +66,13 @@ header_of Text timed = []
 header_of (Csv style) timed =
     codes "notice,position,symbol," ++ codes "bid_venue,bid_price,bid_size,"
     ++ codes "offer_venue,offer_price,offer_size,state" ++ time_name timed ++ codes "\n"
-header_of Json timed = []
+header_of (Json style) timed = []
 
 -- a notice as a row
 abbrev pub row_of : BestFormat → RowTime → Notice → List ℕ
 row_of Text time notice = best_line notice
 row_of (Csv style) time notice = csv_row style time notice
-row_of Json time notice = json_row time notice
+row_of (Json style) time notice = json_row style time notice
 
 -- the row of an event, if a national best changed
 abbrev pub told_row : RowStyle → Option ℕ → SinkEvent → List ℕ

@@ -33,13 +33,18 @@ csv_time style Absent = []
 csv_time style (Given None) = codes ","
 csv_time style (Given (Some time)) = codes "," ++ time_text style time
 
--- two more members of an object, in seconds and in nanoseconds
-abbrev pub json_known_time : ℕ → List ℕ
-json_known_time time =
-    codes ",\"time\":" ++ seconds_text time ++ codes ",\"time_ns\":" ++ decimal time
+-- a time as a value of JSON: a number of seconds, or a date as a text
+abbrev pub json_time_value : TimeStyle → ℕ → List ℕ
+json_time_value Seconds time = seconds_text time
+json_time_value Utc time = codes "\"" ++ utc_text time ++ codes "\""
+
+-- two more members of an object, in the style and in nanoseconds
+abbrev pub json_known_time : TimeStyle → ℕ → List ℕ
+json_known_time style time =
+    codes ",\"time\":" ++ json_time_value style time ++ codes ",\"time_ns\":" ++ decimal time
 
 -- the same, null where the time isn't known
-abbrev pub json_time : RowTime → List ℕ
-json_time Absent = []
-json_time (Given None) = codes ",\"time\":null,\"time_ns\":null"
-json_time (Given (Some time)) = json_known_time time
+abbrev pub json_time : TimeStyle → RowTime → List ℕ
+json_time style Absent = []
+json_time style (Given None) = codes ",\"time\":null,\"time_ns\":null"
+json_time style (Given (Some time)) = json_known_time style time

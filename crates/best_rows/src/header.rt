@@ -17,7 +17,7 @@ pub fn header_line(style: RowStyle) -> &'static str
     ensures { result.now ≡ header_of style.format style.timed }
 {
     match style.format {
-        BestFormat::Text | BestFormat::Json => "",
+        BestFormat::Text | BestFormat::Json(_) => "",
         BestFormat::Csv(_) => { if style.timed { TIMED_NAMES } else { NAMES } }
     }
 }

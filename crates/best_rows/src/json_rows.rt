@@ -8,10 +8,11 @@ ghost use Rattle.best_rows.specs.Times.{json_known_time, json_time};
 use crate::quoting::put_quoted;
 use crate::row_time::RowTime;
 use crate::rows::put_state;
-use crate::seconds::put_seconds;
+use crate::time_styles::put_time_value;
 use feed_text::{LineBuffer, put_bytes, put_number, put_price};
 use feed_types::Best;
 use nbbo_book::Change;
+use run_settings::TimeStyle;
 
 /// Appends a side as an object of its venue, price and size, or null.
 fn put_json_side(text: &mut LineBuffer, side: &Option<Best>)
@@ -32,33 +33,40 @@ fn put_json_side(text: &mut LineBuffer, side: &Option<Best>)
     }
 }
 
-/// Appends a time that is known as two more members, in seconds and in nanoseconds.
-pub fn put_known_time(text: &mut LineBuffer, time: u64)
-    requires { 69 ≤ text.old.room }
-    ensures { Appends text.old (json_known_time time) 69 text.new }
+/// Appends a time that is known as two more members, in the style and in nanoseconds.
+pub fn put_known_time(text: &mut LineBuffer, style: TimeStyle, time: u64)
+    requires { 71 ≤ text.old.room }
+    ensures { Appends text.old (json_known_time style time) 71 text.new }
 {
     put_bytes(text, *b",\"time\":");
-    put_seconds(text, time);
+    put_time_value(text, style, time);
     put_bytes(text, *b",\"time_ns\":");
     put_number(text, time);
 }
 
 /// Appends a time as two more members, null where it isn't known.
-fn put_json_time(text: &mut LineBuffer, time: RowTime)
-    requires { 69 ≤ text.old.room }
-    ensures { Appends text.old (json_time time) 69 text.new }
+fn put_json_time(text: &mut LineBuffer, style: TimeStyle, time: RowTime)
+    requires { 71 ≤ text.old.room }
+    ensures { Appends text.old (json_time style time) 71 text.new }
 {
     match time {
         RowTime::Absent => {}
         RowTime::Given(None) => put_bytes(text, *b",\"time\":null,\"time_ns\":null"),
-        RowTime::Given(Some(time)) => put_known_time(text, time),
+        RowTime::Given(Some(time)) => put_known_time(text, style, time),
     }
 }
 
-/// Appends the object of a change of the national best, under this number, on a line.
-pub fn put_json(text: &mut LineBuffer, time: RowTime, number: u64, change: &Change)
-    requires { 357 ≤ text.old.room }
-    ensures { Appends text.old (json_row time (notice_of number change.now)) 357 text.new }
+/// Appends the object of a change of the national best, under this number, on a line, with its
+/// time in the style.
+pub fn put_json(
+    text: &mut LineBuffer,
+    style: TimeStyle,
+    time: RowTime,
+    number: u64,
+    change: &Change,
+)
+    requires { 359 ≤ text.old.room }
+    ensures { Appends text.old (json_row style time (notice_of number change.now)) 359 text.new }
 {
     put_bytes(text, *b"{\"notice\":");
     put_number(text, number);
@@ -73,6 +81,6 @@ pub fn put_json(text: &mut LineBuffer, time: RowTime, number: u64, change: &Chan
     put_bytes(text, *b",\"state\":\"");
     put_state(text, change.national.state());
     put_bytes(text, *b"\"");
-    put_json_time(text, time);
+    put_json_time(text, style, time);
     put_bytes(text, *b"}\n");
 }

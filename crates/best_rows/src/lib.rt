@@ -4,8 +4,8 @@
 //! was told (`specs/RowTexts.antt`, `specs/Times.antt`), and [`put_notice`] that of a notice
 //! (`specs/NoticeRows.antt`). What stands before the first row is [`put_header`]'s, and
 //! [`header_line`]'s alike. Comma-separated values read back by the kit's reader
-//! ([`csv_reads_back`], `specs/CsvFields.antt`). Their times are seconds, or a date and a time of
-//! day in UTC (`specs/UtcTexts.antt`), which the kit's reader of such texts reads back.
+//! ([`csv_reads_back`], `specs/CsvFields.antt`). Times are seconds, or a date and a time of day in
+//! UTC (`specs/UtcTexts.antt`), which the kit's reader of such texts reads back.
 //!
 //! Begin with `rows.rt` and `style.rt`.
 #![tactic(auto)]
@@ -31,4 +31,4 @@ pub use read_back::csv_reads_back;
 pub use rows::put_row;
 pub use seconds::put_seconds;
 pub use style::{RowStyle, has_times, put_header};
-pub use time_styles::put_time;
+pub use time_styles::{put_time, put_time_value};

@@ -47,6 +47,6 @@ pub fn put_row(
     match style.format {
         BestFormat::Text => put_change(text, number, change),
         BestFormat::Csv(style) => put_csv(text, style, time, number, change),
-        BestFormat::Json => put_json(text, time, number, change),
+        BestFormat::Json(style) => put_json(text, style, time, number, change),
     }
 }

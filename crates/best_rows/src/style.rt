@@ -20,7 +20,7 @@ pub fn has_times(format: BestFormat) -> bool
 {
     match format {
         BestFormat::Text => false,
-        BestFormat::Csv(_) | BestFormat::Json => true,
+        BestFormat::Csv(_) | BestFormat::Json(_) => true,
     }
 }
 
@@ -40,7 +40,7 @@ pub fn put_header(text: &mut LineBuffer, style: RowStyle)
     ensures { Appends text.old (header_of style.format style.timed) 98 text.new }
 {
     match style.format {
-        BestFormat::Text | BestFormat::Json => {}
+        BestFormat::Text | BestFormat::Json(_) => {}
         BestFormat::Csv(_) => {
             put_bytes(text, *b"notice,position,symbol,");
             put_bytes(text, *b"bid_venue,bid_price,bid_size,");
