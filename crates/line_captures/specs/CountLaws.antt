@@ -4,13 +4,13 @@ use Rattle.std.specs.List.{AllZip, count_by, sum_by}
 use Rattle.std.specs.Option.{option_to_list}
 use Rattle.std.proofs.lemmas.List.Sums.{sum_by-append}
 use Rattle.std.proofs.lemmas.Grind.{flat_map-append}
-use Rattle.std.specs.Prelude.{Bool, cond}
+use Rattle.std.specs.Prelude.{Bool, cond, max}
 use Rattle.packet_capture.specs.Captures.{PieceContent, frames_in, frames_of, list_of}
 use Rattle.packet_capture.specs.Frames.{FrameContent}
 use Rattle.run_settings.specs.declared.captured_line.CapturedLine.{CapturedLine}
 use Rattle.line_captures.specs.declared.frame_counts.FrameCounts.{FrameCounts}
 use Rattle.line_captures.specs.declared.progress.Progress.{Progress}
-use Rattle.line_captures.specs.Counts.{FrameFate, IsFate, CountsFrame, CountsPieces, counts_after, falls_after, last_after, piece_after, timed_after, second_after, second_of, times_in, times_of, is_without, is_no_ip, is_no_udp, is_fragment, is_cut, is_malformed, is_unreadable, goes_elsewhere, goes_to_line}
+use Rattle.line_captures.specs.Counts.{FrameFate, IsFate, CountsFrame, CountsPieces, counts_after, falls_after, latest_after, piece_after, timed_after, second_after, second_of, times_in, times_of, is_without, is_no_ip, is_no_udp, is_fragment, is_cut, is_malformed, is_unreadable, goes_elsewhere, goes_to_line}
 use Rattle.feed_types.specs.FullCounts.{count_after}
 use Rattle.line_captures.specs.declared.drop_counts.DropCounts.{DropCounts}
 use Rattle.line_captures.specs.DropCounts.{drops_after, drops_of}
@@ -83,15 +83,15 @@ drops_both : (d : DropCounts) (ps qs : List PieceContent)
 drops_both d [] qs = refl
 drops_both d (p ∷ ps) qs = drops_both (drops_after d p.dropped) ps qs
 
-falls_both : (last : ℕ) (xs ys : List ℕ)
-    → falls_after last (xs ++ ys) ≡ falls_after last xs + falls_after (last_after last xs) ys
-falls_both last [] ys = omega arith
-falls_both last (x ∷ xs) ys = let h = falls_both x xs ys in omega (arith, h)
+falls_both : (latest : ℕ) (xs ys : List ℕ)
+    → falls_after latest (xs ++ ys) ≡ falls_after latest xs + falls_after (latest_after latest xs) ys
+falls_both latest [] ys = omega arith
+falls_both latest (x ∷ xs) ys = let h = falls_both (max latest x) xs ys in omega (arith, h)
 
-last_both : (last : ℕ) (xs ys : List ℕ) → last_after last (xs ++ ys) ≡ last_after
-    (last_after last xs) ys
-last_both last [] ys = refl
-last_both last (x ∷ xs) ys = last_both x xs ys
+latest_both : (latest : ℕ) (xs ys : List ℕ)
+    → latest_after latest (xs ++ ys) ≡ latest_after (latest_after latest xs) ys
+latest_both latest [] ys = refl
+latest_both latest (x ∷ xs) ys = latest_both (max latest x) xs ys
 
 zip_both : {A B : Type 0} (R : A → B → Type 0) (xs ys : List A) (us vs : List B)
     → AllZip R xs us → AllZip R ys vs
@@ -111,7 +111,7 @@ counts_none lines progress = record {
   are = tt;
   position = refl;
   second_start = refl;
-  last_time = refl;
+  latest_time = refl;
   counts = refl;
   drops = refl;
 }
@@ -120,14 +120,14 @@ counts_none lines progress = record {
 falls_of : {lines : List CapturedLine} (a b : Progress) (ps qs : List PieceContent)
     → CountsPieces lines a ps b
     → times_of (frames_of (ps ++ qs)) ≡ times_of (frames_of ps) ++ times_of (frames_of qs)
-    → falls_after a.last_time (times_of (frames_of ps)) + falls_after b.last_time
+    → falls_after a.latest_time (times_of (frames_of ps)) + falls_after b.latest_time
     (times_of (frames_of qs))
-    ≡ falls_after a.last_time (times_of (frames_of (ps ++ qs)))
+    ≡ falls_after a.latest_time (times_of (frames_of (ps ++ qs)))
 falls_of a b ps qs x times =
-    ap (λ n. falls_after a.last_time (times_of (frames_of ps)) + falls_after n
-    (times_of (frames_of qs))) x.last_time
-    ∙ sym (falls_both a.last_time (times_of (frames_of ps)) (times_of (frames_of qs)))
-    ∙ ap (falls_after a.last_time) (sym times)
+    ap (λ n. falls_after a.latest_time (times_of (frames_of ps)) + falls_after n
+    (times_of (frames_of qs))) x.latest_time
+    ∙ sym (falls_both a.latest_time (times_of (frames_of ps)) (times_of (frames_of qs)))
+    ∙ ap (falls_after a.latest_time) (sym times)
 
 pub counts_then : (lines : List CapturedLine) (a b c : Progress) (ps qs : List PieceContent)
     → CountsPieces lines a ps b → CountsPieces lines b qs c → CountsPieces lines a (ps ++ qs) c
@@ -149,15 +149,15 @@ counts_then lines a b c ps qs x y =
           ∙ ap (λ n. second_of n b.position qs) x.second_start
           ∙ ap (λ n. second_of (second_of a.second_start a.position ps) n qs) x.position
           ∙ sym (second_both a.second_start a.position ps qs);
-      last_time = y.last_time ∙ ap (λ n. last_after n (times_of (frames_of qs))) x.last_time
-          ∙ sym (last_both a.last_time (times_of (frames_of ps)) (times_of (frames_of qs)))
-          ∙ ap (last_after a.last_time) (sym times);
+      latest_time = y.latest_time ∙ ap (λ n. latest_after n (times_of (frames_of qs))) x.latest_time
+          ∙ sym (latest_both a.latest_time (times_of (frames_of ps)) (times_of (frames_of qs)))
+          ∙ ap (latest_after a.latest_time) (sym times);
       counts = y.counts
           ∙ ap (λ (p : FrameCounts). counts_after p y.fates
-          (falls_after b.last_time (times_of (frames_of qs)))) x.counts
+          (falls_after b.latest_time (times_of (frames_of qs)))) x.counts
           ∙ counts_twice a.counts x.fates y.fates
-          (falls_after a.last_time (times_of (frames_of ps)))
-          (falls_after b.last_time (times_of (frames_of qs)))
+          (falls_after a.latest_time (times_of (frames_of ps)))
+          (falls_after b.latest_time (times_of (frames_of qs)))
           ∙ ap (λ n. counts_after a.counts (x.fates ++ y.fates) n) (falls_of a b ps qs x times);
       drops = y.drops ∙ ap (λ d. drops_of d qs) x.drops ∙ sym (drops_both a.drops ps qs);
     }
@@ -186,11 +186,11 @@ counts_frame lines before pieced timed after p f piece time last counts framed =
           ∙ ap (count_after before.position) sum;
       second_start = ap (λ (x : Progress). x.second_start) last
           ∙ ap (λ (x : Progress). x.second_start) start;
-      last_time = ap (λ (x : Progress). x.last_time) last ∙ ap (λ (x : Progress). x.last_time) start
-          ∙ ap (last_after before.last_time) (sym times);
+      latest_time = ap (λ (x : Progress). x.latest_time) last ∙ ap (λ (x : Progress). x.latest_time) start
+          ∙ ap (latest_after before.latest_time) (sym times);
       counts = counts.after_is
           ∙ ap (λ (x : Progress). counts_after x.counts (counts.fate ∷ []) 0) start
-          ∙ ap (λ n. counts_after before.counts (counts.fate ∷ []) (falls_after before.last_time n))
+          ∙ ap (λ n. counts_after before.counts (counts.fate ∷ []) (falls_after before.latest_time n))
           (sym times);
       drops = ap (λ (x : Progress). x.drops) last ∙ ap (λ (x : Progress). x.drops) start;
     }
@@ -209,9 +209,9 @@ counts_silent lines before after p piece unframed =
       are = subst Z (sym frames) tt;
       position = ap (λ (x : Progress). x.position) piece ∙ ap (count_after before.position) sum;
       second_start = ap (λ (x : Progress). x.second_start) piece;
-      last_time = ap (λ (x : Progress). x.last_time) piece
-          ∙ ap (last_after before.last_time) (sym times);
+      latest_time = ap (λ (x : Progress). x.latest_time) piece
+          ∙ ap (latest_after before.latest_time) (sym times);
       counts = ap (λ (x : Progress). x.counts) piece
-          ∙ ap (λ n. counts_after before.counts [] (falls_after before.last_time n)) (sym times);
+          ∙ ap (λ n. counts_after before.counts [] (falls_after before.latest_time n)) (sym times);
       drops = ap (λ (x : Progress). x.drops) piece;
     }

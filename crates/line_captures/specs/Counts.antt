@@ -1,5 +1,5 @@
 -- What is counted of the frames of a packet capture. A count stays at 2^64 - 1 once it is there.
-use Rattle.std.specs.Prelude.{◌≡◌, ℕ, ◌+◌, ◌==◌, ◌&&◌, Bool, true, false, List, [], ◌∷◌, length, nat_lt, if◌then◌else◌, min, flat_map, Option, Some, None}
+use Rattle.std.specs.Prelude.{◌≡◌, ℕ, ◌+◌, ◌==◌, ◌&&◌, Bool, true, false, List, [], ◌∷◌, length, nat_lt, if◌then◌else◌, max, min, flat_map, Option, Some, None}
 use Rattle.std.specs.List.{AllZip, count_by, sum_by}
 use Rattle.std.specs.Option.{option_to_list}
 use Rattle.packet_capture.specs.declared.fault.FrameFault.{FrameFault}
@@ -77,14 +77,16 @@ times_in frame = option_to_list frame.time
 abbrev pub times_of : List FrameContent → List ℕ
 times_of frames = flat_map times_in frames
 
--- how many times are before the one before them, after this one
-abbrev pub falls_after : ℕ → List ℕ → ℕ
-falls_after last [] = 0
-falls_after last (time ∷ times) = (if nat_lt time last then 1 else 0) + falls_after time times
+-- the latest of this time and those after it
+abbrev pub latest_after : ℕ → List ℕ → ℕ
+latest_after latest [] = latest
+latest_after latest (time ∷ times) = latest_after (max latest time) times
 
-abbrev pub last_after : ℕ → List ℕ → ℕ
-last_after last [] = last
-last_after last (time ∷ times) = last_after time times
+-- how many times are before the latest of this one and of those that stand before them
+abbrev pub falls_after : ℕ → List ℕ → ℕ
+falls_after latest [] = 0
+falls_after latest (time ∷ times) =
+    (if nat_lt time latest then 1 else 0) + falls_after (max latest time) times
 
 -- the counts after frames with these fates, and after this many that are out of time order
 abbrev pub counts_after : FrameCounts → List FrameFate → ℕ → FrameCounts
@@ -123,18 +125,19 @@ second_of found position [] = found
 second_of found position (piece ∷ pieces) =
     second_of (second_after found position piece.frame) (count_after position piece.len) pieces
 
--- What was counted of these pieces: their bytes, where a second capture seems to begin, the last
--- time, the fates of their frames, and what they say of dropped ones.
+-- What was counted of these pieces: their bytes, where a second capture seems to begin, the
+-- latest time, the fates of their frames, and what they say of dropped ones.
 pub record CountsPieces (lines : List CapturedLine) (before : Progress) (pieces : List PieceContent)
     (after : Progress) : Type 0 where
   pub fates : List FrameFate
   pub are : AllZip (IsFate lines) (frames_of pieces) fates
   pub position : after.position ≡ count_after before.position (sum_by (λ piece. piece.len) pieces)
   pub second_start : after.second_start ≡ second_of before.second_start before.position pieces
-  pub last_time : after.last_time ≡ last_after before.last_time (times_of (frames_of pieces))
+  pub latest_time : after.latest_time
+      ≡ latest_after before.latest_time (times_of (frames_of pieces))
   pub counts : after.counts
       ≡ counts_after before.counts fates
-      (falls_after before.last_time (times_of (frames_of pieces)))
+      (falls_after before.latest_time (times_of (frames_of pieces)))
   pub drops : after.drops ≡ drops_of before.drops pieces
 
 -- before the first piece
@@ -142,7 +145,7 @@ abbrev pub new_progress : Progress
 new_progress = record {
   position = 0;
   second_start = None;
-  last_time = 0;
+  latest_time = 0;
   counts = record {
     to_lines = 0;
     elsewhere = 0;
@@ -177,6 +180,6 @@ piece_after progress piece = record progress {
 -- the progress after the time of a frame, if it has one
 abbrev pub timed_after : Progress → Option ℕ → Progress
 timed_after progress time = record progress {
-  last_time = last_after progress.last_time (option_to_list time);
-  counts = counts_after progress.counts [] (falls_after progress.last_time (option_to_list time));
+  latest_time = latest_after progress.latest_time (option_to_list time);
+  counts = counts_after progress.counts [] (falls_after progress.latest_time (option_to_list time));
 }

@@ -25,7 +25,7 @@ pub struct FrameCounts {
     pub malformed: u64,
     /// Frames of a link type, or with an extension header, that isn't read.
     pub not_read: u64,
-    /// Frames, of any kind, whose time is before that of the frame before.
+    /// Frames, of any kind, whose time is before the latest of the frames before.
     pub disordered: u64,
 }
 

@@ -16,8 +16,8 @@ pub struct Progress {
     /// At which byte the first record began whose frame has no byte and had none on the wire. The
     /// header of a savefile behind another one is such a record.
     pub second_start: Option<u64>,
-    /// The time of the last frame that had one.
-    pub last_time: u64,
+    /// The latest time of a frame so far, 0 before any had one.
+    pub latest_time: u64,
     pub counts: FrameCounts,
     pub drops: DropCounts,
 }
@@ -30,7 +30,7 @@ impl Progress {
         Progress {
             position: 0,
             second_start: None,
-            last_time: 0,
+            latest_time: 0,
             counts: FrameCounts::default(),
             drops: DropCounts::new(),
         }
@@ -67,15 +67,15 @@ impl Progress {
         self.position = self.position.saturating_add(piece.len as u64);
     }
 
-    /// Counts a frame where its time is before that of the frame before.
+    /// Counts a frame where its time is before the latest one so far.
     pub fn add_time(&mut self, time: Option<u64>)
         ensures { self.new ≡ timed_after self.old time }
     {
         if let Some(time) = time {
-            if time < self.last_time {
+            if time < self.latest_time {
                 self.counts.add_disordered();
             }
-            self.last_time = time;
+            self.latest_time = self.latest_time.max(time);
         }
     }
 }

@@ -30,7 +30,7 @@ pub returns-in-Some-clause-counts : goal.returns-in-Some-clause-counts
 returns-in-Some-clause-counts c =
     let after : Progress = record {
       position = c.add_time.new.self.position;
-      last_time = c.add_time.new.self.last_time;
+      latest_time = c.add_time.new.self.latest_time;
       second_start = c.add_time.new.self.second_start;
       counts = c.line_datagram.new.counts;
       drops = c.add_time.new.self.drops;
@@ -45,7 +45,7 @@ pub returns-in-None-clause-counts : goal.returns-in-None-clause-counts
 returns-in-None-clause-counts c =
     let after : Progress = record {
       position = c.add_time.new.self.position;
-      last_time = c.add_time.new.self.last_time;
+      latest_time = c.add_time.new.self.latest_time;
       second_start = c.add_time.new.self.second_start;
       counts = c.line_datagram.new.counts;
       drops = c.add_time.new.self.drops;

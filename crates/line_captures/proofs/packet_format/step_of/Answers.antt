@@ -12,8 +12,8 @@ pub returns-in-Some-datagram_in-clause-counts : goal.returns-in-Some-datagram_in
 returns-in-Some-datagram_in-clause-counts c =
     let after : Progress = record {
       position = c.add_time.new.self.position;
-      last_time =
-          c.add_time.new.self.last_time;
+      latest_time =
+          c.add_time.new.self.latest_time;
       second_start = c.add_time.new.self.second_start;
       counts = c.datagram_in.new.counts;
       drops = c.add_time.new.self.drops;
@@ -27,8 +27,8 @@ pub returns-in-None-clause-counts : goal.returns-in-None-clause-counts
 returns-in-None-clause-counts c =
     let after : Progress = record {
       position = c.add_time.new.self.position;
-      last_time =
-          c.add_time.new.self.last_time;
+      latest_time =
+          c.add_time.new.self.latest_time;
       second_start = c.add_time.new.self.second_start;
       counts = c.datagram_in.new.counts;
       drops = c.add_time.new.self.drops;
