@@ -1,0 +1,10 @@
+use Rattle.std.proofs.Common.{◌≡◌, ◌≤◌, ◌+◌, ◌++◌, length, take}
+use Rattle.feed_text.specs.Pages.{memory_of}
+use Rattle.report_rows.proofs.cell_texts.put_slice.Given as goal
+
+abbrev pub invariant-loop-byte : goal.invariant-loop-byte
+invariant-loop-byte l = record {
+  put : l.text.items ≡ l.fn.text.items ++ take l.byte-index l.bytes;
+  short : length l.text.items ≤ length l.fn.text.items + l.byte-index;
+  size : memory_of l.text ≡ memory_of l.fn.text;
+}

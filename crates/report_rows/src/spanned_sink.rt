@@ -1,0 +1,13 @@
+//! Sinks that take what came before the events of a span.
+ghost use Rattle.std.specs.Prelude.{◌∷◌, []};
+ghost use Rattle.feed_text.specs.SinkEvents.{timed_event, told_before, told_by};
+
+use feed_text::{Event, EventSink};
+
+/// A sink of events that can take an event before all that it reports. It shows nothing of it.
+pub trait SpannedSink: EventSink {
+    /// Takes an event of a record that came at this time, before all that is reported.
+    fn take_before(&mut self, time: Option<u64>, event: &Event<'_>)
+        ensures { Self.takes self.old
+            (timed_event time (told_before (told_by event.now)) ∷ []) self.new };
+}
