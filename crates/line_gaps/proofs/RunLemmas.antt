@@ -1,0 +1,40 @@
+-- Runs of numbers, one by one.
+use Rattle.std.proofs.Common.{◌≡◌, ℕ, ◌+◌, ◌<◌, ◌≤◌, Bool, true, false, List, [], ◌∷◌, ◌++◌, take, length, get_or, arith, ap, refl, sym, ◌∙◌, max, min}
+use Rattle.std.specs.Prelude.{◌&&◌, ◌||◌, not, nat_le, nat_lt, slice_index_or}
+use Rattle.std.specs.List.{list_any}
+use Rattle.std.proofs.lemmas.Bool.Decides.{nat_tests}
+use Rattle.std.proofs.lemmas.List.Folds.{list_any_more}
+use Rattle.line_gaps.specs.declared.number_run.NumberRun.{NumberRun}
+use Rattle.line_gaps.specs.Runs.{is_in_run, is_in_runs}
+
+-- outside a cut is below or above it
+pub is_outside : (n first last : ℕ) → (nat_lt n first || nat_lt last n)
+    ≡ not (nat_le first n && nat_le n last)
+is_outside n first last = grind (arith, nat_tests)
+
+parts : (old now run below above out : Bool) → (below || above) ≡ out
+    → ((old || (now && out)) || (run && below)) || (run && above)
+    ≡ (old || ((now || run) && out))
+parts true now run below above out e = refl
+parts false true true below above true e = refl
+parts false true true below above false e = e
+parts false true false below above true e = refl
+parts false true false below above false e = refl
+parts false false true below above out e = e
+parts false false false below above out e = refl
+
+pub outside_more : (now mid last old : Bool) (n : ℕ) (runs : List NumberRun) (i : ℕ)
+    (cut d : NumberRun) → i < length runs
+    → now ≡ (old || (is_in_runs n (take i runs) && not (is_in_run n cut)))
+    → mid ≡ (now || (is_in_run n (get_or runs i d) && nat_lt n cut.first))
+    → last ≡ (mid || (is_in_run n (get_or runs i d) && nat_lt cut.last n))
+    → last ≡ (old || (is_in_runs n (take (i + 1) runs) && not (is_in_run n cut)))
+outside_more now mid last old n runs i cut d within a b c =
+    let run = is_in_run n (get_or runs i d) in
+    let known = is_in_runs n (take i runs) in
+    let out = not (is_in_run n cut) in
+    c ∙ ap (λ (m : Bool). m || (run && nat_lt cut.last n)) (b
+    ∙ ap (λ (m : Bool). m || (run && nat_lt n cut.first)) a)
+    ∙ parts old known run (nat_lt n cut.first) (nat_lt cut.last n) out
+    (is_outside n cut.first cut.last)
+    ∙ ap (λ (k : Bool). old || (k && out)) (sym (list_any_more (is_in_run n) runs i d within))

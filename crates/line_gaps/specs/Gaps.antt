@@ -1,0 +1,131 @@
+-- The gaps of a venue, by its events. Of a list of events the last one stands first. All are of one
+-- venue, and of its present session, but where it says otherwise.
+use Rattle.std.specs.Prelude.{◌≡◌, ℕ, zero, suc, ◌+◌, ◌-◌, Bool, true, false, ◌&&◌, ◌||◌, not, nat_le, nat_lt, max, is_some, List, [], ◌∷◌, ◌++◌, Option, None, Some, Ok, if◌then◌else◌}
+use Rattle.std.specs.List.{list_any}
+use Rattle.feed_types.specs.declared.line.LineId.{LineId}
+use Rattle.feed_types.specs.declared.line.LineId.TheVariants as on
+use Rattle.feed_types.specs.FullCounts.{count_after}
+use Rattle.line_arbiter.specs.Streams.{is_same_line}
+use Rattle.line_arbiter.specs.declared.outcome.Outcome.TheVariants.{Taken, Heartbeat, Ended, Ahead}
+use Rattle.feed_text.specs.SinkEvents.{SinkEvent, TimedEvent, told_packet, told_renewal, told_skip, told_last}
+use Rattle.line_gaps.specs.declared.gap_line.GapLine.{GapLine}
+use Rattle.line_gaps.specs.declared.gap_line.GapLine.TheVariants as lines
+use Rattle.line_gaps.specs.declared.heard_packet.HeardPacket.{HeardPacket}
+use Rattle.line_gaps.specs.declared.number_run.NumberRun.{NumberRun}
+
+-- ---- numbers that came, were given up, or are missing
+
+-- the last number that a packet tells of: of its last message, or the one below its own
+abbrev pub last_told : ℕ → ℕ → ℕ
+last_told number count = count_after (number - 1) count
+
+-- a packet that was taken brings a number
+abbrev pub brings : ℕ → SinkEvent → Bool
+brings n (told_packet venue line number count bytes (Ok (Taken new repeated))) =
+    nat_le number n && nat_le n (last_told number count)
+brings n _ = false
+
+-- a skip that was granted passes it
+abbrev pub passes : ℕ → SinkEvent → Bool
+passes n (told_skip venue number (Ok done)) = nat_lt n number
+passes n _ = false
+
+abbrev pub has_come : List TimedEvent → ℕ → Bool
+has_come events n = list_any (λ e. brings n e.event) events
+
+abbrev pub was_passed : List TimedEvent → ℕ → Bool
+was_passed events n = list_any (λ e. passes n e.event) events
+
+-- a skip passed it before it came
+abbrev pub is_given_up : List TimedEvent → ℕ → Bool
+is_given_up [] n = false
+is_given_up (last ∷ earlier) n =
+    is_given_up earlier n
+    || (passes n last.event && not (has_come earlier n || was_passed earlier n))
+
+-- ---- packets that count
+
+abbrev pub heard : LineId → ℕ → ℕ → Option ℕ → HeardPacket
+heard line number count time = record {
+  line = line;
+  number = number;
+  count = count;
+  time = time;
+}
+
+-- the line's latest packet past the window
+abbrev pub far_on : LineId → List TimedEvent → Option HeardPacket
+far_on line [] = None
+far_on line (record { time = time; event = told_packet venue on number count bytes (Ok Ahead) }
+    ∷ earlier) =
+    if is_same_line on line then Some (heard on number count time) else far_on line earlier
+far_on line (last ∷ earlier) = far_on line earlier
+
+-- a packet goes on from an earlier one: it begins at or after its first number, and at most the
+-- largest window past its last
+abbrev pub goes_on : HeardPacket → ℕ → Bool
+goes_on earlier number =
+    nat_le earlier.number number
+    && nat_le number (count_after (last_told earlier.number earlier.count) 65535)
+
+abbrev pub far_that : ℕ → Option HeardPacket → Option HeardPacket
+far_that number None = None
+far_that number (Some earlier) = if goes_on earlier number then Some earlier else None
+
+-- The packet that counts with an event: its own, unless that was refused, or is past the window. One
+-- past the window counts with the line's next one of these, if that goes on from it.
+abbrev pub counts_with : List TimedEvent → Option ℕ → SinkEvent → Option HeardPacket
+counts_with earlier time (told_packet venue line number count bytes (Ok Ahead)) =
+    far_that number (far_on line earlier)
+counts_with earlier time (told_packet venue line number count bytes (Ok outcome)) =
+    Some (heard line number count time)
+counts_with earlier time _ = None
+
+-- a packet is of a line, or of all lines
+abbrev pub is_of : GapLine → HeardPacket → Bool
+is_of lines.A packet = is_same_line packet.line on.A
+is_of lines.B packet = is_same_line packet.line on.B
+is_of lines.All packet = true
+
+abbrev pub of_line : GapLine → Option HeardPacket → Option HeardPacket
+of_line line None = None
+of_line line (Some packet) = if is_of line packet then Some packet else None
+
+-- the packet of a line that counts with an event
+abbrev pub counts_on : GapLine → List TimedEvent → TimedEvent → Option HeardPacket
+counts_on line earlier last = of_line line (counts_with earlier last.time last.event)
+
+-- a packet of the line counted
+abbrev pub has_begun : GapLine → List TimedEvent → Bool
+has_begun line [] = false
+has_begun line (last ∷ earlier) =
+    is_some (counts_on line earlier last) || has_begun line earlier
+
+-- the highest number after a packet
+abbrev pub highest_with : ℕ → Option HeardPacket → ℕ
+highest_with highest None = highest
+highest_with highest (Some packet) = max highest (last_told packet.number packet.count)
+
+-- and after a skip: a line of which nothing counted begins there
+abbrev pub highest_skipped : Bool → ℕ → SinkEvent → ℕ
+highest_skipped false highest (told_skip venue number (Ok done)) = max highest (number - 1)
+highest_skipped begun highest _ = highest
+
+-- the highest number of a line that counts
+abbrev pub highest_on : GapLine → List TimedEvent → ℕ
+highest_on line [] = 0
+highest_on line (last ∷ earlier) =
+    highest_with
+    (highest_skipped (has_begun line earlier) (highest_on line earlier) last.event)
+    (counts_on line earlier last)
+
+-- the highest number that a packet tells of
+abbrev pub known_of : List TimedEvent → ℕ
+known_of [] = 0
+known_of (last ∷ earlier) =
+    highest_with (known_of earlier) (counts_with earlier last.time last.event)
+
+-- It is missing: a packet that counts tells of it, and it neither came nor was given up.
+abbrev pub is_missing : List TimedEvent → ℕ → Bool
+is_missing events n =
+    nat_lt 0 n && nat_le n (known_of events) && not (has_come events n || was_passed events n)

@@ -1,0 +1,4 @@
+pub mod Runs
+pub mod Gaps
+pub mod Sums
+pub mod Ends

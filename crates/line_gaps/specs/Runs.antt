@@ -1,0 +1,38 @@
+-- Runs of numbers, as the set of the numbers in them.
+use Rattle.std.specs.Prelude.{◌≡◌, ℕ, ◌+◌, ◌-◌, Bool, ◌&&◌, List, nat_le, max, min, if◌then◌else◌, nat_lt}
+use Rattle.std.specs.List.{fold, list_any}
+use Rattle.line_gaps.specs.declared.number_run.NumberRun.{NumberRun}
+use Rattle.line_gaps.specs.declared.number_runs.NumberRuns.{NumberRuns}
+
+-- a number is in a run, from its first to its last
+abbrev pub is_in_run : ℕ → NumberRun → Bool
+is_in_run n run = nat_le run.first n && nat_le n run.last
+
+-- it is in one of several runs
+abbrev pub is_in_runs : ℕ → List NumberRun → Bool
+is_in_runs n runs = list_any (is_in_run n) runs
+
+-- As long as no run was dropped, the runs have just these numbers.
+abbrev pub HaveJust : NumberRuns → (ℕ → Bool) → Type 0
+HaveJust runs has = runs.dropped ≡ 0 → (n : ℕ) → is_in_runs n runs.runs.items ≡ has n
+
+-- how many numbers a run has, of all 2^64 one less
+abbrev pub len_of : NumberRun → ℕ
+len_of run = min (run.last + 1 - run.first) 18446744073709551615
+
+-- two runs have a number in common
+abbrev pub meets_run : NumberRun → NumberRun → Bool
+meets_run run other = nat_le (max run.first other.first) (min run.last other.last)
+
+-- one of several runs has
+abbrev pub meets_runs : List NumberRun → NumberRun → Bool
+meets_runs runs other = list_any (λ run. meets_run run other) runs
+
+-- how many numbers two runs have in common
+abbrev pub len_of_both : NumberRun → NumberRun → ℕ
+len_of_both run other =
+    len_of (record { first = max run.first other.first; last = min run.last other.last })
+
+abbrev pub sum_in : List NumberRun → NumberRun → ℕ
+sum_in runs other =
+    fold (λ count run. min (count + len_of_both run other) 18446744073709551615) 0 runs

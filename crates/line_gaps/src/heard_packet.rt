@@ -1,0 +1,40 @@
+//! Packets that lines bring.
+
+use crate::number_run::NumberRun;
+use feed_types::{LineId, MAX_WINDOW};
+
+/// A packet of a line that was accepted, with its first number, its count and its time.
+#[derive(Clone, Copy, Debug, PartialEq, Eq)]
+pub struct HeardPacket {
+    pub line: LineId,
+    pub number: u64,
+    pub count: u16,
+    pub time: Option<u64>,
+}
+
+impl HeardPacket {
+    /// Returns the last number that it tells of: that of its last message, or the one below its
+    /// own where it has none.
+    #[inline(always)]
+    pub(crate) fn last(&self) -> u64 {
+        self.number
+            .saturating_sub(1)
+            .saturating_add(u64::from(self.count))
+    }
+
+    /// Returns the numbers of its messages.
+    #[inline(always)]
+    pub(crate) fn run(&self) -> NumberRun {
+        NumberRun {
+            first: self.number,
+            last: self.last(),
+        }
+    }
+
+    /// Returns whether the packet goes on from this earlier one: it begins at or after its first
+    /// number, and at most the largest window past its last one.
+    pub(crate) fn goes_on(&self, earlier: &HeardPacket) -> bool {
+        let most = earlier.last().saturating_add(u64::from(MAX_WINDOW));
+        earlier.number <= self.number && self.number <= most
+    }
+}

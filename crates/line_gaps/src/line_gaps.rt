@@ -1,0 +1,354 @@
+//! The gaps of one line, or of all lines together.
+ghost use Rattle.std.specs.Prelude.{◌≡◌, ◌≤◌, ◌+◌, ℕ, List, length, map, not, [], ◌∷◌, ◌++◌, None};
+ghost use Rattle.std.specs.List.{filter};
+ghost use Rattle.line_gaps.specs.Runs.{meets_runs};
+ghost use Rattle.line_gaps.specs.declared.open_gap.GapEnd.TheVariants.{Open};
+ghost use Rattle.line_gaps.specs.declared.open_gap.EndedGap.{EndedGap};
+ghost use Rattle.line_gaps.specs.Sums.{AreSumsOf};
+ghost use Rattle.line_gaps.specs.Ends.{KeepsLine, gap_over, joined_gap, opened, over_at_once};
+
+use crate::ended_gaps::EndedGaps;
+use crate::gap_line::GapLine;
+use crate::gap_sums::{GapSums, raised};
+use crate::heard_packet::HeardPacket;
+use crate::lost_numbers::LostNumbers;
+use crate::number_run::NumberRun;
+use crate::number_runs::NumberRuns;
+use crate::open_gap::{EndedGap, GapEnd, OpenGap};
+use arrayvec::ArrayVec;
+use feed_types::LineId;
+
+/// The most gaps of a line that are open at once. Past that the newest two become one.
+const MOST_OPEN: usize = 16;
+
+/// What ends gaps, and when.
+#[derive(Clone, Copy, Debug, PartialEq, Eq)]
+pub struct GapPass {
+    pub by: GapEnd,
+    pub time: Option<u64>,
+}
+
+/// The gaps of one line, or of all lines together.
+#[derive(Drop)]
+pub struct LineGaps {
+    pub line: GapLine,
+    /// Whether a packet of the present session counted.
+    pub begun: bool,
+    /// The highest number of the present session that a packet told of.
+    pub highest: u64,
+    pub open: ArrayVec<OpenGap, MOST_OPEN>,
+    /// The numbers that the line passed over and didn't bring since.
+    pub passed: NumberRuns,
+    pub sums: GapSums,
+}
+
+/// Returns what ends a gap that a packet of the line ends.
+fn end_by_line(line: LineId) -> GapEnd {
+    match line {
+        LineId::A => GapEnd::A,
+        LineId::B => GapEnd::B,
+        LineId::Recovery => GapEnd::Recovery,
+    }
+}
+
+/// Returns the gap that two make.
+fn joined(one: OpenGap, next: OpenGap) -> OpenGap
+    ensures { result ≡ joined_gap one next }
+{
+    OpenGap {
+        run: NumberRun {
+            first: one.run.first,
+            last: next.run.last,
+        },
+        messages: raised(one.messages, next.messages),
+        began: one.began,
+    }
+}
+
+/// Copies those of the gaps of which a number is missing.
+fn open_ones(open: &[OpenGap], lost: &LostNumbers) -> ArrayVec<OpenGap, MOST_OPEN>
+    requires { length open.now ≤ 16 }
+    ensures { result.items ≡ filter (λ g. meets_runs lost.now.missing.runs.items g.run) open.now }
+{
+    let mut kept: ArrayVec<OpenGap, MOST_OPEN> = ArrayVec::new();
+    for gap in open {
+        if lost.missing.meets(gap.run) {
+            kept.push(*gap);
+        }
+    }
+    kept
+}
+
+/// Copies those of the gaps of which no number is missing.
+fn over_ones(open: &[OpenGap], lost: &LostNumbers) -> ArrayVec<OpenGap, MOST_OPEN>
+    requires { length open.now ≤ 16 }
+    ensures { result.items
+        ≡ filter (λ g. not (meets_runs lost.now.missing.runs.items g.run)) open.now }
+{
+    let mut over: ArrayVec<OpenGap, MOST_OPEN> = ArrayVec::new();
+    for gap in open {
+        if !lost.missing.meets(gap.run) {
+            over.push(*gap);
+        }
+    }
+    over
+}
+
+impl LineGaps {
+    /// Of a line on which nothing came.
+    pub fn new(line: GapLine) -> LineGaps
+        ensures line { result.line ≡ line }
+        ensures open { result.open.items ≡ [] }
+        ensures sums { AreSumsOf [] result.sums }
+    {
+        LineGaps {
+            line,
+            begun: false,
+            highest: 0,
+            open: ArrayVec::new(),
+            passed: NumberRuns::new(),
+            sums: GapSums::new(),
+        }
+    }
+
+    /// Adds a gap that is open, to the newest one where 16 are.
+    fn add_open(&mut self, gap: OpenGap)
+        ensures merged { self.old.sums.merged ≤ self.new.sums.merged }
+        ensures open { self.new.sums.merged ≡ 0
+            → self.new.open.items ≡ self.old.open.items ++ gap ∷ [] }
+        ensures sums { (rows : List EndedGap) → AreSumsOf rows self.old.sums
+            → AreSumsOf rows self.new.sums }
+        ensures kept { KeepsLine self.old self.new }
+    {
+        if !self.open.is_full() {
+            self.open.push(gap);
+            return;
+        }
+        self.sums.merged = raised(self.sums.merged, 1);
+        match self.open.pop() {
+            Some(newest) => self.open.push(joined(newest, gap)),
+            None => {}
+        }
+    }
+
+    /// Ends a gap.
+    fn end(&mut self, gap: OpenGap, lost: &LostNumbers, pass: GapPass, ended: &mut EndedGaps)
+        requires { length ended.old.gaps.items + 1 ≤ 51 }
+        ensures ended { ended.new.gaps.items ≡ ended.old.gaps.items
+            ++ gap_over self.old.line lost.now pass gap ∷ [] }
+        ensures sums { (rows : List EndedGap) → AreSumsOf rows self.old.sums
+            → AreSumsOf (rows ++ gap_over self.old.line lost.now pass gap ∷ []) self.new.sums }
+        ensures merged { self.new.sums.merged ≡ self.old.sums.merged }
+        ensures open { self.new.open ≡ self.old.open }
+        ensures kept { KeepsLine self.old self.new }
+    {
+        let over = EndedGap {
+            line: self.line,
+            gap,
+            given_up: lost.given_up.count_in(gap.run),
+            ended: pass.time,
+            by: pass.by,
+        };
+        self.sums.add(&over);
+        ended.push(over);
+    }
+
+    /// Ends gaps.
+    fn end_each(
+        &mut self,
+        gaps: &[OpenGap],
+        lost: &LostNumbers,
+        pass: GapPass,
+        ended: &mut EndedGaps,
+    )
+        requires few { length gaps.now ≤ 16 }
+        requires room { length ended.old.gaps.items + 16 ≤ 51 }
+        ensures ended { ended.new.gaps.items ≡ ended.old.gaps.items
+            ++ map (gap_over self.old.line lost.now pass) gaps.now }
+        ensures sums { (rows : List EndedGap) → AreSumsOf rows self.old.sums
+            → AreSumsOf (rows ++ map (gap_over self.old.line lost.now pass) gaps.now)
+            self.new.sums }
+        ensures merged { self.new.sums.merged ≡ self.old.sums.merged }
+        ensures open { self.new.open ≡ self.old.open }
+        ensures kept { KeepsLine self.old self.new }
+    {
+        for gap in gaps {
+            self.end(*gap, lost, pass, ended);
+        }
+    }
+
+    /// Ends the gaps of whose numbers none is missing.
+    #[inline(never)]
+    fn end_over(&mut self, lost: &LostNumbers, pass: GapPass, ended: &mut EndedGaps)
+        requires { length ended.old.gaps.items + 16 ≤ 51 }
+        ensures ended { ended.new.gaps.items ≡ ended.old.gaps.items
+            ++ map (gap_over self.old.line lost.now pass)
+            (filter (λ g. not (meets_runs lost.now.missing.runs.items g.run)) self.old.open.items) }
+        ensures open { self.new.open.items
+            ≡ filter (λ g. meets_runs lost.now.missing.runs.items g.run) self.old.open.items }
+        ensures sums { (rows : List EndedGap) → AreSumsOf rows self.old.sums
+            → AreSumsOf (rows ++ map (gap_over self.old.line lost.now pass)
+            (filter (λ g. not (meets_runs lost.now.missing.runs.items g.run)) self.old.open.items))
+            self.new.sums }
+        ensures merged { self.new.sums.merged ≡ self.old.sums.merged }
+        ensures kept { KeepsLine self.old self.new }
+    {
+        let over = over_ones(self.open.as_slice(), lost);
+        self.open = open_ones(self.open.as_slice(), lost);
+        self.end_each(over.as_slice(), lost, pass, ended);
+    }
+
+    /// Begins a gap of the numbers that a packet passes over, which is over where none is missing.
+    #[inline(never)]
+    fn begin_gap(
+        &mut self,
+        run: NumberRun,
+        time: Option<u64>,
+        lost: &LostNumbers,
+        ended: &mut EndedGaps,
+    )
+        requires { length ended.old.gaps.items + 1 ≤ 51 }
+        ensures ended { ended.new.gaps.items
+            ≡ ended.old.gaps.items ++ over_at_once self.old.line lost.now run time }
+        ensures merged { self.old.sums.merged ≤ self.new.sums.merged }
+        ensures open { self.new.sums.merged ≡ 0
+            → self.new.open.items ≡ self.old.open.items ++ opened lost.now run time }
+        ensures sums { (rows : List EndedGap) → AreSumsOf rows self.old.sums
+            → AreSumsOf (rows ++ over_at_once self.old.line lost.now run time) self.new.sums }
+        ensures line { self.new.line ≡ self.old.line }
+        ensures highest { self.new.highest ≡ self.old.highest }
+    {
+        self.passed.add(run);
+        let gap = OpenGap {
+            run,
+            messages: run.len(),
+            began: time,
+        };
+        if lost.missing.meets(run) {
+            self.add_open(gap);
+            return;
+        }
+        let by = if lost.given_up.meets(run) {
+            GapEnd::Skip
+        } else {
+            GapEnd::Before
+        };
+        self.end(gap, lost, GapPass { by, time }, ended);
+    }
+
+    /// Counts messages that are no higher than the highest: those that the line passed over came
+    /// late, the others again.
+    #[inline(never)]
+    fn count_back(&mut self, run: NumberRun) {
+        let back = NumberRun {
+            first: run.first,
+            last: run.last.min(self.highest),
+        };
+        let late = self.passed.count_in(back);
+        if late > 0 {
+            self.passed.cut(back);
+        }
+        self.sums.late = raised(self.sums.late, late);
+        self.sums.again = raised(self.sums.again, back.len().saturating_sub(late));
+    }
+
+    /// Takes a packet of the line.
+    #[inline(always)]
+    fn pass(&mut self, packet: &HeardPacket, lost: &LostNumbers, ended: &mut EndedGaps)
+        requires { length ended.old.gaps.items + 1 ≤ 51 }
+    {
+        if packet.number <= self.highest {
+            self.count_back(packet.run());
+        } else if packet.number - self.highest > 1 {
+            let run = NumberRun {
+                first: self.highest + 1,
+                last: packet.number - 1,
+            };
+            self.begin_gap(run, packet.time, lost, ended);
+        }
+        self.highest = self.highest.max(packet.last());
+        self.begun = true;
+    }
+
+    /// Returns whether packets of a line are this one's.
+    #[inline(always)]
+    fn is_of(&self, line: LineId) -> bool {
+        match self.line {
+            GapLine::A => matches!(line, LineId::A),
+            GapLine::B => matches!(line, LineId::B),
+            GapLine::All => true,
+        }
+    }
+
+    /// Takes a packet of a line of the venue, which brought a number that was missing where
+    /// `is_filled`.
+    #[inline(always)]
+    pub(crate) fn take(
+        &mut self,
+        packet: &HeardPacket,
+        lost: &LostNumbers,
+        is_filled: bool,
+        ended: &mut EndedGaps,
+    )
+        requires { length ended.old.gaps.items + 17 ≤ 51 }
+    {
+        if is_filled && !self.open.is_empty() {
+            let by = end_by_line(packet.line);
+            let pass = GapPass {
+                by,
+                time: packet.time,
+            };
+            self.end_over(lost, pass, ended);
+        }
+        if self.is_of(packet.line) {
+            self.pass(packet, lost, ended);
+        }
+    }
+
+    /// Takes a skip to a number: where no packet came yet, the line begins there.
+    pub(crate) fn skip_to(
+        &mut self,
+        number: u64,
+        time: Option<u64>,
+        lost: &LostNumbers,
+        ended: &mut EndedGaps,
+    )
+        requires { length ended.old.gaps.items + 16 ≤ 51 }
+    {
+        let pass = GapPass {
+            by: GapEnd::Skip,
+            time,
+        };
+        self.end_over(lost, pass, ended);
+        if !self.begun {
+            self.highest = self.highest.max(number.saturating_sub(1));
+        }
+    }
+
+    /// Ends all gaps with the session or the capture.
+    pub(crate) fn close(&mut self, lost: &LostNumbers, ended: &mut EndedGaps)
+        requires { length ended.old.gaps.items + 16 ≤ 51 }
+        ensures ended { ended.new.gaps.items ≡ ended.old.gaps.items
+            ++ map (gap_over self.old.line lost.now (record { by = Open; time = None }))
+            self.old.open.items }
+        ensures open { self.new.open.items ≡ [] }
+        ensures sums { (rows : List EndedGap) → AreSumsOf rows self.old.sums
+            → AreSumsOf (rows ++ map (gap_over self.old.line lost.now
+            (record { by = Open; time = None })) self.old.open.items) self.new.sums }
+        ensures kept { KeepsLine self.old self.new }
+    {
+        let pass = GapPass {
+            by: GapEnd::Open,
+            time: None,
+        };
+        let open = self.open.take();
+        self.end_each(open.as_slice(), lost, pass, ended);
+    }
+
+    /// Begins anew with a next session.
+    pub(crate) fn renew(&mut self) {
+        self.begun = false;
+        self.highest = 0;
+        self.passed.clear();
+    }
+}

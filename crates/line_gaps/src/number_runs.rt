@@ -1,0 +1,172 @@
+//! Runs of numbers.
+ghost use Rattle.std.specs.Prelude.{◌≡◌, ◌≤◌, ℕ, Bool, ◌&&◌, ◌||◌, not, nat_lt, true, false, [], ◌∷◌, ◌++◌};
+ghost use Rattle.line_gaps.specs.Runs.{HaveJust, is_in_run, is_in_runs, meets_runs, sum_in};
+
+use crate::number_run::NumberRun;
+use arrayvec::ArrayVec;
+
+/// The most runs.
+const MOST: usize = 64;
+
+/// The latest 64 runs of numbers, in the order in which they were added.
+#[derive(Drop)]
+pub struct NumberRuns {
+    pub runs: ArrayVec<NumberRun, MOST>,
+    /// How many runs were dropped, since there were more.
+    pub dropped: u64,
+}
+
+impl NumberRuns {
+    /// No number.
+    pub fn new() -> NumberRuns
+        ensures { HaveJust result (λ n. false) }
+    {
+        NumberRuns {
+            runs: ArrayVec::new(),
+            dropped: 0,
+        }
+    }
+
+    /// Returns whether there is no run.
+    #[inline(always)]
+    pub fn is_empty(&self) -> bool
+        ensures { result ≡ true → self.now.runs.items ≡ [] }
+    {
+        self.runs.is_empty()
+    }
+
+    /// Forgets all numbers.
+    pub fn clear(&mut self)
+        ensures dropped { self.new.dropped ≡ self.old.dropped }
+        ensures none { HaveJust self.new (λ n. false) }
+    {
+        self.runs.clear();
+    }
+
+    /// Adds a run at the end, and drops the first one where there are 64.
+    pub fn add(&mut self, run: NumberRun)
+        ensures dropped { self.old.dropped ≤ self.new.dropped }
+        ensures runs { self.new.dropped ≡ 0
+            → self.new.runs.items ≡ self.old.runs.items ++ run ∷ [] }
+    {
+        if self.runs.is_full() {
+            self.runs.remove(0);
+            self.dropped = self.dropped.saturating_add(1);
+        }
+        self.runs.push(run);
+    }
+
+    /// Adds the numbers of a run that are below this one.
+    fn add_below(&mut self, run: NumberRun, number: u64)
+        ensures dropped { self.old.dropped ≤ self.new.dropped }
+        ensures has { self.new.dropped ≡ 0 → (n : ℕ) → is_in_runs n self.new.runs.items
+            ≡ (is_in_runs n self.old.runs.items || (is_in_run n run && nat_lt n number)) }
+    {
+        if run.first < number {
+            let last = run.last.min(number - 1);
+            self.add(NumberRun {
+                first: run.first,
+                last,
+            });
+        }
+    }
+
+    /// Adds the numbers of a run that are above this one.
+    fn add_above(&mut self, run: NumberRun, number: u64)
+        ensures dropped { self.old.dropped ≤ self.new.dropped }
+        ensures has { self.new.dropped ≡ 0 → (n : ℕ) → is_in_runs n self.new.runs.items
+            ≡ (is_in_runs n self.old.runs.items || (is_in_run n run && nat_lt number n)) }
+    {
+        if number < run.last {
+            let first = run.first.max(number + 1);
+            self.add(NumberRun {
+                first,
+                last: run.last,
+            });
+        }
+    }
+
+    /// Adds the numbers of these runs that aren't in the cut.
+    fn add_outside(&mut self, runs: &[NumberRun], cut: NumberRun)
+        ensures dropped { self.old.dropped ≤ self.new.dropped }
+        ensures has { self.new.dropped ≡ 0 → (n : ℕ) → is_in_runs n self.new.runs.items
+            ≡ (is_in_runs n self.old.runs.items
+            || (is_in_runs n runs.now && not (is_in_run n cut))) }
+    {
+        for run in runs {
+            self.add_below(*run, cut.first);
+            self.add_above(*run, cut.last);
+        }
+    }
+
+    /// Takes the numbers of a run out.
+    #[inline(never)]
+    pub fn cut(&mut self, cut: NumberRun)
+        ensures dropped { self.old.dropped ≤ self.new.dropped }
+        ensures has { (has : ℕ → Bool) → HaveJust self.old has
+            → HaveJust self.new (λ n. has n && not (is_in_run n cut)) }
+    {
+        let mut left = NumberRuns {
+            runs: ArrayVec::new(),
+            dropped: self.dropped,
+        };
+        left.add_outside(self.runs.as_slice(), cut);
+        *self = left;
+    }
+
+    /// Returns whether one of the numbers is in the run.
+    #[inline(always)]
+    pub fn meets(&self, other: NumberRun) -> bool
+        ensures { result ≡ meets_runs self.now.runs.items other }
+    {
+        self.runs.as_slice().iter().any(|run| run.meets(other))
+    }
+
+    /// Returns how many of the numbers are in the run, where the runs are apart.
+    pub fn count_in(&self, other: NumberRun) -> u64
+        ensures { result ≡ sum_in self.now.runs.items other }
+    {
+        let mut count: u64 = 0;
+        for run in self.runs.as_slice() {
+            count = count.saturating_add(run.both(other).len());
+        }
+        count
+    }
+
+    /// Returns how many numbers there are, where the runs are apart.
+    pub fn count(&self) -> u64 {
+        self.count_in(NumberRun {
+            first: 0,
+            last: u64::MAX,
+        })
+    }
+
+    /// Returns the first number of the first run.
+    pub fn first(&self) -> Option<u64> {
+        match self.runs.as_slice().first() {
+            Some(run) => Some(run.first),
+            None => None,
+        }
+    }
+
+    /// Adds the numbers of these runs that are below this one.
+    fn add_all_below(&mut self, runs: &[NumberRun], number: u64)
+        ensures dropped { self.old.dropped ≤ self.new.dropped }
+        ensures has { self.new.dropped ≡ 0 → (n : ℕ) → is_in_runs n self.new.runs.items
+            ≡ (is_in_runs n self.old.runs.items || (is_in_runs n runs.now && nat_lt n number)) }
+    {
+        for run in runs {
+            self.add_below(*run, number);
+        }
+    }
+
+    /// Adds those of the other numbers that are below this one.
+    pub(crate) fn add_those_below(&mut self, others: &NumberRuns, number: u64)
+        ensures dropped { self.old.dropped ≤ self.new.dropped }
+        ensures has { (has other : ℕ → Bool) → HaveJust self.old has → HaveJust others.now other
+            → others.now.dropped ≡ 0
+            → HaveJust self.new (λ n. has n || (other n && nat_lt n number)) }
+    {
+        self.add_all_below(others.runs.as_slice(), number);
+    }
+}

@@ -1,0 +1,259 @@
+//! The gaps of a venue: those of line A, of line B, and of all lines together.
+
+ghost use Rattle.std.specs.Prelude.{◌≡◌, [], IfOk, length};
+
+use crate::ended_gaps::EndedGaps;
+use crate::gap_line::GapLine;
+use crate::gap_sums::{GapSums, raised};
+use crate::heard_packet::HeardPacket;
+use crate::line_gaps::LineGaps;
+use crate::lost_numbers::LostNumbers;
+use feed_text::Event;
+use feed_types::{LineId, PerLine};
+use line_arbiter::Outcome;
+use std::alloc::{AllocError, Global};
+
+/// Sums over the messages of a venue.
+#[derive(Clone, Copy, Debug, Default, PartialEq, Eq)]
+pub struct VenueSums {
+    /// The messages that were given up.
+    pub given_up: u64,
+    /// Those of them that were given up before any message of their session came.
+    pub before_join: u64,
+    /// The messages that came on recovery first.
+    pub recovered: u64,
+}
+
+/// The gaps of a venue, and which of its numbers are missing.
+#[derive(Drop)]
+pub struct VenueGaps {
+    pub a: LineGaps,
+    pub b: LineGaps,
+    pub all: LineGaps,
+    /// The latest packet of each line in the present session that was answered `Ahead`.
+    pub far: PerLine<Option<HeardPacket>>,
+    pub lost: LostNumbers,
+    /// Whether a message of the present session came.
+    pub has_come: bool,
+    pub sums: VenueSums,
+}
+
+/// Makes the gaps of this many venues, of which nothing came. Fails where memory is refused.
+pub fn new_gaps(alloc: Global, count: usize) -> Result<Vec<VenueGaps>, AllocError>
+    ensures { IfOk result (λ venues. length venues.items ≡ count) }
+{
+    let mut venues = Vec::new(alloc);
+    for _ in 0..count {
+        venues.push(VenueGaps::new())?;
+    }
+    Ok(venues)
+}
+
+impl VenueGaps {
+    /// Of a venue of which nothing came.
+    pub fn new() -> VenueGaps {
+        VenueGaps {
+            a: LineGaps::new(GapLine::A),
+            b: LineGaps::new(GapLine::B),
+            all: LineGaps::new(GapLine::All),
+            far: PerLine::all(None),
+            lost: LostNumbers::new(),
+            has_come: false,
+            sums: VenueSums::default(),
+        }
+    }
+
+    /// Returns the sums of a line's gaps, or of those of all lines.
+    pub fn sums(&self, line: GapLine) -> GapSums {
+        match line {
+            GapLine::A => self.a.sums,
+            GapLine::B => self.b.sums,
+            GapLine::All => self.all.sums,
+        }
+    }
+
+    /// Returns the highest number of the present session that a packet told of.
+    pub fn known(&self) -> u64 {
+        self.lost.highest
+    }
+
+    /// Returns how many messages are missing now: packets tell of them, and they neither came nor
+    /// were given up.
+    pub fn missing(&self) -> u64 {
+        self.lost.missing.count()
+    }
+
+    /// Returns the number of the first message that is missing.
+    pub fn first_missing(&self) -> Option<u64> {
+        self.lost.missing.first()
+    }
+
+    /// Returns how many messages were given up.
+    pub fn given_up(&self) -> u64 {
+        self.sums.given_up
+    }
+
+    /// Returns how many messages were given up before any of their session came.
+    pub fn before_join(&self) -> u64 {
+        self.sums.before_join
+    }
+
+    /// Returns how many messages neither A nor B brought: those that are missing, that were given
+    /// up after the first of their session came, and that recovery brought first.
+    pub fn lost_by_both(&self) -> u64 {
+        let given_up = self.sums.given_up.saturating_sub(self.sums.before_join);
+        raised(raised(given_up, self.sums.recovered), self.missing())
+    }
+
+    /// Returns how many runs of numbers were dropped, since there were more than are kept: where
+    /// it is 0, all gaps and figures are exact.
+    pub fn dropped(&self) -> u64 {
+        raised(self.lost.missing.dropped, self.lost.given_up.dropped)
+    }
+
+    /// Begins all sums anew. What is open stays, as does what came.
+    pub fn restart(&mut self) {
+        self.a.sums = GapSums::new();
+        self.b.sums = GapSums::new();
+        self.all.sums = GapSums::new();
+        self.sums = VenueSums::default();
+    }
+
+    /// Has the lines take a packet, which brought a number that was missing where `is_filled`.
+    #[inline(always)]
+    fn pass(&mut self, packet: &HeardPacket, is_filled: bool, ended: &mut EndedGaps)
+        requires { ended.old.gaps.items ≡ [] }
+    {
+        self.a.take(packet, &self.lost, is_filled, ended);
+        self.b.take(packet, &self.lost, is_filled, ended);
+        self.all.take(packet, &self.lost, is_filled, ended);
+    }
+
+    /// Takes a packet whose messages came.
+    #[inline(always)]
+    fn take_messages(&mut self, packet: &HeardPacket, new: u16, ended: &mut EndedGaps)
+        requires { ended.old.gaps.items ≡ [] }
+    {
+        self.has_come = true;
+        if matches!(packet.line, LineId::Recovery) {
+            self.sums.recovered = raised(self.sums.recovered, u64::from(new));
+        }
+        let is_filled = self.lost.bring(packet.run());
+        self.lost
+            .learn(packet.number.saturating_sub(1), packet.last());
+        self.pass(packet, is_filled, ended);
+    }
+
+    /// Takes a packet of which nothing came, but which tells of the numbers up to its last.
+    #[inline(never)]
+    fn take_numbers(&mut self, packet: &HeardPacket, ended: &mut EndedGaps)
+        requires { ended.old.gaps.items ≡ [] }
+    {
+        self.lost.learn(packet.last(), packet.last());
+        self.pass(packet, false, ended);
+    }
+
+    /// Takes a packet past the window. It counts once the line's next one of these goes on from
+    /// it.
+    #[inline(never)]
+    fn take_far(&mut self, packet: &HeardPacket, ended: &mut EndedGaps)
+        requires { ended.old.gaps.items ≡ [] }
+    {
+        let earlier = self.far.on(packet.line);
+        self.far.set(packet.line, Some(*packet));
+        match earlier {
+            Some(earlier) if packet.goes_on(&earlier) => self.take_numbers(&earlier, ended),
+            _ => {}
+        }
+    }
+
+    /// Takes a packet that was answered so.
+    #[inline(always)]
+    fn take_packet(&mut self, packet: &HeardPacket, outcome: &Outcome, ended: &mut EndedGaps)
+        requires { ended.old.gaps.items ≡ [] }
+    {
+        match outcome {
+            Outcome::Taken { new, .. } => self.take_messages(packet, *new, ended),
+            Outcome::Heartbeat | Outcome::Ended => self.take_numbers(packet, ended),
+            Outcome::Ahead => self.take_far(packet, ended),
+        }
+    }
+
+    /// Takes a skip to a number, which was granted.
+    #[inline(never)]
+    fn skip_to(&mut self, number: u64, time: Option<u64>, ended: &mut EndedGaps)
+        requires { ended.old.gaps.items ≡ [] }
+    {
+        let given_up = self.lost.give_up(number);
+        self.sums.given_up = raised(self.sums.given_up, given_up);
+        if !self.has_come {
+            self.sums.before_join = raised(self.sums.before_join, given_up);
+        }
+        self.a.skip_to(number, time, &self.lost, ended);
+        self.b.skip_to(number, time, &self.lost, ended);
+        self.all.skip_to(number, time, &self.lost, ended);
+    }
+
+    /// Ends the gaps that are open.
+    #[inline(never)]
+    fn close(&mut self, ended: &mut EndedGaps)
+        requires { ended.old.gaps.items ≡ [] }
+    {
+        self.a.close(&self.lost, ended);
+        self.b.close(&self.lost, ended);
+        self.all.close(&self.lost, ended);
+    }
+
+    /// Begins the next session, which ends the gaps that are open.
+    #[inline(never)]
+    fn renew(&mut self, ended: &mut EndedGaps)
+        requires { ended.old.gaps.items ≡ [] }
+    {
+        self.close(ended);
+        self.a.renew();
+        self.b.renew();
+        self.all.renew();
+        self.far = PerLine::all(None);
+        self.lost.renew();
+        self.has_come = false;
+    }
+
+    /// Takes an event of the venue, and appends the gaps that it ends.
+    #[inline(always)]
+    pub fn take(&mut self, time: Option<u64>, event: &Event<'_>, ended: &mut EndedGaps)
+        requires { ended.old.gaps.items ≡ [] }
+    {
+        match event {
+            Event::Packet {
+                line,
+                number,
+                count,
+                answer: Ok(outcome),
+                ..
+            } => {
+                let packet = HeardPacket {
+                    line: *line,
+                    number: *number,
+                    count: *count,
+                    time,
+                };
+                self.take_packet(&packet, outcome, ended);
+            }
+            Event::Skip {
+                number,
+                answer: Ok(()),
+                ..
+            } => self.skip_to(*number, time, ended),
+            Event::Renewal { answer: Ok(_), .. } => self.renew(ended),
+            Event::Last { .. } => self.close(ended),
+            Event::Packet { answer: Err(_), .. }
+            | Event::Skip { answer: Err(_), .. }
+            | Event::Renewal { answer: Err(_), .. }
+            | Event::Refusal { .. }
+            | Event::Item { .. }
+            | Event::Best { .. }
+            | Event::Gap { .. }
+            | Event::Declaration { .. } => {}
+        }
+    }
+}
