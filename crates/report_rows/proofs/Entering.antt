@@ -9,7 +9,7 @@ use Rattle.feed_types.specs.FullCounts.{count_after}
 use Rattle.report_rows.specs.declared.kept_periods.Entered.{Entered}
 use Rattle.report_rows.specs.declared.kept_periods.KeptPeriod.{KeptPeriod}
 use Rattle.report_rows.specs.declared.kept_periods.KeptPeriods.{KeptPeriods}
-use Rattle.report_rows.specs.PeriodLists.{Enters, begun, entered, is_kept, is_late, latest_of, over_with, place_of, with_period}
+use Rattle.report_rows.specs.PeriodLists.{Enters, begun, entered, is_begun_at, is_kept, is_late, latest_of, over_with, place_of, with_period}
 
 -- ---- places
 
@@ -18,22 +18,35 @@ module _ {X : Type 0} (p : X → Bool) where
       → prefix_len p (insert xs (prefix_len p xs) y) ≡ prefix_len p xs
       → prefix_len p (insert (x ∷ xs) (cond b (1 + prefix_len p xs) 0) y)
       ≡ cond b (1 + prefix_len p xs) 0
-  stays_at true x xs y e no more =
-      ap (λ (b : Bool). cond b (1 + prefix_len p (insert xs (prefix_len p xs) y)) 0) e
-      ∙ ap (λ (n : ℕ). 1 + n) more
-  stays_at false x xs y e no more = ap (λ (b : Bool). cond b (1 + prefix_len p (x ∷ xs)) 0) no
+  stays_at true x xs y e stops more =
+      let one : 1 + prefix_len p xs ≡ suc (prefix_len p xs) = omega arith in
+      subst (λ (n : ℕ). prefix_len p (insert (x ∷ xs) n y) ≡ n) (sym one)
+      (ap (λ (b : Bool). cond b (1 + prefix_len p (insert xs (prefix_len p xs) y)) 0) e
+      ∙ ap (λ (n : ℕ). 1 + n) more ∙ one)
+  stays_at false x xs y e stops more = ap (λ (b : Bool). cond b (1 + prefix_len p (x ∷ xs)) 0) stops
 
   -- one that doesn't pass, after the first ones, which do
   place_stays : (xs : List X) (y : X) → p y ≡ false
       → prefix_len p (insert xs (prefix_len p xs) y) ≡ prefix_len p xs
-  place_stays [] y no = ap (λ (b : Bool). cond b (1 + 0) 0) no
-  place_stays (x ∷ xs) y no = stays_at (p x) x xs y refl no (place_stays xs y no)
+  place_stays [] y stops = ap (λ (b : Bool). cond b (1 + 0) 0) stops
+  place_stays (x ∷ xs) y stops =
+      stays_at (p x) x xs y refl stops (place_stays xs y stops)
 
   after_first : (b : Bool) (x : X) (xs : List X) → p x ≡ b
       → (cond b (1 + prefix_len p xs) 0 ≡ 0 → ⊥)
       → cond b (1 + prefix_len p xs) 0 ≡ suc (prefix_len p xs)
   after_first true x xs e some = omega arith
   after_first false x xs e some = absurd (some refl)
+
+module _ {T : Type 0} (begin : ℕ) where
+  -- none began at its time
+  pub absent_at : (ps seen : List (KeptPeriod T)) (n : ℕ) (is : Bool) → n ≡ place_of begin ps
+      → seen ≡ ps → is ≡ is_begun_at begin (slice_get seen n) → is ≡ false
+      → is_kept begin ps ≡ false
+  absent_at ps seen n is place same told isnt =
+      ap (λ (k : ℕ). is_begun_at begin (slice_get ps k)) (sym place)
+      ∙ ap (λ (l : List (KeptPeriod T)). is_begun_at begin (slice_get l n)) (sym same)
+      ∙ sym told ∙ isnt
 
 module _ {T : Type 0} (begin : ℕ) (none : T) where
   own_place : (ps : List (KeptPeriod T))

@@ -1,4 +1,6 @@
 pub mod RowTexts
+pub mod FirstTexts
+pub mod FirstTextLaws
 pub mod RowSinks
 pub mod RowLaws
 pub mod RowHistories

@@ -1,5 +1,5 @@
 //! Figures of the latest periods.
-ghost use Rattle.std.specs.Prelude.{◌≡◌, ◌≤◌, length, slice_get};
+ghost use Rattle.std.specs.Prelude.{◌≡◌, ◌≤◌, [], length, slice_get};
 ghost use Rattle.report_rows.specs.PeriodLists.{AreNoPeriods, Enters, is_begun_at, place_of};
 
 use arrayvec::ArrayVec;
@@ -60,6 +60,14 @@ impl<T: Copy + Default> KeptPeriods<T> {
             kept: ArrayVec::new(),
             late: 0,
         }
+    }
+
+    /// Forgets all periods.
+    pub fn clear(&mut self)
+        ensures kept { self.new.kept.items ≡ [] }
+        ensures late { self.new.late ≡ self.old.late }
+    {
+        self.kept.clear();
     }
 
     /// Enters the period that began at this time, without figures where it is new, in the place of

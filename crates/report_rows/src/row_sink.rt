@@ -21,12 +21,7 @@ pub struct RowSink<W, M> {
 impl<W, M: Drop> RowSink<W, M> {
     /// Writes the maker's rows to the page's writer from here on, after the header with the names
     /// of the columns.
-    pub fn new(
-        page: TextPage<W>,
-        maker: M,
-        format: RowFormat,
-        names: &[&str],
-    ) -> RowSink<W, M>
+    pub fn new(page: TextPage<W>, maker: M, format: RowFormat, names: &[&str]) -> RowSink<W, M>
         requires empty { page.text.items ≡ [] }
         requires few { row_room (texts_of names.now) ≤ 1024 }
         ensures { IsNewRowSink page.writer maker (header_text format (texts_of names.now)) result }

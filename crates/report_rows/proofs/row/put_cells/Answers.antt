@@ -11,8 +11,13 @@ put_cell_at-requires-clause-room c =
     let n = c.loop-place.place in
     let next = room_next names n (length c.args.names.now) (omega (arith, c.loop-place-test.true))
     in
-    omega (arith, next, c.requires.room, c.loop-place.invariant.few,
-    c.loop-place.invariant.room)
+    omega (
+      arith,
+      next,
+      c.requires.room,
+      c.loop-place.invariant.few,
+      c.loop-place.invariant.room,
+    )
 
 pub put_cell_at-requires-clause-short : goal.put_cell_at-requires-clause-short
 put_cell_at-requires-clause-short c =
