@@ -1,4 +1,6 @@
 pub mod CapturedLists
+mod Chains
+mod Following
 mod Listing
 mod Naming
 pub mod OptionReading

@@ -10,12 +10,12 @@ use Rattle.command_words.specs.Readings.{mapped, named_or}
 use Rattle.command_words.specs.declared.refusal.Refusal.{Refusal}
 use Rattle.command_words.specs.declared.refusal.Refusal.TheVariants.{BadFormat}
 
--- the format of this name, with times in seconds
+-- the format of this name, with times as numbers
 abbrev pub format_named : List ℕ → Option BestFormat
 format_named name =
     if bytes_eq name (codes "text") then Some Text
     else if bytes_eq name (codes "csv") then Some (Csv Seconds)
-    else if bytes_eq name (codes "json") then Some Json else None
+    else if bytes_eq name (codes "json") then Some (Json Seconds) else None
 
 -- All lines are printed where the best ones alone aren't asked for, and then no format may be
 -- named; else these, in the format that is named, or as they are.

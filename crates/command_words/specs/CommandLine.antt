@@ -13,19 +13,21 @@ use Rattle.clap.specs.declared.error.kind.ErrorKind.{ErrorKind}
 use Rattle.clap.specs.declared.error.kind.ErrorKind.TheVariants.{DisplayHelp, DisplayVersion, OutOfMemory}
 use Rattle.run_settings.specs.declared.captured_line.CapturedLine.{CapturedLine}
 use Rattle.run_settings.specs.declared.formats.StatsFormat.{StatsFormat}
+use Rattle.run_settings.specs.declared.formats.TimeStyle.{TimeStyle}
 use Rattle.run_settings.specs.declared.run_settings.RunSettings.{RunSettings}
 use Rattle.run_settings.specs.Lists.{AreOfVenues}
 use Rattle.command_words.specs.CapturedLines.{ReadsAllLines}
 use Rattle.command_words.specs.Commands.{nbbo_app}
 use Rattle.command_words.specs.ListenRequests.{ReadsListening}
 use Rattle.command_words.specs.OptionValues.{lines_in, rows_of_command}
-use Rattle.command_words.specs.Readings.{Gives, Then, mapped}
+use Rattle.command_words.specs.Readings.{Gives, Then, and_then, mapped}
 use Rattle.command_words.specs.RunRequests.{ReadsReplay, ReadsStats}
 use Rattle.command_words.specs.StatsFormats.{stats_format_in}
+use Rattle.command_words.specs.TimeStyles.{time_style_in}
 use Rattle.command_words.specs.declared.task.Task.{Task}
 use Rattle.command_words.specs.declared.task.Task.TheVariants.{Run, Convert, Discover, Listen}
 use Rattle.command_words.specs.declared.refusal.Refusal.{Refusal}
-use Rattle.command_words.specs.declared.refusal.Refusal.TheVariants.{Shown, Usage, NotText, BadSession, TooManySessions, BadLines, BadRequest, BadFormat, BadPeriod, EveryWithoutLines, GapsWithEvery, BestsWithoutEvery, BadTime, ToBeforeFrom, SpanOfLines, SpanWithoutLines, BadTimeStyle, TimesWithoutCsv, TimesWithoutLines, BadEnd, KeptUnfollowed, FormatUnfollowed, BadSender, BadMetrics, BadSymbol, TooManySymbols, DuplicateSymbol, NoMemory}
+use Rattle.command_words.specs.declared.refusal.Refusal.TheVariants.{Shown, Usage, NotText, BadSession, TooManySessions, BadNextSession, BadLines, BadRequest, BadFormat, BadPeriod, EveryWithoutLines, GapsWithEvery, BestsWithoutEvery, SkipAfterWithoutLines, SkipGapsWithSkipAfter, BadTime, ToBeforeFrom, SpanOfLines, SpanWithoutLines, BadTimeStyle, TimesOfText, TimesWithoutLines, BadEnd, KeptUnfollowed, FormatUnfollowed, BadSender, BadMetrics, BadSymbol, TooManySymbols, DuplicateSymbol, NoMemory}
 
 -- a text that was asked for: help, or the version
 abbrev pub IsAsked : ErrorKind → Type 0
@@ -46,10 +48,12 @@ ReadsConversion rows (Ok (Convert lines)) = ReadsAllLines (lines_in rows) (Ok li
 ReadsConversion rows (Ok _) = ⊥
 ReadsConversion rows (Err refusal) = ReadsAllLines (lines_in rows) (Err refusal)
 
--- the task of lines: the form of its rows
+-- the task of lines: the form of its rows, and then the style of their times
 abbrev pub ReadsDiscovery : List Row → Result Task Refusal → Type 0
 ReadsDiscovery rows =
-    Gives (mapped (λ f. Discover f) (stats_format_in (first_of (codes "format") rows)))
+    Gives (and_then (stats_format_in (first_of (codes "format") rows))
+    (λ format. mapped (λ times. Discover format times)
+    (time_style_in (first_of (codes "times") rows))))
 
 -- a reading of the values of a command's options, where that is the subcommand, else the other one
 abbrev pub OfCommand : Option (List Row) → (List Row → Result Task Refusal → Type 0)
@@ -115,9 +119,9 @@ abbrev pub AsksConversion : List Text → List CapturedLine → Type 0
 AsksConversion words lines =
     (asked : Vec CapturedLine) × (asked.items ≡ lines) × Asks words (Convert asked)
 
--- The words ask for the lines of a packet capture, in this form.
-abbrev pub AsksDiscovery : List Text → StatsFormat → Type 0
-AsksDiscovery words format = Asks words (Discover format)
+-- The words ask for the lines of a packet capture, in this form and with times in this style.
+abbrev pub AsksDiscovery : List Text → StatsFormat → TimeStyle → Type 0
+AsksDiscovery words format times = Asks words (Discover format times)
 
 -- ---- the end of the program after a refusal
 
@@ -134,6 +138,8 @@ refusal_text (Usage text) = string_bytes text
 refusal_text NotText = codes "nbbo: the command line is not UTF-8\n"
 refusal_text BadSession = codes "nbbo: bad session\n"
 refusal_text TooManySessions = codes "nbbo: too many sessions\n"
+refusal_text BadNextSession =
+    codes "nbbo: bad next session: after a slash a name of 1 to 10 characters, each of a venue once\n"
 refusal_text BadLines = codes "nbbo: bad lines\n"
 refusal_text BadRequest = codes "nbbo: bad request address\n"
 refusal_text BadFormat = codes "nbbo: bad format\n"
@@ -141,12 +147,15 @@ refusal_text BadPeriod = codes "nbbo: bad period\n"
 refusal_text EveryWithoutLines = codes "nbbo: --every without --lines\n"
 refusal_text GapsWithEvery = codes "nbbo: --gaps with --every\n"
 refusal_text BestsWithoutEvery = codes "nbbo: --bests without --every\n"
+refusal_text SkipAfterWithoutLines =
+    codes "nbbo: --skip-after without --lines: only a packet capture has times\n"
+refusal_text SkipGapsWithSkipAfter = codes "nbbo: --skip-gaps with --skip-after\n"
 refusal_text BadTime = codes "nbbo: bad time\n"
 refusal_text ToBeforeFrom = codes "nbbo: --to before --from\n"
 refusal_text SpanOfLines = codes "nbbo: --from or --to without --best-only\n"
 refusal_text SpanWithoutLines = codes "nbbo: --from or --to without --lines\n"
 refusal_text BadTimeStyle = codes "nbbo: bad time style\n"
-refusal_text TimesWithoutCsv = codes "nbbo: --times without rows in csv\n"
+refusal_text TimesOfText = codes "nbbo: --times of lines of text, which have none\n"
 refusal_text TimesWithoutLines = codes "nbbo: --times without --lines\n"
 refusal_text BadEnd = codes "nbbo: bad end\n"
 refusal_text KeptUnfollowed = codes "nbbo: --kept without --follow\n"

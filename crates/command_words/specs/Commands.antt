@@ -2,14 +2,14 @@
 use Rattle.std.specs.Prelude.{◌∷◌, [], codes, true}
 use Rattle.clap.specs.Simple.{App, new_app, on_top, with_subcommand}
 use Rattle.command_words.specs.OptionForms.{with_option_rules}
-use Rattle.command_words.specs.declared.option_table.OptionForm.TheVariants.{Buffer, Flag, FromOne, FromZero, Journal, Required, Text, Window, Words}
+use Rattle.command_words.specs.declared.option_table.OptionForm.TheVariants.{Buffer, Flag, FromOne, FromZero, Required, Text, Window, Words}
 
 abbrev pub replay_app : App
 replay_app = with_option_rules (new_app (codes "replay"))
     ((codes "sessions", Required) ∷ (codes "lines", Text)
-    ∷ (codes "window", Window) ∷ (codes "journal", Journal)
+    ∷ (codes "window", Window) ∷ (codes "journal", FromZero)
     ∷ (codes "join", Flag) ∷ (codes "skip-gaps", Flag)
-    ∷ (codes "gaps", Flag) ∷ (codes "best-only", Flag)
+    ∷ (codes "skip-after", FromOne) ∷ (codes "gaps", Flag) ∷ (codes "best-only", Flag)
     ∷ (codes "from", Text) ∷ (codes "to", Text)
     ∷ (codes "format", Text) ∷ (codes "times", Text) ∷ (codes "symbols", Words) ∷ [])
 
@@ -34,12 +34,14 @@ abbrev pub stats_app : App
 stats_app = with_option_rules (new_app (codes "stats"))
     ((codes "sessions", Required) ∷ (codes "lines", Text)
     ∷ (codes "window", Window) ∷ (codes "join", Flag) ∷ (codes "skip-gaps", Flag)
-    ∷ (codes "gaps", Flag) ∷ (codes "every", Text) ∷ (codes "bests", Flag)
+    ∷ (codes "skip-after", FromOne) ∷ (codes "gaps", Flag) ∷ (codes "every", Text) ∷ (codes "bests", Flag)
     ∷ (codes "from", Text) ∷ (codes "to", Text)
     ∷ (codes "format", Text) ∷ (codes "times", Text) ∷ (codes "symbols", Words) ∷ [])
 
 abbrev pub discovering_app : App
-discovering_app = with_option_rules (new_app (codes "lines")) ((codes "format", Text) ∷ [])
+discovering_app =
+    with_option_rules (new_app (codes "lines"))
+    ((codes "format", Text) ∷ (codes "times", Text) ∷ [])
 
 -- the program with its texts
 abbrev pub titled_app : App

@@ -7,6 +7,7 @@ pub mod EndRules
 pub mod FeedRequests
 pub mod ListenFormats
 pub mod ListenRequests
+pub mod NextSessions
 pub mod OptionValues
 pub mod OptionForms
 pub mod PeriodWords

@@ -7,7 +7,7 @@ use Rattle.command_words.specs.BestFormats.{format_named}
 use Rattle.command_words.specs.Readings.{and_then}
 use Rattle.command_words.specs.TimeStyles.{best_format_in, time_style_named}
 use Rattle.command_words.specs.declared.refusal.Refusal.{Refusal}
-use Rattle.command_words.specs.declared.refusal.Refusal.TheVariants.{BadFormat, BadTimeStyle, FormatUnfollowed, TimesWithoutCsv}
+use Rattle.command_words.specs.declared.refusal.Refusal.TheVariants.{BadFormat, BadTimeStyle, FormatUnfollowed, TimesOfText}
 
 -- Best lines are text where no format is named, and one may be named only where they are printed as
 -- they come.
@@ -21,7 +21,7 @@ abbrev pub listen_style_in : (times : Option (List ℕ)) → BestFormat → Resu
 listen_style_in None plain = Ok plain
 listen_style_in (Some times) plain =
     and_then (ok_or (time_style_named times) BadTimeStyle)
-    (λ style. ok_or (best_format_in style plain) TimesWithoutCsv)
+    (λ style. ok_or (best_format_in style plain) TimesOfText)
 
 abbrev pub listen_format_in : (follow : Bool) → (name times : Option (List ℕ))
     → Result BestFormat Refusal

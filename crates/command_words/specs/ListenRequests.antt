@@ -54,7 +54,7 @@ pub record HasListenOptions (rows : List Row) (settings : ListenSettings) : Type
 -- The settings of listen by the values of its options, which are looked at in this order.
 abbrev pub ReadsListening : List Row → Result ListenSettings Refusal → Type 0
 ReadsListening rows =
-    Then (ReadsSessions (list_in rows))
+    Then (ReadsSessions false (list_in rows))
     (λ sessions. Then (ReadsLines (lines_in rows) (length sessions))
     (λ lines. Then (ReadsRequest lines (first_of (codes "request") rows))
     (λ request. Then (ReadsSymbols (symbol_words_in rows))

@@ -1,17 +1,20 @@
 -- The runs that the values of the options of replay and of stats give.
-use Rattle.std.specs.Prelude.{◌≡◌, List, Bool, false, Result, codes, length, unwrap_or}
+use Rattle.std.specs.Prelude.{◌≡◌, ℕ, List, Bool, false, ◌||◌, Result, codes, if◌then◌else◌, is_some, length, unwrap_or}
 use Rattle.clap.specs.Walk.{Row, first_of, one_of}
 use Rattle.run_settings.specs.declared.feed_settings.FeedSettings.{FeedSettings}
+use Rattle.run_settings.specs.declared.next_session.NextSession.{NextSession}
 use Rattle.run_settings.specs.declared.run_input.RunInput.{RunInput}
 use Rattle.run_settings.specs.declared.run_output.RunOutput.{RunOutput}
 use Rattle.run_settings.specs.declared.run_settings.RunSettings.{RunSettings}
+use Rattle.run_settings.specs.declared.skip_rule.SkipRule.{SkipRule}
 use Rattle.run_settings.specs.declared.time_span.TimeSpan.{TimeSpan}
 use Rattle.command_words.specs.BestFormats.{replay_output_in}
 use Rattle.command_words.specs.CapturedLines.{ReadsInput}
 use Rattle.command_words.specs.FeedRequests.{ReadsFeed}
-use Rattle.command_words.specs.OptionValues.{is_flag_set, number_given}
+use Rattle.command_words.specs.NextSessions.{ReadsNextSessions}
+use Rattle.command_words.specs.OptionValues.{is_flag_set, list_in, number_given}
 use Rattle.command_words.specs.Readings.{Gives, Then, Yields}
-use Rattle.command_words.specs.SkipRules.{skip_rule_by}
+use Rattle.command_words.specs.SkipRules.{skips_in}
 use Rattle.command_words.specs.SpanWords.{ReadsSpan}
 use Rattle.command_words.specs.StatsOutputs.{ReadsCounted, bests_by}
 use Rattle.command_words.specs.TimeStyles.{styled_in}
@@ -31,20 +34,27 @@ ReadsStatsOutput rows =
     (first_of (codes "format") rows) (first_of (codes "lines") rows))
     (λ counted. Gives (bests_by (is_flag_set (one_of (codes "bests") rows)) counted))
 
--- The settings of a run have these parts, and give up gaps by the rule of --join and --skip-gaps.
-pub record IsRunAsked (rows : List Row) (feed : FeedSettings) (gaps : Bool) (output : RunOutput)
-    (input : RunInput) (span : TimeSpan) (settings : RunSettings) : Type 0 where
+-- the rule by which gaps are given up
+abbrev pub ReadsSkips : List Row → Result SkipRule Refusal → Type 0
+ReadsSkips rows =
+    Gives (skips_in (is_flag_set (one_of (codes "join") rows))
+    (is_flag_set (one_of (codes "skip-gaps") rows))
+    (number_given (one_of (codes "skip-after") rows)) (first_of (codes "lines") rows))
+
+-- The settings of a run have these parts.
+pub record IsRunAsked (feed : FeedSettings) (gaps : Bool) (output : RunOutput) (input : RunInput)
+    (span : TimeSpan) (skips : SkipRule) (next : List NextSession) (settings : RunSettings)
+    : Type 0 where
   pub feed_is : settings.feed ≡ feed
   pub gaps_is : settings.gaps ≡ gaps
-  pub skips_are : settings.skips
-      ≡ skip_rule_by (is_flag_set (one_of (codes "join") rows))
-      (is_flag_set (one_of (codes "skip-gaps") rows))
+  pub skips_are : settings.skips ≡ skips
   pub input_is : settings.input ≡ input
   pub output_is : settings.output ≡ output
   pub span_is : settings.span ≡ span
+  pub next_are : settings.next_sessions.items ≡ next
 
--- The run of this feed: the style of times is looked at first, then the list of lines, and last the
--- span of time.
+-- The run of this feed: the style of times is looked at first, then the list of lines, the span of
+-- time, the rule for gaps, and last the sessions that follow others.
 abbrev pub ReadsRunOf : List Row → FeedSettings → (gaps : Bool) → (plain : RunOutput)
     → Result RunSettings Refusal → Type 0
 ReadsRunOf rows feed gaps plain =
@@ -53,12 +63,23 @@ ReadsRunOf rows feed gaps plain =
     (length feed.sessions.items))
     (λ input. Then (ReadsSpan output (first_of (codes "from") rows) (first_of (codes "to") rows)
     (first_of (codes "lines") rows))
-    (λ span. Yields (IsRunAsked rows feed gaps output input span))))
+    (λ span. Then (ReadsSkips rows)
+    (λ skips. Then (ReadsNextSessions (first_of (codes "lines") rows) (list_in rows)
+    (length feed.sessions.items))
+    (λ next. Yields (IsRunAsked feed gaps output input span skips next))))))
+
+-- The journal of replay where no text gives one: with --lines or --best-only it has the most room,
+-- since its entries take no memory.
+abbrev pub replay_journal : List Row → ℕ
+replay_journal rows =
+    if is_flag_set (one_of (codes "best-only") rows) || is_some (first_of (codes "lines") rows)
+    then 4294967295 else 1000000
 
 -- The run of replay: the feed is looked at first, and then the output.
 abbrev pub ReadsReplay : List Row → Result RunSettings Refusal → Type 0
 ReadsReplay rows =
-    Then (ReadsFeed rows (unwrap_or (number_given (one_of (codes "journal") rows)) 1000000))
+    Then (ReadsFeed rows (unwrap_or (number_given (one_of (codes "journal") rows))
+    (replay_journal rows)))
     (λ feed. Then (ReadsReplayOutput rows)
     (λ plain. ReadsRunOf rows feed (is_flag_set (one_of (codes "gaps") rows)) plain))
 

@@ -2,6 +2,8 @@
 -- capture.
 use Rattle.std.specs.Prelude.{ℕ, Bool, true, false, List, Option, Some, None, Result, Ok, Err, codes, if◌then◌else◌}
 use Rattle.std.specs.Str.{bytes_eq}
+use Rattle.run_settings.specs.declared.formats.ReportFormat.{ReportFormat}
+use Rattle.run_settings.specs.declared.formats.ReportFormat.TheVariants as reports
 use Rattle.run_settings.specs.declared.formats.RowFormat.{RowFormat}
 use Rattle.run_settings.specs.declared.formats.RowFormat.TheVariants.{Csv, Json}
 use Rattle.run_settings.specs.declared.formats.TimeStyle.TheVariants.{Seconds}
@@ -9,19 +11,29 @@ use Rattle.run_settings.specs.declared.run_output.RunOutput.{RunOutput}
 use Rattle.run_settings.specs.declared.run_output.RunOutput.TheVariants.{Stats, Gaps, Periods, BestTimes}
 use Rattle.command_words.specs.PeriodWords.{SpellsPeriod}
 use Rattle.command_words.specs.Readings.{Finds, Gives, Then, and_then, mapped, named_or}
-use Rattle.command_words.specs.StatsFormats.{stats_format_in}
 use Rattle.command_words.specs.declared.refusal.Refusal.{Refusal}
 use Rattle.command_words.specs.declared.refusal.Refusal.TheVariants.{BadPeriod, BadFormat, BestsWithoutEvery, EveryWithoutLines, GapsWithEvery}
 
--- the form of rows of this name, with times in seconds
+-- the form of rows of this name, with times as numbers
 abbrev pub row_format_named : List ℕ → Option RowFormat
 row_format_named name =
     if bytes_eq name (codes "csv") then Some (Csv Seconds)
-    else if bytes_eq name (codes "json") then Some Json else None
+    else if bytes_eq name (codes "json") then Some (Json Seconds) else None
 
 -- rows have the form that is named, or are comma-separated values
 abbrev pub row_format_by : Option (List ℕ) → Result RowFormat Refusal
 row_format_by = named_or row_format_named (Csv Seconds) BadFormat
+
+-- the form of counts of this name, with times as numbers
+abbrev pub report_format_named : List ℕ → Option ReportFormat
+report_format_named name =
+    if bytes_eq name (codes "table") then Some (reports.Table Seconds)
+    else if bytes_eq name (codes "csv") then Some (reports.Csv Seconds)
+    else if bytes_eq name (codes "json") then Some (reports.Json Seconds) else None
+
+-- counts are printed in the form that is named, or as tables
+abbrev pub report_format_by : Option (List ℕ) → Result ReportFormat Refusal
+report_format_by = named_or report_format_named (reports.Table Seconds) BadFormat
 
 -- rows of periods want the times of a packet capture
 abbrev pub timed_periods : (lines : Option (List ℕ)) → (length : ℕ) → RowFormat
@@ -34,7 +46,7 @@ timed_periods (Some list) length form =
 -- of gaps, or for rows of periods. The texts are looked at in this order.
 abbrev pub ReadsCounted : (gaps : Bool) → (every format lines : Option (List ℕ))
     → Result RunOutput Refusal → Type 0
-ReadsCounted false None format lines = Gives (mapped (λ f. Stats f) (stats_format_in format))
+ReadsCounted false None format lines = Gives (mapped (λ f. Stats f) (report_format_by format))
 ReadsCounted true None format lines = Gives (mapped (λ f. Gaps f) (row_format_by format))
 ReadsCounted true (Some every) format lines = Gives (Err GapsWithEvery)
 ReadsCounted false (Some every) format lines =

@@ -14,7 +14,7 @@ pub fn format_named(name: &str) -> Option<BestFormat>
     } else if name == "csv" {
         Some(BestFormat::Csv(TimeStyle::Seconds))
     } else if name == "json" {
-        Some(BestFormat::Json)
+        Some(BestFormat::Json(TimeStyle::Seconds))
     } else {
         None
     }

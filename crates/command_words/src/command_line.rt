@@ -19,6 +19,7 @@ use crate::refusal::Refusal;
 use crate::run_words::{replay_of, stats_of};
 use crate::stats_format::read_stats_format;
 use crate::task::Task;
+use crate::time_style::read_time_style;
 use clap::error::ErrorKind;
 use clap::{ArgMatches, Error};
 use std::alloc::Global;
@@ -41,7 +42,7 @@ fn refusal_of(alloc: Global, error: &Error) -> Refusal
 }
 
 /// Returns the values that the words give to the commands and their options.
-fn parsed<'a>(alloc: Global, words: &'a [String]) -> Result<ArgMatches<'a>, Refusal>
+pub(crate) fn parsed<'a>(alloc: Global, words: &'a [String]) -> Result<ArgMatches<'a>, Refusal>
     ensures taken { OnOk result (IsAccepted (map (λ word. string_bytes word) words.entry.now)) }
     ensures values { IfOk result (λ m.
         subcommand_rows_of m
@@ -98,11 +99,13 @@ fn conversion_of(alloc: Global, convert: &ArgMatches<'_>) -> Result<Task, Refusa
     Ok(Task::Convert(read_all_lines(alloc, text_of(convert, "lines"))?))
 }
 
-/// Returns the list of lines for which the option of `lines` asks.
+/// Returns the list of lines for which the options of `lines` ask.
 fn discovery_of(lines: &ArgMatches<'_>) -> Result<Task, Refusal>
     ensures { ReadsDiscovery (rows_of (found_of lines.now)) result }
 {
-    Ok(Task::Discover(read_stats_format(given_text(lines, "format"))?))
+    let format = read_stats_format(given_text(lines, "format"))?;
+    let times = read_time_style(given_text(lines, "times"))?;
+    Ok(Task::Discover(format, times))
 }
 
 /// Returns the task of the subcommand.

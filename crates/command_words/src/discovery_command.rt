@@ -6,6 +6,7 @@ ghost use Rattle.command_words.specs.Commands.{discovering_app};
 
 use crate::command_texts::{CommandTexts, command_with};
 use crate::option_table::{CommandOption, OptionForm};
+use crate::options::TIMES;
 use clap::Command;
 use std::alloc::{AllocError, Global};
 
@@ -37,14 +38,18 @@ Printed, a row in the order in which each first came, up to 4096 of them:
   first, last                the lowest and the highest number of a message that came, '-' where
                              none came
   other                      the other datagrams to that address and port
-  first time, last time      the earliest and the latest, in nanoseconds from 1970 on, '-' where the
-                             capture has none
+  first time, last time      the earliest and the latest, as --times says, '-' where the capture has
+                             none
 and then the other datagrams, how many addresses and ports these went to (up to 4096), the frames
-without a UDP datagram, and the datagrams that are in no row, since there were 4096 already. The last
-line has the words --sessions and --lines for the venues whose session came at exactly two addresses
-and ports, at neither of them after another session's. It is there to be pasted, and so leaves out
-sessions whose names have other bytes than letters, digits and %+-./:@_ before the spaces at their
-ends; where none is left there is no such line.
+without a UDP datagram, and the datagrams that are in no row, since there were 4096 already.
+
+A row 'left out of the words: SESSION  WHY' stands for each session that came at one address and
+port, or at more than two, or at one of its two after another session; whose name is all spaces, or
+has a comma or a quotation mark; or that is past the first 16. The last line has the words
+--sessions and --lines for the others, the two addresses of each in order; it is empty where there
+are none. Names with other bytes than letters, digits and %+-./:@_ stand in quotation marks, which a
+shell takes away where the line is pasted or read by eval, but not within $(..). A name with a slash
+is to 'nbbo replay' and 'nbbo stats' the names of sessions that follow one another.
 
 A datagram is a packet where its bytes spell one of MoldUDP64 and the session's name is printable
 ASCII (bytes 20 to 7e). Datagrams of another kind may look like one, as a heartbeat of no session.
@@ -54,7 +59,7 @@ where nothing is known.
 
 Examples:
   nbbo lines < day.pcap
-  nbbo stats $(nbbo lines < day.pcap | tail -1) < day.pcap
+  eval \"nbbo stats $(nbbo lines < day.pcap | tail -1)\" < day.pcap
   zcat day.pcap.gz | nbbo lines --format json | jq -r 'select(.session) | .address'
 
 Status:
@@ -63,7 +68,10 @@ Status:
      'write failed' or 'no memory'. Standard error says why: 'bad capture at byte N', 'short
      record', 'read failed', 'write failed', 'too many turns' and 'no memory' as of
      'nbbo replay --lines'
-  2  the command line was refused: 'bad format' where the format is none of those";
+  2  the command line was refused: 'bad format' where the format is none of those, 'bad time style'
+     where that of --times is none
+
+Standard error also counts the frames that carry no datagram, as of 'nbbo replay --lines'.";
 
 /// The texts of `lines`.
 const TEXTS: CommandTexts<'static> = CommandTexts {
@@ -86,7 +94,7 @@ its own for each",
 };
 
 /// The options of `lines`, in the order in which its help has them.
-const OPTIONS: &[CommandOption<'static>] = &[FORMAT];
+const OPTIONS: &[CommandOption<'static>] = &[FORMAT, TIMES];
 
 /// Returns the whole of `lines`.
 pub fn discovery_command<'a>(alloc: Global) -> Result<Command<'a>, AllocError>

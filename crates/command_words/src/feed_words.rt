@@ -1,15 +1,16 @@
 //! The settings of a feed that options give.
-ghost use Rattle.std.specs.Prelude.{◌≡◌, ◌≤◌, codes};
+ghost use Rattle.std.specs.Prelude.{◌≡◌, ◌≤◌, IfOk, codes, is_some, vec_len};
 ghost use Rattle.clap.specs.Matches.{found_of};
-ghost use Rattle.clap.specs.Walk.{one_of, rows_of};
+ghost use Rattle.clap.specs.Walk.{first_of, one_of, rows_of};
 ghost use Rattle.command_words.specs.FeedRequests.{ReadsFeed};
-ghost use Rattle.command_words.specs.OptionValues.{symbol_words_in, window_in};
+ghost use Rattle.command_words.specs.OptionValues.{list_in, symbol_words_in, window_in};
 ghost use Rattle.command_words.specs.Readings.{mapped};
+ghost use Rattle.command_words.specs.Sessions.{ReadsSessions};
 ghost use Rattle.command_words.specs.Symbols.{ReadsSymbols};
 ghost use Rattle.std.specs.List.{IsDistinct};
 
 use crate::limits::DEFAULT_WINDOW;
-use crate::option_values::{number_of, text_of};
+use crate::option_values::{given_text, number_of, text_of};
 use crate::refusal::Refusal;
 use crate::sessions::read_sessions;
 use crate::symbols::read_symbols;
@@ -28,6 +29,18 @@ pub fn window_of(options: &ArgMatches<'_>) -> u32
         Some(window) if 1 <= window && window <= MAX_WINDOW => window,
         _ => DEFAULT_WINDOW,
     }
+}
+
+/// Returns the first session of each venue that the options name. With `--lines` others may follow.
+fn sessions_of(alloc: Global, options: &ArgMatches<'_>) -> Result<Vec<[u8; 10]>, Refusal>
+    ensures reads { ReadsSessions
+        (is_some (first_of (codes "lines") (rows_of (found_of options.now))))
+        (list_in (rows_of (found_of options.now)))
+        (mapped (λ sessions. sessions.items) result) }
+    ensures count { IfOk result (λ sessions. (1 ≤ vec_len sessions) × (vec_len sessions ≤ 16)) }
+{
+    let chained = given_text(options, "lines").is_some();
+    read_sessions(alloc, text_of(options, "sessions"), chained)
 }
 
 /// Returns the symbols that the words name.
@@ -50,7 +63,7 @@ pub fn feed_of(
     ensures { ReadsFeed (rows_of (found_of options.now)) journal result }
 {
     Ok(FeedSettings {
-        sessions: read_sessions(alloc, text_of(options, "sessions"))?,
+        sessions: sessions_of(alloc, options)?,
         symbols: symbols_of(alloc, options)?,
         window: window_of(options),
         journal,

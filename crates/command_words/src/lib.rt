@@ -6,11 +6,11 @@
 //! `specs/OptionValues.antt`). What the options of a command give, and the order in which they are
 //! looked at, stands in `specs/RunRequests.antt` and `specs/ListenRequests.antt`, over
 //! `specs/FeedRequests.antt` and in the words of `specs/Readings.antt`. Each kind of value has a
-//! file of its own (`specs/Sessions.antt`, `specs/Symbols.antt`, `specs/Addresses.antt`,
-//! `specs/CapturedLines.antt`, `specs/BestFormats.antt`, `specs/StatsFormats.antt`,
-//! `specs/StatsOutputs.antt`, `specs/PeriodWords.antt`, `specs/TimeStyles.antt`,
-//! `specs/SpanWords.antt`, `specs/SkipRules.antt`, `specs/EndRules.antt`,
-//! `specs/SenderLists.antt`).
+//! file of its own (`specs/Sessions.antt`, `specs/NextSessions.antt`, `specs/Symbols.antt`,
+//! `specs/Addresses.antt`, `specs/CapturedLines.antt`, `specs/BestFormats.antt`,
+//! `specs/StatsFormats.antt`, `specs/StatsOutputs.antt`, `specs/PeriodWords.antt`,
+//! `specs/TimeWords.antt`, `specs/TimeStyles.antt`, `specs/SpanWords.antt`,
+//! `specs/SkipRules.antt`, `specs/EndRules.antt`, `specs/SenderLists.antt`).
 //!
 //! Begin with `command_line.rt`, then `listen_words.rt`. An option stands with its texts in the
 //! table of its command, or in `options.rt` if commands share it. Its form is one of
@@ -26,12 +26,14 @@ mod commands;
 mod convert_command;
 mod discovery_command;
 mod end_rule;
+mod explanation;
 mod feed_words;
 mod limits;
 mod listen_command;
 mod listen_format;
 mod listen_options;
 mod listen_words;
+mod next_sessions;
 mod option_table;
 mod option_values;
 mod options;
@@ -51,5 +53,6 @@ mod time_style;
 mod time_words;
 
 pub use command_line::settings;
+pub use explanation::{explanation, symbol_words};
 pub use refusal::Refusal;
 pub use task::Task;

@@ -117,7 +117,7 @@ Status:
      metrics address': --metrics isn't an IP address and a port; 'bad format': --stats-format is
      neither table nor json, or --stats isn't given, or --format is neither text nor csv nor json;
      '--format without --follow'; 'bad time style': --times is neither seconds nor utc;
-     '--times without rows in csv'
+     '--times of lines of text', which have none
   3  with --complete: as 0, and a venue lacks messages
 
 While it runs standard error says when a line ends or fails, and at its first request that can't

@@ -27,7 +27,7 @@ fn read_listen_style(plain: BestFormat, times: Option<&str>) -> Result<BestForma
         return Ok(plain);
     };
     match time_style_named(times) {
-        Some(style) => best_format_in(style, plain).ok_or(Refusal::TimesWithoutCsv),
+        Some(style) => best_format_in(style, plain).ok_or(Refusal::TimesOfText),
         None => Err(Refusal::BadTimeStyle),
     }
 }

@@ -119,7 +119,7 @@ fn listen_format_of(listen: &ArgMatches<'_>) -> Result<BestFormat, Refusal>
 pub fn listening_of(alloc: Global, listen: &ArgMatches<'_>) -> Result<ListenSettings, Refusal>
     ensures { ReadsListening (rows_of (found_of listen.now)) result }
 {
-    let sessions = read_sessions(alloc, text_of(listen, "sessions"))?;
+    let sessions = read_sessions(alloc, text_of(listen, "sessions"), false)?;
     let lines = lines_of(alloc, listen, sessions.len())?;
     let request = request_of(listen, lines.as_slice())?;
     let symbols = symbols_of(alloc, listen)?;

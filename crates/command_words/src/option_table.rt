@@ -21,8 +21,6 @@ pub enum OptionForm {
     Required,
     /// A number of messages that a venue holds, by default 4096.
     Window,
-    /// A number from 0 to 4294967295, by default 1000000.
-    Journal,
     /// A number from 0 to 4294967295.
     FromZero,
     /// A number from 1 to 4294967295.
@@ -94,9 +92,6 @@ fn argument_of<'a>(alloc: Global, option: &CommandOption<'a>) -> Arg<'a>
         OptionForm::Window => valued_argument(alloc, option)
             .value_parser(value_parser!(u32).range(1..=i64::from(MAX_WINDOW)))
             .default_value(text!(DEFAULT_WINDOW)),
-        OptionForm::Journal => valued_argument(alloc, option)
-            .value_parser(value_parser!(u32).range(0..=i64::from(u32::MAX)))
-            .default_value(text!(DEFAULT_COUNT)),
         OptionForm::FromZero => valued_argument(alloc, option).value_parser(value_parser!(
             u32
         ).range(0..=i64::from(u32::MAX))),

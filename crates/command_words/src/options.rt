@@ -15,6 +15,21 @@ name has 1 to 10 characters of printable ASCII (bytes 20 to 7e) and is filled on
 right with spaces to ten bytes. Write --sessions=LIST where the list begins with '-'"),
 };
 
+/// `--sessions LIST` of a command that reads captures.
+pub const CAPTURED_SESSIONS: CommandOption<'static> = CommandOption {
+    name: "sessions",
+    value: "LIST",
+    form: OptionForm::Required,
+    help: text!("The first session of each venue, 1 to " MAX_VENUES " names parted by commas"),
+    long_help: text!("\
+The first session of each venue, venue 0's first: 1 to " MAX_VENUES " names parted by commas. A
+name has 1 to 10 characters of printable ASCII (bytes 20 to 7e) and is filled on the
+right with spaces to ten bytes. Write --sessions=LIST where the list begins with '-'.
+With --lines the sessions that follow a venue's first one stand after it, each after a slash,
+as in NORTH/NORTH2,SOUTH: up to " MAX_SESSIONS " of a venue, each once. The next session begins with
+the first packet of its name that comes after the end of the one before"),
+};
+
 /// The long help of `--lines` of a packet capture.
 pub const CAPTURED_LINES_HELP: &str = "\
 Says that the input is a packet capture (pcap or pcapng), and where the lines' datagrams
@@ -47,11 +62,14 @@ between: 1 to " MAX_WINDOW ". A packet that goes further is 'ahead': it is known
 pub const JOURNAL: CommandOption<'static> = CommandOption {
     name: "journal",
     value: "N",
-    form: OptionForm::Journal,
-    help: text!("How many items and declarations of self-help there may be, 0 to " MAX_COUNT),
+    form: OptionForm::FromZero,
+    help: text!(
+        "How many items and declarations of self-help there may be, 0 to " MAX_COUNT " [default: " DEFAULT_COUNT ", with --lines or --best-only " MAX_COUNT "]"
+    ),
     long_help: text!("\
 How many items and declarations of self-help there is room for: 0 to " MAX_COUNT ". A
-run that needs more ends there, with status 1"),
+run that needs more ends there, with status 1. By default " DEFAULT_COUNT "; with --lines or
+--best-only " MAX_COUNT ". The memory that a replay takes doesn't depend on it"),
 };
 
 /// `--join` of a command that reads captures.
@@ -78,7 +96,27 @@ Gives up what is missing where a packet lies past the window, as a record of kin
 the messages up to the first one that has come, and again as long as the packet lies past
 the window. What was given up and comes later changes nothing. A packet is 'ahead' only
 where it has more messages than the window. Sessions that are under way are joined, too, so
-that --join beside it changes nothing",
+that --join beside it changes nothing. Until a gap is given up the venue stands still, with
+the quotations from before it in the national best: for a window of messages, which of a slow
+venue is hours. What it held is then printed at once, at the time of the packet that lies past
+the window. --skip-after gives gaps up by time, --window 100 sooner; --skip-after beside it is
+refused",
+};
+
+/// `--skip-after MS` of a command that reads captures.
+pub const SKIP_AFTER: CommandOption<'static> = CommandOption {
+    name: "skip-after",
+    value: "MS",
+    form: OptionForm::FromOne,
+    help: text!(
+        "With --lines: after how many milliseconds a gap is given up that stands so long, 1 to " MAX_COUNT
+    ),
+    long_help: text!("\
+With --lines: after how many milliseconds by the times of the frames a gap is given up that
+stands so long: 1 to " MAX_COUNT ". That is done before the next frame is taken; the sequence then
+goes on with the first message that has come after the gap. What was given up and comes later
+changes nothing. Sessions that are under way are joined at their first packet, so that --join
+beside it changes nothing. Live the same is 'nbbo listen --join --skip-after MS'"),
 };
 
 /// `--from TIME`.
@@ -89,9 +127,10 @@ pub const FROM_TIME: CommandOption<'static> = CommandOption {
     help: "Prints of what came at this time or later, as 2026-11-28T14:30:00Z",
     long_help: "\
 The rows or statistics are of what came at this time or later, in UTC as
-2026-11-28T14:30:00Z or with up to nine decimals of a second. All of the capture is
-replayed; only with --lines, by the times of the frames. Messages that a packet told of
-before are neither missing nor left out; a best stands from its first change on",
+2026-11-28T14:30:00Z, or with up to nine decimals of a second, or as rows have it, in seconds
+from 1970 on with nine decimals: 1795876200.000000000. All of the capture is replayed; only
+with --lines, by the times of the frames. Messages that a packet told of before are neither
+missing nor left out; a best stands from its first change on",
 };
 
 /// `--to TIME`.
@@ -110,12 +149,12 @@ pub const TIMES: CommandOption<'static> = CommandOption {
     name: "times",
     value: "STYLE",
     form: OptionForm::Text,
-    help: "How rows in csv have times: seconds or utc [default: seconds]",
+    help: "How times are printed: seconds or utc [default: seconds]",
     long_help: "\
-How rows in csv have times: 'seconds', from 1970 on with nine places, as without this
-option; or 'utc', a date and a time of day in UTC with nine places, as RFC 3339 has them:
-2026-05-28T20:26:40.000003000Z. Only where rows are in csv and have times; what is in
-json has integers of nanoseconds anyway",
+How times are printed: 'seconds', from 1970 on, as without this option: in csv with nine
+places, in json also as integers of nanoseconds, in tables as such; or 'utc', a date and a time
+of day in UTC with nine places, as RFC 3339 has them: 2026-05-28T20:26:40.000003000Z. Lines
+of text have no times",
 };
 
 /// `SYMBOL..`, the symbols whose national best is printed.

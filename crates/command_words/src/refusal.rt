@@ -5,6 +5,13 @@ ghost use Rattle.command_words.specs.declared.refusal.Refusal.TheVariants.{NoMem
 
 use std::alloc::AllocError;
 
+/// The text where gaps are to be given up after some time, and the input has no times.
+const NO_TIMES: &str = "nbbo: --skip-after without --lines: only a packet capture has times\n";
+
+/// The text where the sessions that follow others are none.
+const BAD_NEXT_SESSION: &str =
+    "nbbo: bad next session: after a slash a name of 1 to 10 characters, each of a venue once\n";
+
 /// Why there are no settings.
 #[derive(Debug, Drop)]
 pub enum Refusal {
@@ -18,6 +25,8 @@ pub enum Refusal {
     BadSession,
     /// More than 16 sessions are named.
     TooManySessions,
+    /// The sessions that follow others are no names, more than 64 of a venue, or one of a venue twice.
+    BadNextSession,
     /// The lines aren't two addresses for each session.
     BadLines,
     /// The text for the address of requests is no address, or one to which no request can be sent.
@@ -33,6 +42,10 @@ pub enum Refusal {
     GapsWithEvery,
     /// Rows of national bests are asked for, and there are no periods.
     BestsWithoutEvery,
+    /// Gaps are to be given up after some time, and the input has no times.
+    SkipAfterWithoutLines,
+    /// Gaps are to be given up after some time, and at the window, too.
+    SkipGapsWithSkipAfter,
     /// The text for a time is none.
     BadTime,
     /// The end of a span of time is before its beginning.
@@ -43,8 +56,8 @@ pub enum Refusal {
     SpanWithoutLines,
     /// The style of times is none of those that there are.
     BadTimeStyle,
-    /// The style of times is said where no comma-separated values are printed.
-    TimesWithoutCsv,
+    /// The style of times is said where lines of text are printed, which have none.
+    TimesOfText,
     /// The style of times is said, and the input has no times.
     TimesWithoutLines,
     /// The rule by which an end of session ends a line is none of those that there are.
@@ -78,12 +91,13 @@ impl Refusal {
             Refusal::Shown(_) => 0,
             Refusal::NoMemory => 1,
             Refusal::Usage(_) | Refusal::NotText => 2,
-            Refusal::BadSession | Refusal::TooManySessions => 2,
+            Refusal::BadSession | Refusal::TooManySessions | Refusal::BadNextSession => 2,
             Refusal::BadLines | Refusal::BadRequest => 2,
             Refusal::BadFormat | Refusal::BadPeriod | Refusal::EveryWithoutLines => 2,
             Refusal::BestsWithoutEvery | Refusal::BadTime | Refusal::ToBeforeFrom => 2,
             Refusal::SpanOfLines | Refusal::SpanWithoutLines => 2,
-            Refusal::BadTimeStyle | Refusal::TimesWithoutCsv | Refusal::TimesWithoutLines => 2,
+            Refusal::SkipAfterWithoutLines | Refusal::SkipGapsWithSkipAfter => 2,
+            Refusal::BadTimeStyle | Refusal::TimesOfText | Refusal::TimesWithoutLines => 2,
             Refusal::GapsWithEvery | Refusal::BadEnd | Refusal::KeptUnfollowed => 2,
             Refusal::FormatUnfollowed | Refusal::BadSender | Refusal::BadMetrics => 2,
             Refusal::BadSymbol | Refusal::TooManySymbols | Refusal::DuplicateSymbol => 2,
@@ -100,6 +114,7 @@ impl Refusal {
             Refusal::NotText => "nbbo: the command line is not UTF-8\n",
             Refusal::BadSession => "nbbo: bad session\n",
             Refusal::TooManySessions => "nbbo: too many sessions\n",
+            Refusal::BadNextSession => BAD_NEXT_SESSION,
             Refusal::BadLines => "nbbo: bad lines\n",
             Refusal::BadRequest => "nbbo: bad request address\n",
             Refusal::BadFormat => "nbbo: bad format\n",
@@ -107,12 +122,14 @@ impl Refusal {
             Refusal::EveryWithoutLines => "nbbo: --every without --lines\n",
             Refusal::GapsWithEvery => "nbbo: --gaps with --every\n",
             Refusal::BestsWithoutEvery => "nbbo: --bests without --every\n",
+            Refusal::SkipAfterWithoutLines => NO_TIMES,
+            Refusal::SkipGapsWithSkipAfter => "nbbo: --skip-gaps with --skip-after\n",
             Refusal::BadTime => "nbbo: bad time\n",
             Refusal::ToBeforeFrom => "nbbo: --to before --from\n",
             Refusal::SpanOfLines => "nbbo: --from or --to without --best-only\n",
             Refusal::SpanWithoutLines => "nbbo: --from or --to without --lines\n",
             Refusal::BadTimeStyle => "nbbo: bad time style\n",
-            Refusal::TimesWithoutCsv => "nbbo: --times without rows in csv\n",
+            Refusal::TimesOfText => "nbbo: --times of lines of text, which have none\n",
             Refusal::TimesWithoutLines => "nbbo: --times without --lines\n",
             Refusal::BadEnd => "nbbo: bad end\n",
             Refusal::KeptUnfollowed => "nbbo: --kept without --follow\n",

@@ -8,7 +8,8 @@ use crate::command_texts::{CommandTexts, command_with};
 use crate::limits::text;
 use crate::option_table::{CommandOption, OptionForm};
 use crate::options::{
-    CAPTURED_LINES, FROM_TIME, JOIN, JOURNAL, SESSIONS, SKIP_GAPS, SYMBOLS, TIMES, TO_TIME, WINDOW,
+    CAPTURED_LINES, CAPTURED_SESSIONS, FROM_TIME, JOIN, JOURNAL, SKIP_AFTER, SKIP_GAPS, SYMBOLS,
+    TIMES, TO_TIME, WINDOW,
 };
 use clap::Command;
 use std::alloc::{AllocError, Global};
@@ -61,22 +62,36 @@ Printed lines, V a venue from 0, L a line (A, B or R for recovery):
   renew V refused N              it can't begin: see below
   skip V NUMBER                  the messages below NUMBER that were missing are given up, by a
                                  record of kind K, or by --join or --skip-gaps, which then do so
-                                 before the packet that goes beyond the window
+                                 before the packet that goes beyond the window, or by --skip-after
+                                 before the frame that comes when the gap has stood so long
   skip V refused N               they aren't: see below
   declare V on POSITION          self-help stands on the venue; 'off' where it was withdrawn. In
                                  place of the journal's position 'already' where it was so
   venue V sent SENT wins A B R   after the last record, for each venue: how many items were sent,
                                  and how many messages each line brought first
 
-With --lines standard error says at the end what a line may have lost, with a count: fragments of
-datagrams, frames that were cut when they were captured, malformed packets, frames that can't be
-read (of a link type or with an IPv6 extension header that this program doesn't know), frames out
-of time order, and whether no datagram goes to a line.
+With --lines standard error says at the end, where the count isn't 0:
+  frames in all, datagrams to lines, datagrams to other addresses passed over
+                                 where not each frame has a datagram to a line
+  frames without IP, IP packets without UDP
+  fragments, cut frames, malformed packets
+                                 what a line may have lost: parts of datagrams, frames that were
+                                 cut when they were captured, packets with wrong lengths
+  frames that can't be read      of a link type, or with an IPv6 extension header, that this
+                                 program doesn't know
+  frames out of time order       earlier than one before them. Figures and rows that go by time
+                                 need frames in order, which mergecap or reordercap makes
+  frames that the capture says were dropped before packets, by its interfaces, by its system
+and 'no datagram goes to a line', 'venue V line L had no datagram', 'venue V refused N datagrams of
+session NAME, which isn't named', 'a second capture seems to begin at byte N', as after 'cat' of
+two files.
 
 At the end of a whole capture standard error says what each venue still lacks: the first messages
-that never came, though later ones did, as far as the window goes:
+that never came, though later ones did, as far as the window goes; and which symbols never came:
   nbbo: venue V lacks COUNT messages from NUMBER
-It does where it is a terminal, and where --lines, --best-only, --join or --skip-gaps is given.
+  nbbo: symbol S never came
+It does where it is a terminal, and where --lines, --best-only, --join, --skip-gaps or --skip-after
+is given.
 
 Examples:
   $ nbbo replay --sessions NORTH,SOUTH ACME < capture
@@ -125,7 +140,7 @@ Status:
                        N, K, H or W, a record N hasn't ten bytes, a record K hasn't eight, or a
                        record H or W has any
        short record    the capture ends within a record; with --lines, within a header, a packet
-                       or a block, or before the first
+                       or a block, or before the first: 'at byte N', and all before is good
        bad capture at byte N
                        with --lines: from that byte on it is no packet capture; how so follows
        read failed     standard input can't be read
@@ -140,7 +155,9 @@ Status:
      'bad lines': --lines isn't two addresses for each session, or names one twice; 'bad time': the
      text of --from or --to is none; '--to before --from'; '--from or --to without --best-only';
      '--from or --to without --lines'; 'bad time style': --times is neither seconds nor utc;
-     '--times without rows in csv'; '--times without --lines'");
+     '--times of lines of text', which have none; '--times without --lines'; '--skip-after without
+     --lines'; '--skip-gaps with --skip-after'; 'bad next session': with --lines a name after a
+     slash is none, or is that of another session of the venue");
 
 /// The texts of `replay`.
 const TEXTS: CommandTexts<'static> = CommandTexts {
@@ -168,7 +185,8 @@ const BEST_ONLY: CommandOption<'static> = CommandOption {
     form: OptionForm::Flag,
     help: "Prints the best lines alone",
     long_help: "\
-Prints the best lines alone: the changes of the national best bid and offer",
+Prints the best lines alone: the changes of the national best bid and offer of the symbols
+that are named. Without a symbol there are none, and standard error says so",
 };
 
 /// `--format FORMAT`.
@@ -182,19 +200,20 @@ The format of the best lines with --best-only: 'text', as without this option; '
 line with the columns' names and then a row each; or 'json', an object on a line each.
 Lines end in a line feed alone. A side that there isn't is three empty values in csv and
 null in json. Prices have four places. With --lines each row and object ends with the time
-of the datagram that caused it, in seconds from 1970 on with nine places, and an object
-also with 'time_ns', an integer of nanoseconds; empty or null where the packet capture
-has none. Without --best-only no format can be given",
+of the datagram that caused it, as --times says, and an object also with 'time_ns', an
+integer of nanoseconds; empty or null where the packet capture has none. Without
+--best-only no format can be given",
 };
 
 /// The options of `replay`, in the order in which its help has them.
 const OPTIONS: &[CommandOption<'static>] = &[
-    SESSIONS,
+    CAPTURED_SESSIONS,
     CAPTURED_LINES,
     WINDOW,
     JOURNAL,
     JOIN,
     SKIP_GAPS,
+    SKIP_AFTER,
     GAPS,
     BEST_ONLY,
     FROM_TIME,

@@ -8,7 +8,8 @@ use crate::command_texts::{CommandTexts, command_with};
 use crate::limits::text;
 use crate::option_table::{CommandOption, OptionForm};
 use crate::options::{
-    CAPTURED_LINES, FROM_TIME, JOIN, SESSIONS, SKIP_GAPS, TIMES, TO_TIME, WINDOW,
+    CAPTURED_LINES, CAPTURED_SESSIONS, FROM_TIME, JOIN, SKIP_AFTER, SKIP_GAPS, TIMES, TO_TIME,
+    WINDOW,
 };
 use clap::Command;
 use std::alloc::{AllocError, Global};
@@ -34,67 +35,74 @@ Examples:
 
 /// The part of the long help after the options.
 const END: &str = "\
-Printed for each venue, from 0:
+Printed for each venue, from 0; rows of zeros alone are left out:
+  first a row for each line  its packets; the messages that it lost, as it never brought them, and
+                             those that it brought late; those that it brought first, of all lines;
+                             how long before the other line, half of these at most; and its longest
+                             gap. Durations are in nanoseconds, by the times of the frames
   packets                    a line's datagrams; the bytes of those that are packets; and by the
-                             answer to each: 'with messages taken', new or again; 'past the
-                             window', of which nothing was taken; and those refused, by the fault,
-                             in rows that stand there only if there are any
-  messages                   those that the line brought first, and those that had come before
+                             answer to each: 'with messages taken', which the line brought first or
+                             again; 'past the window', of which nothing was taken; and those refused,
+                             by the fault
+  gaps                       of line A, of line B, and of all lines together: how many there were;
+                             the messages left out in them; how many of these came late on the line,
+                             and how many were given up; the messages that came again; the longest;
+                             how many ended by line A, by B, by recovery, by a skip, or had ended
+                             before; how many were open at the end; and how many were merged into
+                             another one, as a line has 16 open gaps at most. Each is a sum over the
+                             rows of --gaps
+  messages                   the highest number known; how many are missing still; lost by both
+                             lines; given up by records of kind K, --skip-gaps or --skip-after; and
+                             of these before a session was joined
   items in sequence          of all lines together, by kind, with an end for each session that was
                              taken to its end, and the number of the last item
-  gaps                       how often messages were missing while later ones were there; the
-                             most messages that one gap lacked; and how many are missing still, of
-                             the first gap, and from which number
-  next sessions begun        by records of kind N, and how many of these were refused
-  messages given up          by records of kind K; how many of these there were, and how many more
+  sessions and skips         next sessions begun, by records of kind N or by --sessions, and how many
+                             of these were refused; how often gaps were given up, by records of kind
+                             K, --join, --skip-gaps or --skip-after, and how many records of kind K
                              were refused
   self-help                  declared, withdrawn, and either where it was so already
   changes of national bests  after which the best bid, or the best offer, is the venue's; also
                              those that have changed the other side alone
 and then the changes of national bests, by the state after.
 
-After these, by the numbers of the messages, of each venue: how many are known of, in each session
-from the lowest number that came to the highest that a packet told of; how many of them each line
-lost, as it never brought them; and how many it doubled. A message that comes more than --window
-late counts as lost and as doubled.
+A number far ahead, as of a packet past the window, counts as known once a second packet goes on from
+it. What a line lost is left out and never late.
 
-With --lines there follows, by the times of the frames, in nanoseconds: the most messages of a
-second and of a millisecond, on all lines; of each venue, of the messages that both lines brought,
-how long the second line took where the other one was first in time: half of them within, 99 of a
-hundred within (a sixteenth more at most), and the longest; the mean, and 90 of a hundred and 999 of
-a thousand within; how long messages were missing: the spells that are over, how many each line
-ended, all together, the longest and when it began, and whether one is open; and when each line was
-last heard. A frame without a time has no part in this.
+With --lines there follows, by the times of the frames, of each venue, of the messages that both lines
+brought, how long the second line took where the other one was first in time: the mean; half of them
+within, 90 and 99 of a hundred within, 999 of a thousand within (a sixteenth more at most), and the
+longest; and when each line was last heard. A frame without a time has no part in this.
 
 With --every there are rows in place of all these: of each period in which a frame to any line came,
 for each venue a row of line A and one of line B, with the time at which the period began, a whole
 multiple of its length from 1970 on (UTC); the line's datagrams; the bytes of those that are
 packets; the messages in these that were taken, or had come before; those that the line brought
 first; and how many messages the numbers of its packets passed over. A period without a frame has no
-row. A frame without a time counts with those before it; and where times go back, as in captures
-that were joined, a period can come again. The rows of the last period are printed at the end of a
-whole capture alone.
+row, and none comes twice: the last 16 periods are kept, a late frame counts in its own, and in the
+oldest of them where it is later still. A frame without a time counts with those before it. The rows
+of the last periods are printed at the end of a whole capture alone.
 
 With --every and --bests a row has the time at which the period began, the symbol and the venue; in
 which share of the period's time the best bid was the venue's, and in which the best offer; in which
 share the symbol's bid was below its offer ('normal'), in which both were equal ('locked'), and in
 which the bid was above ('crossed'); and the mean spread in dollars over the time in which it was
-normal, empty or null where there was none. The best that stands when a period begins stands in it
-from then on; the last period's time ends with the capture's last frame, its share is of a whole
-period all the same.
-
-In JSON a venue's 'lines' have 'A', 'B' and 'recovery', 'missing' is null where nothing is,
-'best_bids' and 'best_offers' are those changes, 'losses' has what lines lost, and 'in_time' is
-there with --lines, where times that there aren't are null. The words and numbers of refusals are
-those of 'nbbo replay --help'.
+normal, empty or null where there was none. Rows of zeros are left out. The best that stands when a
+period begins stands in it from then on. The time is the latest of the frames so far: a late frame
+changes a best at that time. The last period's time ends with the capture's last frame, its share is
+of a whole period all the same.
 
 With --gaps a row has the venue; the line, A, B or 'all' for what all lines together left out; the
-first and the last number; how many messages between were left out; when the gap began and when it
-ended, in seconds from 1970 on with nine places, in JSON also in nanoseconds, empty or null where
-the frame has no time or there are no frames; and what ended it: the line A, B or 'recovery' after
-whose packet the venue's sequence went past it, 'skip' where it was given up, 'before' where the
-sequence was past it when it was shown, as where the other line was first, or 'open' where nothing
-did, to the end of its session or of the capture.
+first and the last number; how many messages were left out, and how many of these were given up;
+when the gap began and when it ended, as --times says, in JSON also in nanoseconds, empty or null
+where the frame has no time or there are no frames; and what ended it: the line A, B or 'recovery'
+whose packet brought the last of its messages, 'skip' where some were given up, 'before' where
+another line had brought them when it was shown, or 'open' where nothing did, to the end of its
+session or of the capture.
+
+In JSON each venue has the same figures by name: 'lines' and 'gaps' by line, 'messages', 'items',
+'sessions', 'self_help', 'bests', and with --lines 'leads' and 'last_packets'; null stands where
+nothing is known. With --format csv each figure has a row: the venue, the line, the figure and its
+value. The words and numbers of refusals are those of 'nbbo replay --help'.
 
 Examples:
   nbbo stats --sessions NORTH,SOUTH ACME < capture
@@ -108,7 +116,8 @@ Examples:
 Status:
   0  the capture was replayed to its end and the counts were printed, or help was shown
   1  the input or the run was refused; standard error says why, as of 'nbbo replay', and the counts
-     of the records before were printed, unless it is 'write failed' or 'no memory'
+     of the records before were printed, unless there were none or it is 'write failed' or 'no
+     memory'
   2  the command line was refused: 'bad format' where the format is none of those; 'bad period'
      where that of --every is none; '--every without --lines'; '--gaps with --every'; '--bests
      without --every'; else as of 'nbbo replay'
@@ -134,9 +143,8 @@ const GAPS: CommandOption<'static> = CommandOption {
     long_help: "\
 Prints in place of the counts a row for each gap in the numbers of the messages, as it ends,
 and at the end of the capture those of the gaps that are open. A gap of line A, of line B,
-or of all lines together begins with a packet of it whose number is past the next one; what
-further packets leave out while it is open goes with it. It ends once the venue's sequence
-is past its last message",
+or of all lines together is a run of numbers that a packet of it passes over. It ends when
+these have come on any line or were given up",
 };
 
 /// `--every PERIOD`.
@@ -161,7 +169,8 @@ const BESTS: CommandOption<'static> = CommandOption {
 Prints in place of the rows of --every a row for each venue of each symbol in each period:
 in which share of the period's time the best bid was the venue's, and the best offer, the
 first of those that were tied; in which share the symbol's bid was below its offer, in
-which it was locked, and in which crossed; and the mean spread meanwhile",
+which it was locked, and in which crossed; and the mean spread meanwhile. Rows of zeros are
+left out",
 };
 
 /// `--format FORMAT`.
@@ -169,11 +178,12 @@ const FORMAT: CommandOption<'static> = CommandOption {
     name: "format",
     value: "FORMAT",
     form: OptionForm::Text,
-    help: "The format of the counts: table or json; of rows: csv or json",
+    help: "The format of the counts: table, csv or json; of rows: csv or json",
     long_help: "\
-The format of the counts: 'table', as without this option, or 'json', an object on a line
-of its own. With --gaps or --every that of the rows: 'csv', as without this option, a line with the
-columns' names and then a row each; or 'json', an object on a line each",
+The format of the counts: 'table', as without this option; 'csv', a line with the columns'
+names and then a row for each figure; or 'json', an object on a line of its own. With --gaps
+or --every that of the rows: 'csv', as without this option, a line with the columns' names and
+then a row each; or 'json', an object on a line each",
 };
 
 /// `SYMBOL..`, the symbols of whose national best the changes are counted.
@@ -190,11 +200,12 @@ words, each once, of 1 to 8 characters of printable ASCII without a space (bytes
 
 /// The options of `stats`, in the order in which its help has them.
 const OPTIONS: &[CommandOption<'static>] = &[
-    SESSIONS,
+    CAPTURED_SESSIONS,
     CAPTURED_LINES,
     WINDOW,
     JOIN,
     SKIP_GAPS,
+    SKIP_AFTER,
     GAPS,
     EVERY,
     BESTS,

@@ -1,11 +1,10 @@
 //! What `nbbo stats` prints: counts, or the rows of gaps or of periods.
 ghost use Rattle.std.specs.Prelude.{◌≡◌, Some, false, option_map};
-ghost use Rattle.command_words.specs.StatsOutputs.{ReadsCounted, bests_by, row_format_by, row_format_named};
+ghost use Rattle.command_words.specs.StatsOutputs.{ReadsCounted, bests_by, report_format_by, report_format_named, row_format_by, row_format_named};
 
 use crate::period_words::read_period;
 use crate::refusal::Refusal;
-use crate::stats_format::read_stats_format;
-use run_settings::{PeriodStyle, RowFormat, RunOutput, TimeStyle};
+use run_settings::{PeriodStyle, ReportFormat, RowFormat, RunOutput, TimeStyle};
 
 /// Returns the form of rows of this name.
 fn row_format_named(name: &str) -> Option<RowFormat>
@@ -14,7 +13,7 @@ fn row_format_named(name: &str) -> Option<RowFormat>
     if name == "csv" {
         Some(RowFormat::Csv(TimeStyle::Seconds))
     } else if name == "json" {
-        Some(RowFormat::Json)
+        Some(RowFormat::Json(TimeStyle::Seconds))
     } else {
         None
     }
@@ -27,6 +26,31 @@ fn read_row_format(name: Option<&str>) -> Result<RowFormat, Refusal>
     match name {
         None => Ok(RowFormat::Csv(TimeStyle::Seconds)),
         Some(name) => row_format_named(name).ok_or(Refusal::BadFormat),
+    }
+}
+
+/// Returns the form of counts of this name.
+fn report_format_named(name: &str) -> Option<ReportFormat>
+    ensures { result ≡ report_format_named name.now }
+{
+    if name == "table" {
+        Some(ReportFormat::Table(TimeStyle::Seconds))
+    } else if name == "csv" {
+        Some(ReportFormat::Csv(TimeStyle::Seconds))
+    } else if name == "json" {
+        Some(ReportFormat::Json(TimeStyle::Seconds))
+    } else {
+        None
+    }
+}
+
+/// Returns the form of counts by its name, tables where none is named.
+fn read_report_format(name: Option<&str>) -> Result<ReportFormat, Refusal>
+    ensures { result ≡ report_format_by (option_map (λ name. name.now) name.entry) }
+{
+    match name {
+        None => Ok(ReportFormat::Table(TimeStyle::Seconds)),
+        Some(name) => report_format_named(name).ok_or(Refusal::BadFormat),
     }
 }
 
@@ -66,7 +90,7 @@ pub fn read_counted(
         Some(_) if gaps => Err(Refusal::GapsWithEvery),
         Some(every) => read_periods(every, format, lines),
         None if gaps => Ok(RunOutput::Gaps(read_row_format(format)?)),
-        None => Ok(RunOutput::Stats(read_stats_format(format)?)),
+        None => Ok(RunOutput::Stats(read_report_format(format)?)),
     }
 }
 

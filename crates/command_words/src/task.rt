@@ -1,6 +1,6 @@
 //! The tasks of the program.
 
-use run_settings::{CapturedLine, ListenSettings, RunSettings, StatsFormat};
+use run_settings::{CapturedLine, ListenSettings, RunSettings, StatsFormat, TimeStyle};
 
 /// The task of the program.
 #[derive(Debug, Drop)]
@@ -9,8 +9,8 @@ pub enum Task {
     Run(RunSettings),
     /// `nbbo convert`, with the lines whose datagrams are converted.
     Convert(Vec<CapturedLine>),
-    /// `nbbo lines`, with the form of its rows.
-    Discover(StatsFormat),
+    /// `nbbo lines`, with the form of its rows and the style of their times.
+    Discover(StatsFormat, TimeStyle),
     /// `nbbo listen`.
     Listen(ListenSettings),
 }

@@ -1,9 +1,9 @@
-//! The style in which rows have times.
+//! The style in which what is printed has times.
 ghost use Rattle.std.specs.Prelude.{◌≡◌, option_map};
-ghost use Rattle.command_words.specs.TimeStyles.{best_format_in, output_in, row_format_in, styled_in, time_style_named};
+ghost use Rattle.command_words.specs.TimeStyles.{best_format_in, output_in, report_format_in, row_format_in, styled_in, styled_periods, time_style_in, time_style_named};
 
 use crate::refusal::Refusal;
-use run_settings::{BestFormat, PeriodStyle, RowFormat, RunOutput, TimeStyle};
+use run_settings::{BestFormat, PeriodStyle, ReportFormat, RowFormat, RunOutput, TimeStyle};
 
 /// Returns the style of this name.
 pub fn time_style_named(name: &str) -> Option<TimeStyle>
@@ -18,47 +18,63 @@ pub fn time_style_named(name: &str) -> Option<TimeStyle>
     }
 }
 
-/// Returns the format with times in this style, if it is one of comma-separated values.
+/// Returns the format with times in this style, which lines of text haven't.
 pub fn best_format_in(style: TimeStyle, format: BestFormat) -> Option<BestFormat>
     ensures { result ≡ best_format_in style format }
 {
     match format {
         BestFormat::Csv(_) => Some(BestFormat::Csv(style)),
-        BestFormat::Text | BestFormat::Json => None,
+        BestFormat::Json(_) => Some(BestFormat::Json(style)),
+        BestFormat::Text => None,
     }
 }
 
-/// Returns the format of rows with times in this style, if it is one of comma-separated values.
-fn row_format_in(style: TimeStyle, format: RowFormat) -> Option<RowFormat>
+/// Returns the format of rows with times in this style.
+fn row_format_in(style: TimeStyle, format: RowFormat) -> RowFormat
     ensures { result ≡ row_format_in style format }
 {
     match format {
-        RowFormat::Csv(_) => Some(RowFormat::Csv(style)),
-        RowFormat::Json => None,
+        RowFormat::Csv(_) => RowFormat::Csv(style),
+        RowFormat::Json(_) => RowFormat::Json(style),
     }
 }
 
-/// Returns the output with the times of its rows in this style, if these are comma-separated
-/// values.
+/// Returns the format of counts with times in this style.
+fn report_format_in(style: TimeStyle, format: ReportFormat) -> ReportFormat
+    ensures { result ≡ report_format_in style format }
+{
+    match format {
+        ReportFormat::Table(_) => ReportFormat::Table(style),
+        ReportFormat::Csv(_) => ReportFormat::Csv(style),
+        ReportFormat::Json(_) => ReportFormat::Json(style),
+    }
+}
+
+/// Returns the style of periods with times in this style.
+fn styled_periods(style: TimeStyle, periods: PeriodStyle) -> PeriodStyle
+    ensures { result ≡ styled_periods style periods }
+{
+    PeriodStyle {
+        format: row_format_in(style, periods.format),
+        length: periods.length,
+    }
+}
+
+/// Returns the output with its times in this style, which lines of text haven't.
 fn output_in(style: TimeStyle, output: RunOutput) -> Option<RunOutput>
     ensures { result ≡ output_in style output }
 {
     match output {
-        RunOutput::Lines | RunOutput::Stats(_) => None,
+        RunOutput::Lines => None,
         RunOutput::Bests(format) => Some(RunOutput::Bests(best_format_in(style, format)?)),
-        RunOutput::Gaps(format) => Some(RunOutput::Gaps(row_format_in(style, format)?)),
-        RunOutput::Periods(periods) => Some(RunOutput::Periods(PeriodStyle {
-            format: row_format_in(style, periods.format)?,
-            length: periods.length,
-        })),
-        RunOutput::BestTimes(periods) => Some(RunOutput::BestTimes(PeriodStyle {
-            format: row_format_in(style, periods.format)?,
-            length: periods.length,
-        })),
+        RunOutput::Stats(format) => Some(RunOutput::Stats(report_format_in(style, format))),
+        RunOutput::Gaps(format) => Some(RunOutput::Gaps(row_format_in(style, format))),
+        RunOutput::Periods(periods) => Some(RunOutput::Periods(styled_periods(style, periods))),
+        RunOutput::BestTimes(periods) => Some(RunOutput::BestTimes(styled_periods(style, periods))),
     }
 }
 
-/// Returns the output with the times of its rows in the style that is named, if one is, by the
+/// Returns the output with its times in the style that is named, if one is, by the
 /// texts of `--times` and `--lines`.
 pub fn read_style(
     plain: RunOutput,
@@ -75,10 +91,20 @@ pub fn read_style(
         return Err(Refusal::BadTimeStyle);
     };
     let Some(output) = output_in(style, plain) else {
-        return Err(Refusal::TimesWithoutCsv);
+        return Err(Refusal::TimesOfText);
     };
     match lines {
         Some(_) => Ok(output),
         None => Err(Refusal::TimesWithoutLines),
+    }
+}
+
+/// Returns the style of this name, numbers where none is named.
+pub fn read_time_style(name: Option<&str>) -> Result<TimeStyle, Refusal>
+    ensures { result ≡ time_style_in (option_map (λ name. name.now) name.entry) }
+{
+    match name {
+        None => Ok(TimeStyle::Seconds),
+        Some(name) => time_style_named(name).ok_or(Refusal::BadTimeStyle),
     }
 }

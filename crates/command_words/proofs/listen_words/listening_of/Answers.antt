@@ -1,4 +1,4 @@
-use Rattle.std.proofs.Common.{rules, inl, inr, refl, subst, List, Ok, ℕ}
+use Rattle.std.proofs.Common.{rules, false, inl, inr, refl, subst, List, Ok, ℕ}
 use Rattle.std.proofs.lemmas.Result.{err_from_is_err_and}
 use Rattle.command_words.specs.Sessions.{ReadsSessions}
 use Rattle.command_words.proofs.listen_words.listening_of.Goals as goal
@@ -9,7 +9,7 @@ returns-in_err-symbols c =
     let p = err_from_is_err_and residual.result residual.ensures.1 in
     rw (p.1, p.2) (inr (
       c.in_ok-sessions.sessions.items,
-      subst (λ (t : List ℕ). ReadsSessions t (Ok c.in_ok-sessions.sessions.items))
+      subst (λ (t : List ℕ). ReadsSessions false t (Ok c.in_ok-sessions.sessions.items))
           c.text_of.ensures c.in_ok-sessions.ensures.reads,
       inr (
         c.in_ok-lines.lines.items,
@@ -28,7 +28,7 @@ returns-in_err-end c =
     let p = err_from_is_err_and residual.result residual.ensures.1 in
     rw (p.1, p.2) (inr (
       c.in_ok-sessions.sessions.items,
-      subst (λ (t : List ℕ). ReadsSessions t (Ok c.in_ok-sessions.sessions.items))
+      subst (λ (t : List ℕ). ReadsSessions false t (Ok c.in_ok-sessions.sessions.items))
           c.text_of.ensures c.in_ok-sessions.ensures.reads,
       inr (
         c.in_ok-lines.lines.items,
@@ -47,7 +47,7 @@ returns-in_err-kept c =
     let p = err_from_is_err_and residual.result residual.ensures.1 in
     rw (p.1, p.2) (inr (
       c.in_ok-sessions.sessions.items,
-      subst (λ (t : List ℕ). ReadsSessions t (Ok c.in_ok-sessions.sessions.items))
+      subst (λ (t : List ℕ). ReadsSessions false t (Ok c.in_ok-sessions.sessions.items))
           c.text_of.ensures c.in_ok-sessions.ensures.reads,
       inr (
         c.in_ok-lines.lines.items,
@@ -70,7 +70,7 @@ returns-in_err-from c =
     let p = err_from_is_err_and residual.result residual.ensures.1 in
     rw (p.1, p.2) (inr (
       c.in_ok-sessions.sessions.items,
-      subst (λ (t : List ℕ). ReadsSessions t (Ok c.in_ok-sessions.sessions.items))
+      subst (λ (t : List ℕ). ReadsSessions false t (Ok c.in_ok-sessions.sessions.items))
           c.text_of.ensures c.in_ok-sessions.ensures.reads,
       inr (
         c.in_ok-lines.lines.items,
@@ -101,7 +101,7 @@ returns-in_err-metrics c =
     let p = err_from_is_err_and residual.result residual.ensures.1 in
     rw (p.1, p.2) (inr (
       c.in_ok-sessions.sessions.items,
-      subst (λ (t : List ℕ). ReadsSessions t (Ok c.in_ok-sessions.sessions.items))
+      subst (λ (t : List ℕ). ReadsSessions false t (Ok c.in_ok-sessions.sessions.items))
           c.text_of.ensures c.in_ok-sessions.ensures.reads,
       inr (
         c.in_ok-lines.lines.items,
@@ -132,7 +132,7 @@ returns-in_err-stats c =
     let p = err_from_is_err_and residual.result residual.ensures.1 in
     rw (p.1, p.2) (inr (
       c.in_ok-sessions.sessions.items,
-      subst (λ (t : List ℕ). ReadsSessions t (Ok c.in_ok-sessions.sessions.items))
+      subst (λ (t : List ℕ). ReadsSessions false t (Ok c.in_ok-sessions.sessions.items))
           c.text_of.ensures c.in_ok-sessions.ensures.reads,
       inr (
         c.in_ok-lines.lines.items,
@@ -167,7 +167,7 @@ returns-in_err-format c =
     let p = err_from_is_err_and residual.result residual.ensures.1 in
     rw (p.1, p.2) (inr (
       c.in_ok-sessions.sessions.items,
-      subst (λ (t : List ℕ). ReadsSessions t (Ok c.in_ok-sessions.sessions.items))
+      subst (λ (t : List ℕ). ReadsSessions false t (Ok c.in_ok-sessions.sessions.items))
           c.text_of.ensures c.in_ok-sessions.ensures.reads,
       inr (
         c.in_ok-lines.lines.items,
@@ -207,7 +207,7 @@ returns-in_err-format c =
 pub returns : goal.returns
 returns c = (
   c.in_ok-sessions.sessions.items,
-  subst (λ (t : List ℕ). ReadsSessions t (Ok c.in_ok-sessions.sessions.items))
+  subst (λ (t : List ℕ). ReadsSessions false t (Ok c.in_ok-sessions.sessions.items))
       c.text_of.ensures c.in_ok-sessions.ensures.reads,
   (
     c.in_ok-lines.lines.items,

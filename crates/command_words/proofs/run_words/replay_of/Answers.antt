@@ -6,7 +6,7 @@ use Rattle.clap.specs.Walk.{one_of, rows_of}
 use Rattle.command_words.specs.FeedRequests.{ReadsFeed}
 use Rattle.command_words.specs.OptionValues.{is_flag_set, number_given}
 use Rattle.command_words.specs.Readings.{Then}
-use Rattle.command_words.specs.RunRequests.{ReadsReplayOutput, ReadsRunOf}
+use Rattle.command_words.specs.RunRequests.{ReadsReplayOutput, ReadsRunOf, replay_journal}
 use Rattle.command_words.proofs.Subcommands.{onward}
 use Rattle.command_words.proofs.run_words.replay_of.Goals as goal
 
@@ -20,7 +20,8 @@ pub returns : goal.returns
 returns c =
     let rows = rows_of (found_of c.args.replay.now) in
     let gaps = is_flag_set (one_of (codes "gaps") rows) in
-    onward (ReadsFeed rows (unwrap_or (number_given (one_of (codes "journal") rows)) 1000000))
+    let journal = unwrap_or (number_given (one_of (codes "journal") rows)) (replay_journal rows) in
+    onward (ReadsFeed rows journal)
     (λ feed. Then (ReadsReplayOutput rows) (λ plain. ReadsRunOf rows feed gaps plain))
     c.in_ok-feed.feed c.run_of.result (search rules)
     (onward (ReadsReplayOutput rows) (λ plain. ReadsRunOf rows c.in_ok-feed.feed gaps plain)

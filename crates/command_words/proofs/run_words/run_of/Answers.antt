@@ -11,3 +11,35 @@ returns-in_err-span c =
       c.in_ok-output.ensures,
       inr (c.in_ok-input.input, search rules, inl (search rules)),
     ))
+
+pub returns-in_err-skips : goal.returns-in_err-skips
+returns-in_err-skips c =
+    let residual = c.from_residual-in_err-skips in
+    let p = err_from_is_err_and residual.result residual.ensures.1 in
+    rw (p.1, p.2) (inr (
+      c.in_ok-output.output,
+      c.in_ok-output.ensures,
+      inr (
+        c.in_ok-input.input,
+        search rules,
+        inr (c.in_ok-span.span, c.in_ok-span.ensures, inl (search rules)),
+      ),
+    ))
+
+pub returns-in_err-next_sessions : goal.returns-in_err-next_sessions
+returns-in_err-next_sessions c =
+    let residual = c.from_residual-in_err-next_sessions in
+    let p = err_from_is_err_and residual.result residual.ensures.1 in
+    rw (p.1, p.2) (inr (
+      c.in_ok-output.output,
+      c.in_ok-output.ensures,
+      inr (
+        c.in_ok-input.input,
+        search rules,
+        inr (
+          c.in_ok-span.span,
+          c.in_ok-span.ensures,
+          inr (c.in_ok-skips.skips, c.in_ok-skips.ensures, inl (search rules)),
+        ),
+      ),
+    ))

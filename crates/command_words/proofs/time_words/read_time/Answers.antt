@@ -1,13 +1,10 @@
-use Rattle.std.proofs.Common.{sym, ap}
-use Rattle.std.specs.Prelude.{is_ok}
-use Rattle.command_words.proofs.TimeReading.{not_spelled, spelled}
+use Rattle.std.proofs.Common.{inl}
+use Rattle.command_words.proofs.TimeReading.{in_seconds}
 use Rattle.command_words.proofs.time_words.read_time.Goals as goal
 
-pub returns-in-Err : goal.returns-in-Err
-returns-in-Err c =
-    not_spelled c.args.text.now (ap is_ok (sym c.in-Err.ensures.value))
+pub returns-in-Some : goal.returns-in-Some
+returns-in-Some c = inl c.in-Some.ensures
 
-pub returns-in-Ok : goal.returns-in-Ok
-returns-in-Ok c =
-    spelled c.args.text.now c.in-Ok.time.nanosecond c.nanoseconds_of.result
-    (sym c.in-Ok.ensures.value) c.nanoseconds_of.ensures
+pub returns-in-None : goal.returns-in-None
+returns-in-None c =
+    in_seconds c.args.text.now c.read_seconds.result c.in-None.ensures c.read_seconds.ensures
