@@ -2,6 +2,9 @@
 use Rattle.std.specs.Prelude.{ℕ, ◌+◌, ◌-◌, ◌==◌, ◌||◌, List, [], ◌∷◌, ◌++◌, codes, decimal, flat_map, length, take, Option, None, Some, option_map, if◌then◌else◌}
 use Rattle.run_settings.specs.declared.formats.StatsFormat.{StatsFormat}
 use Rattle.run_settings.specs.declared.formats.StatsFormat.TheVariants.{Table, Json}
+use Rattle.run_settings.specs.declared.formats.TimeStyle.{TimeStyle}
+use Rattle.run_settings.specs.declared.formats.TimeStyle.TheVariants.{Seconds, Utc}
+use Rattle.best_rows.specs.UtcTexts.{utc_text}
 use Rattle.line_captures.specs.declared.frame_counts.FrameCounts.{FrameCounts}
 use Rattle.line_discovery.specs.declared.counts.SurveyCounts.{SurveyCounts}
 use Rattle.line_discovery.specs.declared.line_key.LineKey.{LineKey}
@@ -14,9 +17,9 @@ use Rattle.line_discovery.specs.Tables.{packets_at, rows_of, unlisted_of, up_to_
 
 -- ---- parts
 
--- so many spaces, of 24 at most
+-- so many spaces, of 32 at most
 abbrev pub spaces : ℕ → List ℕ
-spaces n = take n (codes "                        ")
+spaces n = take n (codes "                                ")
 
 abbrev pub place_cell : ℕ → LineKey → List ℕ
 place_cell columns key =
@@ -44,6 +47,30 @@ high_of span = option_map (λ s. s.high) span
 abbrev pub blanks_of : FrameCounts → ℕ
 blanks_of f = up_to_most (f.no_ip + f.no_udp + f.fragments + f.cut + f.malformed + f.not_read)
 
+-- ---- times
+
+-- a time as a number of nanoseconds, or as a date
+abbrev pub time_value : TimeStyle → ℕ → List ℕ
+time_value Seconds time = decimal time
+time_value Utc time = utc_text time
+
+abbrev pub time_columns : TimeStyle → ℕ
+time_columns Seconds = 20
+time_columns Utc = 30
+
+-- a time at the end of its columns, or '-' where it isn't known
+abbrev pub time_cell : TimeStyle → Option ℕ → List ℕ
+time_cell style None = filled_text (time_columns style) (codes " ") (codes "-")
+time_cell style (Some time) =
+    filled_text (time_columns style) (codes " ") (time_value style time)
+
+-- a member of an object with a date, or null where it isn't known
+abbrev pub date_member : List ℕ → Option ℕ → List ℕ
+date_member label None = label ++ codes "null"
+date_member label (Some time) = label ++ (codes "\"" ++ (utc_text time ++ codes "\""))
+
+-- ---- what is in no row
+
 -- the other datagrams and where they went, frames without a datagram, and datagrams that are in no
 -- row
 abbrev pub rest_of : SurveyCounts → SurveyRest
@@ -57,14 +84,18 @@ rest_of c = record {
 
 -- ---- the table
 
-abbrev pub table_head : List ℕ
-table_head =
+abbrev pub times_head : TimeStyle → List ℕ
+times_head Seconds = codes "           first time            last time\n"
+times_head Utc = codes "                     first time                      last time\n"
+
+abbrev pub table_head : TimeStyle → List ℕ
+table_head style =
     codes "address and port         session          packets      messages         first     "
-    ++ codes "     last         bytes         other           first time            last time\n"
+    ++ (codes "     last         bytes         other" ++ times_head style)
 
 -- a line: where, its session, what was counted, and the other datagrams to that address and port
-abbrev pub table_row : List LineRow → LineRow → List ℕ
-table_row others r =
+abbrev pub table_row : TimeStyle → List LineRow → LineRow → List ℕ
+table_row style others r =
     place_cell 24 r.key
     ++ (codes " "
     ++ (session_name r.key.session
@@ -76,9 +107,8 @@ table_row others r =
     ∷ (codes " ", Some r.bytes)
     ∷ (codes " ", Some (packets_at others (other_key r.key)))
     ∷ [])
-    ++ (cells_text 20 (codes "-")
-    ((codes " ", low_of r.times) ∷ (codes " ", high_of r.times) ∷ [])
-    ++ codes "\n"))))
+    ++ (time_cell style (low_of r.times)
+    ++ (time_cell style (high_of r.times) ++ codes "\n")))))
 
 abbrev pub table_rest : SurveyRest → List ℕ
 table_rest r =
@@ -92,9 +122,10 @@ table_rest r =
     ++ codes "\n"
 
 -- and then the words for the lines that came
-abbrev pub table_of : List LineRow → List LineRow → SurveyRest → List ℕ
-table_of others rows rest =
-    table_head ++ (flat_map (table_row others) rows ++ (table_rest rest ++ words_of rows))
+abbrev pub table_of : TimeStyle → List LineRow → List LineRow → SurveyRest → List ℕ
+table_of style others rows rest =
+    table_head style
+    ++ (flat_map (table_row style others) rows ++ (table_rest rest ++ words_of rows))
 
 -- ---- JSON: an object on a line of its own for each row, and then one of the rest
 
@@ -109,9 +140,16 @@ json_head key =
     ++ (place_cell 0 key
     ++ (codes "\",\"session\":\"" ++ flat_map escaped_code (session_name key.session)))
 
+-- its times as dates, where these are asked for
+abbrev pub json_dates : TimeStyle → LineRow → List ℕ
+json_dates Seconds r = []
+json_dates Utc r =
+    date_member (codes ",\"first_time\":") (low_of r.times)
+    ++ date_member (codes ",\"last_time\":") (high_of r.times)
+
 -- what was counted of it
-abbrev pub json_members : List LineRow → LineRow → List ℕ
-json_members others r =
+abbrev pub json_members : TimeStyle → List LineRow → LineRow → List ℕ
+json_members style others r =
     cells_text 0 (codes "null") (
     (codes "\",\"packets\":", Some r.packets)
     ∷ (codes ",\"messages\":", Some r.messages)
@@ -122,10 +160,10 @@ json_members others r =
     ∷ (codes ",\"first_time_ns\":", low_of r.times)
     ∷ (codes ",\"last_time_ns\":", high_of r.times)
     ∷ [])
-    ++ codes "}\n"
+    ++ (json_dates style r ++ codes "}\n")
 
-abbrev pub json_line : List LineRow → LineRow → List ℕ
-json_line others r = json_head r.key ++ json_members others r
+abbrev pub json_line : TimeStyle → List LineRow → LineRow → List ℕ
+json_line style others r = json_head r.key ++ json_members style others r
 
 abbrev pub json_rest : SurveyRest → List ℕ
 json_rest r =
@@ -138,9 +176,10 @@ json_rest r =
     ∷ [])
     ++ codes "}\n"
 
-abbrev pub json_of : List LineRow → List LineRow → SurveyRest → List ℕ
-json_of others rows rest = flat_map (json_line others) rows ++ json_rest rest
+abbrev pub json_of : TimeStyle → List LineRow → List LineRow → SurveyRest → List ℕ
+json_of style others rows rest = flat_map (json_line style others) rows ++ json_rest rest
 
-abbrev pub text_of_survey : StatsFormat → SurveyCounts → List ℕ
-text_of_survey Table c = table_of (rows_of c.others) (rows_of c.lines) (rest_of c)
-text_of_survey Json c = json_of (rows_of c.others) (rows_of c.lines) (rest_of c)
+abbrev pub text_of_survey : StatsFormat → TimeStyle → SurveyCounts → List ℕ
+text_of_survey Table style c =
+    table_of style (rows_of c.others) (rows_of c.lines) (rest_of c)
+text_of_survey Json style c = json_of style (rows_of c.others) (rows_of c.lines) (rest_of c)

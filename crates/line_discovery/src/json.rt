@@ -1,6 +1,6 @@
 //! What was counted of a capture, as JSON.
 ghost use Rattle.std.specs.Prelude.{◌≡◌, ◌++◌, IfOk, OnOk, flat_map};
-ghost use Rattle.line_discovery.specs.SurveyTexts.{escaped_code, json_head, json_members, json_of, json_rest, json_line, session_name, text_of_survey};
+ghost use Rattle.line_discovery.specs.SurveyTexts.{escaped_code, json_dates, json_head, json_members, json_of, json_rest, json_line, session_name, text_of_survey};
 ghost use Rattle.line_discovery.specs.Tables.{rows_of};
 
 use crate::counts::SurveyCounts;
@@ -10,7 +10,8 @@ use crate::pieces::{CellStyle, put_cells, put_place};
 use crate::rest::{SurveyRest, rest_of};
 use crate::table::Table;
 use crate::text::{high_of, low_of, other_key, session_name};
-use run_settings::StatsFormat;
+use crate::times::put_date_member;
+use run_settings::TimeStyle;
 use std::alloc::{AllocError, Global};
 
 /// How numbers are put.
@@ -52,10 +53,34 @@ fn put_head(alloc: Global, text: &mut Vec<u8>, key: &LineKey) -> Result<(), Allo
     put_session(text, &key.session)
 }
 
+/// Appends the times of a line as dates, where these are asked for.
+fn put_dates(
+    alloc: Global,
+    text: &mut Vec<u8>,
+    style: TimeStyle,
+    row: &LineRow,
+) -> Result<(), AllocError>
+    ensures { OnOk result (text.new.items ≡ text.old.items ++ json_dates style row.now) }
+{
+    match style {
+        TimeStyle::Seconds => Ok(()),
+        TimeStyle::Utc => {
+            put_date_member(alloc, text, ",\"first_time\":", low_of(row.times))?;
+            put_date_member(alloc, text, ",\"last_time\":", high_of(row.times))
+        }
+    }
+}
+
 /// Appends what was counted of a line.
-fn put_members(text: &mut Vec<u8>, others: &Table, row: &LineRow) -> Result<(), AllocError>
+fn put_members(
+    alloc: Global,
+    text: &mut Vec<u8>,
+    style: TimeStyle,
+    others: &Table,
+    row: &LineRow,
+) -> Result<(), AllocError>
     ensures { OnOk result (text.new.items
-        ≡ text.old.items ++ json_members (rows_of others.now) row.now) }
+        ≡ text.old.items ++ json_members style (rows_of others.now) row.now) }
 {
     let members = [
         ("\",\"packets\":", Some(row.packets)),
@@ -71,6 +96,7 @@ fn put_members(text: &mut Vec<u8>, others: &Table, row: &LineRow) -> Result<(), 
         (",\"last_time_ns\":", high_of(row.times)),
     ];
     put_cells(text, NUMBERS, &members)?;
+    put_dates(alloc, text, style, row)?;
     text.extend_from_slice(b"}\n")
 }
 
@@ -78,28 +104,30 @@ fn put_members(text: &mut Vec<u8>, others: &Table, row: &LineRow) -> Result<(), 
 fn put_row(
     alloc: Global,
     text: &mut Vec<u8>,
+    style: TimeStyle,
     others: &Table,
     row: &LineRow,
 ) -> Result<(), AllocError>
     ensures { OnOk result (text.new.items
-        ≡ text.old.items ++ json_line (rows_of others.now) row.now) }
+        ≡ text.old.items ++ json_line style (rows_of others.now) row.now) }
 {
     put_head(alloc, text, &row.key)?;
-    put_members(text, others, row)
+    put_members(alloc, text, style, others, row)
 }
 
 /// Appends the rows of lines.
 fn put_rows(
     alloc: Global,
     text: &mut Vec<u8>,
+    style: TimeStyle,
     others: &Table,
     rows: &[LineRow],
 ) -> Result<(), AllocError>
     ensures { OnOk result (text.new.items
-        ≡ text.old.items ++ flat_map (json_line (rows_of others.now)) rows.now) }
+        ≡ text.old.items ++ flat_map (json_line style (rows_of others.now)) rows.now) }
 {
     for row in rows {
-        put_row(alloc, text, others, row)?;
+        put_row(alloc, text, style, others, row)?;
     }
     Ok(())
 }
@@ -123,23 +151,30 @@ fn put_rest(text: &mut Vec<u8>, rest: &SurveyRest) -> Result<(), AllocError>
 fn put_json(
     alloc: Global,
     text: &mut Vec<u8>,
+    style: TimeStyle,
     others: &Table,
     rows: &[LineRow],
     rest: &SurveyRest,
 ) -> Result<(), AllocError>
     ensures { OnOk result (text.new.items
-        ≡ text.old.items ++ json_of (rows_of others.now) rows.now rest.now) }
+        ≡ text.old.items ++ json_of style (rows_of others.now) rows.now rest.now) }
 {
-    put_rows(alloc, text, others, rows)?;
+    put_rows(alloc, text, style, others, rows)?;
     put_rest(text, rest)
 }
 
 /// Returns what was counted as JSON.
-pub(crate) fn json_text(alloc: Global, counts: &SurveyCounts) -> Result<Vec<u8>, AllocError>
-    ensures { IfOk result (λ text. text.items ≡ text_of_survey StatsFormat.Json counts.now) }
+pub(crate) fn json_text(
+    alloc: Global,
+    counts: &SurveyCounts,
+    style: TimeStyle,
+) -> Result<Vec<u8>, AllocError>
+    ensures { IfOk result (λ text.
+        text.items ≡ text_of_survey StatsFormat.Json style counts.now) }
 {
     let mut text = Vec::new(alloc);
     let rest = rest_of(counts);
-    put_json(alloc, &mut text, &counts.others, counts.lines.rows(), &rest)?;
+    let rows = counts.lines.rows();
+    put_json(alloc, &mut text, style, &counts.others, rows, &rest)?;
     Ok(text)
 }

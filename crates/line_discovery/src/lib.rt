@@ -31,6 +31,7 @@ mod standing;
 mod survey;
 mod table;
 mod text;
+mod times;
 mod words;
 
 pub use counts::SurveyCounts;

@@ -8,7 +8,7 @@ use itoa::Buffer;
 use std::alloc::{AllocError, Global};
 
 /// What a text is filled with in a table.
-const SPACES: &[u8] = b"                        ";
+const SPACES: &[u8] = b"                                ";
 
 /// A label, and a number after it, if it is known.
 pub(crate) type Cell<'a> = (&'a str, Option<u64>);
@@ -22,8 +22,13 @@ pub(crate) struct CellStyle {
 }
 
 /// Appends a label, and a text at the end of the columns.
-fn put_text(text: &mut Vec<u8>, columns: usize, label: &str, value: &[u8]) -> Result<(), AllocError>
-    requires { columns ≤ 24 }
+pub(crate) fn put_text(
+    text: &mut Vec<u8>,
+    columns: usize,
+    label: &str,
+    value: &[u8],
+) -> Result<(), AllocError>
+    requires { columns ≤ 32 }
     ensures { OnOk result (text.new.items ≡ text.old.items
         ++ filled_text columns label.now value.now) }
 {
@@ -35,7 +40,7 @@ fn put_text(text: &mut Vec<u8>, columns: usize, label: &str, value: &[u8]) -> Re
 
 /// Appends a label and a number.
 fn put_cell(text: &mut Vec<u8>, style: CellStyle, cell: &Cell<'_>) -> Result<(), AllocError>
-    requires { style.columns ≤ 24 }
+    requires { style.columns ≤ 32 }
     ensures { OnOk result (text.new.items ≡ text.old.items
         ++ cell_text style.columns style.nothing.now cell.now.0.now cell.now.1) }
 {
@@ -59,7 +64,7 @@ pub(crate) fn put_cells(
     style: CellStyle,
     cells: &[Cell<'_>],
 ) -> Result<(), AllocError>
-    requires { style.columns ≤ 24 }
+    requires { style.columns ≤ 32 }
     ensures { OnOk result (text.new.items ≡ text.old.items
         ++ flat_map (λ c. cell_text style.columns style.nothing.now c.0.now c.1) cells.now) }
 {
@@ -76,7 +81,7 @@ pub(crate) fn put_place(
     columns: usize,
     key: &LineKey,
 ) -> Result<(), AllocError>
-    requires { columns ≤ 24 }
+    requires { columns ≤ 32 }
     ensures { OnOk result (text.new.items ≡ text.old.items ++ place_cell columns key.now) }
 {
     let place = place_text(alloc, key.address, key.port)?;

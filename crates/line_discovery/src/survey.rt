@@ -11,7 +11,7 @@ use crate::text::text_of;
 use feed_text::{RecordFormat, Step};
 use line_captures::{DroppedFrames, FrameCounts};
 use packet_capture::{CaptureFault, CaptureReader, Stop, read_as_bytes_come};
-use run_settings::StatsFormat;
+use run_settings::{StatsFormat, TimeStyle};
 use std::alloc::{AllocError, Global};
 
 /// A packet capture (pcap or pcapng) of which the datagrams are counted. As a format it has no
@@ -69,11 +69,18 @@ impl LineSurvey {
         self.counts.lines.total()
     }
 
-    /// Returns what was counted as a text in the format. Fails where memory is refused.
-    pub fn text(&self, alloc: Global, format: StatsFormat) -> Result<Vec<u8>, AllocError>
-        ensures { IfOk result (λ text. text.items ≡ text_of_survey format self.now.counts) }
+    /// Returns what was counted as a text in the format, with times in the style. Fails where memory
+    /// is refused.
+    pub fn text(
+        &self,
+        alloc: Global,
+        format: StatsFormat,
+        style: TimeStyle,
+    ) -> Result<Vec<u8>, AllocError>
+        ensures { IfOk result (λ text.
+            text.items ≡ text_of_survey format style self.now.counts) }
     {
-        text_of(alloc, &self.counts, format)
+        text_of(alloc, &self.counts, format, style)
     }
 }
 

@@ -11,27 +11,26 @@ use crate::pieces::{CellStyle, put_cells, put_place};
 use crate::rest::{SurveyRest, rest_of};
 use crate::span::Span;
 use crate::table::Table;
+use crate::times::put_time_cell;
 use crate::words::put_words;
-use run_settings::StatsFormat;
+use run_settings::{StatsFormat, TimeStyle};
 use std::alloc::{AllocError, Global};
 
 /// The heads of the first columns ..
 const HEAD: &[u8] =
     b"address and port         session          packets      messages         first     ";
 
-/// .. and of the others.
-const REST_OF_HEAD: &[u8] =
-    b"     last         bytes         other           first time            last time\n";
+/// .. of the others ..
+const REST_OF_HEAD: &[u8] = b"     last         bytes         other";
+
+/// .. and of the times.
+const NUMBERS_HEAD: &[u8] = b"           first time            last time\n";
+
+const DATES_HEAD: &[u8] = b"                     first time                      last time\n";
 
 /// How counts are put.
 const COUNTS: CellStyle = CellStyle {
     columns: 13,
-    nothing: "-",
-};
-
-/// How times are put.
-const TIMES: CellStyle = CellStyle {
-    columns: 20,
     nothing: "-",
 };
 
@@ -80,11 +79,12 @@ pub(crate) fn session_name(session: &Option<[u8; 10]>) -> &[u8]
 fn put_row(
     alloc: Global,
     text: &mut Vec<u8>,
+    style: TimeStyle,
     others: &Table,
     row: &LineRow,
 ) -> Result<(), AllocError>
     ensures { OnOk result (text.new.items
-        ≡ text.old.items ++ table_row (rows_of others.now) row.now) }
+        ≡ text.old.items ++ table_row style (rows_of others.now) row.now) }
 {
     let counts = [
         (" ", Some(row.packets)),
@@ -94,12 +94,12 @@ fn put_row(
         (" ", Some(row.bytes)),
         (" ", Some(others.packets_of(&other_key(&row.key)))),
     ];
-    let times = [(" ", low_of(row.times)), (" ", high_of(row.times))];
     put_place(alloc, text, 24, &row.key)?;
     text.extend_from_slice(b" ")?;
     text.extend_from_slice(session_name(&row.key.session))?;
     put_cells(text, COUNTS, &counts)?;
-    put_cells(text, TIMES, &times)?;
+    put_time_cell(alloc, text, style, low_of(row.times))?;
+    put_time_cell(alloc, text, style, high_of(row.times))?;
     text.extend_from_slice(b"\n")
 }
 
@@ -107,14 +107,15 @@ fn put_row(
 fn put_rows(
     alloc: Global,
     text: &mut Vec<u8>,
+    style: TimeStyle,
     others: &Table,
     rows: &[LineRow],
 ) -> Result<(), AllocError>
     ensures { OnOk result (text.new.items
-        ≡ text.old.items ++ flat_map (table_row (rows_of others.now)) rows.now) }
+        ≡ text.old.items ++ flat_map (table_row style (rows_of others.now)) rows.now) }
 {
     for row in rows {
-        put_row(alloc, text, others, row)?;
+        put_row(alloc, text, style, others, row)?;
     }
     Ok(())
 }
@@ -141,50 +142,58 @@ fn put_rest(text: &mut Vec<u8>, rest: &SurveyRest) -> Result<(), AllocError>
 }
 
 /// Appends the heads of all columns.
-fn put_head(text: &mut Vec<u8>) -> Result<(), AllocError>
-    ensures { OnOk result (text.new.items ≡ text.old.items ++ table_head) }
+fn put_head(text: &mut Vec<u8>, style: TimeStyle) -> Result<(), AllocError>
+    ensures { OnOk result (text.new.items ≡ text.old.items ++ table_head style) }
 {
     text.extend_from_slice(HEAD)?;
-    text.extend_from_slice(REST_OF_HEAD)
+    text.extend_from_slice(REST_OF_HEAD)?;
+    match style {
+        TimeStyle::Seconds => text.extend_from_slice(NUMBERS_HEAD),
+        TimeStyle::Utc => text.extend_from_slice(DATES_HEAD),
+    }
 }
 
 /// Appends the table.
 fn put_table(
     alloc: Global,
     text: &mut Vec<u8>,
+    style: TimeStyle,
     others: &Table,
     rows: &[LineRow],
     rest: &SurveyRest,
 ) -> Result<(), AllocError>
     ensures { OnOk result (text.new.items
-        ≡ text.old.items ++ table_of (rows_of others.now) rows.now rest.now) }
+        ≡ text.old.items ++ table_of style (rows_of others.now) rows.now rest.now) }
 {
-    put_head(text)?;
-    put_rows(alloc, text, others, rows)?;
+    put_head(text, style)?;
+    put_rows(alloc, text, style, others, rows)?;
     put_rest(text, rest)?;
     put_words(alloc, text, rows)
 }
 
 /// Returns the table of what was counted.
-fn table_text(alloc: Global, counts: &SurveyCounts) -> Result<Vec<u8>, AllocError>
-    ensures { IfOk result (λ text. text.items ≡ text_of_survey StatsFormat.Table counts.now) }
+fn table_text(alloc: Global, counts: &SurveyCounts, style: TimeStyle) -> Result<Vec<u8>, AllocError>
+    ensures { IfOk result (λ text.
+        text.items ≡ text_of_survey StatsFormat.Table style counts.now) }
 {
     let mut text = Vec::new(alloc);
     let rest = rest_of(counts);
-    put_table(alloc, &mut text, &counts.others, counts.lines.rows(), &rest)?;
+    let rows = counts.lines.rows();
+    put_table(alloc, &mut text, style, &counts.others, rows, &rest)?;
     Ok(text)
 }
 
-/// Returns what was counted as a text in the format. Fails where memory is refused.
+/// Returns what was counted as a text in the format, with times in the style. Fails where memory is refused.
 pub(crate) fn text_of(
     alloc: Global,
     counts: &SurveyCounts,
     format: StatsFormat,
+    style: TimeStyle,
 ) -> Result<Vec<u8>, AllocError>
-    ensures { IfOk result (λ text. text.items ≡ text_of_survey format counts.now) }
+    ensures { IfOk result (λ text. text.items ≡ text_of_survey format style counts.now) }
 {
     match format {
-        StatsFormat::Table => table_text(alloc, counts),
-        StatsFormat::Json => json_text(alloc, counts),
+        StatsFormat::Table => table_text(alloc, counts, style),
+        StatsFormat::Json => json_text(alloc, counts, style),
     }
 }

@@ -9,7 +9,7 @@ pub returns : goal.returns
 returns c =
     let counts = c.args.counts.now in
     let Text : List ℕ → List LineRow → List LineRow → SurveyRest → List ℕ =
-    λ t others rows rest. t ++ json_of others rows rest in
+    λ t others rows rest. t ++ json_of c.args.style others rows rest in
     let others = rows_of counts.others in
     let rows = rows_of counts.lines in
     c.in_ok-put_json.ensures

@@ -1,5 +1,5 @@
 use Rattle.std.proofs.Common.{ℕ, List, Option, Some, [], ◌∷◌, ◌++◌, ap, ◌∙◌, codes}
-use Rattle.line_discovery.specs.SurveyTexts.{cells_text, high_of, low_of, other_key}
+use Rattle.line_discovery.specs.SurveyTexts.{cells_text, high_of, json_dates, low_of, other_key}
 use Rattle.line_discovery.specs.Tables.{packets_at, rows_of}
 use Rattle.line_discovery.proofs.Putting.{put_last, put_two}
 use Rattle.line_discovery.proofs.json.put_members.Goals as goal
@@ -10,7 +10,9 @@ returns c =
     let others = rows_of c.args.others.now in
     let old = c.args.text.now.items in
     let mid = c.put_cells.new.text.items in
+    let dated = c.put_dates.new.text.items in
     let end = c.extend_from_slice.new.self.items in
+    let dates = json_dates c.args.style row in
     let r = c.extend_from_slice.result in
     let Cells : Option ℕ → Option ℕ → ℕ → Option ℕ → Option ℕ → List ℕ =
     λ a b n x y. cells_text 0 (codes "null") (
@@ -29,7 +31,7 @@ returns c =
     let x = low_of row.times in
     let y = high_of row.times in
     let count = c.packets_of.ensures ∙ ap (packets_at others) c.other_key.ensures in
-    put_two r old mid end (Cells a b n x y) (codes "}\n")
+    put_two r old mid end (Cells a b n x y) (dates ++ codes "}\n")
     (c.in_ok-put_cells.ensures
     ∙ ap (λ (v : Option ℕ). old ++ Cells v c.high_of.result c.packets_of.result c.low_of-2.result
     c.high_of-2.result) c.low_of.ensures
@@ -38,4 +40,5 @@ returns c =
     ∙ ap (λ (m : ℕ). old ++ Cells a b m c.low_of-2.result c.high_of-2.result) count
     ∙ ap (λ (v : Option ℕ). old ++ Cells a b n v c.high_of-2.result) c.low_of-2.ensures
     ∙ ap (λ (v : Option ℕ). old ++ Cells a b n x v) c.high_of-2.ensures)
-    (put_last r mid end (codes "}\n") c.extend_from_slice.ensures.items)
+    (put_two r mid dated end dates (codes "}\n") c.in_ok-put_dates.ensures
+    (put_last r dated end (codes "}\n") c.extend_from_slice.ensures.items))
