@@ -1,28 +1,13 @@
 //! The program `nbbo`.
 //!
-//! `nbbo replay --sessions LIST [--window N] [--journal N] [--join] [--skip-gaps] [--gaps]
-//! [--best-only [--format FORMAT]] [SYMBOL]...` reads a capture from standard input and writes its
-//! lines to standard output, or the best ones alone. `feed_text` says, and proves, what a capture
-//! is and what its lines are.
-//!
-//! `nbbo stats --sessions LIST [--lines LIST] [--window N] [--join] [--skip-gaps] [--format FORMAT]
-//! [SYMBOL]...` replays a capture and prints the statistics of its events (`replay_reports`).
-//!
-//! `nbbo lines [--format FORMAT]` lists the lines that a packet capture has (`line_discovery`).
-//!
-//! At the end of a replay standard error says what venues lack (`nbbo_runs`).
-//!
-//! `nbbo listen --sessions LIST --lines LIST [--request ADDR] [--join] [--skip-after MS] [--window
-//! N] [--journal N] [--datagrams N] [--end WHICH] [--buffer BYTES] [--follow [--kept N]] [--stats
-//! SECONDS [--stats-format FORMAT]] [--metrics ADDR] [SYMBOL]...` receives the lines of live
-//! venues by UDP, runs them as a live feed (`live_feed`), and prints what they came to once all
-//! have ended, or as it comes.
+//! It replays captures, counts what is in them, lists the lines of packet captures and converts
+//! these (`nbbo_runs`), and listens on live lines (`udp_listening`). `command_words` has the words
+//! of its command line, and their help.
 //!
 //! The contract is that of `nbbo_runs::run`: of any words, over any input, output and standard
 //! error, it says what is read, what is written where, and the status, or that the words ask to
 //! listen. Outside of it stand, in this file, the opening of the three streams and of the sockets,
-//! the words as the system gives them, what a terminal is told beside it, and the exit; and
-//! listening itself (`udp_listening`), which tests show.
+//! the words as the system gives them, the hints beside it, and the exit; and listening itself (`udp_listening`), which tests show.
 //!
 //! Begin with `nbbo_runs`. `command_words` has what the words ask for, `udp_listening` live lines.
 #![tactic(auto)]
@@ -30,10 +15,10 @@
 ghost use Rattle.std.specs.Prelude.{◌≡◌, ◌≢◌, ◌<◌};
 ghost use Rattle.command_words.specs.declared.refusal.Refusal.TheVariants.{NoMemory, NotText};
 
-use command_words::Refusal;
+use command_words::{Refusal, explanation, symbol_words};
 use feed_text::{CaptureIn, Count, StreamIn, StreamOut, TextOut, write_stderr};
 use nbbo_runs::{
-    KeptStart, Next, NotedErrors, Terminals, hint_at_file, input_format_hint, journal_hint, refuse,
+    KeptStart, Next, RunFacts, Terminals, hint_at_file, input_format_hint, journal_hint, refuse,
     run,
 };
 use run_settings::ListenSettings;
@@ -96,22 +81,41 @@ fn run_streams<H: Threads + Wait + Sync, C: Ledger, R: Ledger, W: Ledger, E: Led
         Count::new(of_reads),
     );
     let output: StreamOut<Stdout, W> = StreamOut::new(rt.stdout(), Count::new(of_writes));
-    let errors: StreamOut<Stderr, E> = StreamOut::new(rt.stderr(), Count::new(of_errors));
-    let mut errors = NotedErrors::new(errors);
+    let mut errors: StreamOut<Stderr, E> = StreamOut::new(rt.stderr(), Count::new(of_errors));
     let (next, output) = run_words(rt, KeptStart::new(input), output, &mut errors);
-    let (status, mut errors) = match next {
-        Next::Ended(status) => (status, errors),
+    match next {
+        Next::Ended(status) => status,
         Next::Listens(settings) => listen_live(rt, threads, &settings, output, errors),
-    };
-    if rt.stderr().is_terminal() {
-        let hint = journal_hint(errors.is_journal_full());
-        write_stderr(hint, &mut errors);
     }
-    status
 }
 
-/// Does what the words of the command line ask for, but for listening. Where standard error is a
-/// terminal it is also told what was probably meant.
+/// Writes a line where a word for a symbol names a file.
+fn hint_at_symbols<E: TextOut>(rt: &HostRuntime, words: &[String], errors: &mut E) {
+    if let Ok(symbols) = symbol_words(rt.alloc(), words) {
+        hint_at_file(rt, symbols.as_slice(), errors);
+    }
+}
+
+/// Writes the hints after a run: what is wrong with words that were refused, which format the input
+/// seems to have, and at a terminal how a journal gets more room.
+fn write_hints<E: TextOut>(
+    rt: &HostRuntime,
+    words: &[String],
+    facts: &RunFacts,
+    start: u32,
+    errors: &mut E,
+) {
+    if let Some(refusal) = &facts.refusal {
+        if let Some(text) = explanation(rt.alloc(), words, refusal) {
+            write_stderr(text.as_str(), errors);
+        }
+    }
+    write_stderr(input_format_hint(facts.read_as, start), errors);
+    let is_shown = facts.is_journal_full && rt.stderr().is_terminal();
+    write_stderr(journal_hint(is_shown), errors);
+}
+
+/// Does what the words of the command line ask for, but for listening, and writes the hints.
 fn run_words<R: CaptureIn + Drop, W: TextOut, E: TextOut>(
     rt: &HostRuntime,
     input: KeptStart<R>,
@@ -129,24 +133,12 @@ fn run_words<R: CaptureIn + Drop, W: TextOut, E: TextOut>(
         input: rt.stdin().is_terminal(),
         errors: rt.stderr().is_terminal(),
     };
+    let words = words.as_slice();
     if terminals.errors {
-        hint_at_file(rt, words.as_slice(), errors);
+        hint_at_symbols(rt, words, errors);
     }
-    let ran = run(
-        rt.alloc(),
-        words.as_slice(),
-        terminals,
-        input,
-        output,
-        errors,
-    );
-    if matches!(ran.next, Next::Ended(_)) {
-        let start = ran.input.start();
-        write_stderr(
-            input_format_hint(words.as_slice(), start, terminals.errors),
-            errors,
-        );
-    }
+    let ran = run(rt.alloc(), words, terminals, input, output, errors);
+    write_hints(rt, words, &ran.facts, ran.input.start(), errors);
     (ran.next, ran.output)
 }
 
@@ -192,14 +184,14 @@ fn tell_sockets<E: TextOut>(
     Ok(())
 }
 
-/// Listens on the lines of the settings, and returns the status of the program, and standard error.
+/// Listens on the lines of the settings, and returns the status of the program.
 fn listen_live<H, W, E>(
     rt: &HostRuntime,
     threads: &H,
     settings: &ListenSettings,
     output: W,
     mut errors: E,
-) -> (u8, E)
+) -> u8
 where
     H: Threads + Wait + Sync,
     W: TextOut + Drop,
@@ -210,14 +202,14 @@ where
         Err(fault) => {
             let is_named = rt.stderr().is_terminal() || settings.has_further_options();
             write_bind_fault(rt.alloc(), fault, is_named, &mut errors);
-            return (1, errors);
+            return 1;
         }
     };
     if tell_sockets(rt.alloc(), settings, &sockets, &mut errors).is_err() {
         write_stderr(NO_MEMORY, &mut errors);
-        return (1, errors);
+        return 1;
     }
-    let (status, _output, errors) = listen_with(
+    let (status, _output, _errors) = listen_with(
         threads,
         rt,
         rt.alloc(),
@@ -227,7 +219,7 @@ where
         output,
         errors,
     );
-    (status, errors)
+    status
 }
 
 fn main(rt: HostRuntime) -> ExitCode {

@@ -6,7 +6,7 @@ use Rattle.feed_text.specs.Devices.{Writing}
 use Rattle.feed_text.specs.StandardError.{SaysEach}
 use Rattle.line_captures.specs.declared.frame_counts.FrameCounts.{FrameCounts}
 use Rattle.line_captures.specs.Counts.{total_of}
-use Rattle.nbbo_runs.specs.CaptureTexts.{count_texts, datagrams_texts, frames_texts, no_line_texts}
+use Rattle.nbbo_runs.specs.CaptureTexts.{count_texts, datagrams_texts, frames_texts, no_line_texts, order_texts}
 
 -- where all frames go to lines, and where not all do
 pub frames_none : {S : Type 0} (w : Writing S) (counts : FrameCounts) (all : ℕ) (s : S)
@@ -46,3 +46,13 @@ pub no_line_none : {S : Type 0} (w : Writing S) (count : ℕ) (s t : S) → coun
     → SaysEach w (no_line_texts count) s t
 no_line_none w zero s t none said = said
 no_line_none w (suc n) s t none said = absurd (omega arith)
+
+pub in_order : {S : Type 0} (w : Writing S) (count : ℕ) (s : S) → count ≡ 0
+    → SaysEach w (order_texts count) s s
+in_order w zero s none = refl
+in_order w (suc n) s none = absurd (omega arith)
+
+pub out_of_order : {S : Type 0} (w : Writing S) (count : ℕ) (s t : S) → (count ≡ 0 → ⊥)
+    → SaysEach w (order_texts 1) s t → SaysEach w (order_texts count) s t
+out_of_order w zero s t some said = absurd (some refl)
+out_of_order w (suc n) s t some said = said

@@ -3,7 +3,7 @@ use Rattle.std.specs.Prelude.{ℕ, zero, suc, ◌==◌, List, [], ◌∷◌, ◌
 use Rattle.packet_capture.specs.declared.fault.CaptureFault.{CaptureFault}
 use Rattle.packet_capture.specs.declared.fault.CaptureFault.TheVariants.{NotCapture, UnknownVersion, TooLong, BadByteOrder, BadBlockLength, LengthsDiffer, ShortBlock, UnknownInterface, FramePastBlock, OptionPastBlock, TooManyInterfaces}
 use Rattle.feed_text.specs.declared.replay_stop.ReplayStop.{ReplayStop}
-use Rattle.feed_text.specs.declared.replay_stop.ReplayStop.TheVariants.{Bad}
+use Rattle.feed_text.specs.declared.replay_stop.ReplayStop.TheVariants.{Bad, Short}
 use Rattle.line_captures.specs.declared.drop_counts.DroppedFrames.{DroppedFrames}
 use Rattle.line_captures.specs.declared.frame_counts.FrameCounts.{FrameCounts}
 use Rattle.line_captures.specs.Counts.{total_of}
@@ -41,11 +41,20 @@ lost_texts counts =
     ++ (count_texts (codes "nbbo: cut frames passed over: ") counts.cut
     ++ count_texts (codes "nbbo: malformed packets passed over: ") counts.malformed)
 
+-- what to do where frames are out of time order, by how many are
+abbrev pub order_texts : ℕ → List (List ℕ)
+order_texts zero = []
+order_texts (suc more) =
+    codes
+    "nbbo: rows and figures by time need frames in order of time, which mergecap or reordercap makes\n"
+    ∷ []
+
 -- and what else is to be known of the frames
 abbrev pub other_texts : FrameCounts → List (List ℕ)
 other_texts counts =
     count_texts (codes "nbbo: frames that can't be read passed over: ") counts.not_read
-    ++ count_texts (codes "nbbo: frames out of time order: ") counts.disordered
+    ++ (count_texts (codes "nbbo: frames out of time order: ") counts.disordered
+    ++ order_texts counts.disordered)
 
 abbrev pub frame_texts : FrameCounts → List (List ℕ)
 frame_texts counts =
@@ -88,12 +97,18 @@ abbrev pub bad_capture_texts : CaptureFault → ℕ → List (List ℕ)
 bad_capture_texts fault position =
     codes "nbbo: bad capture at byte " ∷ decimal position ∷ capture_fault_text fault ∷ []
 
+-- at which byte the capture ends within a piece, or before the first one
+abbrev pub short_capture_texts : ℕ → List (List ℕ)
+short_capture_texts position =
+    codes "nbbo: short record at byte " ∷ decimal position ∷ codes "\n" ∷ []
+
 -- the line of an outcome; of a whole capture, that no datagram goes to a line
 abbrev pub capture_outcome_texts : Result (Unit {0}) (ReplayStop CaptureFault) → ℕ → ℕ
     → List (List ℕ)
 capture_outcome_texts (Ok done) position to_lines = no_line_texts to_lines
 capture_outcome_texts (Err (Bad fault)) position to_lines =
     bad_capture_texts fault position
+capture_outcome_texts (Err Short) position to_lines = short_capture_texts position
 capture_outcome_texts (Err stop) position to_lines = stop_line_text stop ∷ []
 
 -- where a second capture seems to begin, if one does

@@ -3,7 +3,6 @@ use Rattle.std.specs.Prelude.{◌≡◌, ℕ, zero, suc, List, [], ◌∷◌, �
 use Rattle.std.specs.Result.{result_and}
 use Rattle.clap.specs.Walk.{Text}
 use Rattle.packet_capture.specs.declared.fault.CaptureFault.{CaptureFault}
-use Rattle.run_settings.specs.declared.formats.StatsFormat.{StatsFormat}
 use Rattle.feed_text.specs.declared.replay_stop.ReplayStop.{ReplayStop}
 use Rattle.feed_text.specs.Devices.{Reading, Writing}
 use Rattle.feed_text.specs.StandardError.{SaysEach}
@@ -19,19 +18,20 @@ use Rattle.nbbo_runs.specs.Ending.{ending_status}
 use Rattle.nbbo_runs.specs.Hints.{hint_text}
 use Rattle.nbbo_runs.specs.Printing.{PrintsText}
 use Rattle.nbbo_runs.specs.Streams.{Devices, Streams}
+use Rattle.nbbo_runs.specs.declared.survey_form.SurveyForm.{SurveyForm}
 use Rattle.nbbo_runs.specs.declared.terminals.Terminals.{Terminals}
 
 -- A packet capture was read to its end, or up to a fault, and its lines were printed in the form. A
 -- fault of printing comes before that of reading.
 pub record Discovers {R W : Type 0} (reading : Reading R) (writing : Writing W)
-    (format : StatsFormat) (from to : R) (start finish : LineSurvey) (before after : W)
+    (form : SurveyForm) (from to : R) (start finish : LineSurvey) (before after : W)
     (outcome : Result (Unit {0}) (ReplayStop CaptureFault)) : Type 0 where
   pub read : Result (Unit {0}) (ReplayStop CaptureFault)
   pub mid : W
   pub reads : AnswersConversion reading survey_parsing writing 0 1000000000 from to start finish
       before mid read
   pub printed : Result (Unit {0}) (ReplayStop CaptureFault)
-  pub prints : PrintsText writing (λ text. text ≡ text_of_survey format finish.counts) mid after
+  pub prints : PrintsText writing (λ text. text ≡ text_of_survey form.format form.times finish.counts) mid after
       printed
   pub ends : outcome ≡ result_and printed read
 
@@ -62,11 +62,11 @@ survey_texts s outcome =
 
 -- The same, of which nothing was read before. Standard error has the hint, and then what is to be
 -- said of the outcome.
-pub record RunsDiscovery {R W E : Type 0} (devices : Devices R W E) (format : StatsFormat)
+pub record RunsDiscovery {R W E : Type 0} (devices : Devices R W E) (form : SurveyForm)
     (terminals : Terminals) (before after : Streams R W E) (status : ℕ) : Type 0 where
   pub finish : LineSurvey
   pub outcome : Result (Unit {0}) (ReplayStop CaptureFault)
-  pub discovers : Discovers devices.reading devices.writing format before.input after.input
+  pub discovers : Discovers devices.reading devices.writing form before.input after.input
       new_survey finish before.output after.output outcome
   pub says : SaysEach devices.telling
       (hint_text terminals.input
@@ -77,6 +77,6 @@ pub record RunsDiscovery {R W E : Type 0} (devices : Devices R W E) (format : St
 -- The words ask for the lines of a packet capture, and they were printed.
 pub record Discovered {R W E : Type 0} (devices : Devices R W E) (words : List Text)
     (terminals : Terminals) (before after : Streams R W E) (status : ℕ) : Type 0 where
-  pub format : StatsFormat
-  pub asked : AsksDiscovery words format
-  pub runs : RunsDiscovery devices format terminals before after status
+  pub form : SurveyForm
+  pub asked : AsksDiscovery words form.format form.times
+  pub runs : RunsDiscovery devices form terminals before after status

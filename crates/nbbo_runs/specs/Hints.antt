@@ -1,6 +1,6 @@
--- What a terminal is told beside what the program says: before it is read; of an input that is no
+-- What is told beside what the program says: before a terminal is read; of an input that is no
 -- capture of this project's own, by the number of its first four bytes, the first of them the
--- highest; and of a full journal.
+-- highest; and, at a terminal, of a full journal.
 use Rattle.std.specs.Prelude.{ℕ, ◌/◌, ◌==◌, Bool, ◌||◌, List, [], codes, if◌then◌else◌}
 
 -- one line, before a terminal is read
@@ -18,11 +18,19 @@ is_packets start =
     || ((start == 2712847316)
     || ((start == 1295823521) || ((start == 2712812621) || (start == 168627466))))
 
--- one line, where the input begins with the two bytes of gzip
-abbrev pub gzip_hint : ℕ → List ℕ
-gzip_hint start =
+-- one line, where the input begins with the bytes of gzip, bzip2, zstd, xz or lz4
+abbrev pub packed_hint : ℕ → List ℕ
+packed_hint start =
     if start / 65536 == 8075
     then codes "nbbo: the input is in gzip; to unpack it write 'zcat FILE | nbbo ..'\n"
+    else if start / 256 == 4348520
+    then codes "nbbo: the input is in bzip2; to unpack it write 'bzcat FILE | nbbo ..'\n"
+    else if start == 682962941
+    then codes "nbbo: the input is in zstd; to unpack it write 'zstdcat FILE | nbbo ..'\n"
+    else if start == 4248271448
+    then codes "nbbo: the input is in xz; to unpack it write 'xzcat FILE | nbbo ..'\n"
+    else if start == 69356824
+    then codes "nbbo: the input is in lz4; to unpack it write 'lz4cat FILE | nbbo ..'\n"
     else []
 
 -- one line, where the input is a packet capture, or that one
@@ -31,7 +39,7 @@ format_hint start =
     if is_packets start
     then codes
     "nbbo: the input is a packet capture (pcap or pcapng); --lines LIST says which of its datagrams to replay\n"
-    else gzip_hint start
+    else packed_hint start
 
 -- one line, where the journal was full
 abbrev pub journal_hint : Bool → List ℕ

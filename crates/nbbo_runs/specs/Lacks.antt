@@ -16,6 +16,7 @@ abbrev pub has_rule : SkipRule → Bool
 has_rule skips.Never = false
 has_rule skips.Join = true
 has_rule skips.Gaps = true
+has_rule (skips.After ms) = true
 
 -- whether the input is a packet capture
 abbrev pub is_packet_input : RunInput → Bool

@@ -11,5 +11,6 @@ pub mod Runs
 pub mod Sessions
 pub mod Starts
 pub mod Streams
+pub mod SymbolHints
 pub mod Watches
 pub mod WatchLaws

@@ -194,6 +194,7 @@ pub record IsConfigOf (settings : RunSettings) (config : ReplayConfig) : Type 0 
   pub journal : config.journal ≡ settings.feed.journal
   pub gaps : config.gaps ≡ settings.gaps
   pub skips : config.skips ≡ settings.skips
+  pub next : config.next_sessions.now ≡ settings.next_sessions.items
   pub turns : config.turns ≡ 1000000000
 
 -- A capture was replayed with these settings, and printed by an output. Where it came to its end,

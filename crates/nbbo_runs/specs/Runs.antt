@@ -27,6 +27,7 @@ use Rattle.nbbo_runs.specs.Hints.{hint_text}
 use Rattle.nbbo_runs.specs.Lacks.{tells_lacks, told_lacks}
 use Rattle.nbbo_runs.specs.Printing.{Output, PrintsAsked, output_asked}
 use Rattle.nbbo_runs.specs.Streams.{Devices, Streams}
+use Rattle.nbbo_runs.specs.SymbolHints.{symbol_hint}
 use Rattle.nbbo_runs.specs.Watches.{IsWatched, watched_texts, watching}
 use Rattle.nbbo_runs.specs.declared.watched_format.WatchedFormat.{WatchedFormat}
 use Rattle.nbbo_runs.specs.declared.program_run.Next.{Next}
@@ -34,7 +35,7 @@ use Rattle.nbbo_runs.specs.declared.program_run.Next.TheVariants.{Ended, Listens
 use Rattle.nbbo_runs.specs.declared.terminals.Terminals.{Terminals}
 
 -- A capture of a format was replayed with these settings, and printed by an output. Standard error
--- has the hint, then what venues lack and which symbols never came, if that is told, and then what
+-- has the hints, then what venues lack and which symbols never came, if that is told, and then what
 -- is to be said of what was read and of the outcome, by `end_texts`.
 pub record RunsOver {R W E S F : Type 0} (devices : Devices R W E) (parsing : Parsing S F)
     (Prints : Output R W) (end_texts : S → Result (Unit {0}) (ReplayStop F) → List (List ℕ))
@@ -48,7 +49,7 @@ pub record RunsOver {R W E S F : Type 0} (devices : Devices R W E) (parsing : Pa
       (tells_lacks settings terminals) before.input after.input start finish before.output
       after.output [] lacks absent outcome
   pub says : SaysEach devices.telling
-      (hint_text terminals.input
+      (hint_text terminals.input ∷ symbol_hint settings
       ∷ told_lacks outcome (tells_lacks settings terminals) lacks
       ++ (told_absent outcome (tells_lacks settings terminals) absent ++ end_texts finish outcome))
       before.errors after.errors

@@ -1,12 +1,16 @@
 //! What is said of a packet capture on standard error.
 ghost use Rattle.std.specs.Prelude.{◌≡◌, ◌∷◌, [], codes, decimal};
 ghost use Rattle.feed_text.specs.StandardError.{SaysEach};
-ghost use Rattle.nbbo_runs.specs.CaptureTexts.{bad_capture_texts, capture_fault_text, capture_outcome_texts, count_texts, datagrams_texts, dropped_texts, frame_texts, frames_texts, lost_texts, no_line_texts, other_texts, protocols_texts, second_texts, start_texts};
+ghost use Rattle.nbbo_runs.specs.CaptureTexts.{bad_capture_texts, capture_fault_text, capture_outcome_texts, count_texts, datagrams_texts, dropped_texts, frame_texts, frames_texts, lost_texts, no_line_texts, order_texts, other_texts, protocols_texts, second_texts, start_texts};
 
 use crate::ending::stop_line;
 use feed_text::{ReplayStop, TextOut, write_number, write_stderr};
 use line_captures::{DroppedFrames, FrameCounts};
 use packet_capture::CaptureFault;
+
+/// The line beside the number of frames that are out of time order.
+const IN_ORDER: &str =
+    "nbbo: rows and figures by time need frames in order of time, which mergecap or reordercap makes\n";
 
 /// Writes a line with a number.
 fn write_counted<E: TextOut>(label: &str, count: u64, errors: &mut E)
@@ -86,6 +90,17 @@ pub(crate) fn write_lost<E: TextOut>(counts: &FrameCounts, errors: &mut E)
     );
 }
 
+/// Writes what to do where frames are out of time order, as this many are.
+fn write_order<E: TextOut>(disordered: u64, errors: &mut E)
+    ensures { SaysEach (record { adds = E.adds; failures = E.failures })
+        (order_texts disordered) errors.old errors.new }
+{
+    if disordered == 0 {
+        return;
+    }
+    write_stderr(IN_ORDER, errors);
+}
+
 /// Writes what else is to be known of the frames.
 pub(crate) fn write_other<E: TextOut>(counts: &FrameCounts, errors: &mut E)
     ensures { SaysEach (record { adds = E.adds; failures = E.failures })
@@ -101,6 +116,7 @@ pub(crate) fn write_other<E: TextOut>(counts: &FrameCounts, errors: &mut E)
         counts.disordered,
         errors,
     );
+    write_order(counts.disordered, errors);
 }
 
 /// Writes the counts of the frames.
@@ -192,6 +208,7 @@ pub fn write_outcome<E: TextOut>(
     match outcome {
         Ok(()) => write_no_line(to_lines, errors),
         Err(ReplayStop::Bad(fault)) => write_bad_capture(*fault, position, errors),
+        Err(ReplayStop::Short) => write_counted("nbbo: short record at byte ", position, errors),
         Err(stop) => write_stderr(stop_line(stop), errors),
     }
 }

@@ -28,6 +28,7 @@ pub fn config_of(settings: &RunSettings) -> RunConfig<'_>
             journal: settings.feed.journal,
             gaps: settings.gaps,
             skips: settings.skips,
+            next_sessions: settings.next_sessions.as_slice(),
             turns: MAX_TURNS,
         },
         span: settings.span,

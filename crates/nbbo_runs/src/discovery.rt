@@ -10,12 +10,12 @@ use crate::config::MAX_TURNS;
 use crate::ending::status_of;
 use crate::hints::input_hint;
 use crate::printing::write_text;
+use crate::survey_form::SurveyForm;
 use crate::terminals::Terminals;
 use feed_text::{CaptureIn, ReplayStop, TextOut, write_stderr};
 use line_captures::convert;
 use line_discovery::LineSurvey;
 use packet_capture::CaptureFault;
-use run_settings::StatsFormat;
 use std::alloc::Global;
 
 /// The outcome of a run.
@@ -25,7 +25,7 @@ type Outcome = Result<(), ReplayStop<CaptureFault>>;
 /// has no records: to convert it is to read it, and writes nothing.
 fn discover<R: CaptureIn, W: TextOut>(
     alloc: Global,
-    format: StatsFormat,
+    form: SurveyForm,
     survey: &mut LineSurvey,
     input: &mut R,
     output: &mut W,
@@ -33,10 +33,10 @@ fn discover<R: CaptureIn, W: TextOut>(
     ensures { Discovers
         (record { gives = R.gives; ends = R.ends; failures = R.failures; fails = R.fails })
         (record { adds = W.adds; failures = W.failures })
-        format input.old input.new survey.old survey.new output.old output.new result }
+        form input.old input.new survey.old survey.new output.old output.new result }
 {
     let read = convert(alloc, MAX_TURNS, survey, input, output);
-    let printed = write_text(survey.text(alloc, format), output);
+    let printed = write_text(survey.text(alloc, form.format, form.times), output);
     printed.and(read)
 }
 
@@ -80,7 +80,7 @@ fn write_survey<E: TextOut>(survey: &LineSurvey, outcome: &Outcome, errors: &mut
 /// the program.
 pub fn run_discovery<R: CaptureIn, W: TextOut, E: TextOut>(
     alloc: Global,
-    format: StatsFormat,
+    form: SurveyForm,
     terminals: Terminals,
     input: &mut R,
     output: &mut W,
@@ -97,7 +97,7 @@ pub fn run_discovery<R: CaptureIn, W: TextOut, E: TextOut>(
           writing = record { adds = W.adds; failures = W.failures };
           telling = record { adds = E.adds; failures = E.failures };
         })
-        format terminals
+        form terminals
         (record { input = input.old; output = output.old; errors = errors.old })
         (record { input = input.new; output = output.new; errors = errors.new }) result }
 {
@@ -107,7 +107,7 @@ pub fn run_discovery<R: CaptureIn, W: TextOut, E: TextOut>(
         write_outcome(&outcome, 0, 0, errors);
         return status_of(&outcome);
     };
-    let outcome = discover(alloc, format, &mut survey, input, output);
+    let outcome = discover(alloc, form, &mut survey, input, output);
     write_survey(&survey, &outcome, errors);
     status_of(&outcome)
 }

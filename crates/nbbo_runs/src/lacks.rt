@@ -13,7 +13,7 @@ fn has_rule(skips: SkipRule) -> bool
 {
     match skips {
         SkipRule::Never => false,
-        SkipRule::Join | SkipRule::Gaps => true,
+        SkipRule::Join | SkipRule::Gaps | SkipRule::After(_) => true,
     }
 }
 

@@ -9,8 +9,8 @@
 //! `specs/Sessions.antt`), and what is to be said of the capture and of the outcome
 //! (`specs/CaptureTexts.antt`, `specs/Ending.antt`).
 //!
-//! Outside of it stand what a terminal is told beside it (`hints.rt`), and the program, which opens
-//! the streams and listens (`nbbo_main`).
+//! Outside of it stand hints (`hints.rt`), which are made of the values that a run returns, and the
+//! program, which opens the streams and listens (`nbbo_main`).
 //!
 //! Begin with `program_run.rt`, then `runs.rt` and `printing.rt`; `ending.rt` has the texts of
 //! faults.
@@ -24,7 +24,6 @@ mod ending;
 mod hints;
 mod kept_start;
 mod lacks;
-mod noted_errors;
 mod printing;
 mod program_run;
 mod runs;
@@ -33,14 +32,15 @@ mod session_report;
 mod session_row;
 mod session_table;
 mod span_replay;
+mod survey_form;
+mod symbol_hint;
 mod terminals;
 mod told_format;
 mod venue_watch;
 mod watched_format;
 mod watched_sink;
 
-pub use hints::{hint_at_file, input_format_hint, journal_hint};
+pub use hints::{InputFormat, hint_at_file, input_format_hint, journal_hint};
 pub use kept_start::KeptStart;
-pub use noted_errors::NotedErrors;
-pub use program_run::{Next, ProgramRun, refuse, run};
+pub use program_run::{Next, ProgramRun, RunFacts, refuse, run};
 pub use terminals::Terminals;

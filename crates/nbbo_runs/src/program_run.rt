@@ -4,7 +4,9 @@ ghost use Rattle.nbbo_runs.specs.Runs.{Leads, TellsRefusal};
 
 use crate::discovery::run_discovery;
 use crate::ending::WRITE_FAILED;
+use crate::hints::{InputFormat, input_format_of};
 use crate::runs::{run_conversion, run_settings};
+use crate::survey_form::SurveyForm;
 use crate::terminals::Terminals;
 use command_words::{Refusal, Task, settings};
 use feed_text::{CaptureIn, TextOut, write_all, write_stderr};
@@ -20,12 +22,36 @@ pub enum Next {
     Listens(ListenSettings),
 }
 
-/// The result of a run, and its input and output as the last calls left them.
+/// What hints are made of after a run.
+#[derive(Debug, Drop)]
+pub struct RunFacts {
+    /// What was read.
+    pub read_as: InputFormat,
+    /// Whether the run ended since its journal was full.
+    pub is_journal_full: bool,
+    /// Why the words are refused, if they are.
+    pub refusal: Option<Refusal>,
+}
+
+impl RunFacts {
+    /// Returns the facts of a run that reads this, and whose journal wasn't full.
+    fn of_input(read_as: InputFormat) -> RunFacts {
+        RunFacts {
+            read_as,
+            is_journal_full: false,
+            refusal: None,
+        }
+    }
+}
+
+/// The result of a run, its input and output as the last calls left them, and what hints are made
+/// of.
 #[derive(Debug, Drop)]
 pub struct ProgramRun<R, W> {
     pub next: Next,
     pub input: R,
     pub output: W,
+    pub facts: RunFacts,
 }
 
 /// Prints why nothing is replayed: help and the version on the output, all else on standard error.
@@ -51,14 +77,20 @@ pub fn refuse<W: TextOut, E: TextOut>(refusal: &Refusal, output: &mut W, errors:
     }
 }
 
-/// The result of a run that is over.
-fn ended<R, W>(status: u8, input: R, output: W) -> ProgramRun<R, W>
-    ensures { result ≡ record { next = Next.Ended status; input = input; output = output } }
+/// Returns the result of a run that is over.
+fn ended<R, W>(status: u8, input: R, output: W, facts: RunFacts) -> ProgramRun<R, W>
+    ensures { result ≡ record {
+      next = Next.Ended status;
+      input = input;
+      output = output;
+      facts = facts;
+    } }
 {
     ProgramRun {
         next: Next::Ended(status),
         input,
         output,
+        facts,
     }
 }
 
@@ -95,28 +127,42 @@ pub fn run<R: CaptureIn + Drop, W: TextOut, E: TextOut>(
 {
     match settings(alloc, words) {
         Ok(Task::Run(settings)) => {
-            let (status, output) = run_settings(
-                alloc, &settings, terminals, &mut input, output, errors,
-            );
-            ended(status, input, output)
+            let mut facts = RunFacts::of_input(input_format_of(&settings.input));
+            let end = run_settings(alloc, &settings, terminals, &mut input, output, errors);
+            facts.is_journal_full = end.is_journal_full;
+            ended(end.status, input, end.output, facts)
         }
         Ok(Task::Convert(lines)) => {
             let lines = lines.as_slice();
             let status = run_conversion(alloc, lines, terminals, &mut input, &mut output, errors);
-            ended(status, input, output)
+            ended(
+                status,
+                input,
+                output,
+                RunFacts::of_input(InputFormat::Packets),
+            )
         }
-        Ok(Task::Discover(format)) => {
-            let status = run_discovery(alloc, format, terminals, &mut input, &mut output, errors);
-            ended(status, input, output)
+        Ok(Task::Discover(format, times)) => {
+            let form = SurveyForm { format, times };
+            let status = run_discovery(alloc, form, terminals, &mut input, &mut output, errors);
+            ended(
+                status,
+                input,
+                output,
+                RunFacts::of_input(InputFormat::Packets),
+            )
         }
         Ok(Task::Listen(settings)) => ProgramRun {
             next: Next::Listens(settings),
             input,
             output,
+            facts: RunFacts::of_input(InputFormat::Nothing),
         },
         Err(refusal) => {
             let status = refuse(&refusal, &mut output, errors);
-            ended(status, input, output)
+            let mut facts = RunFacts::of_input(InputFormat::Nothing);
+            facts.refusal = Some(refusal);
+            ended(status, input, output, facts)
         }
     }
 }

@@ -10,11 +10,12 @@ use crate::ending::status_of;
 use crate::hints::input_hint;
 use crate::lacks::{tell_lacks, tells_lacks};
 use crate::printing::print;
+use crate::symbol_hint::symbol_hint;
 use crate::terminals::Terminals;
 use crate::told_format::ToldFormat;
 use crate::watched_format::WatchedFormat;
 use crate::watched_sink::Missing;
-use feed_text::{CaptureIn, OwnFormat, TextOut, write_stderr};
+use feed_text::{CaptureIn, OwnFormat, ReplayStop, TextOut, write_stderr};
 use line_captures::{PacketFormat, convert};
 use run_settings::{CapturedLine, RunInput, RunSettings};
 use std::alloc::Global;
@@ -22,8 +23,20 @@ use std::alloc::Global;
 /// The most venues of a capture.
 const VENUES: usize = 16;
 
+/// The end of a run: the status of the program, the output, and whether the journal was full.
+pub struct RunEnd<W> {
+    pub status: u8,
+    pub output: W,
+    pub is_journal_full: bool,
+}
+
+/// Returns whether a run ended since its journal was full.
+fn is_journal_full<F>(outcome: &Result<(), ReplayStop<F>>) -> bool {
+    matches!(outcome, Err(ReplayStop::JournalFull))
+}
+
 /// Replays a capture of a format, of which nothing was read, and prints it as the settings say.
-/// Returns the status of the program, and the output.
+/// Returns its end.
 fn run_over<R: CaptureIn, F: ToldFormat + Drop, W: TextOut, E: TextOut>(
     alloc: Global,
     settings: &RunSettings,
@@ -32,7 +45,7 @@ fn run_over<R: CaptureIn, F: ToldFormat + Drop, W: TextOut, E: TextOut>(
     input: &mut R,
     output: W,
     errors: &mut E,
-) -> (u8, W)
+) -> RunEnd<W>
     requires { F.venues format ≡ vec_len settings.now.feed.sessions }
     ensures { RunsOver
         (record {
@@ -52,9 +65,11 @@ fn run_over<R: CaptureIn, F: ToldFormat + Drop, W: TextOut, E: TextOut>(
         settings.now)
         F.end_texts settings.now terminals format
         (record { input = input.old; output = output; errors = errors.old })
-        (record { input = input.new; output = result.1; errors = errors.new }) result.0 }
+        (record { input = input.new; output = result.output; errors = errors.new })
+        result.status }
 {
     write_stderr(input_hint(terminals.input), errors);
+    write_stderr(symbol_hint(settings), errors);
     let is_told = tells_lacks(settings, terminals);
     let mut missing = Missing::new(alloc, is_told);
     let printed = print(alloc, settings, &mut format, input, output, &mut missing);
@@ -62,11 +77,15 @@ fn run_over<R: CaptureIn, F: ToldFormat + Drop, W: TextOut, E: TextOut>(
     let symbols = settings.feed.symbols.as_slice();
     tell_absent(&printed.outcome, is_told, symbols, &missing.absent, errors);
     format.tell_end(&printed.outcome, errors);
-    (status_of(&printed.outcome), printed.sink)
+    RunEnd {
+        status: status_of(&printed.outcome),
+        is_journal_full: is_journal_full(&printed.outcome),
+        output: printed.sink,
+    }
 }
 
 /// Replays the input, a capture of the project's own format or a packet capture, and prints it as
-/// the settings say. Returns the status of the program, and the output.
+/// the settings say. Returns its end.
 pub fn run_settings<R: CaptureIn, W: TextOut, E: TextOut>(
     alloc: Global,
     settings: &RunSettings,
@@ -74,7 +93,7 @@ pub fn run_settings<R: CaptureIn, W: TextOut, E: TextOut>(
     input: &mut R,
     output: W,
     errors: &mut E,
-) -> (u8, W)
+) -> RunEnd<W>
     ensures { RunsBy
         (record {
           reading = record {
@@ -92,8 +111,8 @@ pub fn run_settings<R: CaptureIn, W: TextOut, E: TextOut>(
         settings.now)
         settings.now terminals
         (record { input = input.old; output = output; errors = errors.old })
-        (record { input = input.new; output = result.1; errors = errors.new })
-        result.0 settings.now.input }
+        (record { input = input.new; output = result.output; errors = errors.new })
+        result.status settings.now.input }
 {
     let venues = settings.feed.sessions.len();
     let sessions = settings.feed.sessions.as_slice();

@@ -1,6 +1,6 @@
-use Rattle.std.proofs.Common.{codes}
+use Rattle.std.proofs.Common.{◌++◌, codes}
 use Rattle.feed_text.specs.Devices.{Writing}
-use Rattle.nbbo_runs.specs.CaptureTexts.{count_texts}
+use Rattle.nbbo_runs.specs.CaptureTexts.{count_texts, order_texts}
 use Rattle.feed_text.specs.laws.SaidTexts.{says_each}
 use Rattle.nbbo_runs.proofs.capture_report.write_other.Goals as goal
 
@@ -9,8 +9,10 @@ returns g c =
     let w : Writing g.row.E.Denot =
     record { adds = g.E.TextOut.adds; failures = g.E.TextOut.failures } in
     let counts = c.args.counts.now in
+    let second = count_texts (codes "nbbo: frames out of time order: ") counts.disordered in
+    let third = order_texts counts.disordered in
     says_each w (count_texts (codes "nbbo: frames that can't be read passed over: ")
-    counts.not_read)
-    (count_texts (codes "nbbo: frames out of time order: ") counts.disordered) c.args.errors.now
-    c.write_count.new.errors c.write_count-2.new.errors c.write_count.ensures
-    c.write_count-2.ensures
+    counts.not_read) (second ++ third) c.args.errors.now c.write_count.new.errors
+    c.write_order.new.errors c.write_count.ensures
+    (says_each w second third c.write_count.new.errors c.write_count-2.new.errors
+    c.write_order.new.errors c.write_count-2.ensures c.write_order.ensures)

@@ -49,7 +49,7 @@ returns g c =
     record {
       finish = finish;
       outcome = outcome;
-      discovers = subst (λ (s : LineSurvey). Discovers reading writing c.args.format
+      discovers = subst (λ (s : LineSurvey). Discovers reading writing c.args.form
           c.args.input.now c.discover-outcome.new.input s finish c.args.output.now
           c.discover-outcome.new.output outcome)
           c.in-Ok.ensures c.discover-outcome.ensures;

@@ -38,7 +38,8 @@ returns g c =
     let absent = symbols_with missing.absent symbols in
     let finish = c.print-printed.new.format in
     let errors_before = c.args.errors.now in
-    let hinted = c.write_stderr.new.errors in
+    let waited = c.write_stderr.new.errors in
+    let hinted = c.write_stderr-2.new.errors in
     let lacking = c.tell_lacks.new.errors in
     let said = c.tell_absent.new.errors in
     let end = c.tell_end.new.errors in
@@ -61,9 +62,12 @@ returns g c =
           (c.new-missing.ensures.watched ∙ c.tells_lacks-is_told.ensures)
           c.print-printed.ensures);
       says = (
-        hinted,
-        subst (λ (text : List ℕ). Says telling text errors_before hinted) c.input_hint.ensures
+        waited,
+        subst (λ (text : List ℕ). Says telling text errors_before waited) c.input_hint.ensures
             c.write_stderr.ensures,
+        hinted,
+        subst (λ (text : List ℕ). Says telling text waited hinted) c.symbol_hint.ensures
+            c.write_stderr-2.ensures,
         says_each telling (told_lacks outcome due lacks)
             (told_absent outcome due absent ++ end_texts) hinted lacking end
             (tells_items telling outcome _ due _ lacks hinted lacking
