@@ -8,8 +8,8 @@ abbrev pub replay_app : App
 replay_app = with_option_rules (new_app (codes "replay"))
     ((codes "sessions", Required) ∷ (codes "lines", Text)
     ∷ (codes "window", Window) ∷ (codes "journal", FromZero)
-    ∷ (codes "join", Flag) ∷ (codes "skip-gaps", Flag)
-    ∷ (codes "skip-after", FromOne) ∷ (codes "gaps", Flag) ∷ (codes "best-only", Flag)
+    ∷ (codes "join", Flag) ∷ (codes "skip-gaps", Flag) ∷ (codes "skip-after", FromOne)
+    ∷ (codes "gaps", Flag) ∷ (codes "best-only", Flag)
     ∷ (codes "from", Text) ∷ (codes "to", Text)
     ∷ (codes "format", Text) ∷ (codes "times", Text) ∷ (codes "symbols", Words) ∷ [])
 

@@ -2,7 +2,6 @@
 use Rattle.std.specs.Prelude.{◌≡◌, ℕ, List, Bool, true, false, Option, Some, None, Result, Ok, Err, codes, if◌then◌else◌, length, unwrap_or}
 use Rattle.clap.specs.Walk.{Row, first_of, one_of}
 use Rattle.run_settings.specs.declared.listen_settings.ListenSettings.{ListenSettings}
-use Rattle.run_settings.specs.declared.listen_stats.ListenStats.{ListenStats}
 use Rattle.command_words.specs.Addresses.{ReadsLines, ReadsMetrics, ReadsRequest}
 use Rattle.command_words.specs.EndRules.{end_rule_in}
 use Rattle.command_words.specs.FeedRequests.{IsFeed}

@@ -1,5 +1,5 @@
--- The sessions that follow a venue's first one in the list of --sessions, of a packet capture: after
--- the name of the first session each next one stands after a slash, as in NORTH/NORTH2,SOUTH.
+-- The sessions that follow a venue's first one in the list of --sessions, of a packet capture: each
+-- stands after a slash, as in NORTH/NORTH2,SOUTH.
 use Rattle.std.specs.Prelude.{ℕ, ◌+◌, Bool, ◌&&◌, nat_le, ◌==◌, if◌then◌else◌, List, [], ◌∷◌, ◌++◌, count_by, drop, length, map, take, Option, None, Some, Result, Ok, Err}
 use Rattle.std.specs.List.{list_all, slice_split}
 use Rattle.std.specs.Str.{bytes_eq}

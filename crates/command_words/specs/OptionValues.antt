@@ -1,5 +1,5 @@
 -- The values of options, in the rows in which the crate clap tells them: lists, numbers and flags.
-use Rattle.std.specs.Prelude.{ℕ, ◌<◌, ◌^◌, ◌&&◌, nat_lt, nat_le, [], List, Bool, false, Option, Some, None, codes, length, if◌then◌else◌, option_and_then, unwrap_or}
+use Rattle.std.specs.Prelude.{ℕ, ◌^◌, ◌&&◌, nat_lt, nat_le, [], List, Bool, false, Option, Some, None, codes, length, if◌then◌else◌, option_and_then, unwrap_or}
 use Rattle.std.specs.Char.{digit_value}
 use Rattle.std.specs.List.{list_all}
 use Rattle.std.specs.Option.{option_map_or}

@@ -1,5 +1,5 @@
 -- Readings: relations of words to what they give, which is a value or the refusal that they get.
-use Rattle.std.specs.Prelude.{◌≡◌, ◌⊎◌, List, Option, Some, None, Result, Ok, Err}
+use Rattle.std.specs.Prelude.{◌≡◌, ◌⊎◌, Option, Some, None, Result, Ok, Err}
 use Rattle.std.specs.Option.{ok_or}
 use Rattle.clap.specs.Walk.{Text}
 use Rattle.command_words.specs.declared.refusal.Refusal.{Refusal}

@@ -33,7 +33,7 @@ sessions_by names =
 abbrev pub is_slash : ℕ → Bool
 is_slash byte = byte == 47
 
--- the name of a venue's first session, where others may follow it after slashes, or mayn't
+-- the name of a venue's first session, where others may follow it after slashes, or may not
 abbrev pub first_name : (chained : Bool) → List ℕ → List ℕ
 first_name chained text = if chained then before_first is_slash text else text
 

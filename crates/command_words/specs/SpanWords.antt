@@ -1,5 +1,5 @@
 -- The span of time by the options --from and --to.
-use Rattle.std.specs.Prelude.{ℕ, Bool, true, false, not, nat_lt, ◌&&◌, List, Option, None, Some, is_some, Result, Ok, Err, if◌then◌else◌}
+use Rattle.std.specs.Prelude.{ℕ, Bool, true, false, not, nat_lt, ◌&&◌, List, Option, Some, is_some, Result, Ok, Err, if◌then◌else◌}
 use Rattle.run_settings.specs.TimeSpans.{is_bounded}
 use Rattle.run_settings.specs.declared.run_output.RunOutput.{RunOutput}
 use Rattle.run_settings.specs.declared.run_output.RunOutput.TheVariants.{Lines}

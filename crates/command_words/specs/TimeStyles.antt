@@ -55,8 +55,8 @@ abbrev pub timed_output : (lines : Option (List ℕ)) → RunOutput → Result R
 timed_output None output = Err TimesWithoutLines
 timed_output (Some list) output = Ok output
 
--- The text of --times, where it is given, names the style of this output's times. Lines of text have
--- none, and others have them with --lines.
+-- The text of --times, where it is given, names the style of this output's times. Lines of text
+-- have none, and others have them with --lines.
 abbrev pub styled_in : RunOutput → (times lines : Option (List ℕ)) → Result RunOutput Refusal
 styled_in plain None lines = Ok plain
 styled_in plain (Some name) lines =

@@ -76,11 +76,33 @@ fn count_in(list: &str) -> usize {
     count
 }
 
-/// Returns the first text of a list that is of this kind.
-fn first_in<'a, P: Fn(&str) -> bool>(alloc: Global, list: &'a str, is: P) -> Option<&'a str> {
+/// Returns whether a text is no IP address and port.
+fn is_no_address(text: &str) -> bool {
+    SocketAddr::parse_ascii(text.as_bytes()).is_err()
+}
+
+/// Returns whether a text is no session.
+fn is_no_session(text: &str) -> bool {
+    let bytes = text.as_bytes();
+    bytes.is_empty() || bytes.len() > 10 || bytes.iter().any(|&b| b < 0x20 || b > 0x7e)
+}
+
+/// Returns the first text of a list that is no IP address and port.
+fn bad_address_in(alloc: Global, list: &str) -> Option<&str> {
     let texts: Vec<&str> = list.split(',').collect(alloc).ok()?;
     for text in texts.as_slice() {
-        if is(*text) {
+        if is_no_address(*text) {
+            return Some(*text);
+        }
+    }
+    None
+}
+
+/// Returns the first text of a list that is no session.
+fn bad_session_in(alloc: Global, list: &str) -> Option<&str> {
+    let texts: Vec<&str> = list.split(',').collect(alloc).ok()?;
+    for text in texts.as_slice() {
+        if is_no_session(*text) {
             return Some(*text);
         }
     }
@@ -96,15 +118,6 @@ fn second_in(alloc: Global, list: &str) -> Option<&str> {
         }
     }
     None
-}
-
-fn is_no_address(text: &str) -> bool {
-    SocketAddr::parse_ascii(text.as_bytes()).is_err()
-}
-
-fn is_no_session(text: &str) -> bool {
-    let bytes = text.as_bytes();
-    bytes.is_empty() || bytes.len() > 10 || bytes.iter().any(|&b| b < 0x20 || b > 0x7e)
 }
 
 /// Returns what is wrong with a list of lines for these sessions.
@@ -126,7 +139,7 @@ fn lines_explained(alloc: Global, options: &ArgMatches<'_>) -> Option<String> {
             return joined(alloc, &parts).ok();
         }
     }
-    match first_in(alloc, lines, is_no_address) {
+    match bad_address_in(alloc, lines) {
         Some(text) => quoted(alloc, "--lines: ", text, "is no IP address and port").ok(),
         None => quoted(
             alloc,
@@ -140,7 +153,7 @@ fn lines_explained(alloc: Global, options: &ArgMatches<'_>) -> Option<String> {
 
 /// Returns what is wrong with a list of sessions.
 fn sessions_explained(alloc: Global, options: &ArgMatches<'_>) -> Option<String> {
-    let text = first_in(alloc, text_of(options, "sessions"), is_no_session)?;
+    let text = bad_session_in(alloc, text_of(options, "sessions"))?;
     let right = "is no session: 1 to 10 characters of printable ASCII";
     quoted(alloc, "--sessions: ", text, right).ok()
 }
@@ -251,7 +264,7 @@ fn explained(
 
 /// Returns what is wrong with words that are refused so, and what would be right, where more is to
 /// be said than the refusal's own line.
-pub fn explanation(alloc: Global, words: &[String], refusal: &Refusal) -> Option<String> {
+pub fn explanation_of(alloc: Global, words: &[String], refusal: &Refusal) -> Option<String> {
     let matches = parsed(alloc, words).ok()?;
     let (command, options) = command_of(&matches)?;
     if is_plain(command, options) {

@@ -53,6 +53,6 @@ mod time_style;
 mod time_words;
 
 pub use command_line::settings;
-pub use explanation::{explanation, symbol_words};
+pub use explanation::{explanation_of, symbol_words};
 pub use refusal::Refusal;
 pub use task::Task;

@@ -25,7 +25,8 @@ pub enum Refusal {
     BadSession,
     /// More than 16 sessions are named.
     TooManySessions,
-    /// The sessions that follow others are no names, more than 64 of a venue, or one of a venue twice.
+    /// The sessions that follow others are no names, more than 64 of a venue, or one of a venue is
+    /// named twice.
     BadNextSession,
     /// The lines aren't two addresses for each session.
     BadLines,

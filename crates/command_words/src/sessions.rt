@@ -72,7 +72,8 @@ fn sessions_by(alloc: Global, names: &[&str]) -> Result<Vec<[u8; 10]>, Refusal>
     Ok(filled_all(alloc, names)?)
 }
 
-/// Returns the name of a venue's first session, where others may follow it after slashes, or mayn't.
+/// Returns the name of a venue's first session, where others may follow it after slashes, or may
+/// not.
 fn first_name(text: &str, chained: bool) -> &str
     ensures { result.now ≡ first_name chained text.now }
 {
@@ -102,7 +103,7 @@ fn first_names<'a>(
 }
 
 /// Returns the first sessions of the venues of a list, where others may follow each after slashes,
-/// or mayn't.
+/// or may not.
 pub fn read_sessions(alloc: Global, list: &str, chained: bool) -> Result<Vec<[u8; 10]>, Refusal>
     ensures reads { ReadsSessions chained list.now (mapped (λ sessions. sessions.items) result) }
     ensures count { IfOk result (λ sessions. (1 ≤ vec_len sessions) × (vec_len sessions ≤ 16)) }

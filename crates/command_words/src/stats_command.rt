@@ -41,9 +41,9 @@ Printed for each venue, from 0; rows of zeros alone are left out:
                              how long before the other line, half of these at most; and its longest
                              gap. Durations are in nanoseconds, by the times of the frames
   packets                    a line's datagrams; the bytes of those that are packets; and by the
-                             answer to each: 'with messages taken', which the line brought first or
-                             again; 'past the window', of which nothing was taken; and those refused,
-                             by the fault
+                             answer to each: 'with messages taken', which the line brought first
+                             or again; 'past the window', of which nothing was taken; and those
+                             refused, by the fault
   gaps                       of line A, of line B, and of all lines together: how many there were;
                              the messages left out in them; how many of these came late on the line,
                              and how many were given up; the messages that came again; the longest;
@@ -56,22 +56,22 @@ Printed for each venue, from 0; rows of zeros alone are left out:
                              of these before a session was joined
   items in sequence          of all lines together, by kind, with an end for each session that was
                              taken to its end, and the number of the last item
-  sessions and skips         next sessions begun, by records of kind N or by --sessions, and how many
-                             of these were refused; how often gaps were given up, by records of kind
-                             K, --join, --skip-gaps or --skip-after, and how many records of kind K
-                             were refused
+  sessions and skips         next sessions begun, by records of kind N or by --sessions, and how
+                             many of these were refused; how often gaps were given up, by records of
+                             kind K, --join, --skip-gaps or --skip-after, and how many records of
+                             kind K were refused
   self-help                  declared, withdrawn, and either where it was so already
   changes of national bests  after which the best bid, or the best offer, is the venue's; also
                              those that have changed the other side alone
 and then the changes of national bests, by the state after.
 
-A number far ahead, as of a packet past the window, counts as known once a second packet goes on from
-it. What a line lost is left out and never late.
+A number far ahead, as of a packet past the window, counts as known once a second packet goes on
+from it. What a line lost is left out and never late.
 
-With --lines there follows, by the times of the frames, of each venue, of the messages that both lines
-brought, how long the second line took where the other one was first in time: the mean; half of them
-within, 90 and 99 of a hundred within, 999 of a thousand within (a sixteenth more at most), and the
-longest; and when each line was last heard. A frame without a time has no part in this.
+With --lines there follows, by the times of the frames, of each venue, of the messages that both
+lines brought, how long the second line took where the other one was first in time: the mean; half
+of them within, 90 and 99 of a hundred within, 999 of a thousand within (a sixteenth more at most),
+and the longest; and when each line was last heard. A frame without a time has no part in this.
 
 With --every there are rows in place of all these: of each period in which a frame to any line came,
 for each venue a row of line A and one of line B, with the time at which the period began, a whole

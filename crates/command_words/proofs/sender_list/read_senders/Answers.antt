@@ -2,7 +2,6 @@ use Rattle.std.proofs.Common.{◌≡◌, ◌∙◌, ap, inl, inr, lit<, map, sub
 use Rattle.std.specs.declared.alloc.AllocError.{AllocError}
 use Rattle.std.proofs.lemmas.Iterator.Consumers.{map_from_collect}
 use Rattle.std.proofs.lemmas.Iterator.Splits.{YieldsList-from_str_split}
-use Rattle.run_settings.specs.declared.sender.Sender.{Sender}
 use Rattle.command_words.specs.Addresses.{AreSpelled}
 use Rattle.command_words.specs.SenderLists.{IsSenderText, ReadsSenders}
 use Rattle.command_words.specs.Sessions.{names_in}

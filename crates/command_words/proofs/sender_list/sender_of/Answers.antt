@@ -3,7 +3,6 @@ use Rattle.std.specs.Net.Grammar.{IsIpText, IsSocketText}
 use Rattle.std.specs.declared.net.ip_addr.IpAddr.{IpAddr}
 use Rattle.std.specs.declared.net.socket_addr.SocketAddr.{SocketAddr}
 use Rattle.command_words.specs.SenderLists.{SpellsAddress}
-use Rattle.command_words.proofs.sender_list.sender_of.Goals as goal
 
 -- a text that spells no address, neither with a port nor without one, spells no sender
 none_spelled : (text : List ℕ) → ((address : IpAddr) → IsIpText text address → ⊥)

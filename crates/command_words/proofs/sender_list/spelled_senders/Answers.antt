@@ -1,4 +1,4 @@
-use Rattle.std.proofs.Common.{rules, inr, refl, ℕ, ◌+◌, List, map, take, subst, sym}
+use Rattle.std.proofs.Common.{rules, inr, refl, ◌+◌, List, map, take, subst}
 use Rattle.run_settings.specs.declared.sender.Sender.{Sender}
 use Rattle.command_words.specs.Addresses.{AreSpelled}
 use Rattle.command_words.specs.SenderLists.{IsSenderText}
