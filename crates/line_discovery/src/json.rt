@@ -11,7 +11,7 @@ use crate::rest::{SurveyRest, rest_of};
 use crate::table::Table;
 use crate::text::{high_of, low_of, other_key, session_name};
 use crate::times::put_date_member;
-use run_settings::TimeStyle;
+use run_settings::{StatsFormat, TimeStyle};
 use std::alloc::{AllocError, Global};
 
 /// How numbers are put.

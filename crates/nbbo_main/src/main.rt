@@ -15,7 +15,7 @@
 ghost use Rattle.std.specs.Prelude.{◌≡◌, ◌≢◌, ◌<◌};
 ghost use Rattle.command_words.specs.declared.refusal.Refusal.TheVariants.{NoMemory, NotText};
 
-use command_words::{Refusal, explanation, symbol_words};
+use command_words::{Refusal, explanation_of, symbol_words};
 use feed_text::{CaptureIn, Count, StreamIn, StreamOut, TextOut, write_stderr};
 use nbbo_runs::{
     KeptStart, Next, RunFacts, Terminals, hint_at_file, input_format_hint, journal_hint, refuse,
@@ -106,7 +106,7 @@ fn write_hints<E: TextOut>(
     errors: &mut E,
 ) {
     if let Some(refusal) = &facts.refusal {
-        if let Some(text) = explanation(rt.alloc(), words, refusal) {
+        if let Some(text) = explanation_of(rt.alloc(), words, refusal) {
             write_stderr(text.as_str(), errors);
         }
     }

@@ -1,5 +1,5 @@
 -- A replay to a sink that writes a text of events prints it.
-use Rattle.std.proofs.Common.{◌≡◌, ℕ, ◌+◌, List, [], ap, subst, ◌∙◌}
+use Rattle.std.proofs.Common.{◌≡◌, ℕ, ◌+◌, List, [], ◌++◌, ap, subst, ◌∙◌}
 use Rattle.std.specs.Prelude.{⊤, Result}
 use Rattle.feed_text.specs.declared.replay.ReplayConfig.{ReplayConfig}
 use Rattle.feed_text.specs.declared.replay_stop.ReplayStop.{ReplayStop}
@@ -11,26 +11,17 @@ use Rattle.feed_text.specs.ReplayStates.{SinkTaking}
 use Rattle.feed_text.specs.SinkEvents.{TimedEvent}
 use Rattle.feed_text.specs.TextPages.{FailsPage}
 use Rattle.feed_text.specs.Told.{ToldFacts}
-use Rattle.run_settings.specs.declared.formats.RowFormat.{RowFormat}
-use Rattle.replay_reports.specs.best_times.BestTimeSinks.{AreBestTimesOf, FailsBestTimes, IsNewBestTimes, TakesBestTimes, best_page_of}
-use Rattle.replay_reports.specs.best_times.BestTimeTexts.{BestTimeSetting, best_time_header, best_times_with, text_of_best_times}
-use Rattle.replay_reports.specs.declared.best_times.best_time_rows.BestTimeRows.{BestTimeRows}
-use Rattle.replay_reports.specs.declared.gaps.gap_rows.GapRows.{GapRows}
-use Rattle.replay_reports.specs.declared.periods.period_rows.PeriodRows.{PeriodRows}
-use Rattle.replay_reports.specs.declared.row_sink.BestRows.{BestRows}
 use Rattle.best_rows.specs.declared.style.RowStyle.{RowStyle}
-use Rattle.replay_reports.specs.gaps.GapLaws.{gap_rows_are_written, gap_rows_failed}
-use Rattle.replay_reports.specs.gaps.GapSinks.{FailsGaps, IsNewGapRows, TakesGaps}
-use Rattle.replay_reports.specs.gaps.GapTexts.{text_of_gaps}
-use Rattle.replay_reports.specs.periods.PeriodSinks.{ArePeriodsOf, FailsPeriods, IsNewPeriods, PeriodSetting, TakesPeriods, page_of, rows_in}
-use Rattle.replay_reports.specs.periods.PeriodTexts.{period_header, text_of_periods}
-use Rattle.replay_reports.specs.periods.RowHistoryLaws.{history_failed, history_is_written}
+use Rattle.replay_reports.specs.declared.row_sink.BestRows.{BestRows}
 use Rattle.replay_reports.specs.rows.RowLaws.{rows_are_written, rows_failed}
 use Rattle.replay_reports.specs.rows.RowSinks.{FailsRows, IsNewRows, TakesRows, text_of_rows}
-use Rattle.replay_reports.specs.spans.SpanEvents.{events_in}
+use Rattle.report_rows.specs.RowHistories.{MakesHistory, TellsHistory, rows_told}
+use Rattle.report_rows.specs.RowHistoryLaws.{rows_are_written as history_is_written, rows_failed as history_failed}
+use Rattle.report_rows.specs.RowSinks as sinks
+use Rattle.report_rows.specs.declared.row_sink.RowSink.{RowSink}
 use Rattle.replay_run.specs.Printed.{facts_of_run}
 use Rattle.run_settings.specs.declared.time_span.TimeSpan.{TimeSpan}
-use Rattle.nbbo_runs.specs.Printing.{PrintsEvents, printing, taking_in}
+use Rattle.nbbo_runs.specs.Printing.{PrintsEvents, WritesRows, printing, span_events, taking_in}
 use Rattle.nbbo_runs.proofs.SinkRuns.{run_as}
 
 -- Of a sink before a writer: where it shows all that it took, the writer took the text of the
@@ -93,70 +84,43 @@ module _ {W : Type 0} (writing : Writing W) where
         (rows_failed writing.adds writing.failures writer style old new told is failed);
   }
 
-  abbrev pub gaps_taking : SinkTaking (GapRows W)
-  gaps_taking = record {
-    takes = TakesGaps writing.adds writing.failures;
-    fails = FailsGaps writing.adds writing.failures;
-  }
+  -- a sink of rows of a maker
+  module _ {M : Type 0} (makes : M → List TimedEvent → List ℕ → M → Type 0)
+      (tells : M → List TimedEvent → List ℕ → Type 0) where
+    abbrev pub sink_taking : SinkTaking (RowSink W M)
+    sink_taking = record {
+      takes = sinks.TakesRows makes writing.adds writing.failures;
+      fails = sinks.FailsRows tells writing.adds writing.failures;
+    }
 
-  pub gaps_write : (writer : W) (format : RowFormat) (old new : GapRows W)
-      → IsNewGapRows writer format old
-      → WritesText writing gaps_taking (λ s. s.page.text.items ≡ []) (λ s. s.page.writer)
-      (text_of_gaps format) writer old new
-  gaps_write writer format old new is = record {
+    pub sink_writes : (text : List TimedEvent → List ℕ) (writer : W) (old new : RowSink W M)
+        → WritesRows writing makes tells text writer old
+        → WritesText writing sink_taking (λ s. s.page.text.items ≡ []) (λ s. s.page.writer) text
+        writer old new
+    sink_writes text writer old new is = record {
+      same = is.same;
+      written = λ told took shown. is.written told new took shown;
+      failed = λ told failed. is.failed told new failed;
+    }
+
+  -- one whose rows go by the events before them
+  pub history_writes : {M C : Type 0} (Are : C → List TimedEvent → M → Type 0)
+      (rows : C → TimedEvent → List TimedEvent → List ℕ) (header : List ℕ) (setting : C)
+      (writer : W) (maker : M) (sink : RowSink W M)
+      → sinks.IsNewRowSink writer maker header sink → Are setting [] maker
+      → WritesRows writing (MakesHistory Are rows) (TellsHistory Are rows)
+      (λ told. header ++ rows_told (rows setting) [] told) writer sink
+  history_writes Are rows header setting writer maker sink is are = record {
     same = is.writer_is;
-    written = λ told took shown. gap_rows_are_written writing.adds writing.failures writer format
-        old new told is took shown;
-    failed = λ told failed. page_failed writer (text_of_gaps format told) old.page new.page
-        is.writer_is (gap_rows_failed writing.adds writing.failures writer format old new told is
-        failed);
+    written = λ told after took shown.
+        history_is_written Are rows writing.adds writing.failures writer maker header setting sink
+        after told is are took shown;
+    failed = λ told after failed.
+        page_failed writer (header ++ rows_told (rows setting) [] told) sink.page after.page
+        is.writer_is
+        (history_failed Are rows writing.adds writing.failures writer maker header setting sink
+        after told is are failed);
   }
-
-  abbrev pub periods_taking : SinkTaking (PeriodRows W)
-  periods_taking = record {
-    takes = TakesPeriods writing.adds writing.failures;
-    fails = FailsPeriods writing.adds writing.failures;
-  }
-
-  pub periods_write : (writer : W) (setting : PeriodSetting) (old new : PeriodRows W)
-      → IsNewPeriods writer setting old
-      → WritesText writing periods_taking (λ s. s.page.text.items ≡ []) (λ s. s.page.writer)
-      (text_of_periods setting.style setting.venues) writer old new
-  periods_write writer setting old new is =
-      let header = period_header setting.style.format in
-      record {
-        same = is.writer_is;
-        written = λ told took shown. history_is_written page_of ArePeriodsOf rows_in writing.adds
-            writing.failures writer header setting old new told is.writer_is is.header is.are took
-            shown;
-        failed = λ told failed. page_failed writer
-            (text_of_periods setting.style setting.venues told) old.page new.page is.writer_is
-            (history_failed page_of ArePeriodsOf rows_in writing.adds writing.failures header
-            setting old new told is.header is.are failed);
-      }
-
-  abbrev pub best_times_taking : SinkTaking (BestTimeRows W)
-  best_times_taking = record {
-    takes = TakesBestTimes writing.adds writing.failures;
-    fails = FailsBestTimes writing.adds writing.failures;
-  }
-
-  pub best_times_write : (writer : W) (setting : BestTimeSetting) (old new : BestTimeRows W)
-      → IsNewBestTimes writer setting old
-      → WritesText writing best_times_taking (λ s. s.page.text.items ≡ []) (λ s. s.page.writer)
-      (text_of_best_times setting) writer old new
-  best_times_write writer setting old new is =
-      let header = best_time_header setting.style.format in
-      record {
-        same = is.writer_is;
-        written = λ told took shown. history_is_written best_page_of AreBestTimesOf best_times_with
-            writing.adds writing.failures writer header setting old new told is.writer_is is.header
-            is.are took shown;
-        failed = λ told failed. page_failed writer (text_of_best_times setting told) old.page
-            new.page is.writer_is
-            (history_failed best_page_of AreBestTimesOf best_times_with writing.adds
-            writing.failures header setting old new told is.header is.are failed);
-      }
 
 -- ---- a replay to such a sink, of the events in a span
 
@@ -165,11 +129,11 @@ span_writes : {K W : Type 0} (writing : Writing W) (span : TimeSpan) (taking : S
     (writer : W) (old new : K)
     → WritesText writing taking Shown writer_of text writer old new
     → WritesText writing (taking_in span taking) Shown writer_of
-    (λ told. text (events_in span told)) writer old new
+    (λ told. text (span_events span told)) writer old new
 span_writes writing span taking Shown writer_of text writer old new writes = record {
   same = writes.same;
-  written = λ told took shown. writes.written (events_in span told) took shown;
-  failed = λ told failed. writes.failed (events_in span told) failed;
+  written = λ told took shown. writes.written (span_events span told) took shown;
+  failed = λ told failed. writes.failed (span_events span told) failed;
 }
 
 pub span_prints : {R S F W K : Type 0} (reading : Reading R) {writing : Writing W}
@@ -180,11 +144,11 @@ pub span_prints : {R S F W K : Type 0} (reading : Reading R) {writing : Writing 
     → WritesText writing taking Shown writer_of text writer old new
     → AnswersRun reading parsing (taking_in span taking) Shown config
     (facts_of_run config) from to start finish old new outcome
-    → PrintsEvents reading writing parsing config (λ told. text (events_in span told))
+    → PrintsEvents reading writing parsing config (λ told. text (span_events span told))
     from to start finish writer (writer_of new) outcome
 span_prints reading {writing} parsing config from to start finish outcome span taking {Shown}
     {writer_of} {text} {writer} old new writes run =
     sink_printed reading writing parsing config (facts_of_run config)
-    (taking_in span taking) Shown writer_of (λ told. text (events_in span told)) writer
+    (taking_in span taking) Shown writer_of (λ told. text (span_events span told)) writer
     old new (span_writes writing span taking Shown writer_of text writer old new writes)
     from to start finish outcome run

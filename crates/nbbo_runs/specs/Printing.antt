@@ -1,5 +1,5 @@
 -- What is printed of a replay.
-use Rattle.std.specs.Prelude.{◌≡◌, ⊤, ℕ, ◌+◌, Bool, List, [], IsOkAnd, OnOk, Result, Ok, Err}
+use Rattle.std.specs.Prelude.{◌≡◌, ⊤, ℕ, ◌+◌, ◌*◌, Bool, false, List, [], IsOkAnd, OnOk, Result, Ok, Err}
 use Rattle.std.specs.Result.{result_and}
 use Rattle.run_settings.specs.declared.formats.RowFormat.{RowFormat}
 use Rattle.run_settings.specs.declared.formats.StatsFormat.{StatsFormat}
@@ -15,11 +15,13 @@ use Rattle.feed_text.specs.declared.lack.Lack.{Lack}
 use Rattle.feed_text.specs.ReplayStates.{SinkTaking}
 use Rattle.feed_text.specs.Replays.{text_told}
 use Rattle.feed_text.specs.SinkEvents.{TimedEvent}
-use Rattle.replay_reports.specs.best_times.BestTimeTexts.{text_of_best_times}
+use Rattle.period_rows.specs.BestRows.{text_of_bests}
+use Rattle.period_rows.specs.CountRows.{text_of_counts}
 use Rattle.replay_reports.specs.gaps.GapTexts.{text_of_gaps}
-use Rattle.replay_reports.specs.periods.PeriodTexts.{text_of_periods}
 use Rattle.replay_reports.specs.rows.RowSinks.{text_of_rows}
-use Rattle.replay_reports.specs.spans.SpanEvents.{events_in}
+use Rattle.report_rows.specs.RowSinks.{FailsRows, IsNewRowSink, TakesRows}
+use Rattle.report_rows.specs.SpanEvents.{events_in}
+use Rattle.report_rows.specs.declared.row_sink.RowSink.{RowSink}
 use Rattle.replay_reports.specs.Texts.{IsTextOfTimes}
 use Rattle.replay_run.specs.Printed.{facts_of_run}
 use Rattle.run_settings.specs.declared.run_output.RunOutput.{RunOutput}
@@ -41,11 +43,15 @@ printing writing text_of = record {
       × (writing.failures after ≡ writing.failures before + 1);
 }
 
+-- of the events of a replay those of a span, and those before it as such
+abbrev pub span_events : TimeSpan → List TimedEvent → List TimedEvent
+span_events span told = events_in span false told
+
 -- A sink takes of the events those in a span, and those before it as such.
 abbrev pub taking_in : {K : Type 0} → TimeSpan → SinkTaking K → SinkTaking K
 taking_in span taking = record {
-  takes = λ before told after. taking.takes before (events_in span told) after;
-  fails = λ before told after. taking.fails before (events_in span told) after;
+  takes = λ before told after. taking.takes before (span_events span told) after;
+  fails = λ before told after. taking.fails before (span_events span told) after;
 }
 
 -- A replay was printed as it went on: what the writer took is the text of the events of a run of
@@ -57,6 +63,28 @@ abbrev pub PrintsEvents : {R S F W : Type 0} (reading : Reading R) (writing : Wr
 PrintsEvents reading writing parsing config text_of from to start finish before after outcome =
     AnswersRun reading parsing (printing writing text_of) (λ output. ⊤)
     config (facts_of_run config) from to start finish before after outcome
+
+-- A new sink of rows prints this text of events: where it shows all that it took, the writer took the
+-- text of the events, and where it failed, a front of it.
+pub record WritesRows {W M : Type 0} (writing : Writing W)
+    (makes : M → List TimedEvent → List ℕ → M → Type 0)
+    (tells : M → List TimedEvent → List ℕ → Type 0) (text_of : List TimedEvent → List ℕ)
+    (writer : W) (sink : RowSink W M) : Type 0 where
+  pub same : sink.page.writer ≡ writer
+  pub written : (told : List TimedEvent) (after : RowSink W M)
+      → TakesRows makes writing.adds writing.failures sink told after
+      → after.page.text.items ≡ [] → writing.adds writer (text_of told) after.page.writer
+  pub failed : (told : List TimedEvent) (after : RowSink W M)
+      → FailsRows tells writing.adds writing.failures sink told after
+      → Wrote writing.adds writer (text_of told) after.page.writer
+      × (writing.failures after.page.writer ≡ writing.failures writer + 1)
+
+-- A sink of rows that was made before a writer: nothing came to its maker, whose rows go by the
+-- events before them, and the header waits.
+pub record IsSinkBefore {W M C : Type 0} (Are : C → List TimedEvent → M → Type 0)
+    (header : List ℕ) (setting : C) (writer : W) (sink : RowSink W M) : Type 0 where
+  pub is : IsNewRowSink writer sink.maker header sink
+  pub are : Are setting [] sink.maker
 
 -- ---- statistics
 
@@ -136,36 +164,41 @@ PrintsAllRows reading writing S F parsing config =
 abbrev pub PrintsBestRows : {R W : Type 0} → Reading R → Writing W → RowStyle → TimeSpan
     → Output R W
 PrintsBestRows reading writing style span S F parsing config =
-    PrintsEvents reading writing parsing config (λ told. text_of_rows style (events_in span told))
+    PrintsEvents reading writing parsing config (λ told. text_of_rows style (span_events span told))
 
 -- the statistics of the events in a span, `timed` where the records have times
 abbrev pub PrintsStatistics : {R W : Type 0} → Reading R → Writing W → StatsFormat → Bool
     → TimeSpan → Output R W
 PrintsStatistics reading writing format timed span S F parsing config =
     PrintsFigures reading writing parsing config
-    (λ told. IsStatsText config format timed (events_in span told))
+    (λ told. IsStatsText config format timed (span_events span told))
+
+-- the rows of a sink, of the events in a span
+abbrev pub PrintsRows : {R W : Type 0} → Reading R → Writing W → (List TimedEvent → List ℕ)
+    → TimeSpan → Output R W
+PrintsRows reading writing text_of span S F parsing config =
+    PrintsEvents reading writing parsing config (λ told. text_of (span_events span told))
 
 -- the rows of the gaps in a span
 abbrev pub PrintsGapRows : {R W : Type 0} → Reading R → Writing W → RowFormat → TimeSpan
     → Output R W
-PrintsGapRows reading writing format span S F parsing config =
-    PrintsEvents reading writing parsing config (λ told. text_of_gaps format (events_in span told))
+PrintsGapRows reading writing format span = PrintsRows reading writing (text_of_gaps format) span
 
 -- the rows of the periods in a span
 abbrev pub PrintsPeriods : {R W : Type 0} → Reading R → Writing W → PeriodStyle → TimeSpan
     → Output R W
 PrintsPeriods reading writing style span S F parsing config =
-    PrintsEvents reading writing parsing config
-    (λ told. text_of_periods style (venues_in config) (events_in span told))
+    PrintsRows reading writing
+    (text_of_counts (record { style = style; lines = 2 * venues_in config })) span S F parsing config
 
 -- the rows of how long national bests stood in the periods of a span
 abbrev pub PrintsBestTimes : {R W : Type 0} → Reading R → Writing W → PeriodStyle → TimeSpan
     → Output R W
 PrintsBestTimes reading writing style span S F parsing config =
-    PrintsEvents reading writing parsing config
-    (λ told. text_of_best_times
-    (record { style = style; venues = venues_in config; symbols = config.symbols.now })
-    (events_in span told))
+    PrintsRows reading writing
+    (text_of_bests
+    (record { style = style; venues = venues_in config; symbols = config.symbols.now })) span
+    S F parsing config
 
 -- The output that is asked for. Rows of best lines and statistics are `timed` where the records
 -- have times.

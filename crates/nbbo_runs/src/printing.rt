@@ -102,7 +102,7 @@ fn rows_before<W>(alloc: Global, style: RowStyle, output: W) -> Result<BestRows<
 
 /// Replays a capture, and prints the rows of its best lines in a style. Returns the output beside
 /// the outcome. What is missing at the end is left in `missing`.
-fn print_rows<R: CaptureIn, F: RecordFormat, W: TextOut>(
+fn print_bests<R: CaptureIn, F: RecordFormat, W: TextOut>(
     alloc: Global,
     config: &RunConfig<'_>,
     style: RowStyle,
@@ -136,160 +136,83 @@ fn print_rows<R: CaptureIn, F: RecordFormat, W: TextOut>(
     }
 }
 
-/// The rows of gaps, before the output. Where memory is refused the output is returned.
-fn gaps_before<W>(alloc: Global, format: RowFormat, output: W) -> Result<GapRows<W>, W>
-    ensures rows { IfOk result (IsNewGapRows output format) }
-    ensures refused { IfErr result (λ back. back ≡ output) }
-{
-    match page_before(alloc, output) {
-        Ok(page) => Ok(GapRows::new(page, format)),
-        Err(output) => Err(output),
-    }
-}
-
-/// Replays a capture, and prints the rows of its gaps in a format. Returns the output beside the
-/// outcome. What is missing at the end is left in `missing`.
-fn print_gaps<R: CaptureIn, F: RecordFormat, W: TextOut>(
-    alloc: Global,
-    config: &RunConfig<'_>,
-    rows: RowFormat,
-    format: &mut F,
-    input: &mut R,
-    output: W,
-    missing: &mut Missing,
-) -> Replayed<W, F::Fault>
-    requires can { CanReplay config.now.replay }
-    requires of_venues { F.venues format.old ≡ venues_in config.now.replay }
-    ensures { PrintsWatched
-        (record { gives = R.gives; ends = R.ends; failures = R.failures; fails = R.fails })
-        (record { reads = F.reads; wants = F.wants; is_bad = F.is_bad; is_whole = F.is_whole })
-        (PrintsGapRows
-        (record { gives = R.gives; ends = R.ends; failures = R.failures; fails = R.fails })
-        (record { adds = W.adds; failures = W.failures })
-        rows config.now.span)
-        config.now.replay
-        input.old input.new format.old format.new output result.sink missing.old missing.new
-        result.outcome }
-{
-    match gaps_before(alloc, rows, output) {
-        Ok(rows) => {
-            let replayed = replay_in_span(alloc, config, format, input, rows, missing);
-            Replayed {
-                sink: replayed.sink.into_writer(),
-                outcome: replayed.outcome,
-            }
-        }
-        Err(output) => without_memory(output),
-    }
-}
-
-/// The rows of the periods of the venues, before the output. Where memory is refused the output is
-/// returned.
-fn periods_before<W>(
+/// Makes the rows of the periods of the venues, before the output. Where memory is refused the
+/// output is returned.
+fn counts_before<W>(
     alloc: Global,
     config: &RunConfig<'_>,
     style: PeriodStyle,
     output: W,
-) -> Result<PeriodRows<W>, W>
-    ensures rows { IfOk result (IsNewPeriods output
-        (record { style = style; venues = venues_in config.now.replay })) }
+) -> Result<RowSink<W, PeriodCounter>, W>
+    requires { venues_in config.now.replay ≤ 16 }
+    ensures rows { IfOk result (IsSinkBefore AreCounts
+        (header_text style.format (count_names style.format))
+        (record { style = style; lines = 2 * venues_in config.now.replay }) output) }
     ensures refused { IfErr result (λ back. back ≡ output) }
 {
-    let Ok(counts) = PeriodCounts::new(alloc, config.replay.sessions.len()) else {
-        return Err(output);
-    };
     match page_before(alloc, output) {
-        Ok(page) => Ok(PeriodRows::new(page, style, counts)),
+        Ok(page) => Ok(new_count_rows(page, style, config.replay.sessions.len())),
         Err(output) => Err(output),
     }
 }
 
-/// Replays a capture, and prints the rows of its periods in a style. Returns the output beside the
-/// outcome. What is missing at the end is left in `missing`.
-fn print_periods<R: CaptureIn, F: RecordFormat, W: TextOut>(
-    alloc: Global,
-    config: &RunConfig<'_>,
-    style: PeriodStyle,
-    format: &mut F,
-    input: &mut R,
-    output: W,
-    missing: &mut Missing,
-) -> Replayed<W, F::Fault>
-    requires can { CanReplay config.now.replay }
-    requires of_venues { F.venues format.old ≡ venues_in config.now.replay }
-    ensures { PrintsWatched
-        (record { gives = R.gives; ends = R.ends; failures = R.failures; fails = R.fails })
-        (record { reads = F.reads; wants = F.wants; is_bad = F.is_bad; is_whole = F.is_whole })
-        (PrintsPeriods
-        (record { gives = R.gives; ends = R.ends; failures = R.failures; fails = R.fails })
-        (record { adds = W.adds; failures = W.failures })
-        style config.now.span)
-        config.now.replay
-        input.old input.new format.old format.new output result.sink missing.old missing.new
-        result.outcome }
-{
-    match periods_before(alloc, config, style, output) {
-        Ok(rows) => {
-            let replayed = replay_in_span(alloc, config, format, input, rows, missing);
-            Replayed {
-                sink: replayed.sink.into_writer(),
-                outcome: replayed.outcome,
-            }
-        }
-        Err(output) => without_memory(output),
-    }
-}
-
-/// The rows of how long national bests stood, before the output. Where memory is refused the output
-/// is returned.
+/// Makes the rows of how long national bests stood, before the output. Where memory is refused the
+/// output is returned.
 fn best_times_before<W>(
     alloc: Global,
     config: &RunConfig<'_>,
     style: PeriodStyle,
     output: W,
-) -> Result<BestTimeRows<W>, W>
-    ensures rows { IfOk result (IsNewBestTimes output (record {
-      style = style;
-      venues = venues_in config.now.replay;
-      symbols = config.now.replay.symbols.now;
-    })) }
+) -> Result<RowSink<W, BestMaker>, W>
+    requires distinct { IsDistinct bytes_eq config.now.replay.symbols.now }
+    ensures rows { IfOk result (IsSinkBefore AreBests
+        (header_text style.format (best_names style.format))
+        (record {
+          style = style;
+          venues = venues_in config.now.replay;
+          symbols = config.now.replay.symbols.now;
+        }) output) }
     ensures refused { IfErr result (λ back. back ≡ output) }
 {
-    let Ok(times) = new_times(alloc, config.replay.symbols) else {
+    let venues = config.replay.sessions.len();
+    let Ok(maker) = BestMaker::new(alloc, style, venues, config.replay.symbols) else {
         return Err(output);
     };
-    let venues = config.replay.sessions.len();
     match page_before(alloc, output) {
-        Ok(page) => Ok(BestTimeRows::new(page, style, venues, times)),
+        Ok(page) => Ok(new_best_rows(page, maker)),
         Err(output) => Err(output),
     }
 }
 
-/// Replays a capture, and prints the rows of how long national bests stood in its periods in a
-/// style. Returns the output beside the outcome. What is missing at the end is left in `missing`.
-fn print_best_times<R: CaptureIn, F: RecordFormat, W: TextOut>(
+/// Replays a capture, and prints the rows of a sink that was made before the output, or wasn't, for
+/// want of memory. Returns the output beside the outcome. What is missing at the end is left in
+/// `missing`.
+fn print_rows<R: CaptureIn, F: RecordFormat, W: TextOut, M: RowMaker + Drop>(
     alloc: Global,
     config: &RunConfig<'_>,
-    style: PeriodStyle,
+    made: Result<RowSink<W, M>, W>,
     format: &mut F,
     input: &mut R,
-    output: W,
     missing: &mut Missing,
 ) -> Replayed<W, F::Fault>
     requires can { CanReplay config.now.replay }
     requires of_venues { F.venues format.old ≡ venues_in config.now.replay }
-    ensures { PrintsWatched
+    ensures { (text_of : List TimedEvent → List ℕ) (output : W)
+        → IfOk made (WritesRows (record { adds = W.adds; failures = W.failures })
+        M.makes M.tells text_of output)
+        → IfErr made (λ back. back ≡ output)
+        → PrintsWatched
         (record { gives = R.gives; ends = R.ends; failures = R.failures; fails = R.fails })
         (record { reads = F.reads; wants = F.wants; is_bad = F.is_bad; is_whole = F.is_whole })
-        (PrintsBestTimes
+        (PrintsRows
         (record { gives = R.gives; ends = R.ends; failures = R.failures; fails = R.fails })
         (record { adds = W.adds; failures = W.failures })
-        style config.now.span)
+        text_of config.now.span)
         config.now.replay
         input.old input.new format.old format.new output result.sink missing.old missing.new
         result.outcome }
 {
-    match best_times_before(alloc, config, style, output) {
+    match made {
         Ok(rows) => {
             let replayed = replay_in_span(alloc, config, format, input, rows, missing);
             Replayed {
@@ -394,13 +317,15 @@ pub fn print<R: CaptureIn, F: RecordFormat, W: TextOut>(
                 format: rows,
                 timed,
             };
-            print_rows(alloc, &config, style, format, input, output, missing)
+            print_bests(alloc, &config, style, format, input, output, missing)
         }
         RunOutput::Periods(style) => {
-            print_periods(alloc, &config, style, format, input, output, missing)
+            let made = counts_before(alloc, &config, style, output);
+            print_rows(alloc, &config, made, format, input, missing)
         }
         RunOutput::BestTimes(style) => {
-            print_best_times(alloc, &config, style, format, input, output, missing)
+            let made = best_times_before(alloc, &config, style, output);
+            print_rows(alloc, &config, made, format, input, missing)
         }
         RunOutput::Stats(form) => {
             let venues = config.replay.sessions.len();

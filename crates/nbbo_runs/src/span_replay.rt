@@ -8,7 +8,7 @@ ghost use Rattle.nbbo_runs.specs.Printing.{LeavesMissing, taking_in};
 use crate::config::RunConfig;
 use crate::watched_sink::{Missing, replay_watched};
 use feed_text::{CaptureIn, RecordFormat, Replayed};
-use replay_reports::{SpanSink, SpannedSink};
+use report_rows::{SpanSink, SpannedSink};
 use std::alloc::Global;
 
 /// Reads a capture of a format to its end, and gives a sink the events in the span, those before it
@@ -41,10 +41,7 @@ pub(crate) fn replay_in_span<R: CaptureIn, F: RecordFormat, K: SpannedSink>(
     if !config.span.is_bounded() {
         return replay_watched(alloc, &config.replay, format, input, sink, missing);
     }
-    let sink = SpanSink {
-        sink,
-        span: config.span,
-    };
+    let sink = SpanSink::new(sink, config.span);
     let replayed = replay_watched(alloc, &config.replay, format, input, sink, missing);
     Replayed {
         sink: replayed.sink.sink,

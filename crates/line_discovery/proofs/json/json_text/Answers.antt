@@ -13,7 +13,7 @@ returns c =
     let others = rows_of counts.others in
     let rows = rows_of counts.lines in
     c.in_ok-put_json.ensures
-    ∙ ap (λ (t : List ℕ). Text t others c.rows.result.now c.rest_of-rest.result)
+    ∙ ap (λ (t : List ℕ). Text t others c.rows-rows.result.now c.rest_of-rest.result)
     c.new-text.ensures.items
-    ∙ ap (λ (rs : List LineRow). Text [] others rs c.rest_of-rest.result) c.rows.ensures
+    ∙ ap (λ (rs : List LineRow). Text [] others rs c.rest_of-rest.result) c.rows-rows.ensures
     ∙ ap (λ (rest : SurveyRest). Text [] others rows rest) c.rest_of-rest.ensures

@@ -1,7 +1,7 @@
 use Rattle.feed_text.specs.Devices.{Reading, Writing}
 use Rattle.feed_text.specs.Formats.{Parsing}
 use Rattle.nbbo_runs.proofs.SinkPrints.{rows_taking, rows_write, span_prints}
-use Rattle.nbbo_runs.proofs.printing.print_rows.Goals as goal
+use Rattle.nbbo_runs.proofs.printing.print_bests.Goals as goal
 
 pub returns-in-Ok : goal.returns-in-Ok
 returns-in-Ok g c =

@@ -1,11 +1,11 @@
+use Rattle.std.proofs.Common.{refl, ◌∙◌}
 use Rattle.feed_text.specs.Devices.{Reading, Writing}
 use Rattle.feed_text.specs.Formats.{Parsing}
-use Rattle.feed_text.specs.EventReplays.{venues_in}
-use Rattle.nbbo_runs.proofs.SinkPrints.{best_times_taking, best_times_write, span_prints}
-use Rattle.nbbo_runs.proofs.printing.print_best_times.Goals as goal
+use Rattle.nbbo_runs.proofs.SinkPrints.{sink_taking, sink_writes, span_prints}
+use Rattle.nbbo_runs.proofs.printing.print_rows.Goals as goal
 
 pub returns-in-Ok : goal.returns-in-Ok
-returns-in-Ok g c =
+returns-in-Ok g c = λ text_of output writes back.
     let reading : Reading g.row.R.Denot = record {
       gives = g.R.CaptureIn.gives;
       ends = g.R.CaptureIn.ends;
@@ -20,18 +20,22 @@ returns-in-Ok g c =
     } in
     let writing : Writing g.row.W.Denot =
     record { adds = g.W.TextOut.adds; failures = g.W.TextOut.failures } in
-    let config = c.args.config.now.replay in
+    let makes = g.M.RowMaker.makes in
+    let tells = g.M.RowMaker.tells in
     let rows = c.in-Ok.rows in
     let replayed = c.replay_in_span-replayed in
     rw c.into_writer.ensures (record {
       prints = span_prints reading parsing c.args.config.now.replay _ _ _ _
-          replayed.result.outcome c.args.config.now.span (best_times_taking writing) rows
+          replayed.result.outcome c.args.config.now.span (sink_taking writing makes tells) rows
           replayed.result.sink
-          (best_times_write writing c.args.output (record {
-            style = c.args.style;
-            venues = venues_in config;
-            symbols = config.symbols.now;
-          }) rows replayed.result.sink c.in-Ok.ensures.rows)
+          (sink_writes writing makes tells text_of output rows replayed.result.sink
+          (rw c.in-Ok.is at writes))
           replayed.ensures.run;
       missing = replayed.ensures.missing;
     })
+
+pub returns-in-Err : goal.returns-in-Err
+returns-in-Err g c = λ text_of output writes back. rw c.without_memory.ensures.outcome (record {
+  prints = (refl, refl, c.without_memory.ensures.output ∙ (rw c.in-Err.is at back));
+  missing = record { lacks = tt; absent = tt };
+})
