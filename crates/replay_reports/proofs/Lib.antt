@@ -1,15 +1,7 @@
-pub mod Adding
-pub mod Placing
 pub mod Leading
 pub mod Noting
 pub mod Sharing
 pub mod Places
-pub mod Holding
-pub mod Losing
+pub mod Counting
 pub mod Timed
-pub mod Putting
-pub mod TakingGaps
-pub mod PeriodCounting
-pub mod PeriodWriting
-pub mod HoldingBests
-pub mod BestWriting
+pub mod Statistics

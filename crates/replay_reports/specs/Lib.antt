@@ -1,9 +1,5 @@
 pub mod rows
 pub mod counts
 pub mod times
-pub mod gaps
-pub mod periods
-pub mod best_times
-pub mod spans
-pub mod Texts
-pub mod TextLaws
+pub mod stats
+pub mod report

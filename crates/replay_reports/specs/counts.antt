@@ -1,8 +1,2 @@
--- Counts of events, and their text.
+-- Counts of events.
 pub mod Counts
-pub mod Stats
-pub mod Sinks
-pub mod StatsLaws
-pub mod Pieces
-pub mod Json
-pub mod Table

@@ -1,20 +1,8 @@
--- How packets run in time, and its text.
+-- How packets run in time.
 pub mod Figures
-pub mod Rates
 pub mod Places
 pub mod Durations
+pub mod DurationStats
 pub mod Leads
-pub mod Spells
-pub mod Heard
-pub mod Brought
-pub mod Extents
-pub mod Numbers
-pub mod Losses
 pub mod Timing
-pub mod TimedSinks
-pub mod TimedLaws
-pub mod TimeFigures
-pub mod TimesJson
-pub mod TimesTable
-pub mod LossesJson
-pub mod LossesTable
+pub mod VenueTiming

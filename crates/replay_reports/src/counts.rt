@@ -1,9 +1,6 @@
-//! Statistics of a replay: its events, counted.
+//! Counts of a replay's events.
 
-pub(crate) mod gap_stats;
-pub(crate) mod json;
-pub(crate) mod line_stats;
-pub(crate) mod pieces;
-pub(crate) mod stats;
-pub(crate) mod table;
-pub(crate) mod venue_stats;
+pub(crate) mod best_counts;
+pub(crate) mod item_counts;
+pub(crate) mod line_counts;
+pub(crate) mod venue_counts;

@@ -1,24 +1,32 @@
--- What is counted of a replay's events. A count stays at 2^64 - 1 once it is there.
-use Rattle.std.specs.Prelude.{ℕ, ◌+◌, ◌-◌, Bool, true, false, ◌==◌, List, length, map, fold, max, min, nat_lt, Some, None, Ok, Err, if◌then◌else◌}
+-- What is counted of a replay's events. A count stays at 2^64 - 1 once it is there. Of a list of
+-- events the last one stands first.
+use Rattle.std.specs.Prelude.{ℕ, zero, suc, ◌+◌, ◌==◌, Bool, true, false, List, [], ◌∷◌, length, Option, Some, None, Ok, Err}
 use Rattle.std.specs.List.{count_by, sum_by, filter}
+use Rattle.feed_types.specs.Nationals.{state_of}
 use Rattle.feed_types.specs.declared.item.Item.{Item}
 use Rattle.feed_types.specs.declared.item.Item.TheVariants as items
 use Rattle.feed_types.specs.declared.line.LineId.{LineId}
 use Rattle.feed_types.specs.declared.line.LineId.TheVariants.{A, B, Recovery}
+use Rattle.feed_types.specs.declared.national.Best.{Best}
+use Rattle.feed_types.specs.declared.national.NationalState.{NationalState}
+use Rattle.feed_types.specs.declared.national.NationalState.TheVariants.{Empty, OneSided, Normal, Locked, Crossed}
 use Rattle.mold_packet.specs.Faults.{code_of}
 use Rattle.line_arbiter.specs.Codes.{line_fault_code}
 use Rattle.line_arbiter.specs.declared.outcome.Outcome.{Outcome}
 use Rattle.line_arbiter.specs.declared.outcome.Outcome.TheVariants.{Taken, Heartbeat, Ended, Ahead}
 use Rattle.line_arbiter.specs.Streams.{is_same_line}
-use Rattle.feed_types.specs.FullCounts.{count_after}
-use Rattle.feed_text.specs.SinkEvents.{SinkEvent, told_packet, told_refusal, told_item, told_renewal, told_skip, told_declaration, told_before}
-use Rattle.replay_reports.specs.declared.counts.line_stats.LineStats.{LineStats}
-use Rattle.replay_reports.specs.declared.counts.line_stats.Refusals.{Refusals}
-use Rattle.replay_reports.specs.declared.counts.gap_stats.SequenceStats.{SequenceStats}
-use Rattle.replay_reports.specs.declared.counts.gap_stats.GapStats.{GapStats}
-use Rattle.replay_reports.specs.declared.counts.venue_stats.ItemStats.{ItemStats}
-use Rattle.replay_reports.specs.declared.counts.venue_stats.SessionStats.{SessionStats}
-use Rattle.replay_reports.specs.declared.counts.venue_stats.VenueStats.{VenueStats}
+use Rattle.feed_text.specs.SinkEvents.{SinkEvent, told_packet, told_refusal, told_item, told_best, told_renewal, told_skip, told_declaration}
+use Rattle.replay_reports.specs.declared.counts.line_counts.LineCounts.{LineCounts}
+use Rattle.replay_reports.specs.declared.counts.item_counts.ItemCounts.{ItemCounts}
+use Rattle.replay_reports.specs.declared.counts.best_counts.BestCounts.{BestCounts}
+use Rattle.replay_reports.specs.declared.counts.best_counts.StateCounts.{StateCounts}
+use Rattle.replay_reports.specs.declared.counts.venue_counts.VenueCounts.{VenueCounts}
+use Rattle.replay_reports.specs.times.Figures.{capped}
+
+-- a value for each of so many places, from a place on
+unfoldable pub each_place : (count place : ℕ) → (ℕ → ℕ) → List ℕ
+each_place zero place f = []
+each_place (suc count) place f = f place ∷ each_place count (place + 1) f
 
 -- ---- a line: its datagrams, by their answers
 
@@ -59,37 +67,25 @@ abbrev pub bytes_in : SinkEvent → ℕ
 bytes_in (told_packet venue on number count bytes answer) = bytes
 bytes_in _ = 0
 
--- the code of the fault for which it was refused, 0 where it wasn't
-abbrev pub refusal_code : SinkEvent → ℕ
-refusal_code (told_packet venue on number count bytes (Err fault)) = line_fault_code fault
-refusal_code (told_refusal venue on fault) = code_of fault
-refusal_code _ = 0
+-- it was refused for the fault of this code
+abbrev pub is_refused : ℕ → SinkEvent → Bool
+is_refused code (told_packet venue on number count bytes (Err fault)) =
+    line_fault_code fault == code
+is_refused code (told_refusal venue on fault) = code_of fault == code
+is_refused code _ = false
 
-abbrev pub refused_after : Refusals → List ℕ → Refusals
-refused_after s codes = record {
-  short_header = count_after s.short_header (count_by (λ code. code == 1) codes);
-  truncated_block = count_after s.truncated_block (count_by (λ code. code == 2) codes);
-  zero_sequence = count_after s.zero_sequence (count_by (λ code. code == 3) codes);
-  sequence_overflow = count_after s.sequence_overflow (count_by (λ code. code == 4) codes);
-  other_session = count_after s.other_session (count_by (λ code. code == 7) codes);
-  past_end = count_after s.past_end (count_by (λ code. code == 8) codes);
-  end_moved = count_after s.end_moved (count_by (λ code. code == 9) codes);
-  end_too_early = count_after s.end_too_early (count_by (λ code. code == 10) codes);
-  conflict = count_after s.conflict (count_by (λ code. code == 11) codes);
-}
-
--- the counts of a line after these datagrams of it
-abbrev pub line_after : LineStats → List SinkEvent → LineStats
-line_after s datagrams = record {
-  packets = count_after s.packets (length datagrams);
-  bytes = count_after s.bytes (sum_by bytes_in datagrams);
-  taken = count_after s.taken (count_by is_taken_packet datagrams);
-  first = count_after s.first (sum_by first_in datagrams);
-  repeated = count_after s.repeated (sum_by repeated_in datagrams);
-  heartbeats = count_after s.heartbeats (count_by is_heartbeat datagrams);
-  ends = count_after s.ends (count_by is_end_packet datagrams);
-  ahead = count_after s.ahead (count_by is_ahead_packet datagrams);
-  refused = refused_after s.refused (map refusal_code datagrams);
+-- the counts of a line that had these datagrams
+abbrev pub line_counts : List SinkEvent → LineCounts
+line_counts datagrams = record {
+  packets = capped (length datagrams);
+  bytes = capped (sum_by bytes_in datagrams);
+  taken = capped (count_by is_taken_packet datagrams);
+  first = capped (sum_by first_in datagrams);
+  repeated = capped (sum_by repeated_in datagrams);
+  heartbeats = capped (count_by is_heartbeat datagrams);
+  ends = capped (count_by is_end_packet datagrams);
+  ahead = capped (count_by is_ahead_packet datagrams);
+  refused = each_place 12 0 (λ code. capped (count_by (is_refused code) datagrams));
 }
 
 -- ---- a venue: its items
@@ -120,125 +116,20 @@ abbrev pub is_item : (Item → Bool) → SinkEvent → Bool
 is_item of_kind (told_item venue numbered) = of_kind numbered.item
 is_item of_kind _ = false
 
--- the number of the last item: that of this one, or else the one so far
-abbrev pub last_number_after : ℕ → SinkEvent → ℕ
-last_number_after last (told_item venue numbered) = numbered.number
-last_number_after last _ = last
+-- the number of the last item, 0 where there is none
+abbrev pub last_number : List SinkEvent → ℕ
+last_number [] = 0
+last_number (told_item venue numbered ∷ earlier) = numbered.number
+last_number (last ∷ earlier) = last_number earlier
 
-abbrev pub items_after : ItemStats → List SinkEvent → ItemStats
-items_after s events = record {
-  quotes = count_after s.quotes (count_by (is_item is_quote_item) events);
-  halts = count_after s.halts (count_by (is_item is_halt_item) events);
-  resumptions = count_after s.resumptions (count_by (is_item is_trading_item) events);
-  others = count_after s.others (count_by (is_item is_other_item) events);
-  ends = count_after s.ends (count_by (is_item is_end_item) events);
-  last = fold last_number_after s.last events;
-}
-
--- how many messages an item stands for that were given up, after the session's item of the number
--- `last`
-abbrev pub given_up_after : ℕ → ℕ → Item → ℕ
-given_up_after last number items.Skipped = number - last
-given_up_after last number _ = 0
-
--- the highest number that was told of, once a packet tells of this last one: the end of a session
--- says
--- which is its last
-abbrev pub highest_after : Outcome → ℕ → ℕ → ℕ
-highest_after Ended highest last = last
-highest_after _ highest last = max highest last
-
--- how many of the messages that came first with a packet have numbers past this one, at most
-abbrev pub new_past : ℕ → ℕ → ℕ → ℕ → ℕ
-new_past before number count new = min new (count - min count (before + 1 - number))
-
--- The present session after one more event: a packet brings messages first, an item Skipped stands
--- for those that were given up, and with a next session numbers begin anew. Of messages that were
--- told of before, none counts.
-abbrev pub session_told : SessionStats → SinkEvent → SessionStats
-session_told s (told_packet venue on number count bytes (Ok (Taken new repeated))) =
-    record s { come = count_after s.come (new_past s.before number count new) }
-session_told s (told_item venue numbered) = record s {
-  last = numbered.number;
-  come = count_after s.come
-      (given_up_after (max s.last s.before) numbered.number numbered.item);
-  given_up = count_after s.given_up (given_up_after s.last numbered.number numbered.item);
-}
-session_told s (told_renewal venue (Ok ordinal)) = record s { before = 0; last = 0; come = 0 }
-session_told s _ = s
-
--- the same after an event before all that is counted: what it tells of was told of before
-abbrev pub session_begun : SessionStats → SinkEvent → SessionStats
-session_begun s (told_packet venue on number count bytes (Ok outcome)) =
-    record s { before = highest_after outcome s.before (count_after (number - 1) count) }
-session_begun s (told_skip venue number (Ok done)) =
-    record s { before = max s.before (number - 1) }
-session_begun s (told_item venue numbered) = record s { last = numbered.number }
-session_begun s (told_renewal venue (Ok ordinal)) = record s { before = 0; last = 0; come = 0 }
-session_begun s _ = s
-
--- an event that is told as one before counts as such until messages came
-abbrev pub session_after : SessionStats → SinkEvent → SessionStats
-session_after s (told_before event) =
-    if s.come == 0 then session_begun s event else session_told s event
-session_after s event = session_told s event
-
--- ---- gaps: messages that packets' numbers pass over
-
--- the number that comes next, where all comes in order
-abbrev pub expected_in : SequenceStats → ℕ
-expected_in s = s.highest + 1
-
--- The sequence after a packet with this many messages from a number on: what it leaves out is what
--- is between the next number and its own, and what it brings again is below the next number.
-abbrev pub sequence_heard : SequenceStats → ℕ → ℕ → Outcome → SequenceStats
-sequence_heard s number count outcome = record {
-  begun = true;
-  highest = highest_after outcome s.highest (count_after (number - 1) count);
-  found = count_after s.found (if nat_lt (expected_in s) number then 1 else 0);
-  left_out = count_after s.left_out (number - expected_in s);
-  longest = max s.longest (number - expected_in s);
-  again = count_after s.again (min count (expected_in s - number));
-}
-
--- The sequence after one more event. A packet that is refused tells nothing, a next session begins
--- at 1, and after a skip to a number a sequence of which nothing came begins there.
-abbrev pub sequence_told : SequenceStats → SinkEvent → SequenceStats
-sequence_told s (told_packet venue on number count bytes (Ok outcome)) =
-    sequence_heard s number count outcome
-sequence_told s (told_renewal venue (Ok ordinal)) = record s { begun = false; highest = 0 }
-sequence_told s (told_skip venue number (Ok done)) =
-    record s { highest = if s.begun then s.highest else number - 1 }
-sequence_told s _ = s
-
--- after a packet before all that is counted, which says which number comes next
-abbrev pub sequence_begun : SequenceStats → ℕ → ℕ → Outcome → SequenceStats
-sequence_begun s number count outcome = record s {
-  begun = true;
-  highest = highest_after outcome s.highest (count_after (number - 1) count);
-}
-
--- the same after an event that is counted, or is one before
-abbrev pub sequence_after : SequenceStats → SinkEvent → SequenceStats
-sequence_after s (told_before (told_packet venue on number count bytes (Ok outcome))) =
-    sequence_begun s number count outcome
-sequence_after s (told_before event) = sequence_told s event
-sequence_after s event = sequence_told s event
-
--- it is no packet of another line
-abbrev pub concerns_line : LineId → SinkEvent → Bool
-concerns_line line (told_packet venue on number count bytes answer) = is_same_line on line
-concerns_line line (told_before event) = concerns_line line event
-concerns_line line _ = true
-
-abbrev pub line_sequence_after : LineId → SequenceStats → List SinkEvent → SequenceStats
-line_sequence_after line s events = fold sequence_after s (filter (concerns_line line) events)
-
-abbrev pub gaps_after : GapStats → List SinkEvent → GapStats
-gaps_after s events = record {
-  a = line_sequence_after A s.a events;
-  b = line_sequence_after B s.b events;
-  all = fold sequence_after s.all events;
+abbrev pub item_counts : List SinkEvent → ItemCounts
+item_counts events = record {
+  quotes = capped (count_by (is_item is_quote_item) events);
+  halts = capped (count_by (is_item is_halt_item) events);
+  resumptions = capped (count_by (is_item is_trading_item) events);
+  others = capped (count_by (is_item is_other_item) events);
+  ends = capped (count_by (is_item is_end_item) events);
+  last = last_number events;
 }
 
 -- ---- a venue: all of it
@@ -271,27 +162,79 @@ abbrev pub is_already_so : SinkEvent → Bool
 is_already_so (told_declaration venue on None) = true
 is_already_so _ = false
 
--- what is counted of a venue after these events of it
-abbrev pub own_after : VenueStats → List SinkEvent → VenueStats
-own_after s events = record {
-  a = line_after s.a (filter (is_on_line A) events);
-  b = line_after s.b (filter (is_on_line B) events);
-  recovery = line_after s.recovery (filter (is_on_line Recovery) events);
-  items = items_after s.items events;
-  session = fold session_after s.session events;
-  gaps = gaps_after s.gaps events;
-  skips = count_after s.skips (count_by is_granted_skip events);
-  skips_refused = count_after s.skips_refused (count_by is_refused_skip events);
-  renewals = count_after s.renewals (count_by is_renewal events);
-  renewals_refused = count_after s.renewals_refused (count_by is_refused_renewal events);
-  declared = count_after s.declared (count_by is_declared events);
-  withdrawn = count_after s.withdrawn (count_by is_withdrawn events);
-  already = count_after s.already (count_by is_already_so events);
-  bids = s.bids;
-  offers = s.offers;
+-- the counts of a venue that had these events
+abbrev pub venue_counts : List SinkEvent → VenueCounts
+venue_counts events = record {
+  lines = record {
+    a = line_counts (filter (is_on_line A) events);
+    b = line_counts (filter (is_on_line B) events);
+    recovery = line_counts (filter (is_on_line Recovery) events);
+  };
+  items = item_counts events;
+  skips = capped (count_by is_granted_skip events);
+  skips_refused = capped (count_by is_refused_skip events);
+  renewals = capped (count_by is_renewal events);
+  renewals_refused = capped (count_by is_refused_renewal events);
+  declared = capped (count_by is_declared events);
+  withdrawn = capped (count_by is_withdrawn events);
+  already = capped (count_by is_already_so events);
 }
 
--- how many messages are missing: numbers that packets told of, though not before, and that neither
--- came nor were given up
-abbrev pub missing_in : VenueStats → ℕ
-missing_in s = s.gaps.all.highest - s.session.before - s.session.come
+-- ---- the national bests
+
+-- a national best changed to a state of which this holds
+abbrev pub is_change : (NationalState → Bool) → SinkEvent → Bool
+is_change to (told_best notice) = to (state_of notice.national)
+is_change to _ = false
+
+abbrev pub is_empty_state : NationalState → Bool
+is_empty_state Empty = true
+is_empty_state _ = false
+
+abbrev pub is_one_sided : NationalState → Bool
+is_one_sided OneSided = true
+is_one_sided _ = false
+
+abbrev pub is_normal : NationalState → Bool
+is_normal Normal = true
+is_normal _ = false
+
+abbrev pub is_locked : NationalState → Bool
+is_locked Locked = true
+is_locked _ = false
+
+abbrev pub is_crossed : NationalState → Bool
+is_crossed Crossed = true
+is_crossed _ = false
+
+abbrev pub state_counts : List SinkEvent → StateCounts
+state_counts events = record {
+  empty = capped (count_by (is_change is_empty_state) events);
+  one_sided = capped (count_by (is_change is_one_sided) events);
+  normal = capped (count_by (is_change is_normal) events);
+  locked = capped (count_by (is_change is_locked) events);
+  crossed = capped (count_by (is_change is_crossed) events);
+}
+
+-- the best of a side is this venue's
+abbrev pub is_best_of : ℕ → Option Best → Bool
+is_best_of venue None = false
+is_best_of venue (Some best) = best.venue == venue
+
+-- a national best changed, and its bid is this venue's
+abbrev pub leads_bid : ℕ → SinkEvent → Bool
+leads_bid venue (told_best notice) = is_best_of venue notice.national.bid
+leads_bid venue _ = false
+
+abbrev pub leads_offer : ℕ → SinkEvent → Bool
+leads_offer venue (told_best notice) = is_best_of venue notice.national.offer
+leads_offer venue _ = false
+
+-- the changes of national bests, by the state after, and of each venue those after which the best
+-- bid, or the best offer, is its own
+abbrev pub best_counts : List SinkEvent → BestCounts
+best_counts events = record {
+  states = state_counts events;
+  bids = each_place 16 0 (λ venue. capped (count_by (leads_bid venue) events));
+  offers = each_place 16 0 (λ venue. capped (count_by (leads_offer venue) events));
+}

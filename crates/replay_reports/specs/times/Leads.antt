@@ -78,6 +78,10 @@ come_on A number count time came = come_from A number count time came
 come_on B number count time came = come_from B number count time came
 come_on Recovery number count time came = came
 
+-- all numbers of a packet's messages are from 1 to 2^64 - 1
+abbrev pub has_numbers : ℕ → ℕ → Bool
+has_numbers number count = nat_lt 0 number && nat_lt (number + count) 18446744073709551617
+
 -- what is held at a place after a message of it came
 abbrev pub held_after : FirstArrival → MessageOn → FirstArrival
 held_after held last =

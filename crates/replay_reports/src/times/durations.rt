@@ -2,10 +2,10 @@
 ghost use Rattle.std.specs.Prelude.{◌≡◌, ℕ, ◌^◌, ◌<◌, ◌≤◌, List, [], ◌∷◌, IfOk, length};
 ghost use Rattle.replay_reports.specs.times.Durations.{AreCounted, IsShareBound};
 ghost use Rattle.replay_reports.specs.times.Figures.{capped, longest_of, mean_of};
-ghost use Rattle.replay_reports.specs.times.TimeFigures.{AreDurationTimes};
+ghost use Rattle.replay_reports.specs.times.DurationStats.{AreDurationStats};
 ghost use Rattle.replay_reports.specs.times.Places.{IsAt, last_at};
 
-use crate::times::figures::DurationTimes;
+use crate::times::duration_stats::DurationStats;
 use std::alloc::{AllocError, Global};
 
 /// How many counts there are: one for each duration below 16 ns, and 16 for each power of two from
@@ -125,18 +125,28 @@ impl Durations {
     }
 
     /// Returns the figures.
-    pub(crate) fn times(&self) -> DurationTimes
+    pub(crate) fn stats(&self) -> DurationStats
         ensures { (durations : List ℕ) → AreCounted durations self.now
-            → AreDurationTimes durations result }
+            → AreDurationStats durations result }
     {
-        DurationTimes {
+        DurationStats {
             count: self.count(),
             mean: self.mean(),
-            half: self.bound_of(500),
-            nine_in_ten: self.bound_of(900),
-            most: self.bound_of(990),
-            nearly_all: self.bound_of(999),
-            longest: self.longest(),
+            p50: self.bound_of(500),
+            p90: self.bound_of(900),
+            p99: self.bound_of(990),
+            p999: self.bound_of(999),
+            max: self.longest(),
         }
+    }
+
+    /// Forgets all durations.
+    pub(crate) fn clear(&mut self)
+        ensures { (durations : List ℕ) → AreCounted durations self.old → AreCounted [] self.new }
+    {
+        self.counts.as_mut_slice().fill(0);
+        self.count = 0;
+        self.total = 0;
+        self.longest = 0;
     }
 }

@@ -1,15 +1,10 @@
 //! By how much which line of a venue is ahead.
-ghost use Rattle.std.specs.Prelude.{◌≡◌, ◌⊎◌, ℕ, ◌+◌, ◌%◌, ◌^◌, ◌<◌, ◌≤◌, List, [], IfOk, ◌∷◌, ◌++◌, Ok, Some, length, max, if◌then◌else◌};
+ghost use Rattle.std.specs.Prelude.{◌≡◌, ◌⊎◌, ℕ, ◌+◌, ◌%◌, ◌^◌, ◌<◌, ◌≤◌, List, [], IfOk, ◌∷◌, ◌++◌, length, max, if◌then◌else◌};
 ghost use Rattle.feed_types.specs.declared.line.LineId.TheVariants.{A, B};
-ghost use Rattle.feed_text.specs.SinkEvents.{told_packet};
-ghost use Rattle.replay_reports.specs.times.Heard.{has_numbers};
-ghost use Rattle.replay_reports.specs.times.Timing.{came_after};
-ghost use Rattle.replay_reports.specs.times.Leads.{AreLeadsOf, MessageOn, come_on, held_after, lead_by, lead_from, leads_of, message_on};
+ghost use Rattle.replay_reports.specs.times.Leads.{AreLeadsOf, MessageOn, come_on, has_numbers, held_after, lead_by, lead_from, leads_of, message_on};
 
 use crate::times::durations::Durations;
-use crate::times::venue_timing::HeardPacket;
 use feed_types::LineId;
-use line_arbiter::Outcome;
 use std::alloc::{AllocError, Global};
 
 /// The first arrival of a message.
@@ -129,6 +124,17 @@ impl LineLeads {
         self.arrivals.as_mut_slice().fill(NONE);
     }
 
+    /// Forgets all messages and leads.
+    pub(crate) fn clear(&mut self)
+        ensures { (window : ℕ) (came : List MessageOn) (before_a before_b : List ℕ)
+            → AreLeadsOf window came before_a before_b self.old
+            → AreLeadsOf window [] [] [] self.new }
+    {
+        self.renew();
+        self.a.clear();
+        self.b.clear();
+    }
+
     /// Notes that a message came on line A or B at a time in nanoseconds. `place` is its number's.
     #[inline(always)]
     fn note(&mut self, place: u64, line: LineId, number: u64, time: u64)
@@ -152,42 +158,23 @@ impl LineLeads {
         }
     }
 
-    /// Notes the messages of a packet that was taken, or is past the window. Those of a packet with
-    /// numbers that no message has don't count.
+    /// Notes the messages of a packet that came on a line at a time in nanoseconds. Those of a
+    /// packet with numbers that no message has don't count.
     #[inline(always)]
-    fn note_packet(&mut self, time: u64, packet: HeardPacket)
+    pub(crate) fn note_packet(&mut self, line: LineId, number: u64, count: u16, time: u64)
         ensures { (window : ℕ) (came : List MessageOn) (before_a before_b : List ℕ)
             → AreLeadsOf window came before_a before_b self.old
             → AreLeadsOf window
-            (if has_numbers packet.number packet.count
-            then come_on packet.line packet.number packet.count time came else came)
+            (if has_numbers number count then come_on line number count time came else came)
             before_a before_b self.new }
     {
-        if packet.number == 0 {
+        if number == 0 {
             return;
         }
-        if packet.number - 1 > u64::MAX - u64::from(packet.count) {
+        if number - 1 > u64::MAX - u64::from(count) {
             return;
         }
-        self.note_all(packet.line, packet.number, packet.count, time);
-    }
-
-    /// Notes the messages of a packet that was answered so, at a time in nanoseconds.
-    #[inline(always)]
-    pub(crate) fn note_answered(&mut self, time: u64, packet: HeardPacket, outcome: &Outcome)
-        ensures { (window : ℕ) (came : List MessageOn) (before_a before_b : List ℕ)
-            → AreLeadsOf window came before_a before_b self.old
-            → AreLeadsOf window
-            (came_after 0 (Some time)
-            (told_packet 0 packet.line packet.number packet.count 0 (Ok outcome.now)) came)
-            before_a before_b self.new }
-    {
-        match outcome {
-            Outcome::Taken { .. } => self.note_packet(time, packet),
-            Outcome::Heartbeat => {}
-            Outcome::Ended => {}
-            Outcome::Ahead => self.note_packet(time, packet),
-        }
+        self.note_all(line, number, count, time);
     }
 
     /// Notes that messages from a number on came on a line at a time in nanoseconds. What comes on

@@ -1,0 +1,3 @@
+-- The report of statistics.
+pub mod Figures
+pub mod Reports

@@ -1,3 +1,0 @@
--- Events in a span of time.
-pub mod SpanEvents
-pub mod SpanLaws

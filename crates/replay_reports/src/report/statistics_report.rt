@@ -1,0 +1,15 @@
+//! The figures of all that is reported.
+
+use crate::counts::best_counts::StateCounts;
+use crate::report::venue_report::VenueReport;
+
+/// The figures of a replay.
+#[derive(Drop)]
+pub struct Report {
+    /// The figures of each venue, in order.
+    pub venues: Vec<VenueReport>,
+    /// How often a national best changed to each state.
+    pub states: StateCounts,
+    /// Whether the capture's records have times, so that their figures are reported.
+    pub has_times: bool,
+}

@@ -1,0 +1,203 @@
+//! The statistics of a replay, and the sink of events that keeps them.
+ghost use Rattle.std.specs.Prelude.{◌≡◌, ◌==◌, ◌<◌, ◌≤◌, ℕ, List, [], ◌∷◌, IfOk, Option, false, length, slice_index};
+ghost use Rattle.std.specs.Option.{option_map_or};
+ghost use Rattle.feed_text.specs.SinkEvents.{TimedEvent, timed_event, told_by};
+ghost use Rattle.replay_reports.specs.counts.Counts.{best_counts};
+ghost use Rattle.replay_reports.specs.report.Reports.{AreVenueReports, IsReport};
+ghost use Rattle.replay_reports.specs.stats.Statistics.{AreStatsOf, AreVenuesOf, is_at_venue, untimed};
+
+use crate::counts::best_counts::BestCounts;
+use crate::report::csv::put_csv;
+use crate::report::json::put_json;
+use crate::report::statistics_report::Report;
+use crate::report::table::put_table;
+use crate::report::venue_report::VenueReport;
+use crate::stats::venue_stats::VenueStats;
+use feed_text::{Event, EventSink, SinkStop};
+use feed_types::VenueId;
+use run_settings::ReportFormat;
+use std::alloc::{AllocError, Global};
+
+/// The statistics of a replay. As a sink of events it writes nothing, and no call of it fails.
+#[derive(Drop)]
+pub struct ReplayStats {
+    /// The statistics of each venue, in order.
+    pub venues: Vec<VenueStats>,
+    pub bests: BestCounts,
+    /// Whether the capture's records have times, so that their figures are told.
+    pub has_times: bool,
+}
+
+/// Returns the venue of an event, where it is one of a venue that is counted.
+#[inline(always)]
+fn venue_of(event: &Event<'_>) -> Option<VenueId>
+    ensures { (n : ℕ) → is_at_venue n (told_by event.now)
+        ≡ option_map_or (λ venue. venue == n) result false }
+{
+    match event {
+        Event::Packet { venue, .. } => Some(*venue),
+        Event::Refusal { venue, .. } => Some(*venue),
+        Event::Item { venue, .. } => Some(*venue),
+        Event::Renewal { venue, .. } => Some(*venue),
+        Event::Skip { venue, .. } => Some(*venue),
+        Event::Declaration { venue, .. } => Some(*venue),
+        Event::Best { .. } => None,
+        Event::Gap { .. } => None,
+        Event::Last { .. } => None,
+    }
+}
+
+/// Returns the statistics of this many venues to which nothing came. Fails where memory is refused.
+fn new_venues(alloc: Global, count: usize, window: usize) -> Result<Vec<VenueStats>, AllocError>
+    ensures count { IfOk result (λ v. length v.items ≡ count) }
+    ensures stats { IfOk result (λ v. 0 < window → AreVenuesOf window [] v.items) }
+{
+    let mut venues = Vec::new(alloc);
+    for _place in 0..count {
+        venues.push(VenueStats::new(alloc, window)?)?;
+    }
+    Ok(venues)
+}
+
+/// Takes an event at its venue, if there is one of its number.
+#[inline(always)]
+fn take_at(venues: &mut Vec<VenueStats>, time: Option<u64>, event: &Event<'_>)
+    ensures count { length venues.new.items ≡ length venues.old.items }
+    ensures stats { (window : ℕ) (events : List TimedEvent)
+        → AreVenuesOf window events venues.old.items
+        → AreVenuesOf window (timed_event time (told_by event.now) ∷ events) venues.new.items }
+{
+    let Some(venue) = venue_of(event) else {
+        return;
+    };
+    let place = venue.index();
+    if place < venues.len() {
+        venues[place].take(time, event);
+    }
+}
+
+/// Counts a change of a national best, if the event is one.
+#[inline(always)]
+fn count_best(bests: &mut BestCounts, event: &Event<'_>)
+    ensures { (time : Option ℕ) (events : List TimedEvent)
+        → bests.old ≡ best_counts (untimed events)
+        → bests.new ≡ best_counts (untimed (timed_event time (told_by event.now) ∷ events)) }
+{
+    match event {
+        Event::Best { number, change } => bests.add(*number, change),
+        Event::Packet { .. } => {}
+        Event::Refusal { .. } => {}
+        Event::Item { .. } => {}
+        Event::Gap { .. } => {}
+        Event::Renewal { .. } => {}
+        Event::Skip { .. } => {}
+        Event::Declaration { .. } => {}
+        Event::Last { .. } => {}
+    }
+}
+
+impl ReplayStats {
+    /// Of this many venues, to which nothing came. It keeps the first arrivals of `window` messages
+    /// of each, to see which line is first. Its memory is asked for here and never again.
+    pub fn new(
+        alloc: Global,
+        venues: usize,
+        window: usize,
+        has_times: bool,
+    ) -> Result<ReplayStats, AllocError>
+        ensures count { IfOk result (λ s. length s.venues.items ≡ venues) }
+        ensures has_times { IfOk result (λ s. s.has_times ≡ has_times) }
+        ensures stats { IfOk result (λ s. 0 < window → AreStatsOf window [] s) }
+    {
+        Ok(ReplayStats {
+            venues: new_venues(alloc, venues, window)?,
+            bests: BestCounts::default(),
+            has_times,
+        })
+    }
+}
+
+/// Returns how often a venue led a side, by the counts at the venues' places.
+fn led_by(counts: &[u64; 16], place: usize) -> u64
+    ensures { place < 16 → result ≡ slice_index counts.now place }
+{
+    if place < 16 { counts[place] } else { 0 }
+}
+
+/// Returns the figures of venues. Fails where memory is refused.
+fn venue_reports(
+    alloc: Global,
+    venues: &[VenueStats],
+    bests: &BestCounts,
+) -> Result<Vec<VenueReport>, AllocError>
+    ensures { IfOk result (λ reports. (window : ℕ) (events : List TimedEvent)
+        → length venues.now ≤ 16 → AreVenuesOf window events venues.now
+        → bests.now ≡ best_counts (untimed events)
+        → AreVenueReports window events reports.items) }
+{
+    let mut reports = Vec::new(alloc);
+    for place in 0..venues.len() {
+        let bids = led_by(&bests.bids, place);
+        let offers = led_by(&bests.offers, place);
+        reports.push(venues[place].report(bids, offers))?;
+    }
+    Ok(reports)
+}
+
+impl ReplayStats {
+    /// Returns the figures, of 16 venues at most. Fails where memory is refused.
+    pub fn report(&self, alloc: Global) -> Result<Report, AllocError>
+        ensures report { IfOk result (λ r. (window : ℕ) (events : List TimedEvent)
+            → length self.now.venues.items ≤ 16 → AreStatsOf window events self.now
+            → IsReport window events r) }
+        ensures has_times { IfOk result (λ r. r.has_times ≡ self.now.has_times) }
+    {
+        Ok(Report {
+            venues: venue_reports(alloc, self.venues.as_slice(), &self.bests)?,
+            states: self.bests.states,
+            has_times: self.has_times,
+        })
+    }
+
+    /// Returns the figures as a text in the format. Fails where memory is refused.
+    pub fn text(&self, alloc: Global, format: ReportFormat) -> Result<Vec<u8>, AllocError> {
+        let report = self.report(alloc)?;
+        let mut text = Vec::new(alloc);
+        match format {
+            ReportFormat::Table(style) => put_table(alloc, &mut text, style, &report)?,
+            ReportFormat::Csv(style) => put_csv(alloc, &mut text, style, &report)?,
+            ReportFormat::Json(style) => put_json(alloc, &mut text, style, &report)?,
+        }
+        Ok(text)
+    }
+}
+
+impl EventSink for ReplayStats {
+    ghost use Rattle.replay_reports.specs.stats.StatsLaws.{takes_more_stats, takes_no_stats};
+    ghost use Rattle.replay_reports.specs.stats.StatsSinks.{TakesStats};
+
+    ghost takes = { TakesStats };
+
+    ghost fails = { λ before events after. ⊥ };
+
+    ghost is_shown = { λ s. Unit {0} };
+
+    ghost takes_none = { takes_no_stats };
+
+    ghost takes_more = { takes_more_stats };
+
+    ghost fails_after = { λ s t u xs ys took failed. failed };
+
+    ghost fails_longer = { λ s t xs ys failed. failed };
+
+    #[inline(always)]
+    fn take(&mut self, time: Option<u64>, event: &Event<'_>) -> Result<(), SinkStop> {
+        take_at(&mut self.venues, time, event);
+        count_best(&mut self.bests, event);
+        Ok(())
+    }
+
+    fn show(&mut self) -> Result<(), SinkStop> {
+        Ok(())
+    }
+}

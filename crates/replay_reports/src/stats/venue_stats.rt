@@ -1,0 +1,60 @@
+//! The statistics of a venue.
+ghost use Rattle.std.specs.Prelude.{◌≡◌, ◌<◌, ℕ, List, [], ◌∷◌, IfOk};
+ghost use Rattle.feed_text.specs.SinkEvents.{TimedEvent, timed_event, told_by};
+ghost use Rattle.replay_reports.specs.report.Reports.{IsOwnReport};
+ghost use Rattle.replay_reports.specs.stats.Statistics.{IsVenueOf};
+
+use crate::counts::venue_counts::VenueCounts;
+use crate::report::venue_report::{GapReport, VenueReport};
+use crate::times::venue_times::VenueTimes;
+use feed_text::Event;
+use std::alloc::{AllocError, Global};
+
+/// The statistics of a venue: its events, counted, the gaps in its numbers, and how its packets run
+/// in time.
+#[derive(Drop)]
+pub struct VenueStats {
+    pub counts: VenueCounts,
+    pub times: VenueTimes,
+}
+
+impl VenueStats {
+    /// Of a venue to which nothing came. It keeps the first arrivals of this many messages, whose
+    /// memory is asked for here and never again.
+    pub(crate) fn new(alloc: Global, window: usize) -> Result<VenueStats, AllocError>
+        ensures { IfOk result (λ v. 0 < window → IsVenueOf window [] v) }
+    {
+        Ok(VenueStats {
+            counts: VenueCounts::none(),
+            times: VenueTimes::new(alloc, window)?,
+        })
+    }
+
+    /// Takes an event of the venue.
+    #[inline(always)]
+    pub(crate) fn take(&mut self, time: Option<u64>, event: &Event<'_>)
+        ensures { (window : ℕ) (own : List TimedEvent) → IsVenueOf window own self.old
+            → IsVenueOf window (timed_event time (told_by event.now) ∷ own) self.new }
+    {
+        self.counts.add(event);
+        self.times.take(time, event);
+    }
+
+    /// Returns the figures of the venue's own events, and these of the national bests.
+    pub(crate) fn report(&self, bids: u64, offers: u64) -> VenueReport
+        ensures own { (window : ℕ) (own : List TimedEvent) → IsVenueOf window own self.now
+            → IsOwnReport window own result }
+        ensures bids { result.bids ≡ bids }
+        ensures offers { result.offers ≡ offers }
+    {
+        VenueReport {
+            counts: self.counts,
+            gaps: GapReport::default(),
+            a_first: self.times.leads.a.stats(),
+            b_first: self.times.leads.b.stats(),
+            last_packets: self.times.last_packets,
+            bids,
+            offers,
+        }
+    }
+}
