@@ -5,3 +5,4 @@ pub mod Places
 pub mod Counting
 pub mod Timed
 pub mod Statistics
+pub mod Busiest

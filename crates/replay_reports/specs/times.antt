@@ -6,3 +6,4 @@ pub mod DurationStats
 pub mod Leads
 pub mod Timing
 pub mod VenueTiming
+pub mod Busiest

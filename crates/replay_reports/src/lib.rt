@@ -1,4 +1,14 @@
-//! Statistics of a replay.
+//! Reports of a replay: sinks of its events that print rows of the national bests, or keep its
+//! statistics.
+//!
+//! Contract: a [`BestRows`] writes the row of each national best that changed, in its `RowStyle`,
+//! after the format's header (`specs/rows/RowSinks.antt`). A [`ReplayStats`] writes nothing: it
+//! counts the events of each venue, of its lines, and of the national bests, and how the lines run
+//! in time (`specs/stats/Statistics.antt`). Its [`Report`] has the figures of these events
+//! (`specs/report/Reports.antt`), and its text is a table, rows of values or a JSON object, which
+//! loop over lists of [`Figure`]s. Rows of gaps and of periods are crates of their own.
+//!
+//! Begin at `row_sink.rt`, or at `stats/replay_stats.rt`, then `report/figures.rt`.
 #![tactic(auto)]
 
 mod counts;
@@ -13,8 +23,8 @@ pub use counts::line_counts::LineCounts;
 pub use counts::venue_counts::VenueCounts;
 pub use report::figure::{Figure, FigureValue};
 pub use report::figures::{
-    duration_figures, gap_figures, item_figures, leading_figures, line_figures, line_loss_figures,
-    loss_figures, packet_figures, refusal_figures, state_figures, venue_figures,
+    busiest_figures, duration_figures, gap_figures, item_figures, leading_figures, line_figures,
+    line_loss_figures, loss_figures, packet_figures, refusal_figures, state_figures, venue_figures,
 };
 pub use report::gap_sums::{GapEnds, GapSums};
 pub use report::statistics_report::Report;
@@ -23,6 +33,7 @@ pub use report::venue_report::{GapReport, VenueReport};
 pub use row_sink::BestRows;
 pub use stats::replay_stats::ReplayStats;
 pub use stats::venue_stats::VenueStats;
+pub use times::busiest_period::{BusiestPeriod, Peak};
 pub use times::duration_stats::DurationStats;
 pub use times::durations::Durations;
 pub use times::line_leads::LineLeads;

@@ -4,6 +4,7 @@ ghost use Rattle.replay_reports.specs.rows.RowSinks.{IsNewRows};
 
 use best_rows::{RowStyle, put_header, put_row};
 use feed_text::{Event, EventSink, SinkStop, TextOut, TextPage};
+use report_rows::SpannedSink;
 
 /// The rows of the national bests that change, written to a writer by the page.
 ///
@@ -68,4 +69,9 @@ impl<W: TextOut> EventSink for BestRows<W> {
     fn show(&mut self) -> Result<(), SinkStop> {
         self.page.write()
     }
+}
+
+impl<W: TextOut> SpannedSink for BestRows<W> {
+    #[inline(always)]
+    fn take_before(&mut self, _time: Option<u64>, _event: &Event<'_>) {}
 }

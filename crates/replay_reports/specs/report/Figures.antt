@@ -10,6 +10,7 @@ use Rattle.replay_reports.specs.declared.report.figure.FigureValue.{FigureValue}
 use Rattle.replay_reports.specs.declared.report.figure.FigureValue.TheVariants.{Nothing, Count, Time}
 use Rattle.replay_reports.specs.declared.report.gap_sums.GapSums.{GapSums}
 use Rattle.replay_reports.specs.declared.report.venue_report.GapReport.{GapReport}
+use Rattle.replay_reports.specs.declared.times.busiest_period.Peak.{Peak}
 use Rattle.replay_reports.specs.declared.times.duration_stats.DurationStats.{DurationStats}
 
 abbrev pub values_of : List Figure → List FigureValue
@@ -73,3 +74,8 @@ loss_values s =
 
 abbrev pub packet_values : PerLine (Option ℕ) → List FigureValue
 packet_values s = time_if s.a ∷ time_if s.b ∷ time_if s.recovery ∷ []
+
+abbrev pub busiest_values : Peak → Peak → List FigureValue
+busiest_values second millisecond =
+    Count second.messages ∷ Count millisecond.messages ∷ time_if second.began
+    ∷ time_if millisecond.began ∷ []

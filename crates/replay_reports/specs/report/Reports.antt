@@ -7,6 +7,7 @@ use Rattle.replay_reports.specs.counts.Counts.{leads_bid, leads_offer, state_cou
 use Rattle.replay_reports.specs.declared.report.statistics_report.Report.{Report}
 use Rattle.replay_reports.specs.declared.report.venue_report.VenueReport.{VenueReport}
 use Rattle.replay_reports.specs.stats.Statistics.{events_at, untimed}
+use Rattle.replay_reports.specs.times.Busiest.{IsPeak, messages_told}
 use Rattle.replay_reports.specs.times.DurationStats.{AreDurationStats}
 use Rattle.replay_reports.specs.times.Figures.{capped}
 use Rattle.replay_reports.specs.times.Timing.{last_packets, leads_told}
@@ -34,3 +35,5 @@ AreVenueReports window events reports =
 pub record IsReport (window : ℕ) (events : List TimedEvent) (r : Report) : Type 0 where
   pub venues : AreVenueReports window events r.venues.items
   pub states : r.states ≡ state_counts (untimed events)
+  pub second : IsPeak 1000000000 (messages_told events) r.second
+  pub millisecond : IsPeak 1000000 (messages_told events) r.millisecond

@@ -4,6 +4,7 @@ use Rattle.feed_text.specs.SinkEvents.{SinkEvent, TimedEvent, told_packet, told_
 use Rattle.replay_reports.specs.declared.stats.venue_stats.VenueStats.{VenueStats}
 use Rattle.replay_reports.specs.declared.stats.replay_stats.ReplayStats.{ReplayStats}
 use Rattle.replay_reports.specs.counts.Counts.{best_counts, venue_counts}
+use Rattle.replay_reports.specs.times.Busiest.{HoldsBusiest, messages_told}
 use Rattle.replay_reports.specs.times.VenueTiming.{IsVenueTimed}
 
 -- what events say, without their times
@@ -33,7 +34,9 @@ AreVenuesOf window events venues =
     (place : ℕ) (v : VenueStats) → slice_get venues place ≡ Some v
     → IsVenueOf window (events_at place events) v
 
--- Of all venues, and of the national bests.
+-- Of all venues, of the national bests, and of the busiest periods.
 pub record AreStatsOf (window : ℕ) (events : List TimedEvent) (s : ReplayStats) : Type 0 where
   pub venues : AreVenuesOf window events s.venues.items
   pub bests : s.bests ≡ best_counts (untimed events)
+  pub second : HoldsBusiest 1000000000 (messages_told events) s.second
+  pub millisecond : HoldsBusiest 1000000 (messages_told events) s.millisecond

@@ -1,5 +1,5 @@
 //! The counts of the changes of national bests.
-ghost use Rattle.std.specs.Prelude.{◌≡◌, ◌+◌, ℕ, ◌∷◌, List, if◌then◌else◌};
+ghost use Rattle.std.specs.Prelude.{◌≡◌, ◌+◌, ℕ, ◌∷◌, [], List, if◌then◌else◌};
 ghost use Rattle.feed_text.specs.SinkEvents.{SinkEvent, told_best};
 ghost use Rattle.journal_book.specs.Changes.{notice_of};
 ghost use Rattle.replay_reports.specs.counts.Counts.{best_counts, each_place, is_best_of, state_counts};
@@ -52,7 +52,7 @@ fn count_best(counts: &mut [u64; 16], best: Option<Best>)
 }
 
 /// The changes of national bests, counted.
-#[derive(Clone, Copy, Debug, Default, PartialEq, Eq)]
+#[derive(Clone, Copy, Debug, PartialEq, Eq)]
 pub struct BestCounts {
     /// By the state after.
     pub states: StateCounts,
@@ -63,6 +63,18 @@ pub struct BestCounts {
 }
 
 impl BestCounts {
+    /// Counts of nothing.
+    #[tactic(auto, unfolding(crate::specs::counts::Counts::each_place))]
+    pub(crate) fn none() -> BestCounts
+        ensures { result ≡ best_counts [] }
+    {
+        BestCounts {
+            states: StateCounts::default(),
+            bids: [0; 16],
+            offers: [0; 16],
+        }
+    }
+
     /// Counts a change.
     #[inline(always)]
     pub(crate) fn add(&mut self, number: u64, change: &Change)

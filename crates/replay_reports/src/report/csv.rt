@@ -3,7 +3,7 @@
 use crate::counts::line_counts::LineCounts;
 use crate::report::figure::Figure;
 use crate::report::figures::{
-    duration_figures, gap_figures, item_figures, leading_figures, line_figures,
+    busiest_figures, duration_figures, gap_figures, item_figures, leading_figures, line_figures,
     loss_figures, packet_figures, refusal_figures, state_figures, venue_figures,
 };
 use crate::report::statistics_report::Report;
@@ -102,6 +102,12 @@ pub(crate) fn put_csv(
     }
     csv.venue = None;
     csv.put_rows("", "changes_", &state_figures(&report.states))?;
-    // BUSIEST
+    if report.has_times {
+        csv.put_rows(
+            "",
+            "",
+            &busiest_figures(&report.second, &report.millisecond),
+        )?;
+    }
     Ok(())
 }

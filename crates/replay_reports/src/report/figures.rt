@@ -1,6 +1,6 @@
 //! The figures of each part of a report, in the order in which they are printed.
 ghost use Rattle.std.specs.Prelude.{◌≡◌, ◌∷◌, []};
-ghost use Rattle.replay_reports.specs.report.Figures.{counts_of, duration_values, gap_values, item_values, line_loss_values, line_values, loss_values, packet_values, refusal_values, state_values, values_of, venue_values};
+ghost use Rattle.replay_reports.specs.report.Figures.{busiest_values, counts_of, duration_values, gap_values, item_values, line_loss_values, line_values, loss_values, packet_values, refusal_values, state_values, values_of, venue_values};
 
 use crate::counts::best_counts::StateCounts;
 use crate::counts::item_counts::ItemCounts;
@@ -9,6 +9,7 @@ use crate::counts::venue_counts::VenueCounts;
 use crate::report::figure::{Figure, count, count_if, time};
 use crate::report::gap_sums::GapSums;
 use crate::report::venue_report::GapReport;
+use crate::times::busiest_period::Peak;
 use crate::times::duration_stats::DurationStats;
 use feed_types::PerLine;
 
@@ -66,7 +67,11 @@ pub fn venue_figures(s: &VenueCounts) -> [Figure; 7]
 {
     [
         count("next sessions begun", "renewals", s.renewals),
-        count("next sessions refused", "renewals_refused", s.renewals_refused),
+        count(
+            "next sessions refused",
+            "renewals_refused",
+            s.renewals_refused,
+        ),
         count("skips", "skips", s.skips),
         count("skips refused", "skips_refused", s.skips_refused),
         count("self-help declared", "self_help_declared", s.declared),
@@ -167,5 +172,25 @@ pub fn packet_figures(s: &PerLine<Option<u64>>) -> [Figure; 3]
         time("line A", "A", s.a),
         time("line B", "B", s.b),
         time("recovery", "recovery", s.recovery),
+    ]
+}
+
+/// Returns the busiest second and the busiest millisecond, and when they began.
+pub fn busiest_figures(second: &Peak, millisecond: &Peak) -> [Figure; 4]
+    ensures { values_of result ≡ busiest_values second.now millisecond.now }
+{
+    [
+        count("messages in a second", "busiest_second", second.messages),
+        count(
+            "in a millisecond",
+            "busiest_millisecond",
+            millisecond.messages,
+        ),
+        time("that second began", "busiest_second_ns", second.began),
+        time(
+            "that millisecond began",
+            "busiest_millisecond_ns",
+            millisecond.began,
+        ),
     ]
 }

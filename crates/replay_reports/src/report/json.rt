@@ -1,11 +1,11 @@
 //! The report as a JSON object.
 
+use crate::counts::line_counts::LineCounts;
 use crate::report::figure::{Figure, FigureValue};
 use crate::report::figures::{
-    duration_figures, gap_figures, item_figures, leading_figures, line_figures,
+    busiest_figures, duration_figures, gap_figures, item_figures, leading_figures, line_figures,
     line_loss_figures, loss_figures, packet_figures, refusal_figures, state_figures, venue_figures,
 };
-use crate::counts::line_counts::LineCounts;
 use crate::report::statistics_report::Report;
 use crate::report::values::put_json_value;
 use crate::report::venue_report::VenueReport;
@@ -135,7 +135,7 @@ impl Json<'_> {
     /// Appends how all venues' lines run in time.
     fn put_all_times(&mut self, report: &Report) -> Result<(), AllocError> {
         self.open("in_time", "{")?;
-        // BUSIEST
+        self.put_figures(&busiest_figures(&report.second, &report.millisecond))?;
         self.open("venues", "[")?;
         for place in 0..report.venues.len() {
             self.put_times(place, &report.venues[place])?;

@@ -3,7 +3,7 @@ ghost use Rattle.std.specs.Prelude.{◌≤◌};
 
 use crate::report::figure::{Figure, FigureValue};
 use crate::report::figures::{
-    duration_figures, gap_figures, item_figures, leading_figures, line_figures,
+    busiest_figures, duration_figures, gap_figures, item_figures, leading_figures, line_figures,
     loss_figures, packet_figures, refusal_figures, state_figures, venue_figures,
 };
 use crate::report::statistics_report::Report;
@@ -118,7 +118,12 @@ impl Tables<'_> {
     }
 
     /// Appends a line of a venue in a row, with its figures that tell most.
-    fn put_summary(&mut self, r: &VenueReport, line: LineId, label: &str) -> Result<(), AllocError> {
+    fn put_summary(
+        &mut self,
+        r: &VenueReport,
+        line: LineId,
+        label: &str,
+    ) -> Result<(), AllocError> {
         self.put_label(label)?;
         for figure in &summary_figures(r, line) {
             self.put_cell(figure.value)?;
@@ -137,10 +142,18 @@ impl Tables<'_> {
 
     /// Appends the packets of a venue's lines, and what they lack.
     fn put_lines(&mut self, r: &VenueReport) -> Result<(), AllocError> {
-        let (a, b, c) = (&r.counts.lines.a, &r.counts.lines.b, &r.counts.lines.recovery);
+        let (a, b, c) = (
+            &r.counts.lines.a,
+            &r.counts.lines.b,
+            &r.counts.lines.recovery,
+        );
         self.put_title("by line", &["line A", "line B", "recovery"])?;
         self.put_rows(&line_figures(a), &line_figures(b), &line_figures(c))?;
-        self.put_rows(&refusal_figures(a), &refusal_figures(b), &refusal_figures(c))?;
+        self.put_rows(
+            &refusal_figures(a),
+            &refusal_figures(b),
+            &refusal_figures(c),
+        )?;
         self.put_title("gaps", &["line A", "line B", "all lines"])?;
         let all = gap_figures(&r.gaps.all);
         self.put_rows(&gap_figures(&r.gaps.a), &gap_figures(&r.gaps.b), &all)
@@ -197,7 +210,9 @@ pub(crate) fn put_table(
     tables.put("changes of national bests, by the state after")?;
     tables.put_rows(&state_figures(&report.states), &[], &[])?;
     if report.has_times {
-        // BUSIEST
+        tables.put("\n\nbusiest periods of all lines")?;
+        let busiest = busiest_figures(&report.second, &report.millisecond);
+        tables.put_rows(&busiest, &[], &[])?;
     }
     tables.put("\n")
 }

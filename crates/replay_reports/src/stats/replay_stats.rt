@@ -13,8 +13,10 @@ use crate::report::statistics_report::Report;
 use crate::report::table::put_table;
 use crate::report::venue_report::VenueReport;
 use crate::stats::venue_stats::VenueStats;
+use crate::times::busiest_period::{BusiestPeriod, datagram_messages};
 use feed_text::{Event, EventSink, SinkStop};
 use feed_types::VenueId;
+use report_rows::SpannedSink;
 use run_settings::ReportFormat;
 use std::alloc::{AllocError, Global};
 
@@ -24,6 +26,9 @@ pub struct ReplayStats {
     /// The statistics of each venue, in order.
     pub venues: Vec<VenueStats>,
     pub bests: BestCounts,
+    /// The busiest second of all lines, and the busiest millisecond.
+    pub second: BusiestPeriod,
+    pub millisecond: BusiestPeriod,
     /// Whether the capture's records have times, so that their figures are told.
     pub has_times: bool,
 }
@@ -111,7 +116,9 @@ impl ReplayStats {
     {
         Ok(ReplayStats {
             venues: new_venues(alloc, venues, window)?,
-            bests: BestCounts::default(),
+            bests: BestCounts::none(),
+            second: BusiestPeriod::new(1_000_000_000),
+            millisecond: BusiestPeriod::new(1_000_000),
             has_times,
         })
     }
@@ -155,6 +162,8 @@ impl ReplayStats {
         Ok(Report {
             venues: venue_reports(alloc, self.venues.as_slice(), &self.bests)?,
             states: self.bests.states,
+            second: self.second.peak(),
+            millisecond: self.millisecond.peak(),
             has_times: self.has_times,
         })
     }
@@ -194,10 +203,17 @@ impl EventSink for ReplayStats {
     fn take(&mut self, time: Option<u64>, event: &Event<'_>) -> Result<(), SinkStop> {
         take_at(&mut self.venues, time, event);
         count_best(&mut self.bests, event);
+        let messages = datagram_messages(event);
+        self.second.add(time, messages);
+        self.millisecond.add(time, messages);
         Ok(())
     }
 
     fn show(&mut self) -> Result<(), SinkStop> {
         Ok(())
     }
+}
+
+impl SpannedSink for ReplayStats {
+    fn take_before(&mut self, _time: Option<u64>, _event: &Event<'_>) {}
 }

@@ -1,7 +1,7 @@
 //! How a venue's lines run in time.
-ghost use Rattle.std.specs.Prelude.{◌≡◌, ◌<◌, ℕ, List, [], ◌∷◌, IfOk, Ok, Some};
+ghost use Rattle.std.specs.Prelude.{◌≡◌, ◌<◌, ℕ, List, [], ◌∷◌, IfOk, Ok, Option, Some};
 ghost use Rattle.feed_types.specs.PerLines.{with_line};
-ghost use Rattle.feed_text.specs.SinkEvents.{TimedEvent, timed_event, told_by, told_packet};
+ghost use Rattle.feed_text.specs.SinkEvents.{TimedEvent, timed_event, told_by, told_packet, told_renewal};
 ghost use Rattle.replay_reports.specs.times.Leads.{AreLeadsOf, MessageOn};
 ghost use Rattle.replay_reports.specs.times.Timing.{came_after};
 ghost use Rattle.replay_reports.specs.times.VenueTiming.{IsVenueTimed};
@@ -9,7 +9,7 @@ ghost use Rattle.replay_reports.specs.times.VenueTiming.{IsVenueTimed};
 use crate::times::line_leads::LineLeads;
 use feed_text::Event;
 use feed_types::{LineId, PerLine};
-use line_arbiter::Outcome;
+use line_arbiter::{LineFault, Outcome, RenewFault};
 use std::alloc::{AllocError, Global};
 
 /// How the lines of a venue run in time, by its packets whose time is known.
@@ -36,14 +36,7 @@ impl VenueTimes {
 
     /// Takes a packet of a line that was answered so, at a time in nanoseconds.
     #[inline(always)]
-    fn time_packet(
-        &mut self,
-        time: u64,
-        line: LineId,
-        number: u64,
-        count: u16,
-        outcome: &Outcome,
-    )
+    fn time_packet(&mut self, time: u64, line: LineId, number: u64, count: u16, outcome: &Outcome)
         ensures leads { (window venue bytes : ℕ) (came : List MessageOn)
             (before_a before_b : List ℕ) → AreLeadsOf window came before_a before_b self.old.leads
             → AreLeadsOf window (came_after (Some time)
@@ -61,6 +54,41 @@ impl VenueTimes {
         }
     }
 
+    /// Takes a packet of a line that was answered so, which came at a time, where that is known.
+    #[inline(always)]
+    fn hear(
+        &mut self,
+        time: Option<u64>,
+        line: LineId,
+        number: u64,
+        count: u16,
+        answer: &Result<Outcome, LineFault>,
+    )
+        ensures { (window venue bytes : ℕ) (own : List TimedEvent)
+            → IsVenueTimed window own self.old → IsVenueTimed window (timed_event time
+            (told_packet venue line number count bytes answer.now) ∷ own) self.new }
+    {
+        match answer {
+            Ok(outcome) => match time {
+                Some(time) => self.time_packet(time, line, number, count, outcome),
+                None => {}
+            },
+            Err(_) => {}
+        }
+    }
+
+    /// Begins the next session, where it was answered so.
+    fn renew(&mut self, answer: &Result<u64, RenewFault>)
+        ensures { (window venue : ℕ) (time : Option ℕ) (own : List TimedEvent)
+            → IsVenueTimed window own self.old → IsVenueTimed window (timed_event time
+            (told_renewal venue answer.now) ∷ own) self.new }
+    {
+        match answer {
+            Ok(_) => self.leads.renew(),
+            Err(_) => {}
+        }
+    }
+
     /// Takes an event of the venue.
     #[inline(always)]
     pub(crate) fn take(&mut self, time: Option<u64>, event: &Event<'_>)
@@ -72,16 +100,11 @@ impl VenueTimes {
                 line,
                 number,
                 count,
-                answer: Ok(outcome),
+                answer,
                 ..
-            } => match time {
-                Some(time) => self.time_packet(time, *line, *number, *count, outcome),
-                None => {}
-            },
-            Event::Renewal { answer: Ok(_), .. } => self.leads.renew(),
-            Event::Packet { answer: Err(_), .. }
-            | Event::Renewal { answer: Err(_), .. }
-            | Event::Refusal { .. }
+            } => self.hear(time, *line, *number, *count, answer),
+            Event::Renewal { answer, .. } => self.renew(answer),
+            Event::Refusal { .. }
             | Event::Item { .. }
             | Event::Best { .. }
             | Event::Gap { .. }

@@ -1,0 +1,14 @@
+use Rattle.std.proofs.Common.{refl}
+use Rattle.replay_reports.proofs.stats.replay_stats.ReplayStatsSpannedSink.take_before.Goals as goal
+
+pub returns : goal.returns
+returns c = record {
+  same_times = refl;
+  same_venues = refl;
+  stats = λ window earlier are. record {
+    venues = are.venues;
+    bests = are.bests;
+    second = are.second;
+    millisecond = are.millisecond;
+  };
+}
