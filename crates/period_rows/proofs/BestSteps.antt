@@ -1,0 +1,265 @@
+-- How long a symbol's national best stood, with one event more.
+use Rattle.std.proofs.Common.{◌≡◌, ℕ, zero, suc, ◌+◌, ◌-◌, ◌*◌, ◌/◌, ◌%◌, ◌<◌, ◌≤◌, ◌⊎◌, inl, inr, Bool, true, false, List, [], ◌∷◌, Option, None, Some, length, refl, sym, ap, subst, ◌∙◌, arith, slice_index_or}
+use Rattle.std.specs.Prelude.{max, min, unwrap_or}
+use Rattle.std.proofs.Math.Nat.{div-add-mod, mod-lt, mul-add}
+use Rattle.std.proofs.lemmas.Option.{same_Some, none-some}
+use Rattle.std.proofs.lemmas.Bool.{cases_lt}
+use Rattle.feed_types.specs.Symbols.{key_of}
+use Rattle.feed_types.specs.declared.national.National.{National}
+use Rattle.feed_text.specs.SinkEvents.{TimedEvent}
+use Rattle.period_rows.specs.BestHolding.{AreBestsHeld, AreNone, IsChanged, IsRestarted, IsSymbolHeld}
+use Rattle.period_rows.specs.Bests.{begin_after, begin_told, best_in, best_told, clock_after, clock_told, overlap, stood, time_in}
+use Rattle.period_rows.specs.Periods.{period_begin}
+use Rattle.period_rows.specs.declared.best_figures.BestFigures.{BestFigures}
+use Rattle.period_rows.specs.declared.symbol_times.SymbolTimes.{SymbolTimes}
+use Rattle.period_rows.proofs.HeldFigures.{all_as, all_none, all_pass, all_settled}
+
+-- ---- the clock, and the period at hand
+
+later : (o : Option ℕ) (clock : ℕ) → clock ≤ clock_after o clock
+later None clock = omega arith
+later (Some time) clock = omega arith
+
+pub clock_later : (e : TimedEvent) (earlier : List TimedEvent)
+    → clock_told earlier ≤ clock_told (e ∷ earlier)
+clock_later e earlier = later (time_in e.event e.time) (clock_told earlier)
+
+begin_by : (length_ns : ℕ) (o : Option ℕ) (clock : ℕ) (old : Option ℕ) (begin : ℕ)
+    → ((b : ℕ) → old ≡ Some b → b ≡ period_begin length_ns clock)
+    → begin_after length_ns o clock old ≡ Some begin
+    → begin ≡ period_begin length_ns (clock_after o clock)
+begin_by length_ns None clock old begin was is = was begin is
+begin_by length_ns (Some time) clock old begin was is =
+    sym (same_Some (period_begin length_ns (max clock time)) begin is)
+
+-- the period at hand is that of the clock
+pub begin_is : (length_ns : ℕ) (events : List TimedEvent) (begin : ℕ)
+    → begin_told length_ns events ≡ Some begin
+    → begin ≡ period_begin length_ns (clock_told events)
+begin_is length_ns [] begin is = absurd (none-some begin is)
+begin_is length_ns (e ∷ earlier) begin is =
+    begin_by length_ns (time_in e.event e.time) (clock_told earlier)
+    (begin_told length_ns earlier) begin (λ b was. begin_is length_ns earlier b was) is
+
+begin_some : (length_ns : ℕ) (o : Option ℕ) (clock : ℕ) (old : Option ℕ)
+    → begin_after length_ns o clock old ≡ None → (old ≡ None → clock ≡ 0)
+    → clock_after o clock ≡ 0
+begin_some length_ns None clock old is was = was is
+begin_some length_ns (Some time) clock old is was =
+    absurd (none-some (period_begin length_ns (max clock time)) (sym is))
+
+-- before any time is known there is none
+pub no_begin : (length_ns : ℕ) (events : List TimedEvent) → begin_told length_ns events ≡ None
+    → clock_told events ≡ 0
+no_begin length_ns [] is = refl
+no_begin length_ns (e ∷ earlier) is =
+    begin_some length_ns (time_in e.event e.time) (clock_told earlier)
+    (begin_told length_ns earlier) is (λ was. no_begin length_ns earlier was)
+
+-- a time lies in its period
+pub record IsInPeriod (length_ns begin clock : ℕ) : Type 0 where
+  pub from : begin ≤ clock
+  pub to : clock < begin + length_ns
+
+in_period : (length_ns clock : ℕ) → 0 < length_ns
+    → IsInPeriod length_ns (period_begin length_ns clock) clock
+in_period length_ns clock some =
+    let part = mod-lt clock some in
+    let whole = div-add-mod clock length_ns in
+    record { from = omega arith; to = omega (arith, part, whole) }
+
+pub in_own : (length_ns : ℕ) (events : List TimedEvent) (begin : ℕ) → 0 < length_ns
+    → begin_told length_ns events ≡ Some begin → IsInPeriod length_ns begin (clock_told events)
+in_own length_ns events begin some is =
+    subst (λ (b : ℕ). IsInPeriod length_ns b (clock_told events))
+    (sym (begin_is length_ns events begin is)) (in_period length_ns (clock_told events) some)
+
+-- multiples of a length are a length apart
+multiple_more : (m q r : ℕ) → q < r → m * q + m ≤ m * r
+multiple_more m q r less =
+    let parts : r ≡ q + 1 + (r - (q + 1)) = omega (arith, less) in
+    let e1 : m * r ≡ m * (q + 1) + m * (r - (q + 1)) =
+    ap (λ (k : ℕ). m * k) parts ∙ mul-add m (q + 1) (r - (q + 1)) in
+    let e2 : m * (q + 1) ≡ m * q + m * 1 = mul-add m q 1 in
+    let e3 : m * 1 ≡ m = omega arith in
+    omega (arith, e1, e2, e3)
+
+begin_multiple : (length_ns clock : ℕ) → period_begin length_ns clock
+    ≡ length_ns * (clock / length_ns)
+begin_multiple length_ns clock =
+    let whole = div-add-mod clock length_ns in omega (arith, whole)
+
+-- the clock of a period is before another, later one
+pub before_next : (length_ns clock later_clock : ℕ) → 0 < length_ns → clock ≤ later_clock
+    → (period_begin length_ns clock ≡ period_begin length_ns later_clock → ⊥)
+    → clock ≤ period_begin length_ns later_clock
+before_next length_ns clock later_clock some on apart =
+    let q = clock / length_ns in
+    let r = later_clock / length_ns in
+    let b = begin_multiple length_ns clock in
+    let n = begin_multiple length_ns later_clock in
+    let own = in_period length_ns clock some in
+    let next = in_period length_ns later_clock some in
+    elim (cases_lt q r) [
+      | inl less ↦
+          let more = multiple_more length_ns q r less in
+          omega (arith, b, n, more, own.to)
+      | inr least ↦ elim (cases_lt r q) [
+        | inl less ↦
+            let more = multiple_more length_ns r q less in
+            absurd (omega (arith, b, n, more, own.from, next.to, on))
+        | inr most ↦
+            let same : q ≡ r = omega (arith, least, most) in
+            absurd (apart (b ∙ ap (λ (k : ℕ). length_ns * k) same ∙ sym n))
+      ]
+    ]
+
+-- ---- overlaps
+
+no_overlap : (length_ns begin from to : ℕ) → to ≤ begin → overlap length_ns begin from to ≡ 0
+no_overlap length_ns begin from to early = omega (arith, early)
+
+-- nothing stood in a period before it
+pub none_stood : (weight : National → ℕ) (key length_ns begin : ℕ) (events : List TimedEvent)
+    → clock_told events ≤ begin → stood weight key length_ns begin events ≡ 0
+none_stood weight key length_ns begin [] early = refl
+none_stood weight key length_ns begin (e ∷ earlier) early =
+    let on = clock_later e earlier in
+    let rest = none_stood weight key length_ns begin earlier (omega (arith, on, early)) in
+    let w = weight (best_told key earlier) in
+    let none : w * overlap length_ns begin (clock_told earlier) (clock_told (e ∷ earlier)) ≡ w * 0 =
+    ap (λ (k : ℕ). w * k)
+    (no_overlap length_ns begin (clock_told earlier) (clock_told (e ∷ earlier)) early) in
+    let zero_is : w * 0 ≡ 0 = omega arith in
+    omega (arith, rest, none, zero_is)
+
+-- ---- a symbol, where the period of an event is at hand
+
+-- its sum up to a time, and what comes after it
+pub record IsHeldSince (length_ns : ℕ) (symbol : List ℕ) (e : TimedEvent)
+    (earlier : List TimedEvent) (t : SymbolTimes) (begin : ℕ) : Type 0 where
+  pub at : ℕ
+  pub sum : (National → ℕ) → ℕ
+  pub on : at ≤ clock_told (e ∷ earlier)
+  pub are : AreBestsHeld t.figures t.best t.since at sum
+  pub all : (weight : National → ℕ)
+      → stood weight (key_of symbol) length_ns begin (e ∷ earlier)
+      ≡ weight t.best * (clock_told (e ∷ earlier) - at) + sum weight
+
+-- What is kept of it then, before the event's own change.
+pub record IsMidHeld (length_ns : ℕ) (symbol : List ℕ) (e : TimedEvent)
+    (earlier : List TimedEvent) (t : SymbolTimes) : Type 0 where
+  pub symbol_is : t.symbol ≡ symbol
+  pub best_is : t.best ≡ best_told (key_of symbol) earlier
+  pub held : (begin : ℕ) → begin_told length_ns (e ∷ earlier) ≡ Some begin
+      → IsHeldSince length_ns symbol e earlier t begin
+
+module _ (length_ns : ℕ) (some : 0 < length_ns) (symbol : List ℕ) (e : TimedEvent)
+    (earlier : List TimedEvent) (t : SymbolTimes) where
+  weighed_as : (weight : National → ℕ) (best : National) (part other : ℕ)
+      → best ≡ best_told (key_of symbol) earlier → part ≡ other
+      → weight (best_told (key_of symbol) earlier) * part ≡ weight best * other
+  weighed_as weight best part other is same =
+      ap (λ (b : National). weight b * part) (sym is) ∙ ap (λ (k : ℕ). weight best * k) same
+
+  -- the same period goes on
+  pub mid_same : begin_told length_ns (e ∷ earlier) ≡ begin_told length_ns earlier
+      → IsSymbolHeld length_ns symbol earlier t → IsMidHeld length_ns symbol e earlier t
+  mid_same same held = record {
+    symbol_is = held.symbol_is;
+    best_is = held.best_is;
+    held = λ begin is.
+        let was = sym same ∙ is in
+        let own = in_own length_ns earlier begin some was in
+        let next = in_own length_ns (e ∷ earlier) begin some is in
+        let on = clock_later e earlier in
+        let c = clock_told earlier in
+        let d = clock_told (e ∷ earlier) in
+        let part : overlap length_ns begin c d ≡ d - c =
+        omega (arith, own.from, next.to, on) in
+        record {
+          at = c;
+          sum = λ weight. stood weight (key_of symbol) length_ns begin earlier;
+          on = on;
+          are = held.held begin was;
+          all = λ weight.
+              ap (λ (k : ℕ). k + stood weight (key_of symbol) length_ns begin earlier)
+              (weighed_as weight t.best (overlap length_ns begin c d) (d - c) held.best_is part);
+        };
+  }
+
+  -- another one begins
+  pub mid_next : (begin : ℕ) (new : SymbolTimes)
+      → begin_told length_ns (e ∷ earlier) ≡ Some begin → clock_told earlier ≤ begin
+      → IsSymbolHeld length_ns symbol earlier t → IsRestarted begin t new
+      → IsMidHeld length_ns symbol e earlier new
+  mid_next begin new is early held restarted =
+      let best = restarted.best_is ∙ held.best_is in
+      record {
+        symbol_is = restarted.symbol_is ∙ held.symbol_is;
+        best_is = best;
+        held = λ other other_is.
+            let same : begin ≡ other = same_Some begin other (sym is ∙ other_is) in
+            let next = in_own length_ns (e ∷ earlier) begin some is in
+            let c = clock_told earlier in
+            let d = clock_told (e ∷ earlier) in
+            let part : overlap length_ns begin c d ≡ d - begin =
+            omega (arith, early, next.from, next.to) in
+            subst (λ (b : ℕ). IsHeldSince length_ns symbol e earlier new b) same
+            (record {
+              at = begin;
+              sum = λ weight. 0;
+              on = next.from;
+              are = subst (λ (s : ℕ). AreBestsHeld new.figures new.best s begin (λ weight. 0))
+                  (sym restarted.since_is)
+                  (all_none (λ weight. 0) new.figures new.best begin restarted.none
+                  (λ weight. refl));
+              all = λ weight.
+                  let none = none_stood weight (key_of symbol) length_ns begin earlier early in
+                  ap (λ (k : ℕ). k + stood weight (key_of symbol) length_ns begin earlier)
+                  (weighed_as weight new.best (overlap length_ns begin c d) (d - begin) best part)
+                  ∙ ap (λ (k : ℕ). weight new.best * (d - begin) + k) none;
+            });
+      }
+
+  -- ---- and the event's own change
+
+  -- none
+  pub held_still : best_in (key_of symbol) e.event ≡ None
+      → IsMidHeld length_ns symbol e earlier t → IsSymbolHeld length_ns symbol (e ∷ earlier) t
+  held_still none mid = record {
+    symbol_is = mid.symbol_is;
+    best_is = mid.best_is
+        ∙ sym (ap (λ (o : Option National). unwrap_or o (best_told (key_of symbol) earlier)) none);
+    held = λ begin is.
+        let since = mid.held begin is in
+        let d = clock_told (e ∷ earlier) in
+        all_as (λ weight. weight t.best * (d - since.at) + since.sum weight)
+        (λ weight. stood weight (key_of symbol) length_ns begin (e ∷ earlier))
+        t.figures t.best t.since d (λ weight. sym (since.all weight))
+        (all_pass since.sum t.figures t.best t.since since.at d since.on since.are);
+  }
+
+  -- another best
+  pub held_changed : (best : National) (new : SymbolTimes)
+      → best_in (key_of symbol) e.event ≡ Some best
+      → IsChanged (clock_told (e ∷ earlier)) best t new
+      → IsMidHeld length_ns symbol e earlier t
+      → IsSymbolHeld length_ns symbol (e ∷ earlier) new
+  held_changed best new found changed mid = record {
+    symbol_is = changed.symbol_is ∙ mid.symbol_is;
+    best_is = changed.best_is
+        ∙ sym (ap (λ (o : Option National). unwrap_or o (best_told (key_of symbol) earlier))
+        found);
+    held = λ begin is.
+        let since = mid.held begin is in
+        let d = clock_told (e ∷ earlier) in
+        subst (λ (s : ℕ). AreBestsHeld new.figures new.best s d
+        (λ weight. stood weight (key_of symbol) length_ns begin (e ∷ earlier)))
+        (sym changed.since_is)
+        (all_as (λ weight. weight t.best * (d - since.at) + since.sum weight)
+        (λ weight. stood weight (key_of symbol) length_ns begin (e ∷ earlier))
+        new.figures new.best d d (λ weight. sym (since.all weight))
+        (all_settled since.sum t.figures new.figures t.best new.best t.since since.at d since.on
+        changed.adds since.are));
+  }

@@ -1,0 +1,5 @@
+pub mod CountSteps
+pub mod HeldFigures
+pub mod BestSteps
+pub mod BestLists
+pub mod BestMaking

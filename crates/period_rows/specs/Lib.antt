@@ -1,0 +1,10 @@
+pub mod Periods
+pub mod Sequences
+pub mod LineFigures
+pub mod CountStates
+pub mod CountRows
+pub mod Bests
+pub mod BestRows
+pub mod BestHolding
+pub mod BestTimes
+pub mod BestMakers

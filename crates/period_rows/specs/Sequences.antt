@@ -1,0 +1,70 @@
+-- The numbers of lines' packets, and how many of them their packets pass over.
+use Rattle.std.specs.Prelude.{ℕ, ◌+◌, ◌-◌, ◌*◌, Bool, true, false, List, max, Option, None, Some, Ok, slice_index_or, slice_set, if◌then◌else◌}
+use Rattle.feed_types.specs.FullCounts.{count_after}
+use Rattle.feed_types.specs.declared.line.LineId.{LineId}
+use Rattle.feed_types.specs.declared.line.LineId.TheVariants.{A, B, Recovery}
+use Rattle.line_arbiter.specs.declared.outcome.Outcome.{Outcome}
+use Rattle.line_arbiter.specs.declared.outcome.Outcome.TheVariants.{Ended}
+use Rattle.feed_text.specs.SinkEvents.{SinkEvent, told_before, told_packet, told_renewal, told_skip}
+use Rattle.period_rows.specs.declared.line_sequence.LineSequence.{LineSequence}
+
+-- ---- a line
+
+abbrev pub no_sequence : LineSequence
+no_sequence = record { begun = false; highest = 0 }
+
+-- the end of a session says which number is its last
+abbrev pub highest_after : Outcome → ℕ → ℕ → ℕ
+highest_after Ended highest last = last
+highest_after _ highest last = max highest last
+
+-- A line's numbers after an event of it or of its venue: a packet that is refused says nothing, a
+-- next session begins at 1, and after a skip a line of which nothing came begins there.
+abbrev pub sequence_after : LineSequence → SinkEvent → LineSequence
+sequence_after s (told_packet venue line number count bytes (Ok outcome)) = record {
+  begun = true;
+  highest = highest_after outcome s.highest (count_after (number - 1) count);
+}
+sequence_after s (told_renewal venue (Ok ordinal)) = no_sequence
+sequence_after s (told_skip venue number (Ok done)) =
+    record s { highest = if s.begun then s.highest else number - 1 }
+sequence_after s _ = s
+
+-- how many numbers a packet passes over: those between the highest one and its own
+abbrev pub passed_over : LineSequence → SinkEvent → ℕ
+passed_over s (told_packet venue line number count bytes (Ok outcome)) =
+    number - (s.highest + 1)
+passed_over s _ = 0
+
+-- ---- the lines of a capture: A and B of venue 0, then those of venue 1, and so on
+
+-- the place of a venue's line; recovery has none
+abbrev pub line_place : ℕ → LineId → Option ℕ
+line_place venue A = Some (2 * venue)
+line_place venue B = Some (2 * venue + 1)
+line_place venue Recovery = None
+
+abbrev pub sequence_at : SinkEvent → List LineSequence → ℕ → List LineSequence
+sequence_at event ss place =
+    slice_set ss place (sequence_after (slice_index_or ss place no_sequence) event)
+
+-- a packet goes on with the numbers of its own line
+abbrev pub own_sequence : SinkEvent → List LineSequence → Option ℕ → List LineSequence
+own_sequence event ss None = ss
+own_sequence event ss (Some place) = sequence_at event ss place
+
+-- those of both lines of a venue
+abbrev pub both_sequences : SinkEvent → List LineSequence → ℕ → List LineSequence
+both_sequences event ss venue =
+    sequence_at event (sequence_at event ss (2 * venue)) (2 * venue + 1)
+
+-- the numbers of all lines after an event, be it told or before all that is told
+abbrev pub sequences_after : List LineSequence → SinkEvent → List LineSequence
+sequences_after ss (told_packet venue line number count bytes answer) =
+    own_sequence (told_packet venue line number count bytes answer) ss (line_place venue line)
+sequences_after ss (told_renewal venue answer) =
+    both_sequences (told_renewal venue answer) ss venue
+sequences_after ss (told_skip venue number answer) =
+    both_sequences (told_skip venue number answer) ss venue
+sequences_after ss (told_before event) = sequences_after ss event
+sequences_after ss _ = ss

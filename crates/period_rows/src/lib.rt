@@ -1,0 +1,33 @@
+//! Rows of periods of the clock: what each line brought in each, and how long national bests stood.
+//!
+//! Contract: a sink of [`count_rows`] writes, for each period in which a datagram came, a row of
+//! each line (`specs/CountRows.antt`): it counts those of the period, and a frame that comes late
+//! counts in its own period while that is one of the 16 latest.
+//!
+//! Begin with `count_maker.rt`.
+#![tactic(auto)]
+
+mod best_clock;
+mod best_figures;
+mod best_maker;
+mod best_shares;
+mod best_table;
+mod best_times;
+mod count_figures;
+mod count_maker;
+mod count_rows;
+mod line_figures;
+mod line_sequence;
+mod symbol_times;
+mod times;
+
+pub use best_figures::BestFigures;
+pub use best_maker::{BestMaker, new_best_rows};
+pub use best_shares::BestShares;
+pub use best_table::BestTable;
+pub use best_times::PeriodOver;
+pub use count_figures::CountFigures;
+pub use count_maker::{PeriodCounter, new_count_rows};
+pub use line_figures::LineFigures;
+pub use line_sequence::LineSequence;
+pub use symbol_times::SymbolTimes;
