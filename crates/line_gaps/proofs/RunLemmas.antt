@@ -5,7 +5,7 @@ use Rattle.std.specs.List.{list_any}
 use Rattle.std.proofs.lemmas.Bool.Decides.{nat_tests}
 use Rattle.std.proofs.lemmas.List.Folds.{list_any_more}
 use Rattle.line_gaps.specs.declared.number_run.NumberRun.{NumberRun}
-use Rattle.line_gaps.specs.Runs.{is_in_run, is_in_runs}
+use Rattle.line_gaps.specs.Runs.{is_in_run, is_in_runs, meets_run, meets_runs}
 
 -- outside a cut is below or above it
 pub is_outside : (n first last : ℕ) → (nat_lt n first || nat_lt last n)
@@ -38,3 +38,34 @@ outside_more now mid last old n runs i cut d within a b c =
     ∙ parts old known run (nat_lt n cut.first) (nat_lt cut.last n) out
     (is_outside n cut.first cut.last)
     ∙ ap (λ (k : Bool). old || (k && out)) (sym (list_any_more (is_in_run n) runs i d within))
+
+-- ---- a run that meets none
+
+in_apart : (n a b c d : ℕ) → nat_le (max a c) (min b d) ≡ false
+    → (nat_le a n && nat_le n b) ≡ true → (nat_le c n && nat_le n d) ≡ false
+in_apart n a b c d apart is = grind (arith, nat_tests, apart, is)
+
+not_false : (b : Bool) → b ≡ false → true ≡ not b
+not_false true e = cc e
+not_false false e = refl
+
+kept_if : (x more r : Bool) → (x ≡ true → r ≡ false) → more ≡ (more && not r)
+    → (x || more) ≡ ((x || more) && not r)
+kept_if true more r apart rest = not_false r (apart refl)
+kept_if false more r apart rest = rest
+
+or_left : (a b : Bool) → (a || b) ≡ false → a ≡ false
+or_left false b e = refl
+or_left true b e = cc e
+
+or_rest : (a b : Bool) → (a || b) ≡ false → b ≡ false
+or_rest false b e = e
+or_rest true b e = cc e
+
+pub apart_keeps : (n : ℕ) (runs : List NumberRun) (r : NumberRun) → meets_runs runs r ≡ false
+    → is_in_runs n runs ≡ (is_in_runs n runs && not (is_in_run n r))
+apart_keeps n [] r apart = refl
+apart_keeps n (x ∷ runs) r apart =
+    kept_if (is_in_run n x) (is_in_runs n runs) (is_in_run n r)
+    (in_apart n x.first x.last r.first r.last (or_left (meets_run x r) (meets_runs runs r) apart))
+    (apart_keeps n runs r (or_rest (meets_run x r) (meets_runs runs r) apart))

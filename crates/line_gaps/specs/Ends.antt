@@ -1,8 +1,10 @@
 -- What becomes of the gaps of a line, by the numbers of the venue that are missing.
-use Rattle.std.specs.Prelude.{◌≡◌, ℕ, ◌+◌, ◌-◌, Bool, true, false, nat_lt, List, [], ◌∷◌, Option, None, Some, if◌then◌else◌}
+use Rattle.std.specs.Prelude.{◌≡◌, ℕ, ◌+◌, ◌-◌, Bool, true, false, nat_lt, ◌≤◌, List, [], ◌∷◌, ◌++◌, length, Option, None, Some, if◌then◌else◌}
 use Rattle.feed_types.specs.FullCounts.{count_after}
+use Rattle.line_gaps.specs.declared.ended_gaps.EndedGaps.{EndedGaps}
 use Rattle.line_gaps.specs.declared.gap_line.GapLine.{GapLine}
-use Rattle.line_gaps.specs.declared.heard_packet.HeardPacket.{HeardPacket}
+use Rattle.line_gaps.specs.declared.gap_line.GapLine.TheVariants as lines
+use Rattle.line_gaps.specs.declared.gap_sums.GapSums.{GapSums}
 use Rattle.line_gaps.specs.declared.line_gaps.GapPass.{GapPass}
 use Rattle.line_gaps.specs.declared.line_gaps.LineGaps.{LineGaps}
 use Rattle.line_gaps.specs.declared.lost_numbers.LostNumbers.{LostNumbers}
@@ -11,6 +13,8 @@ use Rattle.line_gaps.specs.declared.open_gap.EndedGap.{EndedGap}
 use Rattle.line_gaps.specs.declared.open_gap.GapEnd.{GapEnd}
 use Rattle.line_gaps.specs.declared.open_gap.GapEnd.TheVariants as ends
 use Rattle.line_gaps.specs.declared.open_gap.OpenGap.{OpenGap}
+use Rattle.line_gaps.specs.declared.venue_gaps.VenueGaps.{VenueGaps}
+use Rattle.line_gaps.specs.Sums.{AreSumsOf}
 use Rattle.line_gaps.specs.Runs.{len_of, meets_runs, sum_in}
 
 -- a gap that ended
@@ -61,3 +65,30 @@ pub record KeepsLine (old new : LineGaps) : Type 0 where
   pub begun : new.begun ≡ old.begun
   pub highest : new.highest ≡ old.highest
   pub passed : new.passed ≡ old.passed
+
+-- Gaps of the line ended, at most so many, and its sums are those of these gaps, too.
+pub record EndsGaps (most : ℕ) (old new : LineGaps) (before after : EndedGaps) : Type 0 where
+  pub more : List EndedGap
+  pub ended : after.gaps.items ≡ before.gaps.items ++ more
+  pub few : length more ≤ most
+  pub sums : (gaps : List EndedGap) → AreSumsOf gaps old.sums → AreSumsOf (gaps ++ more) new.sums
+  pub line : new.line ≡ old.line
+
+-- Gaps of line A ended, then of line B, then of all lines, and the sums are those of them, too.
+pub record EndsVenue (old new : VenueGaps) (before after : EndedGaps) : Type 0 where
+  pub a : List EndedGap
+  pub b : List EndedGap
+  pub all : List EndedGap
+  pub ended : after.gaps.items ≡ before.gaps.items ++ (a ++ (b ++ all))
+  pub sums_a : (gaps : List EndedGap) → AreSumsOf gaps old.a.sums
+      → AreSumsOf (gaps ++ a) new.a.sums
+  pub sums_b : (gaps : List EndedGap) → AreSumsOf gaps old.b.sums
+      → AreSumsOf (gaps ++ b) new.b.sums
+  pub sums_all : (gaps : List EndedGap) → AreSumsOf gaps old.all.sums
+      → AreSumsOf (gaps ++ all) new.all.sums
+
+-- the sums of a line's gaps, or of those of all lines
+abbrev pub sums_on : GapLine → VenueGaps → GapSums
+sums_on lines.A gaps = gaps.a.sums
+sums_on lines.B gaps = gaps.b.sums
+sums_on lines.All gaps = gaps.all.sums

@@ -36,12 +36,12 @@ has_come events n = list_any (λ e. brings n e.event) events
 abbrev pub was_passed : List TimedEvent → ℕ → Bool
 was_passed events n = list_any (λ e. passes n e.event) events
 
--- a skip passed it before it came
+-- a skip passed it before it came; messages have numbers from 1 on
 abbrev pub is_given_up : List TimedEvent → ℕ → Bool
 is_given_up [] n = false
 is_given_up (last ∷ earlier) n =
-    is_given_up earlier n
-    || (passes n last.event && not (has_come earlier n || was_passed earlier n))
+    (passes n last.event && (nat_lt 0 n && not (has_come earlier n || was_passed earlier n)))
+    || is_given_up earlier n
 
 -- ---- packets that count
 
@@ -53,13 +53,21 @@ heard line number count time = record {
   time = time;
 }
 
--- the line's latest packet past the window
+-- a packet of the line past the window
+abbrev pub far_with : LineId → Option ℕ → SinkEvent → Option HeardPacket
+far_with line time (told_packet venue on number count bytes (Ok Ahead)) =
+    if is_same_line on line then Some (heard on number count time) else None
+far_with line time _ = None
+
+abbrev pub latest : Option HeardPacket → Option HeardPacket → Option HeardPacket
+latest (Some packet) earlier = Some packet
+latest None earlier = earlier
+
+-- the line's latest one
 abbrev pub far_on : LineId → List TimedEvent → Option HeardPacket
 far_on line [] = None
-far_on line (record { time = time; event = told_packet venue on number count bytes (Ok Ahead) }
-    ∷ earlier) =
-    if is_same_line on line then Some (heard on number count time) else far_on line earlier
-far_on line (last ∷ earlier) = far_on line earlier
+far_on line (last ∷ earlier) =
+    latest (far_with line last.time last.event) (far_on line earlier)
 
 -- a packet goes on from an earlier one: it begins at or after its first number, and at most the
 -- largest window past its last
@@ -126,6 +134,9 @@ known_of (last ∷ earlier) =
     highest_with (known_of earlier) (counts_with earlier last.time last.event)
 
 -- It is missing: a packet that counts tells of it, and it neither came nor was given up.
+abbrev pub is_missing_by : ℕ → Bool → Bool → ℕ → Bool
+is_missing_by known come passed n =
+    nat_lt 0 n && (nat_le n known && not (come || passed))
+
 abbrev pub is_missing : List TimedEvent → ℕ → Bool
-is_missing events n =
-    nat_lt 0 n && nat_le n (known_of events) && not (has_come events n || was_passed events n)
+is_missing events n = is_missing_by (known_of events) (has_come events n) (was_passed events n) n

@@ -1,4 +1,5 @@
 pub mod Runs
 pub mod Gaps
+pub mod Missing
 pub mod Sums
 pub mod Ends

@@ -1,5 +1,8 @@
 //! Packets that lines bring.
 
+ghost use Rattle.std.specs.Prelude.{◌≡◌};
+ghost use Rattle.line_gaps.specs.Gaps.{goes_on, last_told};
+
 use crate::number_run::NumberRun;
 use feed_types::{LineId, MAX_WINDOW};
 
@@ -16,7 +19,9 @@ impl HeardPacket {
     /// Returns the last number that it tells of: that of its last message, or the one below its
     /// own where it has none.
     #[inline(always)]
-    pub(crate) fn last(&self) -> u64 {
+    pub fn last(&self) -> u64
+        ensures { result ≡ last_told self.now.number self.now.count }
+    {
         self.number
             .saturating_sub(1)
             .saturating_add(u64::from(self.count))
@@ -24,7 +29,12 @@ impl HeardPacket {
 
     /// Returns the numbers of its messages.
     #[inline(always)]
-    pub(crate) fn run(&self) -> NumberRun {
+    pub fn run(&self) -> NumberRun
+        ensures { result ≡ record {
+          first = self.now.number;
+          last = last_told self.now.number self.now.count;
+        } }
+    {
         NumberRun {
             first: self.number,
             last: self.last(),
@@ -33,7 +43,9 @@ impl HeardPacket {
 
     /// Returns whether the packet goes on from this earlier one: it begins at or after its first
     /// number, and at most the largest window past its last one.
-    pub(crate) fn goes_on(&self, earlier: &HeardPacket) -> bool {
+    pub fn goes_on(&self, earlier: &HeardPacket) -> bool
+        ensures { result ≡ goes_on earlier.now self.now.number }
+    {
         let most = earlier.last().saturating_add(u64::from(MAX_WINDOW));
         earlier.number <= self.number && self.number <= most
     }

@@ -30,4 +30,3 @@ pub use number_run::NumberRun;
 pub use number_runs::NumberRuns;
 pub use open_gap::{EndedGap, GapEnd, OpenGap};
 pub use venue_gaps::{VenueGaps, VenueSums, new_gaps};
-

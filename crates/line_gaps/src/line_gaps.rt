@@ -5,7 +5,7 @@ ghost use Rattle.line_gaps.specs.Runs.{meets_runs};
 ghost use Rattle.line_gaps.specs.declared.open_gap.GapEnd.TheVariants.{Open};
 ghost use Rattle.line_gaps.specs.declared.open_gap.EndedGap.{EndedGap};
 ghost use Rattle.line_gaps.specs.Sums.{AreSumsOf};
-ghost use Rattle.line_gaps.specs.Ends.{KeepsLine, gap_over, joined_gap, opened, over_at_once};
+ghost use Rattle.line_gaps.specs.Ends.{EndsGaps, KeepsLine, gap_over, joined_gap, opened, over_at_once};
 
 use crate::ended_gaps::EndedGaps;
 use crate::gap_line::GapLine;
@@ -82,8 +82,9 @@ fn open_ones(open: &[OpenGap], lost: &LostNumbers) -> ArrayVec<OpenGap, MOST_OPE
 /// Copies those of the gaps of which no number is missing.
 fn over_ones(open: &[OpenGap], lost: &LostNumbers) -> ArrayVec<OpenGap, MOST_OPEN>
     requires { length open.now ≤ 16 }
-    ensures { result.items
+    ensures are { result.items
         ≡ filter (λ g. not (meets_runs lost.now.missing.runs.items g.run)) open.now }
+    ensures few { length result.items ≤ 16 }
 {
     let mut over: ArrayVec<OpenGap, MOST_OPEN> = ArrayVec::new();
     for gap in open {
@@ -181,6 +182,7 @@ impl LineGaps {
     #[inline(never)]
     fn end_over(&mut self, lost: &LostNumbers, pass: GapPass, ended: &mut EndedGaps)
         requires { length ended.old.gaps.items + 16 ≤ 51 }
+        ensures ends { EndsGaps 16 self.old self.new ended.old ended.new }
         ensures ended { ended.new.gaps.items ≡ ended.old.gaps.items
             ++ map (gap_over self.old.line lost.now pass)
             (filter (λ g. not (meets_runs lost.now.missing.runs.items g.run)) self.old.open.items) }
@@ -239,7 +241,13 @@ impl LineGaps {
     /// Counts messages that are no higher than the highest: those that the line passed over came
     /// late, the others again.
     #[inline(never)]
-    fn count_back(&mut self, run: NumberRun) {
+    fn count_back(&mut self, run: NumberRun)
+        ensures sums { (rows : List EndedGap) → AreSumsOf rows self.old.sums
+            → AreSumsOf rows self.new.sums }
+        ensures line { self.new.line ≡ self.old.line }
+        ensures open { self.new.open ≡ self.old.open }
+        ensures merged { self.new.sums.merged ≡ self.old.sums.merged }
+    {
         let back = NumberRun {
             first: run.first,
             last: run.last.min(self.highest),
@@ -252,31 +260,70 @@ impl LineGaps {
         self.sums.again = raised(self.sums.again, back.len().saturating_sub(late));
     }
 
-    /// Takes a packet of the line.
+    /// Begins a gap where a packet of the line passes over numbers, and counts what it brings late
+    /// or again.
     #[inline(always)]
-    fn pass(&mut self, packet: &HeardPacket, lost: &LostNumbers, ended: &mut EndedGaps)
+    fn compare(&mut self, packet: &HeardPacket, lost: &LostNumbers, ended: &mut EndedGaps)
         requires { length ended.old.gaps.items + 1 ≤ 51 }
+        ensures { EndsGaps 1 self.old self.new ended.old ended.new }
     {
         if packet.number <= self.highest {
             self.count_back(packet.run());
-        } else if packet.number - self.highest > 1 {
+            return;
+        }
+        if packet.number - self.highest > 1 {
             let run = NumberRun {
                 first: self.highest + 1,
                 last: packet.number - 1,
             };
             self.begin_gap(run, packet.time, lost, ended);
         }
+    }
+
+    /// Takes a packet of the line.
+    #[inline(always)]
+    fn pass(&mut self, packet: &HeardPacket, lost: &LostNumbers, ended: &mut EndedGaps)
+        requires { length ended.old.gaps.items + 1 ≤ 51 }
+        ensures { EndsGaps 1 self.old self.new ended.old ended.new }
+    {
+        self.compare(packet, lost, ended);
         self.highest = self.highest.max(packet.last());
         self.begun = true;
     }
 
-    /// Returns whether packets of a line are this one's.
+    /// Takes a packet, if it is of the line.
     #[inline(always)]
-    fn is_of(&self, line: LineId) -> bool {
-        match self.line {
-            GapLine::A => matches!(line, LineId::A),
-            GapLine::B => matches!(line, LineId::B),
+    fn pass_own(&mut self, packet: &HeardPacket, lost: &LostNumbers, ended: &mut EndedGaps)
+        requires { length ended.old.gaps.items + 1 ≤ 51 }
+        ensures { EndsGaps 1 self.old self.new ended.old ended.new }
+    {
+        let is_own = match self.line {
+            GapLine::A => matches!(packet.line, LineId::A),
+            GapLine::B => matches!(packet.line, LineId::B),
             GapLine::All => true,
+        };
+        if is_own {
+            self.pass(packet, lost, ended);
+        }
+    }
+
+    /// Ends the gaps of whose numbers none is missing any more, where a packet brought one that
+    /// was.
+    #[inline(always)]
+    fn end_filled(
+        &mut self,
+        packet: &HeardPacket,
+        lost: &LostNumbers,
+        is_filled: bool,
+        ended: &mut EndedGaps,
+    )
+        requires { length ended.old.gaps.items + 16 ≤ 51 }
+        ensures { EndsGaps 16 self.old self.new ended.old ended.new }
+    {
+        if is_filled {
+            let by = end_by_line(packet.line);
+            let time = packet.time;
+            self.end_over(lost, GapPass { by, time }, ended);
         }
     }
 
@@ -291,18 +338,10 @@ impl LineGaps {
         ended: &mut EndedGaps,
     )
         requires { length ended.old.gaps.items + 17 ≤ 51 }
+        ensures { EndsGaps 17 self.old self.new ended.old ended.new }
     {
-        if is_filled && !self.open.is_empty() {
-            let by = end_by_line(packet.line);
-            let pass = GapPass {
-                by,
-                time: packet.time,
-            };
-            self.end_over(lost, pass, ended);
-        }
-        if self.is_of(packet.line) {
-            self.pass(packet, lost, ended);
-        }
+        self.end_filled(packet, lost, is_filled, ended);
+        self.pass_own(packet, lost, ended);
     }
 
     /// Takes a skip to a number: where no packet came yet, the line begins there.
@@ -313,13 +352,11 @@ impl LineGaps {
         lost: &LostNumbers,
         ended: &mut EndedGaps,
     )
-        requires { length ended.old.gaps.items + 16 ≤ 51 }
+        requires { length ended.old.gaps.items + 17 ≤ 51 }
+        ensures { EndsGaps 17 self.old self.new ended.old ended.new }
     {
-        let pass = GapPass {
-            by: GapEnd::Skip,
-            time,
-        };
-        self.end_over(lost, pass, ended);
+        let by = GapEnd::Skip;
+        self.end_over(lost, GapPass { by, time }, ended);
         if !self.begun {
             self.highest = self.highest.max(number.saturating_sub(1));
         }
@@ -327,7 +364,8 @@ impl LineGaps {
 
     /// Ends all gaps with the session or the capture.
     pub(crate) fn close(&mut self, lost: &LostNumbers, ended: &mut EndedGaps)
-        requires { length ended.old.gaps.items + 16 ≤ 51 }
+        requires { length ended.old.gaps.items + 17 ≤ 51 }
+        ensures ends { EndsGaps 17 self.old self.new ended.old ended.new }
         ensures ended { ended.new.gaps.items ≡ ended.old.gaps.items
             ++ map (gap_over self.old.line lost.now (record { by = Open; time = None }))
             self.old.open.items }
@@ -346,7 +384,10 @@ impl LineGaps {
     }
 
     /// Begins anew with a next session.
-    pub(crate) fn renew(&mut self) {
+    pub(crate) fn renew(&mut self)
+        ensures sums { self.new.sums ≡ self.old.sums }
+        ensures line { self.new.line ≡ self.old.line }
+    {
         self.begun = false;
         self.highest = 0;
         self.passed.clear();

@@ -1,8 +1,12 @@
 //! The numbers of a venue that are missing or were given up.
-ghost use Rattle.std.specs.Prelude.{◌≡◌, ◌≤◌, ◌-◌, ℕ, Bool, ◌&&◌, ◌||◌, not, nat_le, nat_lt, max, true, false};
-ghost use Rattle.line_gaps.specs.Runs.{HaveJust, is_in_run, meets_runs};
+ghost use Rattle.std.specs.Prelude.{◌≡◌, ◌≤◌, ◌<◌, ◌-◌, ℕ, Bool, ◌&&◌, ◌||◌, not, nat_le, nat_lt, max, [], ◌∷◌, List, Option, None, Ok};
+ghost use Rattle.feed_text.specs.SinkEvents.{SinkEvent, TimedEvent, timed_event, told_packet, told_skip};
+ghost use Rattle.line_arbiter.specs.declared.outcome.Outcome.TheVariants.{Taken};
+ghost use Rattle.line_gaps.specs.Runs.{HaveJust, is_in_run, is_in_runs, meets_runs};
+ghost use Rattle.line_gaps.specs.Missing.{CountsNumbers, FitsLost, KeepsKnown, is_learnt};
 
 use crate::gap_sums::raised;
+use crate::heard_packet::HeardPacket;
 use crate::number_run::NumberRun;
 use crate::number_runs::NumberRuns;
 
@@ -21,7 +25,9 @@ pub struct LostNumbers {
 
 impl LostNumbers {
     /// None.
-    pub fn new() -> LostNumbers {
+    pub fn new() -> LostNumbers
+        ensures { FitsLost [] result }
+    {
         LostNumbers {
             missing: NumberRuns::new(),
             given_up: NumberRuns::new(),
@@ -32,7 +38,13 @@ impl LostNumbers {
 
     /// Takes out the numbers of a packet, which came. Returns whether one of them was missing.
     #[inline(always)]
-    pub fn bring(&mut self, run: NumberRun) -> bool {
+    fn bring(&mut self, run: NumberRun) -> bool
+        ensures found { result ≡ meets_runs self.old.missing.runs.items run }
+        ensures dropped { self.old.missing.dropped ≤ self.new.missing.dropped }
+        ensures missing { (has : ℕ → Bool) → HaveJust self.old.missing has
+            → HaveJust self.new.missing (λ n. has n && not (is_in_run n run)) }
+        ensures kept { KeepsKnown self.old self.new }
+    {
         if !self.missing.meets(run) {
             return false;
         }
@@ -40,61 +52,105 @@ impl LostNumbers {
         true
     }
 
+    /// Notes that numbers up to this one are missing, but for those known of or given up.
+    #[inline(never)]
+    fn miss(&mut self, below: u64)
+        requires { self.old.highest < below }
+        ensures dropped { self.old.missing.dropped ≤ self.new.missing.dropped }
+        ensures missing { self.new.missing.dropped ≡ 0
+            → (n : ℕ) → is_in_runs n self.new.missing.runs.items
+            ≡ (is_in_runs n self.old.missing.runs.items
+            || is_learnt self.old.highest self.old.floor below n) }
+        ensures kept { KeepsKnown self.old self.new }
+    {
+        let first = (self.highest + 1).max(self.floor);
+        if first <= below {
+            self.missing.add(NumberRun { first, last: below });
+        }
+    }
+
     /// Notes that there are numbers up to `last`. Those up to `below` are missing, unless they were
     /// known of or given up before.
     #[inline(always)]
-    pub fn learn(&mut self, below: u64, last: u64) {
+    fn learn(&mut self, below: u64, last: u64)
+        ensures dropped { self.old.missing.dropped ≤ self.new.missing.dropped }
+        ensures missing { self.new.missing.dropped ≡ 0
+            → (n : ℕ) → is_in_runs n self.new.missing.runs.items
+            ≡ (is_in_runs n self.old.missing.runs.items
+            || is_learnt self.old.highest self.old.floor below n) }
+        ensures highest { self.new.highest ≡ max self.old.highest last }
+        ensures floor { self.new.floor ≡ self.old.floor }
+        ensures given_up { self.new.given_up ≡ self.old.given_up }
+    {
         if below > self.highest {
             self.miss(below);
         }
         self.highest = self.highest.max(last);
     }
 
-    /// Notes that numbers up to this one are missing, but for those known of or given up.
-    #[inline(never)]
-    fn miss(&mut self, below: u64) {
-        if below > self.highest {
-            let first = (self.highest + 1).max(self.floor);
-            if first <= below {
-                self.missing.add(NumberRun { first, last: below });
-            }
-        }
+    /// Takes a packet whose messages came. Returns whether one of them was missing.
+    #[inline(always)]
+    pub fn take_messages(&mut self, packet: &HeardPacket) -> bool
+        ensures { (events : List TimedEvent) (venue bytes new repeated : ℕ)
+            → FitsLost events self.old
+            → FitsLost (timed_event packet.now.time (told_packet venue packet.now.line
+            packet.now.number packet.now.count bytes (Ok (Taken new repeated))) ∷ events)
+            self.new }
+    {
+        let found = self.bring(packet.run());
+        self.learn(packet.number.saturating_sub(1), packet.last());
+        found
     }
 
-    /// Gives up the missing numbers below this one, and those that nothing is known of. Returns how
-    /// many.
-    #[inline(never)]
-    pub fn give_up(&mut self, number: u64) -> u64 {
-        if number <= self.floor {
-            return 0;
-        }
-        let below = NumberRun {
-            first: 0,
-            last: number - 1,
-        };
-        let known = self.missing.count_in(below);
-        self.given_up.add_those_below(&self.missing, number);
-        self.missing.cut(below);
-        let unknown = self.unknown_below(number);
-        if unknown.first <= unknown.last {
-            self.given_up.add(unknown);
-        }
-        self.floor = number;
-        raised(known, unknown.len())
+    /// Takes a packet of which nothing came, but which tells of the numbers up to its last.
+    #[inline(always)]
+    pub fn take_numbers(&mut self, packet: &HeardPacket)
+        ensures { (events : List TimedEvent) (last : TimedEvent)
+            → CountsNumbers events last packet.now → FitsLost events self.old
+            → FitsLost (last ∷ events) self.new }
+    {
+        self.learn(packet.last(), packet.last());
     }
 
     /// Returns the numbers below this one that nothing is known of and that weren't given up.
     fn unknown_below(&self, number: u64) -> NumberRun
-        requires { 0 < number }
+        ensures { (n : ℕ) → is_in_run n result ≡ (nat_lt self.now.highest n
+            && (nat_le self.now.floor n && nat_lt n number)) }
     {
+        if number <= self.highest {
+            return NumberRun { first: 1, last: 0 };
+        }
         NumberRun {
-            first: self.highest.saturating_add(1).max(self.floor),
+            first: (self.highest + 1).max(self.floor),
             last: number - 1,
         }
     }
 
+    /// Gives the missing numbers below this one up, and those that nothing is known of. Returns how
+    /// many.
+    #[inline(never)]
+    pub fn give_up(&mut self, number: u64) -> u64
+        ensures { (events : List TimedEvent) (time : Option ℕ) (venue : ℕ)
+            → FitsLost events self.old
+            → FitsLost (timed_event time (told_skip venue number (Ok tt)) ∷ events) self.new }
+    {
+        let below = NumberRun {
+            first: 0,
+            last: number.saturating_sub(1),
+        };
+        let unknown = self.unknown_below(number);
+        let count = raised(self.missing.count_in(below), unknown.len());
+        self.given_up.add_those_below(&self.missing, number);
+        self.given_up.add(unknown);
+        self.missing.cut(below);
+        self.floor = self.floor.max(number);
+        count
+    }
+
     /// Forgets all numbers, for a next session.
-    pub fn renew(&mut self) {
+    pub fn renew(&mut self)
+        ensures { FitsLost [] self.new }
+    {
         self.missing.clear();
         self.given_up.clear();
         self.highest = 0;

@@ -1,6 +1,12 @@
 //! The gaps of a venue: those of line A, of line B, and of all lines together.
 
-ghost use Rattle.std.specs.Prelude.{◌≡◌, [], IfOk, length};
+ghost use Rattle.std.specs.Prelude.{◌≡◌, ℕ, List, [], ◌∷◌, IfOk, Ok, length, if◌then◌else◌};
+ghost use Rattle.feed_types.specs.FullCounts.{count_after};
+ghost use Rattle.line_gaps.specs.Ends.{EndsVenue, sums_on};
+ghost use Rattle.line_gaps.specs.Missing.{CountsNumbers, FitsLost};
+ghost use Rattle.feed_text.specs.SinkEvents.{TimedEvent, timed_event, told_packet, told_skip};
+ghost use Rattle.line_arbiter.specs.declared.outcome.Outcome.TheVariants.{Taken};
+ghost use Rattle.line_gaps.specs.Sums.{AreSumsOf};
 
 use crate::ended_gaps::EndedGaps;
 use crate::gap_line::GapLine;
@@ -24,6 +30,22 @@ pub struct VenueSums {
     pub recovered: u64,
 }
 
+impl VenueSums {
+    /// Counts messages that were given up, where messages of the session came before or not.
+    fn give_up(&mut self, count: u64, has_come: bool)
+        ensures { self.new ≡ record self.old {
+          given_up = count_after self.old.given_up count;
+          before_join = if has_come then self.old.before_join
+              else count_after self.old.before_join count;
+        } }
+    {
+        self.given_up = raised(self.given_up, count);
+        if !has_come {
+            self.before_join = raised(self.before_join, count);
+        }
+    }
+}
+
 /// The gaps of a venue, and which of its numbers are missing.
 #[derive(Drop)]
 pub struct VenueGaps {
@@ -43,7 +65,7 @@ pub fn new_gaps(alloc: Global, count: usize) -> Result<Vec<VenueGaps>, AllocErro
     ensures { IfOk result (λ venues. length venues.items ≡ count) }
 {
     let mut venues = Vec::new(alloc);
-    for _ in 0..count {
+    for place in 0..count {
         venues.push(VenueGaps::new())?;
     }
     Ok(venues)
@@ -51,7 +73,12 @@ pub fn new_gaps(alloc: Global, count: usize) -> Result<Vec<VenueGaps>, AllocErro
 
 impl VenueGaps {
     /// Of a venue of which nothing came.
-    pub fn new() -> VenueGaps {
+    pub fn new() -> VenueGaps
+        ensures a { AreSumsOf [] result.a.sums }
+        ensures b { AreSumsOf [] result.b.sums }
+        ensures all { AreSumsOf [] result.all.sums }
+        ensures lost { FitsLost [] result.lost }
+    {
         VenueGaps {
             a: LineGaps::new(GapLine::A),
             b: LineGaps::new(GapLine::B),
@@ -64,7 +91,9 @@ impl VenueGaps {
     }
 
     /// Returns the sums of a line's gaps, or of those of all lines.
-    pub fn sums(&self, line: GapLine) -> GapSums {
+    pub fn sums(&self, line: GapLine) -> GapSums
+        ensures { result ≡ sums_on line self.now }
+    {
         match line {
             GapLine::A => self.a.sums,
             GapLine::B => self.b.sums,
@@ -73,7 +102,9 @@ impl VenueGaps {
     }
 
     /// Returns the highest number of the present session that a packet told of.
-    pub fn known(&self) -> u64 {
+    pub fn known(&self) -> u64
+        ensures { result ≡ self.now.lost.highest }
+    {
         self.lost.highest
     }
 
@@ -89,12 +120,16 @@ impl VenueGaps {
     }
 
     /// Returns how many messages were given up.
-    pub fn given_up(&self) -> u64 {
+    pub fn given_up(&self) -> u64
+        ensures { result ≡ self.now.sums.given_up }
+    {
         self.sums.given_up
     }
 
     /// Returns how many messages were given up before any of their session came.
-    pub fn before_join(&self) -> u64 {
+    pub fn before_join(&self) -> u64
+        ensures { result ≡ self.now.sums.before_join }
+    {
         self.sums.before_join
     }
 
@@ -112,7 +147,13 @@ impl VenueGaps {
     }
 
     /// Begins all sums anew. What is open stays, as does what came.
-    pub fn restart(&mut self) {
+    pub fn restart(&mut self)
+        ensures a { AreSumsOf [] self.new.a.sums }
+        ensures b { AreSumsOf [] self.new.b.sums }
+        ensures all { AreSumsOf [] self.new.all.sums }
+        ensures lost { self.new.lost ≡ self.old.lost }
+        ensures far { self.new.far ≡ self.old.far }
+    {
         self.a.sums = GapSums::new();
         self.b.sums = GapSums::new();
         self.all.sums = GapSums::new();
@@ -123,6 +164,9 @@ impl VenueGaps {
     #[inline(always)]
     fn pass(&mut self, packet: &HeardPacket, is_filled: bool, ended: &mut EndedGaps)
         requires { ended.old.gaps.items ≡ [] }
+        ensures lost { self.new.lost ≡ self.old.lost }
+        ensures far { self.new.far ≡ self.old.far }
+        ensures ends { EndsVenue self.old self.new ended.old ended.new }
     {
         self.a.take(packet, &self.lost, is_filled, ended);
         self.b.take(packet, &self.lost, is_filled, ended);
@@ -133,14 +177,18 @@ impl VenueGaps {
     #[inline(always)]
     fn take_messages(&mut self, packet: &HeardPacket, new: u16, ended: &mut EndedGaps)
         requires { ended.old.gaps.items ≡ [] }
+        ensures ends { EndsVenue self.old self.new ended.old ended.new }
+        ensures missing { (events : List TimedEvent) (venue bytes repeated : ℕ)
+            → FitsLost events self.old.lost
+            → FitsLost (timed_event packet.now.time (told_packet venue packet.now.line
+            packet.now.number packet.now.count bytes (Ok (Taken new repeated))) ∷ events)
+            self.new.lost }
     {
         self.has_come = true;
         if matches!(packet.line, LineId::Recovery) {
             self.sums.recovered = raised(self.sums.recovered, u64::from(new));
         }
-        let is_filled = self.lost.bring(packet.run());
-        self.lost
-            .learn(packet.number.saturating_sub(1), packet.last());
+        let is_filled = self.lost.take_messages(packet);
         self.pass(packet, is_filled, ended);
     }
 
@@ -148,8 +196,12 @@ impl VenueGaps {
     #[inline(never)]
     fn take_numbers(&mut self, packet: &HeardPacket, ended: &mut EndedGaps)
         requires { ended.old.gaps.items ≡ [] }
+        ensures ends { EndsVenue self.old self.new ended.old ended.new }
+        ensures missing { (events : List TimedEvent) (last : TimedEvent)
+            → CountsNumbers events last packet.now → FitsLost events self.old.lost
+            → FitsLost (last ∷ events) self.new.lost }
     {
-        self.lost.learn(packet.last(), packet.last());
+        self.lost.take_numbers(packet);
         self.pass(packet, false, ended);
     }
 
@@ -158,12 +210,14 @@ impl VenueGaps {
     #[inline(never)]
     fn take_far(&mut self, packet: &HeardPacket, ended: &mut EndedGaps)
         requires { ended.old.gaps.items ≡ [] }
+        ensures { EndsVenue self.old self.new ended.old ended.new }
     {
         let earlier = self.far.on(packet.line);
         self.far.set(packet.line, Some(*packet));
-        match earlier {
-            Some(earlier) if packet.goes_on(&earlier) => self.take_numbers(&earlier, ended),
-            _ => {}
+        if let Some(earlier) = earlier {
+            if packet.goes_on(&earlier) {
+                self.take_numbers(&earlier, ended);
+            }
         }
     }
 
@@ -171,6 +225,7 @@ impl VenueGaps {
     #[inline(always)]
     fn take_packet(&mut self, packet: &HeardPacket, outcome: &Outcome, ended: &mut EndedGaps)
         requires { ended.old.gaps.items ≡ [] }
+        ensures { EndsVenue self.old self.new ended.old ended.new }
     {
         match outcome {
             Outcome::Taken { new, .. } => self.take_messages(packet, *new, ended),
@@ -183,12 +238,13 @@ impl VenueGaps {
     #[inline(never)]
     fn skip_to(&mut self, number: u64, time: Option<u64>, ended: &mut EndedGaps)
         requires { ended.old.gaps.items ≡ [] }
+        ensures ends { EndsVenue self.old self.new ended.old ended.new }
+        ensures missing { (events : List TimedEvent) (venue : ℕ) → FitsLost events self.old.lost
+            → FitsLost (timed_event time (told_skip venue number (Ok tt)) ∷ events)
+            self.new.lost }
     {
-        let given_up = self.lost.give_up(number);
-        self.sums.given_up = raised(self.sums.given_up, given_up);
-        if !self.has_come {
-            self.sums.before_join = raised(self.sums.before_join, given_up);
-        }
+        let count = self.lost.give_up(number);
+        self.sums.give_up(count, self.has_come);
         self.a.skip_to(number, time, &self.lost, ended);
         self.b.skip_to(number, time, &self.lost, ended);
         self.all.skip_to(number, time, &self.lost, ended);
@@ -198,6 +254,7 @@ impl VenueGaps {
     #[inline(never)]
     fn close(&mut self, ended: &mut EndedGaps)
         requires { ended.old.gaps.items ≡ [] }
+        ensures { EndsVenue self.old self.new ended.old ended.new }
     {
         self.a.close(&self.lost, ended);
         self.b.close(&self.lost, ended);
@@ -208,6 +265,8 @@ impl VenueGaps {
     #[inline(never)]
     fn renew(&mut self, ended: &mut EndedGaps)
         requires { ended.old.gaps.items ≡ [] }
+        ensures ends { EndsVenue self.old self.new ended.old ended.new }
+        ensures missing { FitsLost [] self.new.lost }
     {
         self.close(ended);
         self.a.renew();
@@ -222,6 +281,7 @@ impl VenueGaps {
     #[inline(always)]
     pub fn take(&mut self, time: Option<u64>, event: &Event<'_>, ended: &mut EndedGaps)
         requires { ended.old.gaps.items ≡ [] }
+        ensures { EndsVenue self.old self.new ended.old ended.new }
     {
         match event {
             Event::Packet {

@@ -1,0 +1,279 @@
+-- Which numbers are missing after one more event.
+use Rattle.std.proofs.Common.{◌≡◌, ℕ, zero, suc, ◌+◌, ◌-◌, ◌<◌, ◌≤◌, ◌⊎◌, inl, inr, Bool, true, false, List, [], ◌∷◌, arith, ap, refl, sym, ◌∙◌, max}
+use Rattle.std.specs.Prelude.{◌&&◌, ◌||◌, not, nat_le}
+use Rattle.std.proofs.lemmas.Bool.{cases_lt}
+use Rattle.std.proofs.lemmas.Bool.Decides.{nat_tests}
+use Rattle.std.specs.Prelude.{Option, None, Some, nat_lt}
+use Rattle.feed_text.specs.SinkEvents.{SinkEvent, TimedEvent}
+use Rattle.line_gaps.specs.declared.heard_packet.HeardPacket.{HeardPacket}
+use Rattle.line_gaps.specs.declared.lost_numbers.LostNumbers.{LostNumbers}
+use Rattle.line_gaps.specs.declared.number_runs.NumberRuns.{NumberRuns}
+use Rattle.line_gaps.specs.Gaps.{brings, counts_with, has_come, highest_with, is_given_up, is_missing, is_missing_by, known_of, last_told, passes, was_passed}
+use Rattle.line_gaps.specs.Missing.{FitsLost, is_learnt}
+use Rattle.line_gaps.specs.Runs.{HaveJust, is_in_runs}
+
+-- a number that was known
+known_all : (z b c p : Bool) → (((z && (true && not (c || p))) && not b) || false)
+    ≡ (z && (true && not ((b || c) || (false || p))))
+known_all true true true true = refl
+known_all true true true false = refl
+known_all true true false true = refl
+known_all true true false false = refl
+known_all true false true true = refl
+known_all true false true false = refl
+known_all true false false true = refl
+known_all true false false false = refl
+known_all false true true true = refl
+known_all false true true false = refl
+known_all false true false true = refl
+known_all false true false false = refl
+known_all false false true true = refl
+known_all false false true false = refl
+known_all false false false true = refl
+known_all false false false false = refl
+
+-- one that wasn't
+unknown_all : (l b p : Bool) → (not p && (l && not b))
+    ≡ (l && not ((b || false) || (false || p)))
+unknown_all true true true = refl
+unknown_all true true false = refl
+unknown_all true false true = refl
+unknown_all true false false = refl
+unknown_all false true true = refl
+unknown_all false true false = refl
+unknown_all false false true = refl
+unknown_all false false false = refl
+
+at_most : (m n : ℕ) → m ≤ n → nat_le m n ≡ true
+at_most m n is = grind (arith, nat_tests, is)
+
+not_at_most : (m n : ℕ) → n < m → nat_le m n ≡ false
+not_at_most m n is = grind (arith, nat_tests, is)
+
+below : (m n : ℕ) → m < n → nat_lt m n ≡ true
+below m n is = grind (arith, nat_tests, is)
+
+not_below : (m n : ℕ) → n ≤ m → nat_lt m n ≡ false
+not_below m n is = grind (arith, nat_tests, is)
+
+reversed : (m n : ℕ) → nat_le m n ≡ not (nat_lt n m)
+reversed m n = grind (arith, nat_tests)
+
+known_max : (n known last : ℕ) → n ≤ known → nat_le n (max known last) ≡ true
+known_max n known last is = grind (arith, nat_tests, is)
+
+unknown_max : (n known last : ℕ) → known < n → nat_le n (max known last) ≡ nat_le n last
+unknown_max n known last is = grind (arith, nat_tests, is)
+
+-- A packet tells of the numbers up to its last, and brings those where b is true.
+pub missing_with : (n known last below_it floor : ℕ) (b come passed : Bool)
+    → passed ≡ nat_lt n floor → (known < n → come ≡ false)
+    → (known < n → nat_le n below_it ≡ (nat_le n last && not b))
+    → ((is_missing_by known come passed n && not b) || is_learnt known floor below_it n)
+    ≡ is_missing_by (max known last) (b || come) (false || passed) n
+missing_with n known last below_it floor b come passed by fresh told = elim (cases_lt known n) [
+  | inl past ↦
+      rw (
+        fresh past,
+        told past,
+        by,
+        unknown_max n known last past,
+        not_at_most n known past,
+        below known n past,
+        below 0 n (omega (arith, past)),
+        reversed floor n,
+      )
+      (unknown_all (nat_le n last) b (nat_lt n floor))
+  | inr within ↦
+      rw (known_max n known last within, at_most n known within, not_below known n within)
+      (known_all (nat_lt 0 n) b come passed)
+]
+
+pub and_true : (b : Bool) → (b && true) ≡ b
+and_true true = refl
+and_true false = refl
+
+none_given : (g p z : Bool) → p ≡ false → ((p && z) || g) ≡ g
+none_given g p z is = ap (λ (b : Bool). (b && z) || g) is
+
+either_false : (a b : Bool) → a ≡ false → b ≡ false → (a || b) ≡ false
+either_false false b e f = f
+either_false true b e f = cc e
+
+-- The numbers fit the events with one more, with which a packet counts that brings b.
+pub fits_packet : (events : List TimedEvent) (last : TimedEvent) (packet : HeardPacket)
+    (old new : LostNumbers) (below_it : ℕ) (b : ℕ → Bool)
+    → counts_with events last.time last.event ≡ Some packet
+    → ((n : ℕ) → passes n last.event ≡ false)
+    → ((n : ℕ) → brings n last.event ≡ b n)
+    → ((n : ℕ) → last_told packet.number packet.count < n → b n ≡ false)
+    → ((n : ℕ) → 0 < n → nat_le n below_it ≡ (nat_le n (last_told packet.number packet.count) && not (b n)))
+    → FitsLost events old → old.missing.dropped ≤ new.missing.dropped
+    → (new.missing.dropped ≡ 0 → (n : ℕ) → is_in_runs n new.missing.runs.items
+    ≡ ((is_missing events n && not (b n)) || is_learnt old.highest old.floor below_it n))
+    → new.highest ≡ max old.highest (last_told packet.number packet.count)
+    → new.floor ≡ old.floor → new.given_up ≡ old.given_up
+    → FitsLost (last ∷ events) new
+fits_packet events last packet old new below_it b counts passes_none brings_b past told fits more missing highest floor given =
+    let end = last_told packet.number packet.count in
+    let known = known_of events in
+    let reach : known_of (last ∷ events) ≡ max known end =
+    ap (λ (p : Option HeardPacket). highest_with known p) counts in
+    record {
+      missing = λ none n.
+          missing none n
+          ∙ ap (λ (h : ℕ). (is_missing events n && not (b n)) || is_learnt h old.floor below_it n)
+          fits.highest
+          ∙ missing_with n known end below_it old.floor (b n) (has_come events n)
+          (was_passed events n) (fits.floor n) (fits.come n)
+          (λ over. told n (omega (arith, over)))
+          ∙ ap (λ (k : ℕ). is_missing_by k (b n || has_come events n)
+          (false || was_passed events n) n) (sym reach)
+          ∙ ap (λ (c : Bool). is_missing_by (known_of (last ∷ events)) (c || has_come events n)
+          (false || was_passed events n) n) (sym (brings_b n))
+          ∙ ap (λ (c : Bool). is_missing_by (known_of (last ∷ events))
+          (brings n last.event || has_come events n) (c || was_passed events n) n)
+          (sym (passes_none n));
+      given_up = λ none few n.
+          ap (λ (g : NumberRuns). is_in_runs n g.runs.items) given
+          ∙ fits.given_up (omega (arith, none, more))
+          (sym (ap (λ (g : NumberRuns). g.dropped) given) ∙ few) n
+          ∙ sym (none_given (is_given_up events n) (passes n last.event) _ (passes_none n));
+      highest = highest ∙ ap (λ (h : ℕ). max h end) fits.highest ∙ sym reach;
+      floor = λ n.
+          ap (λ (c : Bool). c || was_passed events n) (passes_none n) ∙ fits.floor n
+          ∙ ap (λ (f : ℕ). nat_lt n f) (sym floor);
+      come = λ n over.
+          let far : max known end < n = omega (arith, over, reach) in
+          either_false (brings n last.event) (has_come events n)
+          (brings_b n ∙ past n (omega (arith, far))) (fits.come n (omega (arith, far)));
+    }
+
+pub brought_past : (first last n : ℕ) → last < n → (nat_le first n && nat_le n last) ≡ false
+brought_past first last n over = grind (arith, nat_tests, over)
+
+below_first : (first last n : ℕ) → 0 < n → first - 1 ≤ last → nat_le n (first - 1)
+    ≡ (nat_le n last && not (nat_le first n && nat_le n last))
+below_first first last n over from = grind (arith, nat_tests, over, from)
+
+told_from : (first count : ℕ) → first - 1 < 18446744073709551616 → first - 1 ≤ last_told first count
+told_from first zero fits = omega arith
+told_from first (suc count) fits = omega (arith, fits)
+
+-- what is told of and not brought is below the first
+pub brought_below : (first count n : ℕ) → first - 1 < 18446744073709551616 → 0 < n
+    → nat_le n (first - 1)
+    ≡ (nat_le n (last_told first count) && not (nat_le first n && nat_le n (last_told first count)))
+brought_below first count n fits over =
+    below_first first (last_told first count) n over (told_from first count fits)
+
+-- ---- a skip
+
+skipped_all : (k s c p : Bool)
+    → ((true && (k && not (c || p))) && not s) ≡ (true && (k && not ((false || c) || (s || p))))
+skipped_all true true true true = refl
+skipped_all true true true false = refl
+skipped_all true true false true = refl
+skipped_all true true false false = refl
+skipped_all true false true true = refl
+skipped_all true false true false = refl
+skipped_all true false false true = refl
+skipped_all true false false false = refl
+skipped_all false true true true = refl
+skipped_all false true true false = refl
+skipped_all false true false true = refl
+skipped_all false true false false = refl
+skipped_all false false true true = refl
+skipped_all false false true false = refl
+skipped_all false false false true = refl
+skipped_all false false false false = refl
+
+skipped_some : (k s c p u : Bool) → u ≡ s
+    → ((true && (k && not (c || p))) && not u) ≡ (true && (k && not ((false || c) || (s || p))))
+skipped_some k s c p u is = rw is (skipped_all k s c p)
+
+-- what is missing is below the number, or it isn't
+pub missing_skipped : (n known number : ℕ) (come passed : Bool)
+    → (is_missing_by known come passed n && not (nat_le 0 n && nat_le n (number - 1)))
+    ≡ is_missing_by known (false || come) (nat_lt n number || passed) n
+missing_skipped n known number come passed = elim (cases_lt 0 n) [
+  | inl past ↦
+      let low : (nat_le 0 n && nat_le n (number - 1)) ≡ nat_lt n number =
+      grind (arith, nat_tests, past) in
+      rw (below 0 n past) (skipped_some (nat_le n known) (nat_lt n number) come passed
+      (nat_le 0 n && nat_le n (number - 1)) low)
+  | inr none ↦ rw (not_below 0 n none) refl
+]
+
+-- the numbers that are given up by a skip
+given_known : (z c p s g : Bool) → ((g || ((z && (true && not (c || p))) && s)) || (false || false))
+    ≡ ((s && (z && not (c || p))) || g)
+given_known true true true true true = refl
+given_known true true true true false = refl
+given_known true true true false true = refl
+given_known true true true false false = refl
+given_known true true false true true = refl
+given_known true true false true false = refl
+given_known true true false false true = refl
+given_known true true false false false = refl
+given_known true false true true true = refl
+given_known true false true true false = refl
+given_known true false true false true = refl
+given_known true false true false false = refl
+given_known true false false true true = refl
+given_known true false false true false = refl
+given_known true false false false true = refl
+given_known true false false false false = refl
+given_known false true true true true = refl
+given_known false true true true false = refl
+given_known false true true false true = refl
+given_known false true true false false = refl
+given_known false true false true true = refl
+given_known false true false true false = refl
+given_known false true false false true = refl
+given_known false true false false false = refl
+given_known false false true true true = refl
+given_known false false true true false = refl
+given_known false false true false true = refl
+given_known false false true false false = refl
+given_known false false false true true = refl
+given_known false false false true false = refl
+given_known false false false false true = refl
+given_known false false false false false = refl
+
+given_unknown : (p s g : Bool)
+    → ((g || ((true && (false && not (false || p))) && s)) || ((true && (not p && s)) || false))
+    ≡ ((s && (true && not (false || p))) || g)
+given_unknown true true true = refl
+given_unknown true true false = refl
+given_unknown true false true = refl
+given_unknown true false false = refl
+given_unknown false true true = refl
+given_unknown false true false = refl
+given_unknown false false true = refl
+given_unknown false false false = refl
+
+pub given_skipped : (n known number floor : ℕ) (come passed given : Bool)
+    → passed ≡ nat_lt n floor → (known < n → come ≡ false)
+    → ((given || (is_missing_by known come passed n && nat_lt n number))
+    || ((nat_lt known n && (nat_le floor n && nat_lt n number)) || false))
+    ≡ ((nat_lt n number && (nat_lt 0 n && not (come || passed))) || given)
+given_skipped n known number floor come passed given by fresh = elim (cases_lt known n) [
+  | inl past ↦
+      rw (
+        fresh past,
+        by,
+        not_at_most n known past,
+        below known n past,
+        below 0 n (omega (arith, past)),
+        reversed floor n,
+      )
+      (given_unknown (nat_lt n floor) (nat_lt n number) given)
+  | inr within ↦
+      rw (at_most n known within, not_below known n within)
+      (given_known (nat_lt 0 n) come passed (nat_lt n number) given)
+]
+
+pub floor_skipped : (n floor number : ℕ) → (nat_lt n number || nat_lt n floor)
+    ≡ nat_lt n (max floor number)
+floor_skipped n floor number = grind (arith, nat_tests)

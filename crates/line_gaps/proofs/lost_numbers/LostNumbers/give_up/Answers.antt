@@ -1,0 +1,45 @@
+use Rattle.std.proofs.Common.{◌≡◌, ◌<◌, ℕ, Bool, true, false, List, [], ◌∷◌, ap, sym, ◌∙◌, ◌≤◌, arith, max, refl}
+use Rattle.std.specs.Prelude.{◌||◌, ◌&&◌, not, nat_le, nat_lt, ◌-◌}
+use Rattle.std.proofs.lemmas.List.Folds.{list_any-append}
+use Rattle.line_gaps.specs.declared.number_run.NumberRun.{NumberRun}
+use Rattle.line_gaps.specs.Gaps.{has_come, is_given_up, is_missing, known_of, was_passed}
+use Rattle.line_gaps.specs.Runs.{is_in_run, is_in_runs}
+use Rattle.line_gaps.proofs.MissingLemmas.{floor_skipped, given_skipped, missing_skipped}
+use Rattle.line_gaps.proofs.lost_numbers.LostNumbers.give_up.Goals as goal
+
+pub returns : goal.returns
+returns c = λ events time venue fits.
+    let old = c.args.self.now in
+    let number = c.args.number in
+    let known = known_of events in
+    let mid = c.add_those_below.new.self in
+    let unknown = c.unknown_below-unknown.result in
+    record {
+      missing = λ none n.
+          c.cut.ensures.has (is_missing events) fits.missing none n
+          ∙ ap (λ (l : ℕ). is_missing events n && not (nat_le 0 n && nat_le n l))
+          c.saturating_sub.ensures
+          ∙ missing_skipped n known number (has_come events n) (was_passed events n);
+      given_up = λ none few n.
+          let given = is_given_up events n in
+          let low = is_missing events n && nat_lt n number in
+          let cut = c.cut.ensures.dropped in
+          let added = c.add.ensures.dropped in
+          let whole : old.missing.dropped ≡ 0 = omega (arith, none, cut) in
+          let first : mid.dropped ≡ 0 = omega (arith, few, added) in
+          ap (λ (rs : List NumberRun). is_in_runs n rs) (c.add.ensures.runs few)
+          ∙ list_any-append (is_in_run n) mid.runs.items (unknown ∷ [])
+          ∙ ap (λ (b : Bool). b || (is_in_run n unknown || false))
+          (c.add_those_below.ensures.has (is_given_up events) (is_missing events)
+          (fits.given_up whole) fits.missing whole first n)
+          ∙ ap (λ (b : Bool). (given || low) || (b || false)) (c.unknown_below-unknown.ensures n)
+          ∙ ap (λ (h : ℕ). (given || low) || ((nat_lt h n
+          && (nat_le old.floor n && nat_lt n number)) || false)) fits.highest
+          ∙ given_skipped n known number old.floor (has_come events n) (was_passed events n) given
+          (fits.floor n) (fits.come n);
+      highest = fits.highest;
+      floor = λ n.
+          ap (λ (b : Bool). nat_lt n number || b) (fits.floor n)
+          ∙ floor_skipped n old.floor number ∙ ap (λ (f : ℕ). nat_lt n f) (sym c.max-self.ensures);
+      come = fits.come;
+    }

@@ -1,0 +1,33 @@
+-- The numbers of a venue that are missing, as they are kept.
+use Rattle.std.specs.Prelude.{◌≡◌, ℕ, ◌<◌, Bool, false, ◌&&◌, ◌||◌, nat_le, nat_lt, List, Some}
+use Rattle.feed_text.specs.SinkEvents.{SinkEvent, TimedEvent}
+use Rattle.line_gaps.specs.declared.heard_packet.HeardPacket.{HeardPacket}
+use Rattle.line_gaps.specs.declared.lost_numbers.LostNumbers.{LostNumbers}
+use Rattle.line_gaps.specs.Gaps.{brings, counts_with, has_come, is_given_up, is_missing, known_of, passes, was_passed}
+use Rattle.line_gaps.specs.Runs.{HaveJust}
+
+-- Just the numbers that are missing after these events are kept, as long as no run was dropped, and
+-- just those that were given up.
+pub record FitsLost (events : List TimedEvent) (lost : LostNumbers) : Type 0 where
+  pub missing : HaveJust lost.missing (is_missing events)
+  pub given_up : lost.missing.dropped ≡ 0 → HaveJust lost.given_up (is_given_up events)
+  pub highest : lost.highest ≡ known_of events
+  pub floor : (n : ℕ) → was_passed events n ≡ nat_lt n lost.floor
+  pub come : (n : ℕ) → known_of events < n → has_come events n ≡ false
+
+-- a packet counts with an event, and none of its numbers came
+pub record CountsNumbers (events : List TimedEvent) (last : TimedEvent) (packet : HeardPacket)
+    : Type 0 where
+  pub counts : counts_with events last.time last.event ≡ Some packet
+  pub brings_none : (n : ℕ) → brings n last.event ≡ false
+  pub passes_none : (n : ℕ) → passes n last.event ≡ false
+
+-- all but what is missing stays
+pub record KeepsKnown (old new : LostNumbers) : Type 0 where
+  pub given_up : new.given_up ≡ old.given_up
+  pub highest : new.highest ≡ old.highest
+  pub floor : new.floor ≡ old.floor
+
+-- it was learnt of now, and not given up before
+abbrev pub is_learnt : ℕ → ℕ → ℕ → ℕ → Bool
+is_learnt highest floor below n = nat_lt highest n && (nat_le floor n && nat_le n below)
