@@ -107,14 +107,16 @@ pub fits_packet : (events : List TimedEvent) (last : TimedEvent) (packet : Heard
     → ((n : ℕ) → passes n last.event ≡ false)
     → ((n : ℕ) → brings n last.event ≡ b n)
     → ((n : ℕ) → last_told packet.number packet.count < n → b n ≡ false)
-    → ((n : ℕ) → 0 < n → nat_le n below_it ≡ (nat_le n (last_told packet.number packet.count) && not (b n)))
+    → ((n : ℕ) → 0 < n → nat_le n below_it
+    ≡ (nat_le n (last_told packet.number packet.count) && not (b n)))
     → FitsLost events old → old.missing.dropped ≤ new.missing.dropped
     → (new.missing.dropped ≡ 0 → (n : ℕ) → is_in_runs n new.missing.runs.items
     ≡ ((is_missing events n && not (b n)) || is_learnt old.highest old.floor below_it n))
     → new.highest ≡ max old.highest (last_told packet.number packet.count)
     → new.floor ≡ old.floor → new.given_up ≡ old.given_up
     → FitsLost (last ∷ events) new
-fits_packet events last packet old new below_it b counts passes_none brings_b past told fits more missing highest floor given =
+fits_packet events last packet old new below_it b counts passes_none brings_b past told fits more
+    missing highest floor given =
     let end = last_told packet.number packet.count in
     let known = known_of events in
     let reach : known_of (last ∷ events) ≡ max known end =

@@ -1,5 +1,7 @@
 -- What becomes of the gaps of a line, by the numbers of the venue that are missing.
 use Rattle.std.specs.Prelude.{◌≡◌, ℕ, ◌+◌, ◌-◌, Bool, true, false, nat_lt, ◌≤◌, List, [], ◌∷◌, ◌++◌, length, Option, None, Some, if◌then◌else◌}
+use Rattle.feed_types.specs.declared.line.LineId.{LineId}
+use Rattle.feed_types.specs.declared.line.LineId.TheVariants as on
 use Rattle.feed_types.specs.FullCounts.{count_after}
 use Rattle.line_gaps.specs.declared.ended_gaps.EndedGaps.{EndedGaps}
 use Rattle.line_gaps.specs.declared.gap_line.GapLine.{GapLine}
@@ -92,3 +94,8 @@ abbrev pub sums_on : GapLine → VenueGaps → GapSums
 sums_on lines.A gaps = gaps.a.sums
 sums_on lines.B gaps = gaps.b.sums
 sums_on lines.All gaps = gaps.all.sums
+
+-- how many messages recovery brought first
+abbrev pub recovered_on : LineId → ℕ → ℕ
+recovered_on on.Recovery new = new
+recovered_on line new = 0

@@ -2,7 +2,7 @@
 
 ghost use Rattle.std.specs.Prelude.{◌≡◌, ℕ, List, [], ◌∷◌, IfOk, Ok, length, if◌then◌else◌};
 ghost use Rattle.feed_types.specs.FullCounts.{count_after};
-ghost use Rattle.line_gaps.specs.Ends.{EndsVenue, sums_on};
+ghost use Rattle.line_gaps.specs.Ends.{EndsVenue, recovered_on, sums_on};
 ghost use Rattle.line_gaps.specs.Missing.{CountsNumbers, FitsLost};
 ghost use Rattle.feed_text.specs.SinkEvents.{TimedEvent, timed_event, told_packet, told_skip};
 ghost use Rattle.line_arbiter.specs.declared.outcome.Outcome.TheVariants.{Taken};
@@ -31,6 +31,18 @@ pub struct VenueSums {
 }
 
 impl VenueSums {
+    /// Counts messages that a line brought first.
+    fn bring(&mut self, line: LineId, new: u16)
+        ensures { self.new ≡ record self.old {
+          recovered = count_after self.old.recovered (recovered_on line new);
+        } }
+    {
+        match line {
+            LineId::A | LineId::B => {}
+            LineId::Recovery => self.recovered = raised(self.recovered, u64::from(new)),
+        }
+    }
+
     /// Counts messages that were given up, where messages of the session came before or not.
     fn give_up(&mut self, count: u64, has_come: bool)
         ensures { self.new ≡ record self.old {
@@ -185,9 +197,7 @@ impl VenueGaps {
             self.new.lost }
     {
         self.has_come = true;
-        if matches!(packet.line, LineId::Recovery) {
-            self.sums.recovered = raised(self.sums.recovered, u64::from(new));
-        }
+        self.sums.bring(packet.line, new);
         let is_filled = self.lost.take_messages(packet);
         self.pass(packet, is_filled, ended);
     }
