@@ -1,16 +1,16 @@
 -- Which numbers are missing after one more event.
-use Rattle.std.proofs.Common.{◌≡◌, ℕ, zero, suc, ◌+◌, ◌-◌, ◌<◌, ◌≤◌, ◌⊎◌, inl, inr, Bool, true, false, List, [], ◌∷◌, arith, ap, refl, sym, ◌∙◌, max}
+use Rattle.std.proofs.Common.{◌≡◌, ℕ, zero, suc, ◌-◌, ◌<◌, ◌≤◌, inl, inr, Bool, true, false, List, ◌∷◌, arith, ap, refl, sym, subst, ◌∙◌, max}
 use Rattle.std.specs.Prelude.{◌&&◌, ◌||◌, not, nat_le}
 use Rattle.std.proofs.lemmas.Bool.{cases_lt}
 use Rattle.std.proofs.lemmas.Bool.Decides.{nat_tests}
-use Rattle.std.specs.Prelude.{Option, None, Some, nat_lt}
-use Rattle.feed_text.specs.SinkEvents.{SinkEvent, TimedEvent}
+use Rattle.std.specs.Prelude.{Option, Some, nat_lt}
+use Rattle.feed_text.specs.SinkEvents.{TimedEvent}
 use Rattle.line_gaps.specs.declared.heard_packet.HeardPacket.{HeardPacket}
 use Rattle.line_gaps.specs.declared.lost_numbers.LostNumbers.{LostNumbers}
 use Rattle.line_gaps.specs.declared.number_runs.NumberRuns.{NumberRuns}
 use Rattle.line_gaps.specs.Gaps.{brings, counts_with, has_come, highest_with, is_given_up, is_missing, is_missing_by, known_of, last_told, passes, was_passed}
 use Rattle.line_gaps.specs.Missing.{FitsLost, is_learnt}
-use Rattle.line_gaps.specs.Runs.{HaveJust, is_in_runs}
+use Rattle.line_gaps.specs.Runs.{is_in_runs}
 
 -- a number that was known
 known_all : (z b c p : Bool) → (((z && (true && not (c || p))) && not b) || false)
@@ -279,3 +279,8 @@ given_skipped n known number floor come passed given by fresh = elim (cases_lt k
 pub floor_skipped : (n floor number : ℕ) → (nat_lt n number || nat_lt n floor)
     ≡ nat_lt n (max floor number)
 floor_skipped n floor number = grind (arith, nat_tests)
+
+pub same_lost : (events : List TimedEvent) (last : TimedEvent) (a b : LostNumbers) → b ≡ a
+    → FitsLost (last ∷ events) a → FitsLost (last ∷ events) b
+same_lost events last a b same fits =
+    subst (λ (l : LostNumbers). FitsLost (last ∷ events) l) (sym same) fits

@@ -1,17 +1,16 @@
 -- The gaps of a venue, by its events. Of a list of events the last one stands first. All are of one
 -- venue, and of its present session, but where it says otherwise.
-use Rattle.std.specs.Prelude.{◌≡◌, ℕ, zero, suc, ◌+◌, ◌-◌, Bool, true, false, ◌&&◌, ◌||◌, not, nat_le, nat_lt, max, is_some, List, [], ◌∷◌, ◌++◌, Option, None, Some, Ok, if◌then◌else◌}
+use Rattle.std.specs.Prelude.{ℕ, ◌-◌, Bool, true, false, ◌&&◌, ◌||◌, not, nat_le, nat_lt, max, is_some, List, [], ◌∷◌, Option, None, Some, Ok, if◌then◌else◌}
 use Rattle.std.specs.List.{list_any}
 use Rattle.feed_types.specs.declared.line.LineId.{LineId}
 use Rattle.feed_types.specs.declared.line.LineId.TheVariants as on
 use Rattle.feed_types.specs.FullCounts.{count_after}
 use Rattle.line_arbiter.specs.Streams.{is_same_line}
-use Rattle.line_arbiter.specs.declared.outcome.Outcome.TheVariants.{Taken, Heartbeat, Ended, Ahead}
-use Rattle.feed_text.specs.SinkEvents.{SinkEvent, TimedEvent, told_packet, told_renewal, told_skip, told_last}
+use Rattle.line_arbiter.specs.declared.outcome.Outcome.TheVariants.{Taken, Ahead}
+use Rattle.feed_text.specs.SinkEvents.{SinkEvent, TimedEvent, told_packet, told_skip}
 use Rattle.line_gaps.specs.declared.gap_line.GapLine.{GapLine}
 use Rattle.line_gaps.specs.declared.gap_line.GapLine.TheVariants as lines
 use Rattle.line_gaps.specs.declared.heard_packet.HeardPacket.{HeardPacket}
-use Rattle.line_gaps.specs.declared.number_run.NumberRun.{NumberRun}
 
 -- ---- numbers that came, were given up, or are missing
 
@@ -80,8 +79,8 @@ abbrev pub far_that : ℕ → Option HeardPacket → Option HeardPacket
 far_that number None = None
 far_that number (Some earlier) = if goes_on earlier number then Some earlier else None
 
--- The packet that counts with an event: its own, unless that was refused, or is past the window. One
--- past the window counts with the line's next one of these, if that goes on from it.
+-- The packet that counts with an event: its own, unless that was refused, or is past the window.
+-- One past the window counts with the line's next one of these, if that goes on from it.
 abbrev pub counts_with : List TimedEvent → Option ℕ → SinkEvent → Option HeardPacket
 counts_with earlier time (told_packet venue line number count bytes (Ok Ahead)) =
     far_that number (far_on line earlier)

@@ -1,5 +1,5 @@
 -- Runs of numbers, as the set of the numbers in them.
-use Rattle.std.specs.Prelude.{◌≡◌, ℕ, ◌+◌, ◌-◌, Bool, ◌&&◌, List, nat_le, max, min, if◌then◌else◌, nat_lt}
+use Rattle.std.specs.Prelude.{◌≡◌, ℕ, ◌+◌, ◌-◌, Bool, ◌&&◌, List, nat_le, max, min}
 use Rattle.std.specs.List.{fold, list_any}
 use Rattle.line_gaps.specs.declared.number_run.NumberRun.{NumberRun}
 use Rattle.line_gaps.specs.declared.number_runs.NumberRuns.{NumberRuns}

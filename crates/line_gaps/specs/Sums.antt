@@ -1,5 +1,5 @@
 -- The sums over the gaps of a line. A sum stays at 2^64 - 1 once it is there.
-use Rattle.std.specs.Prelude.{◌≡◌, ℕ, ◌-◌, Bool, true, false, List, length, max, min, Option, Some, None}
+use Rattle.std.specs.Prelude.{◌≡◌, ℕ, ◌-◌, Bool, true, false, List, length, max, min, Option, Some}
 use Rattle.std.specs.List.{count_by, fold, sum_by}
 use Rattle.line_gaps.specs.declared.gap_sums.GapEnds.{GapEnds}
 use Rattle.line_gaps.specs.declared.gap_sums.GapSums.{GapSums}

@@ -66,12 +66,12 @@ fn joined(one: OpenGap, next: OpenGap) -> OpenGap
 }
 
 /// Copies those of the gaps of which a number is missing.
-fn open_ones(open: &[OpenGap], lost: &LostNumbers) -> ArrayVec<OpenGap, MOST_OPEN>
-    requires { length open.now ≤ 16 }
-    ensures { result.items ≡ filter (λ g. meets_runs lost.now.missing.runs.items g.run) open.now }
+fn open_ones(gaps: &[OpenGap], lost: &LostNumbers) -> ArrayVec<OpenGap, MOST_OPEN>
+    requires { length gaps.now ≤ 16 }
+    ensures { result.items ≡ filter (λ g. meets_runs lost.now.missing.runs.items g.run) gaps.now }
 {
     let mut kept: ArrayVec<OpenGap, MOST_OPEN> = ArrayVec::new();
-    for gap in open {
+    for gap in gaps {
         if lost.missing.meets(gap.run) {
             kept.push(*gap);
         }
@@ -80,14 +80,14 @@ fn open_ones(open: &[OpenGap], lost: &LostNumbers) -> ArrayVec<OpenGap, MOST_OPE
 }
 
 /// Copies those of the gaps of which no number is missing.
-fn over_ones(open: &[OpenGap], lost: &LostNumbers) -> ArrayVec<OpenGap, MOST_OPEN>
-    requires { length open.now ≤ 16 }
+fn over_ones(gaps: &[OpenGap], lost: &LostNumbers) -> ArrayVec<OpenGap, MOST_OPEN>
+    requires { length gaps.now ≤ 16 }
     ensures are { result.items
-        ≡ filter (λ g. not (meets_runs lost.now.missing.runs.items g.run)) open.now }
+        ≡ filter (λ g. not (meets_runs lost.now.missing.runs.items g.run)) gaps.now }
     ensures few { length result.items ≤ 16 }
 {
     let mut over: ArrayVec<OpenGap, MOST_OPEN> = ArrayVec::new();
-    for gap in open {
+    for gap in gaps {
         if !lost.missing.meets(gap.run) {
             over.push(*gap);
         }

@@ -1,4 +1,4 @@
-use Rattle.std.proofs.Common.{None, map, arith, ◌≤◌, length}
+use Rattle.std.proofs.Common.{None, map}
 use Rattle.line_gaps.specs.declared.open_gap.GapEnd.TheVariants.{Open}
 use Rattle.line_gaps.specs.Ends.{gap_over}
 use Rattle.line_gaps.proofs.EndLemmas.{closed_few}

@@ -1,5 +1,5 @@
-use Rattle.std.proofs.Common.{◌≡◌, ◌<◌, ℕ, Bool, true, false, ap, sym, ◌∙◌, ◌≤◌, arith, max, refl}
-use Rattle.std.specs.Prelude.{◌||◌, ◌&&◌, not, nat_le, ◌-◌}
+use Rattle.std.proofs.Common.{◌<◌, ℕ, Bool, ap, ◌∙◌, arith, max, refl}
+use Rattle.std.specs.Prelude.{◌||◌, ◌&&◌, not, ◌-◌}
 use Rattle.line_gaps.specs.declared.number_run.NumberRun.{NumberRun}
 use Rattle.line_gaps.specs.Gaps.{is_missing, last_told}
 use Rattle.line_gaps.specs.Missing.{is_learnt}

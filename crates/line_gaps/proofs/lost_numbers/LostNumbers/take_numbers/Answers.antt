@@ -1,4 +1,4 @@
-use Rattle.std.proofs.Common.{◌≡◌, ℕ, Bool, true, false, ap, sym, ◌∙◌, ◌≤◌, arith, max, refl}
+use Rattle.std.proofs.Common.{ℕ, Bool, true, false, ap, sym, ◌∙◌, arith, max, refl}
 use Rattle.std.specs.Prelude.{◌||◌, ◌&&◌, nat_le}
 use Rattle.line_gaps.specs.Gaps.{is_missing, last_told}
 use Rattle.line_gaps.specs.Missing.{is_learnt}

@@ -1,6 +1,6 @@
 use Rattle.std.proofs.Common.{◌≡◌, ◌≤◌, ℕ, take}
 use Rattle.std.specs.Prelude.{◌&&◌, ◌||◌, nat_lt}
-use Rattle.line_gaps.specs.Runs.{is_in_run, is_in_runs}
+use Rattle.line_gaps.specs.Runs.{is_in_runs}
 use Rattle.line_gaps.proofs.number_runs.NumberRuns.add_all_below.Given as goal
 
 abbrev pub invariant-loop-run : goal.invariant-loop-run
