@@ -86,6 +86,13 @@ impl<'a> PacketFormat<'a> {
         self.progress.position
     }
 
+    /// Returns the latest time of a frame, 0 where none has one.
+    pub fn latest_time(&self) -> u64
+        ensures { result ≡ self.now.progress.latest_time }
+    {
+        self.progress.latest_time
+    }
+
     /// Returns at which byte a second capture seems to begin, counted from 0, if one does: at the
     /// first record whose frame has no byte and had none on the wire, as the header of a savefile
     /// that follows another one.

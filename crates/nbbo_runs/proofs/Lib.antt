@@ -3,7 +3,6 @@ pub mod Keeping
 pub mod NoPacket
 pub mod PrintedTexts
 pub mod SaidLacks
-pub mod StatsTexts
 pub mod WatchedRuns
 pub mod SessionCounts
 pub mod SinkPrints

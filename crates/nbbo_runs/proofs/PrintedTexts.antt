@@ -7,8 +7,7 @@ use Rattle.feed_text.specs.declared.replay_stop.ReplayStop.{ReplayStop}
 use Rattle.feed_text.specs.declared.replay_stop.ReplayStop.TheVariants.{ReadFailed, SinkFailed, Bad, Short, TooManyTurns, JournalFull, NoMemory}
 use Rattle.feed_text.specs.Devices.{Reading, Writing}
 use Rattle.feed_text.specs.Formats.{Parsing}
-use Rattle.feed_text.specs.SinkEvents.{TimedEvent}
-use Rattle.nbbo_runs.specs.Printing.{LeavesMissing, PrintsFigures, PrintsText}
+use Rattle.nbbo_runs.specs.Printing.{LeavesMissing, PrintsText}
 use Rattle.nbbo_runs.specs.declared.watched_sink.Missing.{Missing}
 
 -- a text of one kind is of another one, too
@@ -32,25 +31,6 @@ pub made_as : {A E : Type 0} (items : A → List ℕ) (made : Result A E) (P : A
     → IsOkAnd made (λ a. items a ≡ text) → Is text
 made_as items (Ok a) P Is text made each same = subst Is same (each a made)
 made_as items (Err e) P Is text made each none = absurd none
-
--- so are the texts of the events that were told
-pub figures_as : {R S F W : Type 0} (reading : Reading R) (writing : Writing W)
-    (parsing : Parsing S F) (config : ReplayConfig) (One Other : List TimedEvent → List ℕ → Type 0)
-    (from to : R) (start finish : S) (before after : W)
-    (outcome : Result (Unit {0}) (ReplayStop F))
-    → ((told : List TimedEvent) (text : List ℕ) → One told text → Other told text)
-    → PrintsFigures reading writing parsing config One from to start finish before after outcome
-    → PrintsFigures reading writing parsing config Other from to start finish before after outcome
-figures_as reading writing parsing config One Other from to start finish before after outcome each
-    figures = record {
-      told = figures.told;
-      seen = figures.seen;
-      run = figures.run;
-      printed = figures.printed;
-      prints = text_as writing (One figures.told) (Other figures.told) before after figures.printed
-          (each figures.told) figures.prints;
-      ends = figures.ends;
-    }
 
 -- what is missing after a replay is so after its printing, which comes first
 pub missing_after : {R S F : Type 0} (reading : Reading R) (parsing : Parsing S F)

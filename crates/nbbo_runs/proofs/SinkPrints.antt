@@ -1,6 +1,6 @@
 -- A replay to a sink that writes a text of events prints it.
-use Rattle.std.proofs.Common.{◌≡◌, ℕ, ◌+◌, List, [], ◌++◌, ap, subst, ◌∙◌}
-use Rattle.std.specs.Prelude.{⊤, Result}
+use Rattle.std.proofs.Common.{◌≡◌, ℕ, ◌+◌, List, [], ◌++◌, Ok, Err, ap, subst, ◌∙◌}
+use Rattle.std.specs.Prelude.{⊤, IfOk, Result}
 use Rattle.feed_text.specs.declared.replay.ReplayConfig.{ReplayConfig}
 use Rattle.feed_text.specs.declared.replay_stop.ReplayStop.{ReplayStop}
 use Rattle.feed_text.specs.declared.text_page.TextPage.{TextPage}
@@ -21,7 +21,7 @@ use Rattle.report_rows.specs.RowSinks as sinks
 use Rattle.report_rows.specs.declared.row_sink.RowSink.{RowSink}
 use Rattle.replay_run.specs.Printed.{facts_of_run}
 use Rattle.run_settings.specs.declared.time_span.TimeSpan.{TimeSpan}
-use Rattle.nbbo_runs.specs.Printing.{PrintsEvents, WritesRows, printing, span_events, taking_in}
+use Rattle.nbbo_runs.specs.Printing.{IsSinkBefore, PrintsEvents, WritesRows, printing, span_events, taking_in}
 use Rattle.nbbo_runs.proofs.SinkRuns.{run_as}
 
 -- Of a sink before a writer: where it shows all that it took, the writer took the text of the
@@ -121,6 +121,16 @@ module _ {W : Type 0} (writing : Writing W) where
         (history_failed Are rows writing.adds writing.failures writer maker header setting sink
         after told is are failed);
   }
+
+-- of a sink that was made before the output, if it was
+pub made_writes : {W M C : Type 0} (writing : Writing W) (Are : C → List TimedEvent → M → Type 0)
+    (rows : C → TimedEvent → List TimedEvent → List ℕ) (header : List ℕ) (setting : C) (writer : W)
+    (made : Result (RowSink W M) W) → IfOk made (IsSinkBefore Are header setting writer)
+    → IfOk made (WritesRows writing (MakesHistory Are rows) (TellsHistory Are rows)
+    (λ told. header ++ rows_told (rows setting) [] told) writer)
+made_writes writing Are rows header setting writer (Ok sink) is =
+    history_writes writing Are rows header setting writer sink.maker sink is.is is.are
+made_writes writing Are rows header setting writer (Err back) is = tt
 
 -- ---- a replay to such a sink, of the events in a span
 

@@ -1,5 +1,5 @@
 -- What is said of a packet capture on standard error.
-use Rattle.std.specs.Prelude.{ℕ, zero, suc, ◌==◌, List, [], ◌∷◌, ◌++◌, codes, decimal, Option, Some, None, Result, Ok, Err, if◌then◌else◌}
+use Rattle.std.specs.Prelude.{ℕ, zero, suc, ◌==◌, Bool, not, List, [], ◌∷◌, ◌++◌, codes, decimal, Option, Some, None, Result, Ok, Err, if◌then◌else◌}
 use Rattle.packet_capture.specs.declared.fault.CaptureFault.{CaptureFault}
 use Rattle.packet_capture.specs.declared.fault.CaptureFault.TheVariants.{NotCapture, UnknownVersion, TooLong, BadByteOrder, BadBlockLength, LengthsDiffer, ShortBlock, UnknownInterface, FramePastBlock, OptionPastBlock, TooManyInterfaces}
 use Rattle.feed_text.specs.declared.replay_stop.ReplayStop.{ReplayStop}
@@ -121,6 +121,10 @@ start_texts (Some start) =
 abbrev pub second_texts : Result (Unit {0}) (ReplayStop CaptureFault) → Option ℕ → List (List ℕ)
 second_texts (Ok done) second_start = []
 second_texts (Err stop) second_start = start_texts second_start
+
+-- whether a frame of what was read had a time
+abbrev pub is_timed_capture : PacketState → Bool
+is_timed_capture read = not (read.progress.latest_time == 0)
 
 -- after a packet capture of which so much was read
 abbrev pub capture_texts : PacketState → Result (Unit {0}) (ReplayStop CaptureFault)

@@ -12,5 +12,6 @@ pub mod Sessions
 pub mod Starts
 pub mod Streams
 pub mod SymbolHints
+pub mod Timeless
 pub mod Watches
 pub mod WatchLaws

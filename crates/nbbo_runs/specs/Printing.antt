@@ -1,8 +1,7 @@
 -- What is printed of a replay.
-use Rattle.std.specs.Prelude.{◌≡◌, ⊤, ℕ, ◌+◌, ◌*◌, Bool, false, List, [], IsOkAnd, OnOk, Result, Ok, Err}
+use Rattle.std.specs.Prelude.{◌≡◌, ⊤, ℕ, ◌+◌, ◌*◌, Bool, false, List, [], ◌++◌, OnOk, Result, Ok, Err, length, reverse}
 use Rattle.std.specs.Result.{result_and}
 use Rattle.run_settings.specs.declared.formats.RowFormat.{RowFormat}
-use Rattle.run_settings.specs.declared.formats.StatsFormat.{StatsFormat}
 use Rattle.best_rows.specs.declared.style.RowStyle.{RowStyle}
 use Rattle.feed_text.specs.declared.replay.ReplayConfig.{ReplayConfig}
 use Rattle.feed_text.specs.declared.replay_stop.ReplayStop.{ReplayStop}
@@ -22,7 +21,8 @@ use Rattle.replay_reports.specs.rows.RowSinks.{text_of_rows}
 use Rattle.report_rows.specs.RowSinks.{FailsRows, IsNewRowSink, TakesRows}
 use Rattle.report_rows.specs.SpanEvents.{events_in}
 use Rattle.report_rows.specs.declared.row_sink.RowSink.{RowSink}
-use Rattle.replay_reports.specs.Texts.{IsTextOfTimes}
+use Rattle.replay_reports.specs.declared.stats.replay_stats.ReplayStats.{ReplayStats}
+use Rattle.replay_reports.specs.stats.Statistics.{AreStatsOf}
 use Rattle.replay_run.specs.Printed.{facts_of_run}
 use Rattle.run_settings.specs.declared.run_output.RunOutput.{RunOutput}
 use Rattle.run_settings.specs.declared.run_output.RunOutput.TheVariants.{Lines, Bests, Stats, Gaps, Periods, BestTimes}
@@ -115,17 +115,14 @@ pub record PrintsFigures {R S F W : Type 0} (reading : Reading R) (writing : Wri
   pub prints : PrintsText writing (Is told) before after printed
   pub ends : outcome ≡ result_and printed seen
 
--- A text of this kind of what a sink has that took these events, where there is one.
-abbrev pub IsTextOfSink : {K E : Type 0} (takes : K → List TimedEvent → K → Type 0)
-    (IsText : K → List ℕ → Type 0) (made : Result K E) → List TimedEvent → List ℕ → Type 0
-IsTextOfSink {K} takes IsText made told text =
-    IsOkAnd made (λ sink. (after : K) × takes sink told after × IsText after text)
-
--- The text of statistics: the counts, what lines lost, and where records have times, also how the
--- packets ran in time.
-abbrev pub IsStatsText : ReplayConfig → StatsFormat → Bool → List TimedEvent → List ℕ → Type 0
-IsStatsText config format timed told text =
-    IsTextOfTimes format timed (venues_in config) config.window told text
+-- The text is printed of statistics of all these events, with times where records have them. How it
+-- is laid out isn't said; nothing is printed of a run that failed before anything came.
+pub record IsStatsText (config : ReplayConfig) (timed : Bool) (told : List TimedEvent)
+    (text : List ℕ) : Type 0 where
+  pub stats : ReplayStats
+  pub are : AreStatsOf config.window (reverse told ++ []) stats
+  pub has_times : stats.has_times ≡ timed
+  pub venues : length stats.venues.items ≡ venues_in config
 
 -- ---- what is missing
 
@@ -167,11 +164,11 @@ PrintsBestRows reading writing style span S F parsing config =
     PrintsEvents reading writing parsing config (λ told. text_of_rows style (span_events span told))
 
 -- the statistics of the events in a span, `timed` where the records have times
-abbrev pub PrintsStatistics : {R W : Type 0} → Reading R → Writing W → StatsFormat → Bool
-    → TimeSpan → Output R W
-PrintsStatistics reading writing format timed span S F parsing config =
+abbrev pub PrintsStatistics : {R W : Type 0} → Reading R → Writing W → Bool → TimeSpan
+    → Output R W
+PrintsStatistics reading writing timed span S F parsing config =
     PrintsFigures reading writing parsing config
-    (λ told. IsStatsText config format timed (span_events span told))
+    (λ told. IsStatsText config timed (span_events span told))
 
 -- the rows of a sink, of the events in a span
 abbrev pub PrintsRows : {R W : Type 0} → Reading R → Writing W → (List TimedEvent → List ℕ)
@@ -207,8 +204,7 @@ abbrev pub output_of : {R W : Type 0} → Reading R → Writing W → (timed : B
 output_of reading writing timed span Lines = PrintsAllRows reading writing
 output_of reading writing timed span (Bests format) =
     PrintsBestRows reading writing (record { format = format; timed = timed }) span
-output_of reading writing timed span (Stats format) =
-    PrintsStatistics reading writing format timed span
+output_of reading writing timed span (Stats format) = PrintsStatistics reading writing timed span
 output_of reading writing timed span (Gaps format) = PrintsGapRows reading writing format span
 output_of reading writing timed span (Periods style) = PrintsPeriods reading writing style span
 output_of reading writing timed span (BestTimes style) =

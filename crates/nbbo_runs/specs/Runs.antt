@@ -20,7 +20,7 @@ use Rattle.run_settings.specs.declared.run_input.RunInput.TheVariants.{Own, Pack
 use Rattle.run_settings.specs.declared.run_settings.RunSettings.{RunSettings}
 use Rattle.command_words.specs.declared.task.Task.TheVariants.{Listen}
 use Rattle.nbbo_runs.specs.AbsentSymbols.{told_absent}
-use Rattle.nbbo_runs.specs.CaptureTexts.{capture_texts}
+use Rattle.nbbo_runs.specs.CaptureTexts.{capture_texts, is_timed_capture}
 use Rattle.nbbo_runs.specs.Discovery.{Discovered}
 use Rattle.nbbo_runs.specs.Ending.{ending_status, own_end_texts, write_failed_text}
 use Rattle.nbbo_runs.specs.Hints.{hint_text}
@@ -28,6 +28,7 @@ use Rattle.nbbo_runs.specs.Lacks.{tells_lacks, told_lacks}
 use Rattle.nbbo_runs.specs.Printing.{Output, PrintsAsked, output_asked}
 use Rattle.nbbo_runs.specs.Streams.{Devices, Streams}
 use Rattle.nbbo_runs.specs.SymbolHints.{symbol_hint}
+use Rattle.nbbo_runs.specs.Timeless.{with_times}
 use Rattle.nbbo_runs.specs.Watches.{IsWatched, watched_texts, watching}
 use Rattle.nbbo_runs.specs.declared.watched_format.WatchedFormat.{WatchedFormat}
 use Rattle.nbbo_runs.specs.declared.program_run.Next.{Next}
@@ -58,23 +59,26 @@ pub record RunsOver {R W E S F : Type 0} (devices : Devices R W E) (parsing : Pa
 -- The same, where the datagrams are watched, and what is to be said of them comes after what venues
 -- lack.
 pub record RunsWatched {R W E S F : Type 0} (devices : Devices R W E) (parsing : Parsing S F)
-    (Prints : Output R W) (end_texts : S → Result (Unit {0}) (ReplayStop F) → List (List ℕ))
+    (Prints : Output R W) (is_timed : S → Bool)
+    (end_texts : S → Result (Unit {0}) (ReplayStop F) → List (List ℕ))
     (settings : RunSettings) (terminals : Terminals) (start : S)
     (before after : Streams R W E) (status : ℕ) : Type 0 where
   pub watch : WatchedFormat S
-  pub is : IsWatched start settings.feed.sessions.items watch
-  pub runs : RunsOver devices (watching parsing) Prints (watched_texts end_texts) settings terminals
-      watch before after status
+  pub is : IsWatched start settings.feed.sessions.items settings.next_sessions.items watch
+  pub runs : RunsOver devices (watching parsing) Prints
+      (with_times settings.output (λ w. is_timed w.format) (watched_texts end_texts)) settings
+      terminals watch before after status
 
 -- a run over a capture of the project's own format, whose datagrams are watched or not
 abbrev pub RunsOwn : {R W E : Type 0} (devices : Devices R W E) (Prints : Output R W)
     (settings : RunSettings) (terminals : Terminals) (before after : Streams R W E) (status : ℕ)
     → Bool → Type 0
 RunsOwn devices Prints settings terminals before after status false =
-    RunsOver devices own_parsing Prints own_end_texts settings terminals
+    RunsOver devices own_parsing Prints
+    (with_times settings.output (λ s. false) own_end_texts) settings terminals
     (length settings.feed.sessions.items) before after status
 RunsOwn devices Prints settings terminals before after status true =
-    RunsWatched devices own_parsing Prints own_end_texts settings terminals
+    RunsWatched devices own_parsing Prints (λ s. false) own_end_texts settings terminals
     (length settings.feed.sessions.items) before after status
 
 -- a run over a capture of the project's own format, or over a packet capture
@@ -84,7 +88,7 @@ abbrev pub RunsBy : {R W E : Type 0} (devices : Devices R W E) (Prints : Output 
 RunsBy devices Prints settings terminals before after status Own =
     RunsOwn devices Prints settings terminals before after status (tells_lacks settings terminals)
 RunsBy devices Prints settings terminals before after status (Packets lines) =
-    RunsWatched devices packet_parsing Prints capture_texts settings terminals
+    RunsWatched devices packet_parsing Prints is_timed_capture capture_texts settings terminals
     (new_packets (length settings.feed.sessions.items) lines.items) before after status
 
 -- The words ask for a run, and it was made, and printed by the output that they ask for.

@@ -1,6 +1,6 @@
 -- The sessions that come at a venue and aren't its first: what is seen of them, the rows of that,
 -- and what is said of them at the end.
-use Rattle.std.specs.Prelude.{ℕ, ◌+◌, ◌==◌, Bool, true, false, ◌&&◌, nat_lt, nat_le, List, [], ◌∷◌, ◌++◌, codes, decimal, flat_map, length, take, slice_get, Option, None, Some, if◌then◌else◌}
+use Rattle.std.specs.Prelude.{ℕ, ◌+◌, ◌==◌, Bool, true, false, ◌&&◌, nat_lt, nat_le, List, [], ◌∷◌, ◌++◌, codes, decimal, flat_map, length, map, take, slice_get, Option, None, Some, if◌then◌else◌}
 use Rattle.std.specs.List.{list_any, sum_by}
 use Rattle.std.specs.Str.{bytes_eq}
 use Rattle.feed_text.specs.declared.record_format.Step.{Step}
@@ -10,6 +10,7 @@ use Rattle.feed_text.specs.Formats.{TimedRecord}
 use Rattle.line_discovery.specs.KeyedRows.{Keying, keyed_rows}
 use Rattle.line_discovery.specs.Tables.{up_to_most}
 use Rattle.run_notes.specs.SessionNames.{name_texts}
+use Rattle.run_settings.specs.declared.next_session.NextSession.{NextSession}
 use Rattle.nbbo_runs.specs.declared.session_row.SessionRow.{SessionRow}
 use Rattle.nbbo_runs.specs.declared.session_row.SessionSighting.{SessionSighting}
 use Rattle.nbbo_runs.specs.declared.session_row.VenueSession.{VenueSession}
@@ -23,6 +24,10 @@ name_in bytes = if nat_lt (length bytes) 20 then None else Some (take 10 bytes)
 abbrev pub sighting_of : ℕ → List ℕ → Bool → SessionSighting
 sighting_of venue name is_renewal =
     record { session = record { venue = venue; name = name }; is_renewal = is_renewal }
+
+-- the sessions that follow the venues' first ones by the words are named from the start on
+abbrev pub named_sightings : List NextSession → List SessionSighting
+named_sightings next = map (λ n. sighting_of n.venue n.name true) next
 
 -- whether the venue's first session has this name, where there is such a venue
 abbrev pub is_first : Option (List ℕ) → List ℕ → Bool

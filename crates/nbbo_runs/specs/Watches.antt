@@ -6,10 +6,11 @@ use Rattle.feed_text.specs.declared.record_format.Step.{Step}
 use Rattle.feed_text.specs.declared.record_format.Step.TheVariants.{Came}
 use Rattle.feed_text.specs.Capture.{CaptureRecord, datagram_record, record_of}
 use Rattle.feed_text.specs.Formats.{Parsing, TimedRecord}
+use Rattle.run_settings.specs.declared.next_session.NextSession.{NextSession}
 use Rattle.nbbo_runs.specs.declared.session_row.SessionSighting.{SessionSighting}
 use Rattle.nbbo_runs.specs.declared.venue_watch.VenueWatch.{VenueWatch}
 use Rattle.nbbo_runs.specs.declared.watched_format.WatchedFormat.{WatchedFormat}
-use Rattle.nbbo_runs.specs.Sessions.{session_rows, sessions_texts, sightings_of}
+use Rattle.nbbo_runs.specs.Sessions.{named_sightings, session_rows, sessions_texts, sightings_of}
 
 -- ---- what is watched
 
@@ -54,12 +55,13 @@ watching parsing = record {
   is_whole = λ s. parsing.is_whole s.format;
 }
 
--- nothing was read of the format, whose venues' first sessions have these names
-pub record IsWatched {S : Type 0} (format : S) (sessions : List (List ℕ)) (w : WatchedFormat S)
-    : Type 0 where
+-- nothing was read of the format, whose venues' first sessions have these names, and whose next ones
+-- are named
+pub record IsWatched {S : Type 0} (format : S) (sessions : List (List ℕ)) (next : List NextSession)
+    (w : WatchedFormat S) : Type 0 where
   pub format_is : w.format ≡ format
   pub venues_are : w.venues ≡ replicate 16 unwatched
-  pub seen_is : w.seen ≡ []
+  pub seen_is : w.seen ≡ named_sightings next
   pub sessions_are : w.sessions.now ≡ sessions
 
 -- ---- what is said

@@ -1,17 +1,19 @@
 //! What is printed of a replay.
-ghost use Rattle.std.specs.Prelude.{◌≡◌, [], Err, IfErr, IfOk, IsOkAnd, vec_len};
+ghost use Rattle.std.specs.Prelude.{◌≡◌, ◌≤◌, ◌*◌, ℕ, List, [], Err, IfErr, IfOk, IsOkAnd, vec_len};
 ghost use Rattle.feed_text.specs.declared.replay_stop.ReplayStop.TheVariants.{NoMemory};
 ghost use Rattle.feed_text.specs.EventReplays.{venues_in};
 ghost use Rattle.feed_text.specs.Replays.{CanReplay};
-ghost use Rattle.replay_reports.specs.best_times.BestTimeSinks.{IsNewBestTimes};
-ghost use Rattle.replay_reports.specs.gaps.GapSinks.{IsNewGapRows};
-ghost use Rattle.replay_reports.specs.periods.PeriodSinks.{IsNewPeriods};
+ghost use Rattle.feed_text.specs.SinkEvents.{TimedEvent};
+ghost use Rattle.period_rows.specs.BestMakers.{AreBests};
+ghost use Rattle.period_rows.specs.BestRows.{best_names};
+ghost use Rattle.period_rows.specs.CountRows.{AreCounts, count_names};
 ghost use Rattle.replay_reports.specs.rows.RowSinks.{IsNewRows};
-ghost use Rattle.replay_reports.specs.spans.SpanEvents.{events_in};
+ghost use Rattle.report_rows.specs.RowTexts.{header_text};
 ghost use Rattle.run_notes.specs.AbsentSymbols.{symbols_with};
-ghost use Rattle.nbbo_runs.specs.Printing.{IsTextOfSink, PrintsAllRows, PrintsAsked, PrintsBestRows, PrintsBestTimes, PrintsFigures, PrintsGapRows, PrintsPeriods, PrintsText, PrintsWatched, output_asked};
+ghost use Rattle.nbbo_runs.specs.Printing.{IsSinkBefore, PrintsAllRows, PrintsAsked, PrintsBestRows, PrintsRows, PrintsStatistics, PrintsText, PrintsWatched, WritesRows, output_asked};
 
 use crate::config::{RunConfig, config_of};
+use crate::fed_sink::FedSink;
 use crate::lacks::is_packet_input;
 use crate::span_replay::replay_in_span;
 use crate::watched_sink::{Missing, replay_watched};
@@ -20,10 +22,10 @@ use feed_text::{
     CaptureIn, LineBuffer, RecordFormat, ReplayStop, Replayed, TextOut, TextPage, TextSink,
     write_all,
 };
-use replay_reports::{
-    BestRows, BestTimeRows, GapRows, PeriodCounts, PeriodRows, StatsSink, TimedStats, new_times,
-};
-use run_settings::{PeriodStyle, RowFormat, RunOutput, RunSettings, StatsFormat};
+use period_rows::{BestMaker, BestTable, PeriodCounter, new_best_rows, new_count_rows};
+use replay_reports::{BestRows, ReplayStats};
+use report_rows::{RowMaker, RowSink};
+use run_settings::{PeriodStyle, ReportFormat, RowFormat, RunOutput, RunSettings};
 use std::alloc::{AllocError, Global};
 
 /// The outcome where memory was refused before anything was read.
@@ -164,7 +166,6 @@ fn best_times_before<W>(
     style: PeriodStyle,
     output: W,
 ) -> Result<RowSink<W, BestMaker>, W>
-    requires distinct { IsDistinct bytes_eq config.now.replay.symbols.now }
     ensures rows { IfOk result (IsSinkBefore AreBests
         (header_text style.format (best_names style.format))
         (record {
@@ -175,9 +176,10 @@ fn best_times_before<W>(
     ensures refused { IfErr result (λ back. back ≡ output) }
 {
     let venues = config.replay.sessions.len();
-    let Ok(maker) = BestMaker::new(alloc, style, venues, config.replay.symbols) else {
+    let Ok(table) = BestTable::new(alloc, config.replay.symbols) else {
         return Err(output);
     };
+    let maker = BestMaker::new(style, venues, table);
     match page_before(alloc, output) {
         Ok(page) => Ok(new_best_rows(page, maker)),
         Err(output) => Err(output),
@@ -241,20 +243,32 @@ pub fn write_text<W: TextOut, F>(
     }
 }
 
-/// Statistics that are to be printed: the sink that keeps them, if there was memory for it, and the
-/// form of their text.
-#[derive(Drop)]
-struct Statistics<K> {
-    made: Result<K, AllocError>,
-    form: StatsFormat,
+/// How statistics are printed, and whether the records have times.
+#[derive(Clone, Copy)]
+struct StatsForm {
+    format: ReportFormat,
+    has_times: bool,
+}
+
+/// Returns the text of statistics, nothing where a run failed before anything came.
+fn stats_text(
+    alloc: Global,
+    stats: &FedSink<ReplayStats>,
+    format: ReportFormat,
+    is_whole: bool,
+) -> Result<Vec<u8>, AllocError> {
+    if !is_whole && !stats.is_fed {
+        return Ok(Vec::new(alloc));
+    }
+    stats.sink.text(alloc, format)
 }
 
 /// Replays a capture, and then prints its statistics, also up to a fault. Returns the output beside
 /// the outcome. What is missing at the end is left in `missing`.
-fn print_stats<R: CaptureIn, F: RecordFormat, W: TextOut, K: StatsSink + Drop>(
+fn print_stats<R: CaptureIn, F: RecordFormat, W: TextOut>(
     alloc: Global,
     config: &RunConfig<'_>,
-    stats: Statistics<K>,
+    form: StatsForm,
     format: &mut F,
     input: &mut R,
     mut output: W,
@@ -265,21 +279,27 @@ fn print_stats<R: CaptureIn, F: RecordFormat, W: TextOut, K: StatsSink + Drop>(
     ensures { PrintsWatched
         (record { gives = R.gives; ends = R.ends; failures = R.failures; fails = R.fails })
         (record { reads = F.reads; wants = F.wants; is_bad = F.is_bad; is_whole = F.is_whole })
-        (λ State Fault parsing replay. PrintsFigures
+        (PrintsStatistics
         (record { gives = R.gives; ends = R.ends; failures = R.failures; fails = R.fails })
         (record { adds = W.adds; failures = W.failures })
-        parsing replay (λ told. IsTextOfSink K.takes (λ sink. K.is_text sink stats.form) stats.made
-        (events_in config.now.span told)))
+        form.has_times config.now.span)
         config.now.replay
         input.old input.new format.old format.new output result.sink missing.old missing.new
         result.outcome }
 {
-    let Statistics { made, form } = stats;
-    let Ok(sink) = made else {
+    let venues = config.replay.sessions.len();
+    let window = config.replay.window as usize;
+    let Ok(stats) = ReplayStats::new(alloc, venues, window, form.has_times) else {
         return without_memory(output);
     };
-    let replayed = replay_in_span(alloc, config, format, input, sink, missing);
-    let printed = write_text(replayed.sink.text(alloc, form), &mut output);
+    let fed = FedSink {
+        sink: stats,
+        is_fed: false,
+    };
+    let replayed = replay_in_span(alloc, config, format, input, fed, missing);
+    let is_whole = replayed.outcome.is_ok();
+    let text = stats_text(alloc, &replayed.sink, form.format, is_whole);
+    let printed = write_text(text, &mut output);
     Replayed {
         sink: output,
         outcome: printed.and(replayed.outcome),
@@ -327,12 +347,12 @@ pub fn print<R: CaptureIn, F: RecordFormat, W: TextOut>(
             let made = best_times_before(alloc, &config, style, output);
             print_rows(alloc, &config, made, format, input, missing)
         }
-        RunOutput::Stats(form) => {
-            let venues = config.replay.sessions.len();
-            let window = config.replay.window as usize;
-            let made = TimedStats::new(alloc, venues, window, timed);
-            let stats = Statistics { made, form };
-            print_stats(alloc, &config, stats, format, input, output, missing)
+        RunOutput::Stats(rows) => {
+            let form = StatsForm {
+                format: rows,
+                has_times: timed,
+            };
+            print_stats(alloc, &config, form, format, input, output, missing)
         }
         RunOutput::Gaps(rows) => print_gaps(alloc, &config, rows, format, input, output, missing),
     }

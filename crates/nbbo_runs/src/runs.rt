@@ -3,6 +3,7 @@ ghost use Rattle.std.specs.Prelude.{◌≡◌, vec_len};
 ghost use Rattle.run_settings.specs.Lists.{AreOfVenues};
 ghost use Rattle.nbbo_runs.specs.Printing.{output_asked};
 ghost use Rattle.nbbo_runs.specs.Runs.{RunsBy, RunsConversion, RunsOver};
+ghost use Rattle.nbbo_runs.specs.Timeless.{with_times};
 
 use crate::absent_report::tell_absent;
 use crate::config::MAX_TURNS;
@@ -12,6 +13,7 @@ use crate::lacks::{tell_lacks, tells_lacks};
 use crate::printing::print;
 use crate::symbol_hint::symbol_hint;
 use crate::terminals::Terminals;
+use crate::timeless::timeless_hint;
 use crate::told_format::ToldFormat;
 use crate::watched_format::WatchedFormat;
 use crate::watched_sink::Missing;
@@ -63,7 +65,7 @@ fn run_over<R: CaptureIn, F: ToldFormat + Drop, W: TextOut, E: TextOut>(
         (record { gives = R.gives; ends = R.ends; failures = R.failures; fails = R.fails })
         (record { adds = W.adds; failures = W.failures })
         settings.now)
-        F.end_texts settings.now terminals format
+        (with_times settings.now.output F.is_timed F.end_texts) settings.now terminals format
         (record { input = input.old; output = output; errors = errors.old })
         (record { input = input.new; output = result.output; errors = errors.new })
         result.status }
@@ -77,6 +79,8 @@ fn run_over<R: CaptureIn, F: ToldFormat + Drop, W: TextOut, E: TextOut>(
     let symbols = settings.feed.symbols.as_slice();
     tell_absent(&printed.outcome, is_told, symbols, &missing.absent, errors);
     format.tell_end(&printed.outcome, errors);
+    let hint = timeless_hint(settings.output, format.has_times(), &printed.outcome);
+    write_stderr(hint, errors);
     RunEnd {
         status: status_of(&printed.outcome),
         is_journal_full: is_journal_full(&printed.outcome),
@@ -116,18 +120,19 @@ pub fn run_settings<R: CaptureIn, W: TextOut, E: TextOut>(
 {
     let venues = settings.feed.sessions.len();
     let sessions = settings.feed.sessions.as_slice();
+    let next = settings.next_sessions.as_slice();
     match &settings.input {
         RunInput::Own => {
             let format = OwnFormat::new(venues);
             if !tells_lacks(settings, terminals) {
                 return run_over(alloc, settings, terminals, format, input, output, errors);
             }
-            let format = WatchedFormat::new(format, sessions);
+            let format = WatchedFormat::new(format, sessions, next);
             run_over(alloc, settings, terminals, format, input, output, errors)
         }
         RunInput::Packets(lines) => {
             let format = PacketFormat::new(lines.as_slice(), venues);
-            let format = WatchedFormat::new(format, sessions);
+            let format = WatchedFormat::new(format, sessions, next);
             run_over(alloc, settings, terminals, format, input, output, errors)
         }
     }

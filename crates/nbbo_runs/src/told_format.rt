@@ -1,8 +1,8 @@
 //! What formats of captures have to say on standard error after a run.
-ghost use Rattle.std.specs.Prelude.{ℕ, List, Result};
+ghost use Rattle.std.specs.Prelude.{◌≡◌, ℕ, Bool, false, List, Result};
 ghost use Rattle.feed_text.specs.declared.replay_stop.ReplayStop.{ReplayStop};
 ghost use Rattle.feed_text.specs.StandardError.{SaysEach};
-ghost use Rattle.nbbo_runs.specs.CaptureTexts.{capture_texts};
+ghost use Rattle.nbbo_runs.specs.CaptureTexts.{capture_texts, is_timed_capture};
 ghost use Rattle.nbbo_runs.specs.Ending.{own_end_texts};
 
 use crate::capture_report::{write_counts, write_dropped, write_outcome, write_second};
@@ -16,6 +16,13 @@ pub trait ToldFormat: RecordFormat {
     /// What is said of what was read and of the outcome.
     ghost end_texts: { Self → Result (Unit {0}) (ReplayStop Self.Fault) → List (List ℕ) };
 
+    /// Whether anything that was read had a time.
+    ghost is_timed: { Self → Bool };
+
+    /// Returns whether anything that was read had a time.
+    fn has_times(&self) -> bool
+        ensures { result ≡ is_timed self.now };
+
     /// Writes what is to be said of what was read and of the outcome.
     fn tell_end<E: TextOut>(&self, outcome: &Result<(), ReplayStop<Self::Fault>>, errors: &mut E)
         ensures { SaysEach (record { adds = E.adds; failures = E.failures })
@@ -24,6 +31,12 @@ pub trait ToldFormat: RecordFormat {
 
 impl ToldFormat for OwnFormat {
     ghost end_texts = { own_end_texts };
+
+    ghost is_timed = { λ s. false };
+
+    fn has_times(&self) -> bool {
+        false
+    }
 
     fn tell_end<E: TextOut>(&self, outcome: &Result<(), ReplayStop<()>>, errors: &mut E) {
         match outcome {
@@ -35,6 +48,12 @@ impl ToldFormat for OwnFormat {
 
 impl ToldFormat for PacketFormat<'_> {
     ghost end_texts = { capture_texts };
+
+    ghost is_timed = { is_timed_capture };
+
+    fn has_times(&self) -> bool {
+        self.latest_time() != 0
+    }
 
     fn tell_end<E: TextOut>(&self, outcome: &Result<(), ReplayStop<CaptureFault>>, errors: &mut E) {
         let frames = self.counts();

@@ -1,7 +1,7 @@
 //! A format of captures whose datagrams are watched.
 ghost use Rattle.std.specs.Prelude.{◌≡◌, [], ◌∷◌, ◌++◌, IfNone, IfSome, None, Some, length, slice_get, slice_index_or};
 ghost use Rattle.feed_text.specs.StandardError.{SaysEach};
-ghost use Rattle.nbbo_runs.specs.Sessions.{datagram_sightings, is_first, name_in, sighted_by, sighting_of};
+ghost use Rattle.nbbo_runs.specs.Sessions.{datagram_sightings, is_first, name_in, named_sightings, sighted_by, sighting_of};
 ghost use Rattle.nbbo_runs.specs.Watches.{IsWatched, WatchedReads, first_venues_texts, seen_texts, silent_texts, unwatched, venue_texts, watch_texts, watched_by, watched_texts};
 ghost use Rattle.nbbo_runs.specs.WatchLaws.{watched_longer, watched_more, watched_none};
 
@@ -13,6 +13,7 @@ use crate::told_format::ToldFormat;
 use crate::venue_watch::VenueWatch;
 use feed_text::{Record, RecordFormat, ReplayStop, Step, TextOut, write_number, write_stderr};
 use feed_types::VenueId;
+use run_settings::NextSession;
 
 /// The most venues of a capture.
 const VENUES: usize = 16;
@@ -84,6 +85,15 @@ fn note_seen(seen: &mut SessionTable, venue: VenueId, name: &[u8; 10], is_renewa
         session: VenueSession { venue, name: *name },
         is_renewal,
     });
+}
+
+/// Notes that these sessions are named.
+fn name_sessions(seen: &mut SessionTable, next: &[NextSession])
+    ensures { seen.new ≡ seen.old ++ named_sightings next.now }
+{
+    for session in next {
+        note_seen(seen, session.venue, &session.name, true);
+    }
 }
 
 /// Notes a datagram of another session than the venue's first.
@@ -194,14 +204,21 @@ fn write_watch<F, E: TextOut>(
 }
 
 impl<'a, F> WatchedFormat<'a, F> {
-    /// The format, of which nothing was read, for venues whose first sessions have these names.
-    pub fn new(format: F, sessions: &'a [[u8; 10]]) -> WatchedFormat<'a, F>
-        ensures { IsWatched format sessions.now result }
+    /// Returns the format, of which nothing was read, for venues whose first sessions have these
+    /// names, and whose next ones are named.
+    pub fn new(
+        format: F,
+        sessions: &'a [[u8; 10]],
+        next: &[NextSession],
+    ) -> WatchedFormat<'a, F>
+        ensures { IsWatched format sessions.now next.now result }
     {
+        let mut seen = SessionTable::new();
+        name_sessions(&mut seen, next);
         WatchedFormat {
             format,
             venues: [VenueWatch::new(); VENUES],
-            seen: SessionTable::new(),
+            seen,
             sessions,
         }
     }
@@ -244,6 +261,12 @@ impl<F: RecordFormat> RecordFormat for WatchedFormat<'_, F> {
 
 impl<F: ToldFormat> ToldFormat for WatchedFormat<'_, F> {
     ghost end_texts = { watched_texts F.end_texts };
+
+    ghost is_timed = { λ s. F.is_timed s.format };
+
+    fn has_times(&self) -> bool {
+        self.format.has_times()
+    }
 
     fn tell_end<E: TextOut>(&self, outcome: &Result<(), ReplayStop<F::Fault>>, errors: &mut E) {
         let count = self.sessions.len();

@@ -1,13 +1,11 @@
-use Rattle.std.proofs.Common.{◌<◌, arith}
-use Rattle.feed_text.specs.Devices.{Reading, Writing}
+use Rattle.std.specs.Prelude.{◌*◌}
+use Rattle.feed_text.specs.Devices.{Writing}
 use Rattle.feed_text.specs.EventReplays.{venues_in}
-use Rattle.feed_text.specs.Formats.{Parsing}
-use Rattle.replay_reports.specs.spans.SpanEvents.{events_in}
-use Rattle.replay_reports.specs.Texts.{IsTimedText}
-use Rattle.replay_reports.specs.times.TimedSinks.{TakesTimed}
-use Rattle.nbbo_runs.specs.Printing.{IsStatsText, IsTextOfSink}
-use Rattle.nbbo_runs.proofs.PrintedTexts.{figures_as}
-use Rattle.nbbo_runs.proofs.StatsTexts.{times_of_sink}
+use Rattle.report_rows.specs.RowTexts.{header_text}
+use Rattle.period_rows.specs.BestMakers.{AreBests}
+use Rattle.period_rows.specs.BestRows.{BestSetting, best_names, best_rows_with, text_of_bests}
+use Rattle.period_rows.specs.CountRows.{AreCounts, CountSetting, count_names, count_rows_with, text_of_counts}
+use Rattle.nbbo_runs.proofs.SinkPrints.{made_writes}
 use Rattle.nbbo_runs.proofs.printing.print.Goals as goal
 
 pub returns-in-Lines : goal.returns-in-Lines
@@ -28,85 +26,65 @@ returns-in-Bests g c = record {
     ← c.is_packet_input-timed.ensures,
     ← c.config_of-config.ensures.span,
     c.in-Bests.is,
-  ) c.print_rows.ensures.prints;
-  lacks = c.print_rows.ensures.missing.lacks;
+  ) c.print_bests.ensures.prints;
+  lacks = c.print_bests.ensures.missing.lacks;
   absent_are = rw (← c.config_of-config.ensures.replay.symbols)
-      c.print_rows.ensures.missing.absent;
-}
-
-pub returns-in-Gaps : goal.returns-in-Gaps
-returns-in-Gaps g c = record {
-  config = c.config_of-config.result.replay;
-  is = c.config_of-config.ensures.replay;
-  prints = rw (← c.config_of-config.ensures.span, c.in-Gaps.is) c.print_gaps.ensures.prints;
-  lacks = c.print_gaps.ensures.missing.lacks;
-  absent_are = rw (← c.config_of-config.ensures.replay.symbols)
-      c.print_gaps.ensures.missing.absent;
+      c.print_bests.ensures.missing.absent;
 }
 
 pub returns-in-Periods : goal.returns-in-Periods
-returns-in-Periods g c = record {
-  config = c.config_of-config.result.replay;
-  is = c.config_of-config.ensures.replay;
-  prints = rw (← c.config_of-config.ensures.span, c.in-Periods.is) c.print_periods.ensures.prints;
-  lacks = c.print_periods.ensures.missing.lacks;
-  absent_are = rw (← c.config_of-config.ensures.replay.symbols)
-      c.print_periods.ensures.missing.absent;
-}
-
-pub returns-in-BestTimes : goal.returns-in-BestTimes
-returns-in-BestTimes g c = record {
-  config = c.config_of-config.result.replay;
-  is = c.config_of-config.ensures.replay;
-  prints = rw (← c.config_of-config.ensures.span, c.in-BestTimes.is)
-      c.print_best_times.ensures.prints;
-  lacks = c.print_best_times.ensures.missing.lacks;
-  absent_are = rw (← c.config_of-config.ensures.replay.symbols)
-      c.print_best_times.ensures.missing.absent;
-}
-
-pub returns-in-Stats : goal.returns-in-Stats
-returns-in-Stats g c =
-    let reading : Reading g.row.R.Denot = record {
-      gives = g.R.CaptureIn.gives;
-      ends = g.R.CaptureIn.ends;
-      failures = g.R.CaptureIn.failures;
-      fails = g.R.CaptureIn.fails;
-    } in
+returns-in-Periods g c =
     let writing : Writing g.row.W.Denot =
     record { adds = g.W.TextOut.adds; failures = g.W.TextOut.failures } in
-    let parsing : Parsing g.row.F.Denot g.row.F-Fault.Denot = record {
-      reads = g.F.RecordFormat.reads;
-      wants = g.F.RecordFormat.wants;
-      is_bad = g.F.RecordFormat.is_bad;
-      is_whole = g.F.RecordFormat.is_whole;
-    } in
     let config = c.config_of-config.result.replay in
-    let span = c.config_of-config.result.span in
-    let form = c.in-Stats.form in
-    let timed = c.is_packet_input-timed.result in
-    let made = c.new-made.result in
-    let some : 0 < config.window =
-    (let least = c.args.settings.now.feed.some_window in
-    let same = c.config_of-config.ensures.replay.window in
-    omega (arith, least, same)) in
+    let style = c.in-Periods.style in
+    let setting : CountSetting = record { style = style; lines = 2 * venues_in config } in
+    let output = c.args.output in
+    let printed = c.print_rows-in-Periods.ensures (text_of_counts setting) output
+    (made_writes writing AreCounts count_rows_with
+    (header_text style.format (count_names style.format)) setting output
+    c.counts_before-made.result c.counts_before-made.ensures.rows)
+    c.counts_before-made.ensures.refused in
     record {
       config = config;
       is = c.config_of-config.ensures.replay;
-      prints = rw (
-        ← c.is_packet_input-timed.ensures,
-        ← c.config_of-config.ensures.span,
-        c.in-Stats.is,
-      )
-          (figures_as reading writing parsing config
-          (λ told. IsTextOfSink TakesTimed (λ after text. IsTimedText form after text) made
-          (events_in span told))
-          (λ told. IsStatsText config form timed (events_in span told)) _ _ _ _ _ _ _
-          (λ told text is. times_of_sink form timed (venues_in config) config.window made
-          (events_in span told) text some c.new-made.ensures.count
-          c.new-made.ensures.has_times c.new-made.ensures.timed is)
-          c.print_stats.ensures.prints);
-      lacks = c.print_stats.ensures.missing.lacks;
-      absent_are = rw (← c.config_of-config.ensures.replay.symbols)
-          c.print_stats.ensures.missing.absent;
+      prints = rw (← c.config_of-config.ensures.span, c.in-Periods.is) printed.prints;
+      lacks = printed.missing.lacks;
+      absent_are = rw (← c.config_of-config.ensures.replay.symbols) printed.missing.absent;
     }
+
+pub returns-in-BestTimes : goal.returns-in-BestTimes
+returns-in-BestTimes g c =
+    let writing : Writing g.row.W.Denot =
+    record { adds = g.W.TextOut.adds; failures = g.W.TextOut.failures } in
+    let config = c.config_of-config.result.replay in
+    let style = c.in-BestTimes.style in
+    let setting : BestSetting =
+    record { style = style; venues = venues_in config; symbols = config.symbols.now } in
+    let output = c.args.output in
+    let printed = c.print_rows-in-BestTimes.ensures (text_of_bests setting) output
+    (made_writes writing AreBests best_rows_with
+    (header_text style.format (best_names style.format)) setting output
+    c.best_times_before-made.result c.best_times_before-made.ensures.rows)
+    c.best_times_before-made.ensures.refused in
+    record {
+      config = config;
+      is = c.config_of-config.ensures.replay;
+      prints = rw (← c.config_of-config.ensures.span, c.in-BestTimes.is) printed.prints;
+      lacks = printed.missing.lacks;
+      absent_are = rw (← c.config_of-config.ensures.replay.symbols) printed.missing.absent;
+    }
+
+pub returns-in-Stats : goal.returns-in-Stats
+returns-in-Stats g c = record {
+  config = c.config_of-config.result.replay;
+  is = c.config_of-config.ensures.replay;
+  prints = rw (
+    ← c.is_packet_input-timed.ensures,
+    ← c.config_of-config.ensures.span,
+    c.in-Stats.is,
+  ) c.print_stats.ensures.prints;
+  lacks = c.print_stats.ensures.missing.lacks;
+  absent_are = rw (← c.config_of-config.ensures.replay.symbols)
+      c.print_stats.ensures.missing.absent;
+}

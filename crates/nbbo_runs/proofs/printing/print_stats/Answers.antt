@@ -1,13 +1,17 @@
-use Rattle.std.proofs.Common.{◌≡◌, List, ℕ, [], Err, refl}
+use Rattle.std.proofs.Common.{rules, ◌≡◌, ◌<◌, List, ℕ, [], Err, refl, arith, ◌∙◌}
 use Rattle.std.specs.Prelude.{IsOkAnd}
 use Rattle.feed_text.specs.declared.replay_stop.ReplayStop.TheVariants.{NoMemory}
 use Rattle.feed_text.specs.Devices.{Reading, Writing}
+use Rattle.feed_text.specs.EventReplays.{venues_in}
 use Rattle.feed_text.specs.Formats.{Parsing}
+use Rattle.feed_text.specs.ReplayStates.{SinkTaking}
 use Rattle.replay_run.specs.Printed.{facts_of_run}
-use Rattle.replay_reports.specs.spans.SpanEvents.{events_in}
-use Rattle.nbbo_runs.specs.Printing.{IsTextOfSink, taking_in}
+use Rattle.replay_reports.specs.declared.stats.replay_stats.ReplayStats.{ReplayStats}
+use Rattle.replay_reports.specs.stats.StatsSinks.{TakesStats}
+use Rattle.nbbo_runs.specs.declared.fed_sink.FedSink.{FedSink}
+use Rattle.nbbo_runs.specs.Printing.{IsStatsText, span_events, taking_in}
 use Rattle.nbbo_runs.proofs.Keeping.{kept_of}
-use Rattle.nbbo_runs.proofs.PrintedTexts.{made_as, missing_after, text_as}
+use Rattle.nbbo_runs.proofs.PrintedTexts.{missing_after, text_as}
 use Rattle.nbbo_runs.proofs.printing.print_stats.Goals as goal
 
 pub returns-in_default : goal.returns-in_default
@@ -21,6 +25,13 @@ returns-in_default g c = record {
     ends = c.without_memory.ensures.outcome;
   };
   missing = rw c.without_memory.ensures.outcome (record { lacks = tt; absent = tt });
+}
+
+-- what takes the events of statistics
+abbrev fed : SinkTaking (FedSink ReplayStats)
+fed = record {
+  takes = λ before told after. TakesStats before.sink told after.sink;
+  fails = λ before told after. ⊥;
 }
 
 pub returns : goal.returns
@@ -41,32 +52,36 @@ returns g c =
     } in
     let config = c.args.config.now in
     let span = config.span in
-    let form = c.args.stats.form in
+    let timed = c.args.form.has_times in
     let replayed = c.replay_in_span-replayed in
-    let new = replayed.result.sink in
-    let sure = g.met.K.StatsSink.never_fails in
-    let taking = taking_in span
-    (record { takes = g.K.EventSink.takes; fails = g.K.EventSink.fails }) in
-    let kept = kept_of reading parsing config.replay (facts_of_run config.replay) taking
-    g.K.EventSink.is_shown g.met.K.EventSink.takes_none
-    (λ s t told failed. sure s t (events_in span told) failed) _ _ _ _ c.in-Ok.sink new
-    replayed.result.outcome replayed.ensures.run in
-    let IsText : g.row.K.Denot → List ℕ → Type 0 =
-    λ sink text. g.K.StatsSink.is_text sink form text in
-    let Is : List ℕ → Type 0 =
-    λ text. IsTextOfSink g.K.EventSink.takes IsText c.args.stats.made (events_in span kept.told)
-    text in
+    let start = c.in-Ok.stats in
+    let stats = replayed.result.sink.sink in
+    let some : 0 < config.replay.window = (let least = c.requires.can.least in omega (arith, least))
+    in
+    let kept = kept_of reading parsing config.replay (facts_of_run config.replay)
+    (taking_in span fed) (λ s. Unit {0})
+    (λ s. record {
+      same_times = refl;
+      same_venues = refl;
+      stats = λ window earlier are. are;
+    })
+    (λ s t told failed. failed) _ _ _ _ _ replayed.result.sink replayed.result.outcome
+    replayed.ensures.run in
+    let Is : List ℕ → Type 0 = IsStatsText config.replay timed (span_events span kept.told) in
     record {
       prints = record {
         told = kept.told;
         seen = replayed.result.outcome;
         run = kept.run;
         printed = c.write_text-printed.result;
-        prints = text_as writing (λ text. IsOkAnd c.text.result (λ bytes. bytes.items ≡ text)) Is
-            _ _ c.write_text-printed.result
-            (λ text made. made_as (λ bytes. bytes.items) c.text.result
-            (λ bytes. g.K.StatsSink.is_text new form bytes.items) Is text c.text.ensures
-            (λ bytes is. rw c.in-Ok.is (new, kept.took, is)) made)
+        prints = text_as writing (λ text. IsOkAnd c.stats_text-text.result (λ bytes. bytes.items ≡ text))
+            Is _ _ c.write_text-printed.result
+            (λ text made. record {
+              stats = stats;
+              are = kept.took.stats config.replay.window [] (c.in-Ok.ensures.stats some);
+              has_times = kept.took.same_times ∙ c.in-Ok.ensures.has_times;
+              venues = kept.took.same_venues ∙ c.in-Ok.ensures.count ∙ search rules;
+            })
             c.write_text-printed.ensures;
         ends = c.and.ensures;
       };

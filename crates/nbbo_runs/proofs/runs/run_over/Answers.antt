@@ -1,14 +1,15 @@
-use Rattle.std.proofs.Common.{ℕ, List, ◌++◌, ◌∙◌, subst}
+use Rattle.std.proofs.Common.{◌≡◌, ℕ, List, [], ◌∷◌, ◌++◌, ◌∙◌, ap, subst}
 use Rattle.std.specs.Prelude.{Bool}
 use Rattle.feed_text.specs.declared.lack.Lack.{Lack}
 use Rattle.feed_text.specs.Devices.{Reading, Writing}
 use Rattle.feed_text.specs.Formats.{Parsing}
 use Rattle.feed_text.specs.StandardError.{Says}
-use Rattle.feed_text.specs.laws.SaidTexts.{says_each}
+use Rattle.feed_text.specs.laws.SaidTexts.{says_each, says_one}
 use Rattle.nbbo_runs.specs.AbsentSymbols.{told_absent}
 use Rattle.run_notes.specs.AbsentSymbols.{symbols_with}
 use Rattle.nbbo_runs.specs.Lacks.{tells_lacks, told_lacks}
 use Rattle.nbbo_runs.specs.Printing.{PrintsAsked, output_asked}
+use Rattle.nbbo_runs.specs.Timeless.{timeless_hint}
 use Rattle.nbbo_runs.proofs.SaidLacks.{tells_absent, tells_items}
 use Rattle.nbbo_runs.proofs.runs.run_over.Goals as goal
 
@@ -42,9 +43,14 @@ returns g c =
     let hinted = c.write_stderr-2.new.errors in
     let lacking = c.tell_lacks.new.errors in
     let said = c.tell_absent.new.errors in
-    let end = c.tell_end.new.errors in
+    let told = c.tell_end.new.errors in
+    let end = c.write_stderr-3.new.errors in
     let due = tells_lacks settings c.args.terminals in
-    let end_texts = g.F.ToldFormat.end_texts finish outcome in
+    let texts = g.F.ToldFormat.end_texts finish outcome in
+    let timeless = timeless_hint settings.output (g.F.ToldFormat.is_timed finish) outcome in
+    let end_texts = texts ++ timeless ∷ [] in
+    let hint : c.timeless_hint-hint.result.now ≡ timeless = c.timeless_hint-hint.ensures
+    ∙ ap (λ (timed : Bool). timeless_hint settings.output timed outcome) c.has_times.ensures in
     record {
       finish = finish;
       outcome = outcome;
@@ -75,7 +81,10 @@ returns g c =
             (says_each telling (told_absent outcome due absent) end_texts lacking said end
             (tells_absent telling outcome _ due _ symbols missing.absent lacking said
             c.tells_lacks-is_told.ensures c.as_slice-symbols.ensures.value c.tell_absent.ensures)
-            c.tell_end.ensures),
+            (says_each telling texts (timeless ∷ []) said told end c.tell_end.ensures
+            (says_one telling timeless told end
+            (subst (λ (text : List ℕ). Says telling text told end) hint
+            c.write_stderr-3.ensures)))),
       );
       ends = c.status_of.ensures;
     }
