@@ -84,7 +84,8 @@ drops_both d [] qs = refl
 drops_both d (p ∷ ps) qs = drops_both (drops_after d p.dropped) ps qs
 
 falls_both : (latest : ℕ) (xs ys : List ℕ)
-    → falls_after latest (xs ++ ys) ≡ falls_after latest xs + falls_after (latest_after latest xs) ys
+    → falls_after latest (xs ++ ys)
+    ≡ falls_after latest xs + falls_after (latest_after latest xs) ys
 falls_both latest [] ys = omega arith
 falls_both latest (x ∷ xs) ys = let h = falls_both (max latest x) xs ys in omega (arith, h)
 
@@ -186,11 +187,13 @@ counts_frame lines before pieced timed after p f piece time last counts framed =
           ∙ ap (count_after before.position) sum;
       second_start = ap (λ (x : Progress). x.second_start) last
           ∙ ap (λ (x : Progress). x.second_start) start;
-      latest_time = ap (λ (x : Progress). x.latest_time) last ∙ ap (λ (x : Progress). x.latest_time) start
+      latest_time = ap (λ (x : Progress). x.latest_time) last
+          ∙ ap (λ (x : Progress). x.latest_time) start
           ∙ ap (latest_after before.latest_time) (sym times);
       counts = counts.after_is
           ∙ ap (λ (x : Progress). counts_after x.counts (counts.fate ∷ []) 0) start
-          ∙ ap (λ n. counts_after before.counts (counts.fate ∷ []) (falls_after before.latest_time n))
+          ∙ ap (λ n. counts_after before.counts (counts.fate ∷ [])
+          (falls_after before.latest_time n))
           (sym times);
       drops = ap (λ (x : Progress). x.drops) last ∙ ap (λ (x : Progress). x.drops) start;
     }

@@ -69,8 +69,8 @@ impl LineSurvey {
         self.counts.lines.total()
     }
 
-    /// Returns what was counted as a text in the format, with times in the style. Fails where memory
-    /// is refused.
+    /// Returns what was counted as a text in the format, with times in the style. Fails where
+    /// memory is refused.
     pub fn text(
         &self,
         alloc: Global,

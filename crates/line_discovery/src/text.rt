@@ -183,7 +183,8 @@ fn table_text(alloc: Global, counts: &SurveyCounts, style: TimeStyle) -> Result<
     Ok(text)
 }
 
-/// Returns what was counted as a text in the format, with times in the style. Fails where memory is refused.
+/// Returns what was counted as a text in the format, with times in the style. Fails where memory is
+/// refused.
 pub(crate) fn text_of(
     alloc: Global,
     counts: &SurveyCounts,

@@ -7,7 +7,8 @@
 //! The contract is that of `nbbo_runs::run`: of any words, over any input, output and standard
 //! error, it says what is read, what is written where, and the status, or that the words ask to
 //! listen. Outside of it stand, in this file, the opening of the three streams and of the sockets,
-//! the words as the system gives them, the hints beside it, and the exit; and listening itself (`udp_listening`), which tests show.
+//! the words as the system gives them, the hints beside it, and the exit; and listening itself
+//! (`udp_listening`), which tests show.
 //!
 //! Begin with `nbbo_runs`. `command_words` has what the words ask for, `udp_listening` live lines.
 #![tactic(auto)]

@@ -31,8 +31,8 @@ pub record Discovers {R W : Type 0} (reading : Reading R) (writing : Writing W)
   pub reads : AnswersConversion reading survey_parsing writing 0 1000000000 from to start finish
       before mid read
   pub printed : Result (Unit {0}) (ReplayStop CaptureFault)
-  pub prints : PrintsText writing (λ text. text ≡ text_of_survey form.format form.times finish.counts) mid after
-      printed
+  pub prints : PrintsText writing
+      (λ text. text ≡ text_of_survey form.format form.times finish.counts) mid after printed
   pub ends : outcome ≡ result_and printed read
 
 -- that no datagram is a packet, by how many are

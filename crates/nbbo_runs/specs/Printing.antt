@@ -64,8 +64,8 @@ PrintsEvents reading writing parsing config text_of from to start finish before 
     AnswersRun reading parsing (printing writing text_of) (λ output. ⊤)
     config (facts_of_run config) from to start finish before after outcome
 
--- A new sink of rows prints this text of events: where it shows all that it took, the writer took the
--- text of the events, and where it failed, a front of it.
+-- A new sink of rows prints this text of events: where it shows all that it took, the writer took
+-- the text of the events, and where it failed, a front of it.
 pub record WritesRows {W M : Type 0} (writing : Writing W)
     (makes : M → List TimedEvent → List ℕ → M → Type 0)
     (tells : M → List TimedEvent → List ℕ → Type 0) (text_of : List TimedEvent → List ℕ)
@@ -186,7 +186,8 @@ abbrev pub PrintsPeriods : {R W : Type 0} → Reading R → Writing W → Period
     → Output R W
 PrintsPeriods reading writing style span S F parsing config =
     PrintsRows reading writing
-    (text_of_counts (record { style = style; lines = 2 * venues_in config })) span S F parsing config
+    (text_of_counts (record { style = style; lines = 2 * venues_in config })) span S F parsing
+    config
 
 -- the rows of how long national bests stood in the periods of a span
 abbrev pub PrintsBestTimes : {R W : Type 0} → Reading R → Writing W → PeriodStyle → TimeSpan

@@ -55,8 +55,8 @@ watching parsing = record {
   is_whole = λ s. parsing.is_whole s.format;
 }
 
--- nothing was read of the format, whose venues' first sessions have these names, and whose next ones
--- are named
+-- nothing was read of the format, whose venues' first sessions have these names, and whose next
+-- ones are named
 pub record IsWatched {S : Type 0} (format : S) (sessions : List (List ℕ)) (next : List NextSession)
     (w : WatchedFormat S) : Type 0 where
   pub format_is : w.format ≡ format

@@ -1,5 +1,5 @@
-//! Hints: what was probably meant where something else was given. They are made of what the words ask
-//! for and of what was read, and no run waits for them.
+//! Hints: what was probably meant where something else was given. They are made of what a run
+//! returns.
 ghost use Rattle.std.specs.Prelude.{◌≡◌};
 ghost use Rattle.nbbo_runs.specs.Hints.{format_hint, hint_text, is_packets, journal_hint, packed_hint};
 

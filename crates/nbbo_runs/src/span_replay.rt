@@ -16,7 +16,7 @@ use std::alloc::Global;
 // Where no span is asked for no event's time is looked at: a [`SpanSink`] would cost some 8
 // instructions an event, and keep each of them in memory.
 #[inline(always)]
-pub(crate) fn replay_in_span<R: CaptureIn, F: RecordFormat, K: SpannedSink>(
+pub(crate) fn replay_in_span<R: CaptureIn, F: RecordFormat, K: SpannedSink + Drop>(
     alloc: Global,
     config: &RunConfig<'_>,
     format: &mut F,

@@ -19,11 +19,7 @@ fn untimed_hint(output: RunOutput, is_timed: bool) -> &'static str
 }
 
 /// Returns the line after a run with this outcome; empty where none is due.
-pub fn timeless_hint<F>(
-    output: RunOutput,
-    is_timed: bool,
-    outcome: &Result<(), F>,
-) -> &'static str
+pub fn timeless_hint<F>(output: RunOutput, is_timed: bool, outcome: &Result<(), F>) -> &'static str
     ensures { result.now ≡ timeless_hint output is_timed outcome.now }
 {
     match outcome {

@@ -206,11 +206,7 @@ fn write_watch<F, E: TextOut>(
 impl<'a, F> WatchedFormat<'a, F> {
     /// Returns the format, of which nothing was read, for venues whose first sessions have these
     /// names, and whose next ones are named.
-    pub fn new(
-        format: F,
-        sessions: &'a [[u8; 10]],
-        next: &[NextSession],
-    ) -> WatchedFormat<'a, F>
+    pub fn new(format: F, sessions: &'a [[u8; 10]], next: &[NextSession]) -> WatchedFormat<'a, F>
         ensures { IsWatched format sessions.now next.now result }
     {
         let mut seen = SessionTable::new();

@@ -10,7 +10,8 @@ returns g c =
     let writing : Writing g.row.W.Denot =
     record { adds = g.W.TextOut.adds; failures = g.W.TextOut.failures } in
     let made = c.text.result in
-    let due = text_of_survey c.args.form.format c.args.form.times c.convert-read.new.format.counts in
+    let due =
+    text_of_survey c.args.form.format c.args.form.times c.convert-read.new.format.counts in
     record {
       read = c.convert-read.result;
       mid = c.convert-read.new.writer;
