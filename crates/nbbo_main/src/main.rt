@@ -117,7 +117,7 @@ fn write_hints<E: TextOut>(
 }
 
 /// Does what the words of the command line ask for, but for listening, and writes the hints.
-fn run_words<R: CaptureIn + Drop, W: TextOut, E: TextOut>(
+fn run_words<R: CaptureIn + Drop, W: TextOut + Drop, E: TextOut>(
     rt: &HostRuntime,
     input: KeptStart<R>,
     mut output: W,

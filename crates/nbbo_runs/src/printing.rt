@@ -104,7 +104,7 @@ fn rows_before<W>(alloc: Global, style: RowStyle, output: W) -> Result<BestRows<
 
 /// Replays a capture, and prints the rows of its best lines in a style. Returns the output beside
 /// the outcome. What is missing at the end is left in `missing`.
-fn print_bests<R: CaptureIn, F: RecordFormat, W: TextOut>(
+fn print_bests<R: CaptureIn, F: RecordFormat, W: TextOut + Drop>(
     alloc: Global,
     config: &RunConfig<'_>,
     style: RowStyle,
@@ -189,7 +189,7 @@ fn best_times_before<W>(
 /// Replays a capture, and prints the rows of a sink that was made before the output, or wasn't, for
 /// want of memory. Returns the output beside the outcome. What is missing at the end is left in
 /// `missing`.
-fn print_rows<R: CaptureIn, F: RecordFormat, W: TextOut, M: RowMaker + Drop>(
+fn print_rows<R: CaptureIn, F: RecordFormat, W: TextOut + Drop, M: RowMaker + Drop>(
     alloc: Global,
     config: &RunConfig<'_>,
     made: Result<RowSink<W, M>, W>,
@@ -308,7 +308,7 @@ fn print_stats<R: CaptureIn, F: RecordFormat, W: TextOut>(
 
 /// Replays a capture, and prints what is asked for.
 /// Returns the output beside the outcome. What is missing at the end is left in `missing`.
-pub fn print<R: CaptureIn, F: RecordFormat, W: TextOut>(
+pub fn print<R: CaptureIn, F: RecordFormat, W: TextOut + Drop>(
     alloc: Global,
     settings: &RunSettings,
     format: &mut F,

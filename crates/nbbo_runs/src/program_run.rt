@@ -5,7 +5,7 @@ ghost use Rattle.nbbo_runs.specs.Runs.{Leads, TellsRefusal};
 use crate::discovery::run_discovery;
 use crate::ending::WRITE_FAILED;
 use crate::hints::{InputFormat, input_format_of};
-use crate::runs::{run_conversion, run_settings};
+use crate::runs::{RunEnd, run_conversion, run_settings};
 use crate::survey_form::SurveyForm;
 use crate::terminals::Terminals;
 use command_words::{Refusal, Task, settings};
@@ -101,7 +101,7 @@ fn ended<R, W>(status: u8, input: R, output: W, facts: RunFacts) -> ProgramRun<R
 /// lines of a replay, the rows of its best lines, its statistics, the converted capture, or the
 /// lines of a capture are all that is written on the output. Before a terminal is read, standard
 /// error says so.
-pub fn run<R: CaptureIn + Drop, W: TextOut, E: TextOut>(
+pub fn run<R: CaptureIn + Drop, W: TextOut + Drop, E: TextOut>(
     alloc: Global,
     words: &[String],
     terminals: Terminals,
@@ -128,9 +128,13 @@ pub fn run<R: CaptureIn + Drop, W: TextOut, E: TextOut>(
     match settings(alloc, words) {
         Ok(Task::Run(settings)) => {
             let mut facts = RunFacts::of_input(input_format_of(&settings.input));
-            let end = run_settings(alloc, &settings, terminals, &mut input, output, errors);
-            facts.is_journal_full = end.is_journal_full;
-            ended(end.status, input, end.output, facts)
+            let RunEnd {
+                status,
+                output,
+                is_journal_full,
+            } = run_settings(alloc, &settings, terminals, &mut input, output, errors);
+            facts.is_journal_full = is_journal_full;
+            ended(status, input, output, facts)
         }
         Ok(Task::Convert(lines)) => {
             let lines = lines.as_slice();

@@ -39,7 +39,7 @@ fn is_journal_full<F>(outcome: &Result<(), ReplayStop<F>>) -> bool {
 
 /// Replays a capture of a format, of which nothing was read, and prints it as the settings say.
 /// Returns its end.
-fn run_over<R: CaptureIn, F: ToldFormat + Drop, W: TextOut, E: TextOut>(
+fn run_over<R: CaptureIn, F: ToldFormat + Drop, W: TextOut + Drop, E: TextOut>(
     alloc: Global,
     settings: &RunSettings,
     terminals: Terminals,
@@ -90,7 +90,7 @@ fn run_over<R: CaptureIn, F: ToldFormat + Drop, W: TextOut, E: TextOut>(
 
 /// Replays the input, a capture of the project's own format or a packet capture, and prints it as
 /// the settings say. Returns its end.
-pub fn run_settings<R: CaptureIn, W: TextOut, E: TextOut>(
+pub fn run_settings<R: CaptureIn, W: TextOut + Drop, E: TextOut>(
     alloc: Global,
     settings: &RunSettings,
     terminals: Terminals,

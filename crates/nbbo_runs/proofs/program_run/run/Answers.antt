@@ -16,7 +16,7 @@ returns-in-Ok-Run g c =
     (inl (record {
       settings = c.in-Ok-Run.settings;
       asked = asked;
-      runs = c.run_settings-end.ensures;
+      runs = c.run_settings-status.ensures;
     }))
 
 pub returns-in-Ok-Convert : goal.returns-in-Ok-Convert
