@@ -1,4 +1,5 @@
 pub mod CaptureCounts
+pub mod GapPrints
 pub mod Keeping
 pub mod NoPacket
 pub mod PrintedTexts

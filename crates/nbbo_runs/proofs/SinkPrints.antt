@@ -56,7 +56,7 @@ module _ {R S F W K : Type 0} (reading : Reading R) (writing : Writing W) (parsi
 -- ---- of each sink
 
 module _ {W : Type 0} (writing : Writing W) where
-  page_failed : (writer : W) (text : List ℕ) (p q : TextPage W) → p.writer ≡ writer
+  pub page_failed : (writer : W) (text : List ℕ) (p q : TextPage W) → p.writer ≡ writer
       → FailsPage writing.adds writing.failures p text q
       → Wrote writing.adds writer text q.writer
       × (writing.failures q.writer ≡ writing.failures writer + 1)

@@ -16,9 +16,12 @@ use Rattle.feed_text.specs.Replays.{text_told}
 use Rattle.feed_text.specs.SinkEvents.{TimedEvent}
 use Rattle.period_rows.specs.BestRows.{text_of_bests}
 use Rattle.period_rows.specs.CountRows.{text_of_counts}
-use Rattle.replay_reports.specs.gaps.GapTexts.{text_of_gaps}
+use Rattle.gap_rows.specs.GapMakers.{AreGapRows}
+use Rattle.gap_rows.specs.GapTexts.{gap_names}
+use Rattle.gap_rows.specs.declared.gap_maker.GapMaker.{GapMaker}
 use Rattle.replay_reports.specs.rows.RowSinks.{text_of_rows}
 use Rattle.report_rows.specs.RowSinks.{FailsRows, IsNewRowSink, TakesRows}
+use Rattle.report_rows.specs.RowTexts.{header_text}
 use Rattle.report_rows.specs.SpanEvents.{events_in}
 use Rattle.report_rows.specs.declared.row_sink.RowSink.{RowSink}
 use Rattle.replay_reports.specs.declared.stats.replay_stats.ReplayStats.{ReplayStats}
@@ -85,6 +88,12 @@ pub record IsSinkBefore {W M C : Type 0} (Are : C → List TimedEvent → M → 
     (header : List ℕ) (setting : C) (writer : W) (sink : RowSink W M) : Type 0 where
   pub is : IsNewRowSink writer sink.maker header sink
   pub are : Are setting [] sink.maker
+
+-- A sink of rows of gaps in this format that was made before a writer.
+pub record IsGapSink {W : Type 0} (format : RowFormat) (writer : W) (sink : RowSink W GapMaker)
+    : Type 0 where
+  pub is : IsNewRowSink writer sink.maker (header_text format gap_names) sink
+  pub format_is : sink.maker.format ≡ format
 
 -- ---- statistics
 
@@ -176,10 +185,27 @@ abbrev pub PrintsRows : {R W : Type 0} → Reading R → Writing W → (List Tim
 PrintsRows reading writing text_of span S F parsing config =
     PrintsEvents reading writing parsing config (λ told. text_of (span_events span told))
 
--- the rows of the gaps in a span
-abbrev pub PrintsGapRows : {R W : Type 0} → Reading R → Writing W → RowFormat → TimeSpan
-    → Output R W
-PrintsGapRows reading writing format span = PrintsRows reading writing (text_of_gaps format) span
+-- the header, and then rows of gaps
+pub record IsGapText (format : RowFormat) (text : List ℕ) : Type 0 where
+  pub rows : List ℕ
+  pub are : AreGapRows format rows
+  pub is : text ≡ header_text format gap_names ++ rows
+
+-- A writer takes a text of gaps; or it takes a front of one, and fails.
+abbrev pub printing_gaps : {W : Type 0} → Writing W → RowFormat → SinkTaking W
+printing_gaps writing format = record {
+  takes = λ before told after.
+      (text : List ℕ) × IsGapText format text × writing.adds before text after;
+  fails = λ before told after. (text : List ℕ) × IsGapText format text
+      × Wrote writing.adds before text after
+      × (writing.failures after ≡ writing.failures before + 1);
+}
+
+-- the rows of gaps in a span: which gaps they are is tested, not said
+abbrev pub PrintsGapRows : {R W : Type 0} → Reading R → Writing W → RowFormat → Output R W
+PrintsGapRows reading writing format S F parsing config from to start finish before after outcome =
+    AnswersRun reading parsing (printing_gaps writing format) (λ output. ⊤)
+    config (facts_of_run config) from to start finish before after outcome
 
 -- the rows of the periods in a span
 abbrev pub PrintsPeriods : {R W : Type 0} → Reading R → Writing W → PeriodStyle → TimeSpan
@@ -206,7 +232,7 @@ output_of reading writing timed span Lines = PrintsAllRows reading writing
 output_of reading writing timed span (Bests format) =
     PrintsBestRows reading writing (record { format = format; timed = timed }) span
 output_of reading writing timed span (Stats format) = PrintsStatistics reading writing timed span
-output_of reading writing timed span (Gaps format) = PrintsGapRows reading writing format span
+output_of reading writing timed span (Gaps format) = PrintsGapRows reading writing format
 output_of reading writing timed span (Periods style) = PrintsPeriods reading writing style span
 output_of reading writing timed span (BestTimes style) =
     PrintsBestTimes reading writing style span

@@ -10,7 +10,7 @@ ghost use Rattle.period_rows.specs.CountRows.{AreCounts, count_names};
 ghost use Rattle.replay_reports.specs.rows.RowSinks.{IsNewRows};
 ghost use Rattle.report_rows.specs.RowTexts.{header_text};
 ghost use Rattle.run_notes.specs.AbsentSymbols.{symbols_with};
-ghost use Rattle.nbbo_runs.specs.Printing.{IsSinkBefore, PrintsAllRows, PrintsAsked, PrintsBestRows, PrintsRows, PrintsStatistics, PrintsText, PrintsWatched, WritesRows, output_asked};
+ghost use Rattle.nbbo_runs.specs.Printing.{IsGapSink, IsSinkBefore, PrintsAllRows, PrintsAsked, PrintsBestRows, PrintsGapRows, PrintsRows, PrintsStatistics, PrintsText, PrintsWatched, WritesRows, output_asked};
 
 use crate::config::{RunConfig, config_of};
 use crate::fed_sink::FedSink;
@@ -22,6 +22,7 @@ use feed_text::{
     CaptureIn, LineBuffer, RecordFormat, ReplayStop, Replayed, TextOut, TextPage, TextSink,
     write_all,
 };
+use gap_rows::{GapMaker, new_gap_rows};
 use period_rows::{BestMaker, BestTable, PeriodCounter, new_best_rows, new_count_rows};
 use replay_reports::{BestRows, ReplayStats};
 use report_rows::{RowMaker, RowSink};
@@ -127,6 +128,61 @@ fn print_bests<R: CaptureIn, F: RecordFormat, W: TextOut + Drop>(
         result.outcome }
 {
     match rows_before(alloc, style, output) {
+        Ok(rows) => {
+            let replayed = replay_in_span(alloc, config, format, input, rows, missing);
+            Replayed {
+                sink: replayed.sink.into_writer(),
+                outcome: replayed.outcome,
+            }
+        }
+        Err(output) => without_memory(output),
+    }
+}
+
+/// Makes the rows of gaps, before the output. Where memory is refused the output is returned.
+fn gaps_before<W>(
+    alloc: Global,
+    config: &RunConfig<'_>,
+    format: RowFormat,
+    output: W,
+) -> Result<RowSink<W, GapMaker>, W>
+    ensures rows { IfOk result (IsGapSink format output) }
+    ensures refused { IfErr result (λ back. back ≡ output) }
+{
+    let Ok(maker) = GapMaker::new(alloc, format, config.replay.sessions.len()) else {
+        return Err(output);
+    };
+    match page_before(alloc, output) {
+        Ok(page) => Ok(new_gap_rows(page, maker)),
+        Err(output) => Err(output),
+    }
+}
+
+/// Replays a capture, and prints the rows of its gaps in a format. Returns the output beside the
+/// outcome. What is missing at the end is left in `missing`.
+fn print_gaps<R: CaptureIn, F: RecordFormat, W: TextOut + Drop>(
+    alloc: Global,
+    config: &RunConfig<'_>,
+    rows: RowFormat,
+    format: &mut F,
+    input: &mut R,
+    output: W,
+    missing: &mut Missing,
+) -> Replayed<W, F::Fault>
+    requires can { CanReplay config.now.replay }
+    requires of_venues { F.venues format.old ≡ venues_in config.now.replay }
+    ensures { PrintsWatched
+        (record { gives = R.gives; ends = R.ends; failures = R.failures; fails = R.fails })
+        (record { reads = F.reads; wants = F.wants; is_bad = F.is_bad; is_whole = F.is_whole })
+        (PrintsGapRows
+        (record { gives = R.gives; ends = R.ends; failures = R.failures; fails = R.fails })
+        (record { adds = W.adds; failures = W.failures })
+        rows)
+        config.now.replay
+        input.old input.new format.old format.new output result.sink missing.old missing.new
+        result.outcome }
+{
+    match gaps_before(alloc, config, rows, output) {
         Ok(rows) => {
             let replayed = replay_in_span(alloc, config, format, input, rows, missing);
             Replayed {

@@ -32,6 +32,16 @@ returns-in-Bests g c = record {
       c.print_bests.ensures.missing.absent;
 }
 
+pub returns-in-Gaps : goal.returns-in-Gaps
+returns-in-Gaps g c = record {
+  config = c.config_of-config.result.replay;
+  is = c.config_of-config.ensures.replay;
+  prints = rw (← c.config_of-config.ensures.span, c.in-Gaps.is) c.print_gaps.ensures.prints;
+  lacks = c.print_gaps.ensures.missing.lacks;
+  absent_are = rw (← c.config_of-config.ensures.replay.symbols)
+      c.print_gaps.ensures.missing.absent;
+}
+
 pub returns-in-Periods : goal.returns-in-Periods
 returns-in-Periods g c =
     let writing : Writing g.row.W.Denot =

@@ -1,0 +1,3 @@
+pub mod GapTexts
+pub mod GapMakers
+pub mod GapLaws
