@@ -1,3 +1,0 @@
-pub mod GapTexts
-pub mod GapMakers
-pub mod GapLaws
