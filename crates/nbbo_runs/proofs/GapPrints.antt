@@ -10,14 +10,14 @@ use Rattle.feed_text.specs.SinkEvents.{TimedEvent}
 use Rattle.feed_text.specs.TextPages.{FailsPage}
 use Rattle.run_settings.specs.declared.formats.RowFormat.{RowFormat}
 use Rattle.run_settings.specs.declared.time_span.TimeSpan.{TimeSpan}
-use Rattle.gap_rows.specs.GapMakers.{AreGapRows, MakesGaps, TellsGaps}
-use Rattle.gap_rows.specs.GapTexts.{gap_names}
+use Rattle.gap_rows.specs.GapCells.{gap_names}
+use Rattle.gap_rows.specs.GapMakers.{MakesGaps, TellsGaps}
 use Rattle.gap_rows.specs.declared.gap_maker.GapMaker.{GapMaker}
 use Rattle.report_rows.specs.RowSinks.{FailsRows, TakesRows}
 use Rattle.report_rows.specs.RowTexts.{header_text}
 use Rattle.report_rows.specs.declared.row_sink.RowSink.{RowSink}
 use Rattle.replay_run.specs.Printed.{facts_of_run}
-use Rattle.nbbo_runs.specs.Printing.{IsGapSink, IsGapText, PrintsGapRows, printing_gaps, taking_in}
+use Rattle.nbbo_runs.specs.Printing.{IsGapSink, IsGapText, PrintsGapRows, printing_gaps, span_events, taking_in}
 use Rattle.nbbo_runs.proofs.SinkPrints.{page_failed, sink_taking}
 use Rattle.nbbo_runs.proofs.SinkRuns.{run_as}
 
@@ -26,29 +26,32 @@ module _ {W : Type 0} (writing : Writing W) (format : RowFormat) (writer : W)
   abbrev header : List ℕ
   header = header_text format gap_names
 
-  gap_text : (rows : List ℕ) → AreGapRows old.maker.format rows → IsGapText format (header ++ rows)
-  gap_text rows are = record {
+  gap_text : (told : List TimedEvent) (rows : List ℕ) → TellsGaps old.maker told rows
+      → IsGapText format told (header ++ rows)
+  gap_text told rows tells = record {
+    maker = old.maker;
+    format_is = is.format_is;
     rows = rows;
-    are = subst (λ (f : RowFormat). AreGapRows f rows) is.format_is are;
+    tells = tells;
     is = refl;
   }
 
   written : (told : List TimedEvent)
       → TakesRows MakesGaps writing.adds writing.failures old told new → new.page.text.items ≡ []
-      → (text : List ℕ) × IsGapText format text × writing.adds writer text new.page.writer
+      → (text : List ℕ) × IsGapText format told text × writing.adds writer text new.page.writer
   written told took none =
       let text = took.text in
       let shown = took.takes.shown in
       let all : header ++ text ≡ shown =
       ap (λ (h : List ℕ). h ++ text) (sym is.is.waits) ∙ took.takes.all
       ∙ ap (λ (l : List ℕ). shown ++ l) none ∙ append-nil shown in
-      (header ++ text, gap_text text took.made.1,
+      (header ++ text, gap_text told text (record { new = new.maker; makes = took.made }),
       subst (λ (l : List ℕ). writing.adds writer l new.page.writer) (sym all)
       (subst (λ (w : W). writing.adds w shown new.page.writer) is.is.writer_is took.takes.wrote))
 
   stopped : (told : List TimedEvent)
       → FailsRows TellsGaps writing.adds writing.failures old told new
-      → (text : List ℕ) × IsGapText format text
+      → (text : List ℕ) × IsGapText format told text
       × Wrote writing.adds writer text new.page.writer
       × (writing.failures new.page.writer ≡ writing.failures writer + 1)
   stopped told fails =
@@ -56,7 +59,7 @@ module _ {W : Type 0} (writing : Writing W) (format : RowFormat) (writer : W)
       let failed = page_failed writing writer (header ++ text) old.page new.page is.is.writer_is
       (subst (λ (h : List ℕ). FailsPage writing.adds writing.failures old.page (h ++ text) new.page)
       is.is.waits fails.fails) in
-      (header ++ text, gap_text text fails.told, failed)
+      (header ++ text, gap_text told text fails.told, failed)
 
   pub gaps_printed : {R S F : Type 0} (reading : Reading R) (parsing : Parsing S F)
       (config : ReplayConfig) (span : TimeSpan) (from to : R) (start finish : S)
@@ -64,13 +67,13 @@ module _ {W : Type 0} (writing : Writing W) (format : RowFormat) (writer : W)
       → AnswersRun reading parsing (taking_in span (sink_taking writing MakesGaps TellsGaps))
       (λ s. s.page.text.items ≡ []) config (facts_of_run config) from to start finish old new
       outcome
-      → PrintsGapRows reading writing format S F parsing config from to start finish writer
+      → PrintsGapRows reading writing format span S F parsing config from to start finish writer
       new.page.writer outcome
   gaps_printed reading parsing config span from to start finish outcome run =
       run_as reading parsing config (facts_of_run config)
       (taking_in span (sink_taking writing MakesGaps TellsGaps)) (λ s. s.page.text.items ≡ [])
-      (printing_gaps writing format) (λ output. ⊤) old new writer new.page.writer (record {
-        took = λ told took. (written _ took.0 took.1, tt);
-        failed = λ told failed. stopped _ failed;
+      (taking_in span (printing_gaps writing format)) (λ output. ⊤) old new writer new.page.writer (record {
+        took = λ told took. (written (span_events span told) took.0 took.1, tt);
+        failed = λ told failed. stopped (span_events span told) failed;
         same = λ kept. ap (λ (s : RowSink W GapMaker). s.page.writer) kept ∙ is.is.writer_is;
       }) from to start finish outcome run

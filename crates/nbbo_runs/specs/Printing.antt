@@ -16,8 +16,8 @@ use Rattle.feed_text.specs.Replays.{text_told}
 use Rattle.feed_text.specs.SinkEvents.{TimedEvent}
 use Rattle.period_rows.specs.BestRows.{text_of_bests}
 use Rattle.period_rows.specs.CountRows.{text_of_counts}
-use Rattle.gap_rows.specs.GapMakers.{AreGapRows}
-use Rattle.gap_rows.specs.GapTexts.{gap_names}
+use Rattle.gap_rows.specs.GapCells.{gap_names}
+use Rattle.gap_rows.specs.GapMakers.{TellsGaps}
 use Rattle.gap_rows.specs.declared.gap_maker.GapMaker.{GapMaker}
 use Rattle.replay_reports.specs.rows.RowSinks.{text_of_rows}
 use Rattle.report_rows.specs.RowSinks.{FailsRows, IsNewRowSink, TakesRows}
@@ -185,26 +185,30 @@ abbrev pub PrintsRows : {R W : Type 0} → Reading R → Writing W → (List Tim
 PrintsRows reading writing text_of span S F parsing config =
     PrintsEvents reading writing parsing config (λ told. text_of (span_events span told))
 
--- the header, and then rows of gaps
-pub record IsGapText (format : RowFormat) (text : List ℕ) : Type 0 where
+-- the header, and then the rows of the gaps that venues end at these events
+pub record IsGapText (format : RowFormat) (told : List TimedEvent) (text : List ℕ) : Type 0 where
+  pub maker : GapMaker
+  pub format_is : maker.format ≡ format
   pub rows : List ℕ
-  pub are : AreGapRows format rows
+  pub tells : TellsGaps maker told rows
   pub is : text ≡ header_text format gap_names ++ rows
 
--- A writer takes a text of gaps; or it takes a front of one, and fails.
+-- A writer takes the text of the gaps of events; or it takes a front of it, and fails.
 abbrev pub printing_gaps : {W : Type 0} → Writing W → RowFormat → SinkTaking W
 printing_gaps writing format = record {
   takes = λ before told after.
-      (text : List ℕ) × IsGapText format text × writing.adds before text after;
-  fails = λ before told after. (text : List ℕ) × IsGapText format text
+      (text : List ℕ) × IsGapText format told text × writing.adds before text after;
+  fails = λ before told after. (text : List ℕ) × IsGapText format told text
       × Wrote writing.adds before text after
       × (writing.failures after ≡ writing.failures before + 1);
 }
 
--- the rows of gaps in a span: which gaps they are is tested, not said
-abbrev pub PrintsGapRows : {R W : Type 0} → Reading R → Writing W → RowFormat → Output R W
-PrintsGapRows reading writing format S F parsing config from to start finish before after outcome =
-    AnswersRun reading parsing (printing_gaps writing format) (λ output. ⊤)
+-- the rows of the gaps of the events in a span
+abbrev pub PrintsGapRows : {R W : Type 0} → Reading R → Writing W → RowFormat → TimeSpan
+    → Output R W
+PrintsGapRows reading writing format span S F parsing config from to start finish before after
+    outcome =
+    AnswersRun reading parsing (taking_in span (printing_gaps writing format)) (λ output. ⊤)
     config (facts_of_run config) from to start finish before after outcome
 
 -- the rows of the periods in a span
@@ -232,7 +236,7 @@ output_of reading writing timed span Lines = PrintsAllRows reading writing
 output_of reading writing timed span (Bests format) =
     PrintsBestRows reading writing (record { format = format; timed = timed }) span
 output_of reading writing timed span (Stats format) = PrintsStatistics reading writing timed span
-output_of reading writing timed span (Gaps format) = PrintsGapRows reading writing format
+output_of reading writing timed span (Gaps format) = PrintsGapRows reading writing format span
 output_of reading writing timed span (Periods style) = PrintsPeriods reading writing style span
 output_of reading writing timed span (BestTimes style) =
     PrintsBestTimes reading writing style span

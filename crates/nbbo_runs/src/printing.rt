@@ -23,6 +23,7 @@ use feed_text::{
     write_all,
 };
 use gap_rows::{GapMaker, new_gap_rows};
+use line_gaps::new_gaps;
 use period_rows::{BestMaker, BestTable, PeriodCounter, new_best_rows, new_count_rows};
 use replay_reports::{BestRows, ReplayStats};
 use report_rows::{RowMaker, RowSink};
@@ -149,11 +150,11 @@ fn gaps_before<W>(
     ensures rows { IfOk result (IsGapSink format output) }
     ensures refused { IfErr result (λ back. back ≡ output) }
 {
-    let Ok(maker) = GapMaker::new(alloc, format, config.replay.sessions.len()) else {
+    let Ok(venues) = new_gaps(alloc, config.replay.sessions.len()) else {
         return Err(output);
     };
     match page_before(alloc, output) {
-        Ok(page) => Ok(new_gap_rows(page, maker)),
+        Ok(page) => Ok(new_gap_rows(page, format, venues)),
         Err(output) => Err(output),
     }
 }
@@ -177,7 +178,7 @@ fn print_gaps<R: CaptureIn, F: RecordFormat, W: TextOut + Drop>(
         (PrintsGapRows
         (record { gives = R.gives; ends = R.ends; failures = R.failures; fails = R.fails })
         (record { adds = W.adds; failures = W.failures })
-        rows)
+        rows config.now.span)
         config.now.replay
         input.old input.new format.old format.new output result.sink missing.old missing.new
         result.outcome }
