@@ -1,10 +1,10 @@
 -- What is kept of national bests, and their rows, with one event more.
-use Rattle.std.proofs.Common.{◌≡◌, ℕ, zero, suc, ◌+◌, ◌-◌, ◌*◌, ◌<◌, ◌≤◌, ◌⊎◌, inl, inr, Bool, true, false, cond, not, List, [], ◌∷◌, ◌++◌, append-nil, Option, None, Some, length, refl, sym, ap, subst, ◌∙◌, arith, slice_index_or, Result, Ok, Err}
-use Rattle.std.specs.Prelude.{OnErr, OnOk, max, min, nat_eq, option_map, unwrap_or}
+use Rattle.std.proofs.Common.{◌≡◌, ℕ, zero, suc, ◌+◌, ◌-◌, ◌*◌, ◌<◌, ◌≤◌, inl, inr, Bool, true, false, cond, List, [], ◌∷◌, ◌++◌, append-nil, Option, None, Some, length, refl, sym, ap, subst, ◌∙◌, arith, slice_index_or, Result, Ok, Err}
+use Rattle.std.specs.Prelude.{OnErr, OnOk, max, min, nat_eq, option_map}
 use Rattle.std.specs.List.{list_any}
 use Rattle.std.proofs.lemmas.Bool.{cases_Bool}
 use Rattle.std.proofs.lemmas.Bool.Decides.{nat_tests}
-use Rattle.std.proofs.lemmas.Option.{same_Some, none-some}
+use Rattle.std.proofs.lemmas.Option.{none-some}
 use Rattle.feed_types.specs.Symbols.{key_of}
 use Rattle.feed_types.specs.declared.national.National.{National}
 use Rattle.feed_text.specs.SinkEvents.{SinkEvent, TimedEvent, timed_event, told_before, told_best, told_declaration, told_gap, told_item, told_last, told_packet, told_refusal, told_renewal, told_skip}
@@ -14,11 +14,11 @@ use Rattle.run_settings.specs.declared.period_style.PeriodStyle.{PeriodStyle}
 use Rattle.report_rows.specs.FirstTexts.{first_texts}
 use Rattle.report_rows.specs.RowSinks.{FailsMaking, Makes}
 use Rattle.report_rows.specs.SpanEvents.{ends_all}
-use Rattle.period_rows.specs.BestHolding.{AreAllHeld, AreBegun, AreBegunIf, AreChanged, AreTaken, IsChanged, IsSymbolHeld, IsTable, is_another}
+use Rattle.period_rows.specs.BestHolding.{AreBegun, AreBegunIf, AreChanged, AreTaken, IsChanged, IsSymbolHeld, IsTable, is_another}
 use Rattle.period_rows.specs.BestMakers.{AreBests, AreLive, IsLiveStep, IsPassed, IsStepped, MakesBests, TellsBests, begin_with, best_made_text, clock_with, live_text, over_at, period_to}
-use Rattle.period_rows.specs.BestRows.{BestSetting, best_period, best_rows_with, ended_by, period_over, rows_at, symbol_rows}
-use Rattle.period_rows.specs.BestTimes.{no_symbol, over_rows, settled_at, settled_text, times_text}
-use Rattle.period_rows.specs.Bests.{begin_after, begin_told, best_in, best_told, clock_after, clock_told, overlap, stood, time_in}
+use Rattle.period_rows.specs.BestRows.{BestSetting, best_period, best_rows_with, ended_by, rows_at, symbol_rows}
+use Rattle.period_rows.specs.BestTimes.{no_symbol, over_rows, settled_at}
+use Rattle.period_rows.specs.Bests.{begin_after, begin_told, best_in, clock_after, clock_told, overlap, stood, time_in}
 use Rattle.period_rows.specs.Periods.{period_begin}
 use Rattle.period_rows.specs.declared.best_maker.BestMaker.{BestMaker}
 use Rattle.period_rows.specs.declared.best_times.PeriodOver.{PeriodOver}

@@ -1,16 +1,15 @@
 -- How long a symbol's national best stood, with one event more.
-use Rattle.std.proofs.Common.{◌≡◌, ℕ, zero, suc, ◌+◌, ◌-◌, ◌*◌, ◌/◌, ◌%◌, ◌<◌, ◌≤◌, ◌⊎◌, inl, inr, Bool, true, false, List, [], ◌∷◌, Option, None, Some, length, refl, sym, ap, subst, ◌∙◌, arith, slice_index_or}
-use Rattle.std.specs.Prelude.{max, min, unwrap_or}
+use Rattle.std.proofs.Common.{◌≡◌, ℕ, ◌+◌, ◌-◌, ◌*◌, ◌/◌, ◌<◌, ◌≤◌, inl, inr, List, [], ◌∷◌, Option, None, Some, refl, sym, ap, subst, ◌∙◌, arith}
+use Rattle.std.specs.Prelude.{max, unwrap_or}
 use Rattle.std.proofs.Math.Nat.{div-add-mod, mod-lt, mul-add}
 use Rattle.std.proofs.lemmas.Option.{same_Some, none-some}
 use Rattle.std.proofs.lemmas.Bool.{cases_lt}
 use Rattle.feed_types.specs.Symbols.{key_of}
 use Rattle.feed_types.specs.declared.national.National.{National}
 use Rattle.feed_text.specs.SinkEvents.{TimedEvent}
-use Rattle.period_rows.specs.BestHolding.{AreBestsHeld, AreNone, IsChanged, IsRestarted, IsSymbolHeld}
+use Rattle.period_rows.specs.BestHolding.{AreBestsHeld, IsChanged, IsRestarted, IsSymbolHeld}
 use Rattle.period_rows.specs.Bests.{begin_after, begin_told, best_in, best_told, clock_after, clock_told, overlap, stood, time_in}
 use Rattle.period_rows.specs.Periods.{period_begin}
-use Rattle.period_rows.specs.declared.best_figures.BestFigures.{BestFigures}
 use Rattle.period_rows.specs.declared.symbol_times.SymbolTimes.{SymbolTimes}
 use Rattle.period_rows.proofs.HeldFigures.{all_as, all_none, all_pass, all_settled}
 

@@ -1,5 +1,5 @@
 -- What is counted with one event more.
-use Rattle.std.proofs.Common.{◌≡◌, ℕ, List, [], ◌∷◌, ◌++◌, append-nil, Option, sym, ap, ◌∙◌, Result, Ok, Err, refl, length, take, arith}
+use Rattle.std.proofs.Common.{◌≡◌, ℕ, List, [], ◌∷◌, ◌++◌, append-nil, sym, ap, ◌∙◌, Result, Ok, Err, refl, length, take, arith}
 use Rattle.std.proofs.Math.ListN.{drop_of_length-le}
 use Rattle.std.proofs.lemmas.List.{length-set, take_all}
 use Rattle.std.specs.List.{refill}

@@ -1,6 +1,6 @@
 -- What is kept of the national bests of symbols in the period at hand. The best that stands counts
 -- once it no longer does. Only private clauses cite these.
-use Rattle.std.specs.Prelude.{◌≡◌, ℕ, ◌+◌, ◌-◌, ◌*◌, ◌==◌, Bool, true, false, not, ◌<◌, ◌≤◌, List, length, min, slice_index_or, [], ◌∷◌, Option, None, Some}
+use Rattle.std.specs.Prelude.{◌≡◌, ℕ, ◌+◌, ◌-◌, ◌*◌, ◌==◌, Bool, true, false, not, ◌<◌, ◌≤◌, List, length, min, slice_index_or, [], Option, None, Some}
 use Rattle.feed_types.specs.FullCounts.{count_after}
 use Rattle.feed_types.specs.Symbols.{key_of}
 use Rattle.feed_types.specs.declared.national.National.{National}

@@ -1,5 +1,5 @@
 -- What makes the rows of how long national bests stood.
-use Rattle.std.specs.Prelude.{◌≡◌, ℕ, ◌+◌, ◌<◌, Bool, true, false, List, [], ◌∷◌, length, min, Option, None, Some, option_map, if◌then◌else◌}
+use Rattle.std.specs.Prelude.{◌≡◌, ℕ, ◌+◌, ◌<◌, Bool, true, false, List, [], min, Option, option_map, if◌then◌else◌}
 use Rattle.std.specs.List.{list_any}
 use Rattle.feed_text.specs.SinkEvents.{SinkEvent, TimedEvent}
 use Rattle.report_rows.specs.RowHistories.{MakesHistory, TellsHistory}

@@ -1,5 +1,5 @@
 -- The rows of how long national bests stood in periods of the clock.
-use Rattle.std.specs.Prelude.{◌≡◌, ℕ, ◌+◌, ◌*◌, ◌/◌, ◌==◌, Bool, true, false, List, [], ◌∷◌, ◌++◌, codes, length, max, min, Option, Some, None, slice_index_or, if◌then◌else◌}
+use Rattle.std.specs.Prelude.{ℕ, ◌*◌, ◌/◌, ◌==◌, Bool, List, [], ◌∷◌, ◌++◌, codes, length, max, min, Option, Some, None, slice_index_or, if◌then◌else◌}
 use Rattle.std.specs.List.{list_any}
 use Rattle.feed_types.specs.Symbols.{key_of}
 use Rattle.feed_types.specs.declared.national.National.{National}
@@ -12,7 +12,7 @@ use Rattle.report_rows.specs.RowHistories.{rows_told}
 use Rattle.report_rows.specs.RowTexts.{CellValue, count, header_text, name, nothing, row_text, seconds, time}
 use Rattle.report_rows.specs.SpanEvents.{ends_all}
 use Rattle.period_rows.specs.declared.best_shares.BestShares.{BestShares}
-use Rattle.period_rows.specs.Bests.{begin_after, begin_told, bids, clock_told, in_state, is_crossed, is_locked, is_normal, offers, spread_of, stood, time_in}
+use Rattle.period_rows.specs.Bests.{begin_told, bids, in_state, is_crossed, is_locked, is_normal, offers, spread_of, stood}
 
 -- ---- the figures of a row
 

@@ -1,5 +1,5 @@
 -- The rows of a period by what is kept of symbols. Only private clauses cite these.
-use Rattle.std.specs.Prelude.{◌≡◌, ℕ, ◌+◌, ◌-◌, ◌*◌, List, [], length, min, Option, Some, None, slice_index_or}
+use Rattle.std.specs.Prelude.{ℕ, ◌+◌, ◌-◌, ◌*◌, List, [], length, min, Option, Some, None, slice_index_or}
 use Rattle.feed_types.specs.FullCounts.{count_after}
 use Rattle.report_rows.specs.FirstTexts.{first_texts}
 use Rattle.period_rows.specs.BestRows.{best_row, mean_by, most_spread, share_of}

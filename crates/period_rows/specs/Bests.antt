@@ -1,6 +1,6 @@
 -- How long the national bests of a symbol stood in a period of the clock. Of a list of events the
 -- last one stands first.
-use Rattle.std.specs.Prelude.{ℕ, ◌+◌, ◌-◌, ◌*◌, ◌==◌, Bool, true, false, nat_eq, List, [], ◌∷◌, max, min, Option, Some, None, unwrap_or, if◌then◌else◌}
+use Rattle.std.specs.Prelude.{ℕ, ◌+◌, ◌-◌, ◌*◌, Bool, true, false, nat_eq, List, [], ◌∷◌, max, min, Option, Some, None, unwrap_or, if◌then◌else◌}
 use Rattle.feed_types.specs.Nationals.{state_of}
 use Rattle.feed_types.specs.Symbols.{key_of}
 use Rattle.feed_types.specs.declared.national.Best.{Best}

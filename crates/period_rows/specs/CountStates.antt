@@ -1,6 +1,6 @@
 -- What is counted of events in the periods of the clock. Of a list of events the last one stands
 -- first.
-use Rattle.std.specs.Prelude.{◌≡◌, ℕ, Bool, true, false, List, [], ◌∷◌, Option, None, Some, option_map, replicate, slice_index_or, slice_set, if◌then◌else◌}
+use Rattle.std.specs.Prelude.{ℕ, Bool, true, false, List, [], ◌∷◌, Option, None, Some, option_map, replicate, slice_index_or, slice_set, if◌then◌else◌}
 use Rattle.feed_text.specs.SinkEvents.{SinkEvent, TimedEvent, told_packet, told_refusal}
 use Rattle.report_rows.specs.PeriodLists.{begun, entered, place_of}
 use Rattle.report_rows.specs.SpanEvents.{ends_all}

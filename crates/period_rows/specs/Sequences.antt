@@ -1,5 +1,5 @@
 -- The numbers of lines' packets, and how many of them their packets pass over.
-use Rattle.std.specs.Prelude.{ℕ, ◌+◌, ◌-◌, ◌*◌, Bool, true, false, List, max, Option, None, Some, Ok, slice_index_or, slice_set, if◌then◌else◌}
+use Rattle.std.specs.Prelude.{ℕ, ◌+◌, ◌-◌, ◌*◌, true, false, List, max, Option, None, Some, Ok, slice_index_or, slice_set, if◌then◌else◌}
 use Rattle.feed_types.specs.FullCounts.{count_after}
 use Rattle.feed_types.specs.declared.line.LineId.{LineId}
 use Rattle.feed_types.specs.declared.line.LineId.TheVariants.{A, B, Recovery}

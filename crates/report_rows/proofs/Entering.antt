@@ -1,15 +1,14 @@
 -- A further period among the latest ones.
-use Rattle.std.proofs.Common.{◌≡◌, ℕ, zero, suc, ◌+◌, ◌-◌, ◌<◌, ◌≤◌, Bool, true, false, cond, List, [], ◌∷◌, ◌++◌, Option, None, Some, length, take, drop, refl, sym, ap, subst, ◌∙◌, arith, not}
+use Rattle.std.proofs.Common.{◌≡◌, ℕ, suc, ◌+◌, ◌-◌, ◌<◌, ◌≤◌, Bool, true, false, cond, List, [], ◌∷◌, None, Some, length, drop, refl, sym, ap, subst, ◌∙◌, arith, not}
 use Rattle.std.specs.Prelude.{nat_eq, nat_le, nat_lt, slice_get, slice_index_or}
 use Rattle.std.specs.List.{insert, prefix_len, remove}
 use Rattle.std.proofs.lemmas.Bool.Decides.{nat_tests}
 use Rattle.std.proofs.lemmas.List.Edits.{length-insert}
 use Rattle.std.proofs.lemmas.List.Sums.{prefix_len-le-length}
 use Rattle.feed_types.specs.FullCounts.{count_after}
-use Rattle.report_rows.specs.declared.kept_periods.Entered.{Entered}
 use Rattle.report_rows.specs.declared.kept_periods.KeptPeriod.{KeptPeriod}
 use Rattle.report_rows.specs.declared.kept_periods.KeptPeriods.{KeptPeriods}
-use Rattle.report_rows.specs.PeriodLists.{Enters, begun, entered, is_begun_at, is_kept, is_late, latest_of, over_with, place_of, with_period}
+use Rattle.report_rows.specs.PeriodLists.{Enters, begun, is_begun_at, is_kept, is_late, latest_of, place_of, with_period}
 
 -- ---- places
 

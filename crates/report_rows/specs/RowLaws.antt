@@ -1,5 +1,5 @@
 -- The laws of a sink of rows.
-use Rattle.std.proofs.Common.{◌≡◌, ℕ, List, [], ◌++◌, append_assoc, append-nil, refl, sym, ap, subst, ◌∙◌, Result, Ok, Err}
+use Rattle.std.proofs.Common.{ℕ, List, [], ◌++◌, append_assoc, refl, sym, ap, ◌∙◌, Result, Ok, Err}
 use Rattle.std.specs.Prelude.{OnErr}
 use Rattle.feed_text.specs.SinkEvents.{TimedEvent}
 use Rattle.feed_text.specs.TextPageLaws.{fails_after_page, fails_before_page, takes_more_page, takes_no_page}

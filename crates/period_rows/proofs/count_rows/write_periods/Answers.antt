@@ -1,4 +1,4 @@
-use Rattle.std.proofs.Common.{◌++◌, arith, length}
+use Rattle.std.proofs.Common.{arith, length}
 use Rattle.std.proofs.lemmas.Result.{err_from_is_err_and}
 use Rattle.feed_text.specs.TextPageLaws.{takes_no_page}
 use Rattle.report_rows.specs.FirstTextLaws.{fails_in_text, takes_next_text}

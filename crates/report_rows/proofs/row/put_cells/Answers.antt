@@ -1,4 +1,4 @@
-use Rattle.std.proofs.Common.{ℕ, arith, add-one, suc, sym, subst, ◌∙◌, ap, length}
+use Rattle.std.proofs.Common.{ℕ, arith, add-one, sym, subst, length}
 use Rattle.feed_text.specs.Pages.{Appends}
 use Rattle.report_rows.specs.RowTexts.{all_shown, first_cells, room_of, texts_of}
 use Rattle.best_rows.specs.AppendLaws.{appends_more}

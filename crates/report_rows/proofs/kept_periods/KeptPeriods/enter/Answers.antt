@@ -1,7 +1,5 @@
-use Rattle.std.proofs.Common.{◌≡◌, ◌<◌, false, sym, ap, ◌∙◌, refl, List, ℕ, arith, length}
-use Rattle.std.specs.Prelude.{slice_get}
-use Rattle.report_rows.specs.declared.kept_periods.KeptPeriod.{KeptPeriod}
-use Rattle.report_rows.specs.PeriodLists.{is_begun_at, is_kept, place_of}
+use Rattle.std.proofs.Common.{◌≡◌, ◌<◌, false, ap, ◌∙◌, refl, arith, length}
+use Rattle.report_rows.specs.PeriodLists.{is_kept, place_of}
 use Rattle.report_rows.proofs.Entering.{absent_at, enters_few, enters_full}
 use Rattle.report_rows.proofs.kept_periods.KeptPeriods.enter.Goals as goal
 
