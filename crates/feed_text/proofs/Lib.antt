@@ -2,6 +2,12 @@ pub mod Ranges
 pub mod Calls
 pub mod Taking
 pub mod RuleSteps
+pub mod PutInSteps
+pub mod OnePutIn
+pub mod Joins
+pub mod PuttingIn
+pub mod Renewals
+pub mod Standing
 pub mod Rest
 pub mod VenueSteps
 pub mod Tales

@@ -15,7 +15,8 @@ use Rattle.line_arbiter.specs.laws.OneOutcome.{one_renewal}
 use Rattle.line_arbiter.specs.laws.SkipAnswers.{one_skip}
 use Rattle.feed_types.specs.declared.journal.Entry.{Entry}
 use Rattle.feed_text.specs.laws.Entries.{entries_more, entries_grow}
-use Rattle.feed_text.specs.Rules.{AreTakenOf, IsTakenNext, PutsIn, SkipsAt, first_come, skip_at}
+use Rattle.feed_text.specs.Rules.{AreTakenOf, IsTakenNext, ReplayPoint, new_point, point_after}
+use Rattle.feed_text.proofs.OnePutIn.{one_put}
 use Rattle.line_arbiter.specs.Histories.{History, names_of, after_input, history_after, skip_after}
 use Rattle.feed_text.specs.declared.replay.ReplayConfig.{ReplayConfig}
 use Rattle.feed_text.specs.Capture.{CaptureRecord, datagram_record, renewal_record, skip_record, self_help_record, record_venue}
@@ -26,7 +27,7 @@ use Rattle.feed_text.specs.Formats.{TimedRecord, timed_record, what_of}
 use Rattle.feed_text.specs.SinkEvents.{TimedEvent, at_time}
 use Rattle.feed_text.specs.Tellings.{lasts_told, told_of}
 use Rattle.feed_text.specs.Texts.{new_histories, EmitsAll, HasJournalRoom}
-use Rattle.feed_text.specs.Told.{told_by_records, IsToldUpTo, IsToldOf, IsToldOfAll, IsToldToFull}
+use Rattle.feed_text.specs.Told.{told_by_records, point_told, IsToldUpTo, IsToldOf, IsToldOfAll, IsToldToFull}
 
 -- the laws of packets and of their answers
 pub record Single : Type 0 where
@@ -134,45 +135,30 @@ one_told window gaps (r ∷ rs) old n1 n2 l1 l2 one (m, first, others, record_is
       y.1,
     )
 
--- before a record a rule puts in one skip, or none
-one_skip_at : (config : ReplayConfig) (r : CaptureRecord) (h : History) (m n : ℕ) → Single
-    → SkipsAt config.skips config.window r h m → SkipsAt config.skips config.window r h n → m ≡ n
-one_skip_at config (datagram_record venue line bytes) h m n one (
-  p,
-  rest,
-  spells,
-  x,
-) (q, more, others, y) =
-    let same = one.packet bytes p q rest more spells others in
-    x.first ∙ ap (first_come config.window h) same ∙ sym y.first
-one_skip_at config (renewal_record venue name) h m n one x y = absurd x
-one_skip_at config (skip_record venue number) h m n one x y = absurd x
-one_skip_at config (self_help_record venue on) h m n one x y = absurd x
-
-one_put : (config : ReplayConfig) (hs : List History) (r : CaptureRecord) (m n : ℕ) → Single
-    → PutsIn config hs r m → PutsIn config hs r n → m ≡ n
-one_put config hs r m n one x y =
-    let some : Some x.before ≡ Some y.before = sym x.at ∙ y.at in
-    let same : x.before ≡ y.before = cc in
-    one_skip_at config r y.before m n one
-    (subst (λ (h : History). SkipsAt config.skips config.window r h m) same x.skips) y.skips
-
 -- of these records one is taken next
-one_next : (config : ReplayConfig) (hs : List History) (rs : List TimedRecord) (t u : TimedRecord)
-    (left others : List TimedRecord) → Single → IsTakenNext config hs rs t left
-    → IsTakenNext config hs rs u others → (t ≡ u) × (left ≡ others)
-one_next config hs [] t u left others one x y = absurd x
-one_next config hs (r ∷ rs) t u left others one (inl x) (inl y) = (
-  x.0.2 ∙ ap (λ (n : ℕ). timed_record (skip_at r.what n) r.time) (one_put config hs r.what x.0.0
-      y.0.0 one x.0.1 y.0.1) ∙ sym y.0.2,
+one_next : (config : ReplayConfig) (at : ReplayPoint) (rs : List TimedRecord) (t u : TimedRecord)
+    (left others : List TimedRecord) → Single → IsTakenNext config at rs t left
+    → IsTakenNext config at rs u others → (t ≡ u) × (left ≡ others)
+one_next config at [] t u left others one x y = absurd x
+one_next config at (r ∷ rs) t u left others one (inl x) (inl y) = (
+  x.0.2 ∙ ap (λ (k : CaptureRecord). timed_record k r.time) (one_put config at r x.0.0 y.0.0
+      one.packet x.0.1 y.0.1) ∙ sym y.0.2,
   x.1 ∙ sym y.1,
 )
-one_next config hs (r ∷ rs) t u left others one (inl x) (inr y) = absurd (y.0 x.0.0 x.0.1)
-one_next config hs (r ∷ rs) t u left others one (inr x) (inl y) = absurd (x.0 y.0.0 y.0.1)
-one_next config hs (r ∷ rs) t u left others one (inr x) (inr y) = (x.1 ∙ sym y.1, x.2 ∙ sym y.2)
+one_next config at (r ∷ rs) t u left others one (inl x) (inr y) = absurd (y.0 x.0.0 x.0.1)
+one_next config at (r ∷ rs) t u left others one (inr x) (inl y) = absurd (x.0 y.0.0 y.0.1)
+one_next config at (r ∷ rs) t u left others one (inr x) (inr y) = (x.1 ∙ sym y.1, x.2 ∙ sym y.2)
+
+-- the points after the same record with the same histories
+same_point : (config : ReplayConfig) (old : ReplayPoint) (t u : TimedRecord)
+    (mid between : List History) → t ≡ u → mid ≡ between
+    → point_after config old t mid ≡ point_after config old u between
+same_point config old t u mid between record_is same =
+    ap (λ (r : TimedRecord). point_after config old r mid) record_is
+    ∙ ap (point_after config old u) same
 
 -- so all that is taken of records is one list
-one_taken : (config : ReplayConfig) (rs ts us : List TimedRecord) (old n1 n2 : List History)
+one_taken : (config : ReplayConfig) (rs ts us : List TimedRecord) (old n1 n2 : ReplayPoint)
     → Single → AreTakenOf config rs old ts [] n1 → AreTakenOf config rs old us [] n2 → ts ≡ us
 one_taken config rs [] [] old n1 n2 one x y = refl
 one_taken config rs [] (u ∷ us) old n1 n2 one x (others, emitted, mid, next, tells, rest) =
@@ -182,13 +168,15 @@ one_taken config rs (t ∷ ts) [] old n1 n2 one (others, emitted, mid, next, tel
 one_taken config rs (t ∷ ts) (u ∷ us) old n1 n2 one (others, emitted, mid, next, tells, rest)
     (ends, told, between, is, here, more) =
     let n = one_next config old rs t u others ends one next is in
-    let r = one_record config.window config.gaps u.what old mid between emitted told one
-    (subst (λ (k : TimedRecord). EmitsRecord config.window config.gaps k.what old emitted mid)
-    n.0 tells) here in
-    let tail : AreTakenOf config ends between ts [] n1 =
-    subst (λ (l : List TimedRecord). AreTakenOf config l between ts [] n1) n.1
-    (subst (λ (hs : List History). AreTakenOf config others hs ts [] n1) r.1 rest) in
-    let same = one_taken config ends ts us between n1 n2 one tail more in
+    let r = one_record config.window config.gaps u.what old.histories mid between emitted told one
+    (subst (λ (k : TimedRecord). EmitsRecord config.window config.gaps k.what old.histories emitted
+    mid) n.0 tells) here in
+    let mid_point : ReplayPoint = point_after config old u between in
+    let tail : AreTakenOf config ends mid_point ts [] n1 =
+    subst (λ (l : List TimedRecord). AreTakenOf config l mid_point ts [] n1) n.1
+    (subst (λ (p : ReplayPoint). AreTakenOf config others p ts [] n1)
+    (same_point config old t u mid between n.0 r.1) rest) in
+    let same = one_taken config ends ts us mid_point n1 n2 one tail more in
     ap (λ (k : TimedRecord). k ∷ ts) n.0 ∙ ap (λ (l : List TimedRecord). u ∷ l) same
 
 -- what is told of records that emit the same
@@ -235,16 +223,19 @@ told_same config records left rest t u one a b same =
     same a.emits b.emits ∙ sym b.told_is
 
 one_all : (config : ReplayConfig) (records ts us : List TimedRecord) (x y : List ReplayEvent)
-    (hs ks : List History) → Single
-    → AreTakenOf config records (new_histories config) ts [] hs
-    → AreTakenOf config records (new_histories config) us [] ks
-    → EmitsAll config (map what_of ts) x hs → EmitsAll config (map what_of us) y ks
-    → (ts ≡ us) × (hs ≡ ks)
-one_all config records ts us x y hs ks one a b e f =
-    let same = one_taken config records ts us (new_histories config) hs ks one a b in (
+    (p q : ReplayPoint) → Single
+    → AreTakenOf config records (new_point config) ts [] p
+    → AreTakenOf config records (new_point config) us [] q
+    → EmitsAll config (map what_of ts) x p.histories
+    → EmitsAll config (map what_of us) y q.histories
+    → (ts ≡ us) × (p.histories ≡ q.histories)
+one_all config records ts us x y p q one a b e f =
+    let same = one_taken config records ts us (new_point config) p q one a b in (
       same,
-      (one_told config.window config.gaps (map what_of us) (new_histories config) hs ks x y one
-          (subst (λ (l : List TimedRecord). EmitsAll config (map what_of l) x hs) same e) f).1,
+      (one_told config.window config.gaps (map what_of us) (new_histories config) p.histories
+          q.histories x y one
+          (subst (λ (l : List TimedRecord). EmitsAll config (map what_of l) x p.histories) same e)
+          f).1,
     )
 
 pub one_of_all : (config : ReplayConfig) (records : List TimedRecord) (t u : List TimedEvent)
@@ -252,7 +243,7 @@ pub one_of_all : (config : ReplayConfig) (records : List TimedRecord) (t u : Lis
 one_of_all config records t u one a b =
     let c = a.is in
     let d = b.is in
-    let x = one_all config records c.taken d.taken c.emitted d.emitted c.histories d.histories one
+    let x = one_all config records c.taken d.taken c.emitted d.emitted (point_told c) (point_told d) one
     c.are_taken d.are_taken c.emits d.emits in
     let same = told_same config records [] [] a.first b.first one c d x.0 in
     a.told_is ∙ ap (λ (l : List TimedEvent). l ++ at_time None (lasts_told 0 c.histories)) same
@@ -261,7 +252,7 @@ one_of_all config records t u one a b =
 pub one_of : (config : ReplayConfig) (records : List TimedRecord) (t u : List TimedEvent) → Single
     → IsToldOf config records t → IsToldOf config records u → t ≡ u
 one_of config records t u one a b =
-    let x = one_all config records a.taken b.taken a.emitted b.emitted a.histories b.histories one
+    let x = one_all config records a.taken b.taken a.emitted b.emitted (point_told a) (point_told b) one
     a.are_taken b.are_taken a.emits b.emits in
     told_same config records [] [] t u one a b x.0
 
@@ -310,11 +301,11 @@ full_behind config emitted first next h =
 -- what was taken up to a full journal: of the last one the first events had room, and the next one
 -- had none
 record Filled (config : ReplayConfig) (old : List Entry) (rs ts : List TimedRecord)
-    (hs : List History) (emitted : List ReplayEvent) : Type 0 where
+    (hs : ReplayPoint) (emitted : List ReplayEvent) : Type 0 where
   read_last : TimedRecord
-  mid : List History
+  mid : ReplayPoint
   are : AreTakenOf config rs hs ts (read_last ∷ []) mid
-  emits : Emits config.window config.gaps (map what_of ts) hs emitted mid
+  emits : Emits config.window config.gaps (map what_of ts) hs.histories emitted mid.histories
   last : TimedRecord
   left : List TimedRecord
   is_last : IsTakenNext config mid (read_last ∷ []) last left
@@ -322,16 +313,16 @@ record Filled (config : ReplayConfig) (old : List Entry) (rs ts : List TimedReco
   next : ReplayEvent
   others : List ReplayEvent
   after : List History
-  tells : EmitsRecord config.window config.gaps last.what mid (first ++ next ∷ others) after
+  tells : EmitsRecord config.window config.gaps last.what mid.histories (first ++ next ∷ others) after
   room : length (entries_of (entries_of old emitted) first) ≤ config.journal
   full : config.journal < length (entries_of (entries_of old emitted) (first ++ next ∷ []))
 
 filled : (config : ReplayConfig) (records : List TimedRecord) (t : List TimedEvent)
     (x : IsToldToFull config records t)
-    → Filled config [] records x.before.taken (new_histories config) x.before.emitted
+    → Filled config [] records x.before.taken (new_point config) x.before.emitted
 filled config records t x = record {
   read_last = x.read_last;
-  mid = x.before.histories;
+  mid = point_told x.before;
   are = x.before.are_taken;
   emits = x.before.emits;
   last = x.last;
@@ -348,10 +339,10 @@ filled config records t x = record {
 
 -- the first of what was taken, and what came after it
 filled_on : (config : ReplayConfig) (old : List Entry) (rs ts : List TimedRecord) (t : TimedRecord)
-    (hs : List History) (emitted head tail : List ReplayEvent) (mid : List History)
+    (hs : ReplayPoint) (emitted head tail : List ReplayEvent) (mid : ReplayPoint)
     (others : List TimedRecord) (x : Filled config old rs (t ∷ ts) hs emitted)
     → emitted ≡ head ++ tail → AreTakenOf config others mid ts (x.read_last ∷ []) x.mid
-    → Emits config.window config.gaps (map what_of ts) mid tail x.mid
+    → Emits config.window config.gaps (map what_of ts) mid.histories tail x.mid.histories
     → Filled config (entries_of old head) others ts mid tail
 filled_on config old rs ts t hs emitted head tail mid others x e are emits =
     let both : entries_of old emitted ≡ entries_of (entries_of old head) tail = ap (entries_of old)
@@ -394,23 +385,25 @@ no_room limit old first next others more full room =
 
 -- where one is full at what the other takes first, with room
 not_first : (config : ReplayConfig) (old : List Entry) (rs ts : List TimedRecord) (u : TimedRecord)
-    (hs : List History) (none emitted head tail more : List ReplayEvent) (mid : List History)
+    (hs : ReplayPoint) (none emitted head tail more : List ReplayEvent) (mid : List History)
     (left : List TimedRecord) → Single → (x : Filled config old rs [] hs none)
-    → IsTakenNext config hs rs u left → EmitsRecord config.window config.gaps u.what hs head mid
+    → IsTakenNext config hs rs u left
+    → EmitsRecord config.window config.gaps u.what hs.histories head mid
     → emitted ≡ head ++ tail → length (entries_of (entries_of old emitted) more) ≤ config.journal
     → ⊥
 not_first config old rs ts u hs none emitted head tail more mid left one x next tells e room =
     let here : IsTakenNext config hs rs x.last x.left = subst (λ (l : List TimedRecord). IsTakenNext
     config hs l x.last x.left) x.are.0
-    (subst (λ (k : List History). IsTakenNext config k (x.read_last ∷ []) x.last x.left) x.are.1
+    (subst (λ (k : ReplayPoint). IsTakenNext config k (x.read_last ∷ []) x.last x.left) x.are.1
     x.is_last) in
     let n = one_next config hs rs x.last u x.left left one here next in
-    let mine : EmitsRecord config.window config.gaps u.what hs (x.first
+    let mine : EmitsRecord config.window config.gaps u.what hs.histories (x.first
     ++ x.next ∷ x.others) x.after =
-    subst (λ (r : TimedRecord). EmitsRecord config.window config.gaps r.what hs (x.first ++ x.next
-    ∷ x.others) x.after) n.0 (subst (λ (k : List History). EmitsRecord config.window config.gaps
-    x.last.what k (x.first ++ x.next ∷ x.others) x.after) x.are.1 x.tells) in
-    let y = one_record config.window config.gaps u.what hs x.after mid (x.first ++ x.next
+    subst (λ (r : TimedRecord). EmitsRecord config.window config.gaps r.what hs.histories (x.first
+    ++ x.next ∷ x.others) x.after) n.0
+    (subst (λ (k : ReplayPoint). EmitsRecord config.window config.gaps
+    x.last.what k.histories (x.first ++ x.next ∷ x.others) x.after) x.are.1 x.tells) in
+    let y = one_record config.window config.gaps u.what hs.histories x.after mid (x.first ++ x.next
     ∷ x.others) head one mine tells in
     let all : emitted ≡ (x.first ++ x.next ∷ x.others) ++ tail = e
     ∙ ap (λ (l : List ReplayEvent). l ++ tail) (sym y.0) in
@@ -428,7 +421,7 @@ not_first config old rs ts u hs none emitted head tail more mid left one x next 
 
 -- what is the same of two of them
 record SameFilled (config : ReplayConfig) (old : List Entry) (rs ts us : List TimedRecord)
-    (hs : List History) (e f : List ReplayEvent) (x : Filled config old rs ts hs e)
+    (hs : ReplayPoint) (e f : List ReplayEvent) (x : Filled config old rs ts hs e)
     (y : Filled config old rs us hs f) : Type 0 where
   taken : ts ≡ us
   emitted : e ≡ f
@@ -437,28 +430,30 @@ record SameFilled (config : ReplayConfig) (old : List Entry) (rs ts us : List Ti
 
 -- where the same has room up to the same place, what had room is the same
 filled_once : (config : ReplayConfig) (old : List Entry) (rs ts us : List TimedRecord)
-    (hs : List History) (e f : List ReplayEvent) → Single → (x : Filled config old rs ts hs e)
+    (hs : ReplayPoint) (e f : List ReplayEvent) → Single → (x : Filled config old rs ts hs e)
     → (y : Filled config old rs us hs f) → SameFilled config old rs ts us hs e f x y
 unfolding filled_on
 filled_once config old rs [] [] hs e f one x y =
     let here : IsTakenNext config hs rs x.last x.left = subst (λ (l : List TimedRecord). IsTakenNext
     config hs l x.last x.left) x.are.0
-    (subst (λ (k : List History). IsTakenNext config k (x.read_last ∷ []) x.last x.left) x.are.1
+    (subst (λ (k : ReplayPoint). IsTakenNext config k (x.read_last ∷ []) x.last x.left) x.are.1
     x.is_last) in
     let there : IsTakenNext config hs rs y.last y.left =
     subst (λ (l : List TimedRecord). IsTakenNext config hs l y.last y.left) y.are.0
-    (subst (λ (k : List History). IsTakenNext config k (y.read_last ∷ []) y.last y.left) y.are.1
+    (subst (λ (k : ReplayPoint). IsTakenNext config k (y.read_last ∷ []) y.last y.left) y.are.1
     y.is_last) in
     let n = one_next config hs rs x.last y.last x.left y.left one here there in
-    let mine : EmitsRecord config.window config.gaps y.last.what hs (x.first
+    let mine : EmitsRecord config.window config.gaps y.last.what hs.histories (x.first
     ++ x.next ∷ x.others) x.after =
-    subst (λ (r : TimedRecord). EmitsRecord config.window config.gaps r.what hs (x.first ++ x.next
-    ∷ x.others) x.after) n.0 (subst (λ (k : List History). EmitsRecord config.window config.gaps
-    x.last.what k (x.first ++ x.next ∷ x.others) x.after) x.are.1 x.tells) in
-    let theirs : EmitsRecord config.window config.gaps y.last.what hs (y.first ++ y.next ∷ y.others)
-    y.after = subst (λ (k : List History). EmitsRecord config.window config.gaps y.last.what k
+    subst (λ (r : TimedRecord). EmitsRecord config.window config.gaps r.what hs.histories (x.first
+    ++ x.next ∷ x.others) x.after) n.0
+    (subst (λ (k : ReplayPoint). EmitsRecord config.window config.gaps
+    x.last.what k.histories (x.first ++ x.next ∷ x.others) x.after) x.are.1 x.tells) in
+    let theirs : EmitsRecord config.window config.gaps y.last.what hs.histories (y.first
+    ++ y.next ∷ y.others) y.after =
+    subst (λ (k : ReplayPoint). EmitsRecord config.window config.gaps y.last.what k.histories
     (y.first ++ y.next ∷ y.others) y.after) y.are.1 y.tells in
-    let same = one_record config.window config.gaps y.last.what hs x.after y.after (x.first
+    let same = one_record config.window config.gaps y.last.what hs.histories x.after y.after (x.first
     ++ x.next ∷ x.others) (y.first ++ y.next ∷ y.others) one mine theirs in
     let front : x.first ≡ y.first = one_front config.journal old x.first y.first x.next y.next
     x.others y.others same.0
@@ -484,25 +479,27 @@ filled_once config old rs (t ∷ ts) (u ∷ us) hs e f one x y =
     let (m, head, tail, is, more, all) = x.emits in
     let (ends, said, between, here, says, most) = y.are in
     let (k, front, back, at, later, whole) = y.emits in
-    let a = one_record config.window config.gaps t.what hs mid m told head one tells is in
-    let b = one_record config.window config.gaps u.what hs between k said front one says at in
-    let n = one_next config hs rs t u others ends one next here in
-    let c = one_record config.window config.gaps u.what hs m k head front one
-    (subst (λ (r : TimedRecord). EmitsRecord config.window config.gaps r.what hs head m) n.0 is)
-    at in
-    let left : AreTakenOf config ends k ts (x.read_last ∷ []) x.mid =
-    subst (λ (l : List TimedRecord). AreTakenOf config l k ts (x.read_last ∷ []) x.mid) n.1
-    (subst (λ (l : List History). AreTakenOf config others l ts (x.read_last ∷ []) x.mid) (a.1
-    ∙ c.1) rest) in
-    let right : AreTakenOf config ends k us (y.read_last ∷ []) y.mid =
-    subst (λ (l : List History). AreTakenOf config ends l us (y.read_last ∷ []) y.mid) b.1 most
+    let a = one_record config.window config.gaps t.what hs.histories mid m told head one tells is in
+    let b = one_record config.window config.gaps u.what hs.histories between k said front one says at
     in
-    let p = filled_on config old rs ts t hs e front tail k ends x (all
+    let n = one_next config hs rs t u others ends one next here in
+    let c = one_record config.window config.gaps u.what hs.histories m k head front one
+    (subst (λ (r : TimedRecord). EmitsRecord config.window config.gaps r.what hs.histories head m)
+    n.0 is) at in
+    let mid_point : ReplayPoint = point_after config hs u k in
+    let left : AreTakenOf config ends mid_point ts (x.read_last ∷ []) x.mid =
+    subst (λ (l : List TimedRecord). AreTakenOf config l mid_point ts (x.read_last ∷ []) x.mid) n.1
+    (subst (λ (l : ReplayPoint). AreTakenOf config others l ts (x.read_last ∷ []) x.mid)
+    (same_point config hs t u mid k n.0 (a.1 ∙ c.1)) rest) in
+    let right : AreTakenOf config ends mid_point us (y.read_last ∷ []) y.mid =
+    subst (λ (l : ReplayPoint). AreTakenOf config ends l us (y.read_last ∷ []) y.mid)
+    (same_point config hs u u between k refl b.1) most in
+    let p = filled_on config old rs ts t hs e front tail mid_point ends x (all
     ∙ ap (λ (l : List ReplayEvent). l ++ tail) c.0) left
-    (subst (λ (l : List History). Emits config.window config.gaps (map what_of ts) l tail x.mid)
-    c.1 more) in
-    let q = filled_on config old rs us u hs f front back k ends y whole right later in
-    let tails = filled_once config (entries_of old front) ends ts us k tail back one p q in
+    (subst (λ (l : List History). Emits config.window config.gaps (map what_of ts) l tail
+    x.mid.histories) c.1 more) in
+    let q = filled_on config old rs us u hs f front back mid_point ends y whole right later in
+    let tails = filled_once config (entries_of old front) ends ts us mid_point tail back one p q in
     record {
       taken = ap (λ (r : TimedRecord). r ∷ ts) n.0
           ∙ ap (λ (l : List TimedRecord). u ∷ l) tails.taken;
@@ -518,7 +515,7 @@ unfolding filled
 one_full config records t u one a b =
     let c = a.before in
     let d = b.before in
-    let s = filled_once config [] records c.taken d.taken (new_histories config) c.emitted d.emitted
+    let s = filled_once config [] records c.taken d.taken (new_point config) c.emitted d.emitted
     one (filled config records t a) (filled config records u b) in
     let same = told_same config records (a.read_last ∷ []) (b.read_last ∷ []) a.told_before
     b.told_before one c d s.taken in
@@ -533,8 +530,8 @@ one_full config records t u one a b =
 
 -- what all has room isn't full
 all_or_full : (config : ReplayConfig) (old : List Entry) (rs ts us : List TimedRecord)
-    (hs new : List History) (e f : List ReplayEvent) → Single → AreTakenOf config rs hs ts [] new
-    → Emits config.window config.gaps (map what_of ts) hs e new
+    (hs new : ReplayPoint) (e f : List ReplayEvent) → Single → AreTakenOf config rs hs ts [] new
+    → Emits config.window config.gaps (map what_of ts) hs.histories e new.histories
     → length (entries_of old e) ≤ config.journal → Filled config old rs us hs f → ⊥
 all_or_full config old rs [] [] hs new e f one are emits room y =
     let none : [] ≡ y.read_last ∷ [] = are.0 ∙ sym y.are.0 in
@@ -549,27 +546,30 @@ all_or_full config old rs (t ∷ ts) (u ∷ us) hs new e f one (others, told, mi
     (m, head, tail, is, more, all) room y =
     let (ends, said, between, here, says, most) = y.are in
     let (k, front, back, at, later, whole) = y.emits in
-    let a = one_record config.window config.gaps t.what hs mid m told head one tells is in
-    let b = one_record config.window config.gaps u.what hs between k said front one says at in
-    let n = one_next config hs rs t u others ends one next here in
-    let c = one_record config.window config.gaps u.what hs m k head front one
-    (subst (λ (r : TimedRecord). EmitsRecord config.window config.gaps r.what hs head m) n.0 is)
-    at in
-    let left : AreTakenOf config ends k ts [] new =
-    subst (λ (l : List TimedRecord). AreTakenOf config l k ts [] new) n.1
-    (subst (λ (l : List History). AreTakenOf config others l ts [] new) (a.1 ∙ c.1) rest) in
-    let right : AreTakenOf config ends k us (y.read_last ∷ []) y.mid =
-    subst (λ (l : List History). AreTakenOf config ends l us (y.read_last ∷ []) y.mid) b.1 most
+    let a = one_record config.window config.gaps t.what hs.histories mid m told head one tells is in
+    let b = one_record config.window config.gaps u.what hs.histories between k said front one says at
     in
-    let q = filled_on config old rs us u hs f front back k ends y whole right later in
+    let n = one_next config hs rs t u others ends one next here in
+    let c = one_record config.window config.gaps u.what hs.histories m k head front one
+    (subst (λ (r : TimedRecord). EmitsRecord config.window config.gaps r.what hs.histories head m)
+    n.0 is) at in
+    let mid_point : ReplayPoint = point_after config hs u k in
+    let left : AreTakenOf config ends mid_point ts [] new =
+    subst (λ (l : List TimedRecord). AreTakenOf config l mid_point ts [] new) n.1
+    (subst (λ (l : ReplayPoint). AreTakenOf config others l ts [] new)
+    (same_point config hs t u mid k n.0 (a.1 ∙ c.1)) rest) in
+    let right : AreTakenOf config ends mid_point us (y.read_last ∷ []) y.mid =
+    subst (λ (l : ReplayPoint). AreTakenOf config ends l us (y.read_last ∷ []) y.mid)
+    (same_point config hs u u between k refl b.1) most in
+    let q = filled_on config old rs us u hs f front back mid_point ends y whole right later in
     let both : entries_of old e ≡ entries_of (entries_of old front) tail = ap (entries_of old) (all
     ∙ ap (λ (l : List ReplayEvent). l ++ tail) c.0) ∙ entries_more old front tail in
-    all_or_full config (entries_of old front) ends ts us k new tail back one left
-    (subst (λ (l : List History). Emits config.window config.gaps (map what_of ts) l tail new)
-    c.1 more) (subst (λ (es : List Entry). length es ≤ config.journal) both room) q
+    all_or_full config (entries_of old front) ends ts us mid_point new tail back one left
+    (subst (λ (l : List History). Emits config.window config.gaps (map what_of ts) l tail
+    new.histories) c.1 more) (subst (λ (es : List Entry). length es ≤ config.journal) both room) q
 
 pub not_both : (config : ReplayConfig) (records : List TimedRecord) (t u : List TimedEvent) → Single
     → IsToldOf config records t → IsToldToFull config records u → ⊥
 not_both config records t u one a b =
-    all_or_full config [] records a.taken b.before.taken (new_histories config) a.histories
+    all_or_full config [] records a.taken b.before.taken (new_point config) (point_told a)
     a.emitted b.before.emitted one a.are_taken a.emits a.room (filled config records u b)

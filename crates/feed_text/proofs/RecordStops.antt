@@ -12,7 +12,7 @@ use Rattle.feed_text.specs.EventReplays.{IsToldPart}
 use Rattle.feed_text.specs.Formats.{TimedRecord}
 use Rattle.feed_text.specs.ReplayEvents.{ReplayEvent, entries_after, entries_of}
 use Rattle.feed_text.specs.ReplayStates.{SinkTaking, ReplayState, GoesToFull, FailsWithin}
-use Rattle.feed_text.specs.Rules.{IsTakenNext}
+use Rattle.feed_text.specs.Rules.{IsTakenNext, ReplayPoint, new_point, point_after}
 use Rattle.feed_text.specs.Running.{StoppedAt}
 use Rattle.feed_text.specs.SinkEvents.{TimedEvent, at_time}
 use Rattle.feed_text.specs.Tellings.{told_of}
@@ -56,17 +56,17 @@ pub record ToldAtStop (records : List TimedRecord) (Is : List TimedRecord → Li
 module _ {K : Type 0} {taking : SinkTaking K} (sinks : SinkLaws taking)
     (config : ReplayConfig) where
   -- What was told where the journal was full within what is taken next, so far.
-  full_told : {records : List TimedRecord} {before : K} {hs after : List History}
-      {t : ReplayState K} (r last : TimedRecord) (left : List TimedRecord)
-      (x : TakenSo taking config records (r ∷ []) before hs t)
-      → IsTakenNext config hs (r ∷ []) last left
+  full_told : {records : List TimedRecord} {before : K} {at : ReplayPoint}
+      {after : List History} {t : ReplayState K} (r last : TimedRecord) (left : List TimedRecord)
+      (x : TakenSo taking config records (r ∷ []) before at t)
+      → IsTakenNext config at (r ∷ []) last left
       → (first : List ReplayEvent) (next : ReplayEvent) (others : List ReplayEvent)
-      → EmitsRecord config.window config.gaps last.what hs (first ++ next ∷ others) after
+      → EmitsRecord config.window config.gaps last.what at.histories (first ++ next ∷ others) after
       → length (entries_of t.entries first) ≤ t.journal
       → t.journal < length (entries_of t.entries (first ++ next ∷ []))
       → IsToldToFull config records (x.told
       ++ at_time last.time (told_of config.symbols.now (entries_of [] x.emitted) first))
-  full_told {hs = hs} {after = after} {t = t} r last left x is first next others emits room full =
+  full_told {after = after} {t = t} r last left x is first next others emits room full =
       let has : entries_of [] (x.emitted ++ first) ≡ entries_of t.entries first = entries_more []
       x.emitted first ∙ ap (λ (es : List Entry). entries_of es first) (sym x.entries) in
       let past : entries_of [] (x.emitted ++ first ++ next ∷ []) ≡ entries_of
@@ -92,9 +92,9 @@ module _ {K : Type 0} {taking : SinkTaking K} (sinks : SinkLaws taking)
       }
 
   -- the journal was full within a record, or within a skip before it
-  pub stopped_full : {records : List TimedRecord} {before : K} {hs : List History}
-      {t u : ReplayState K} (r : TimedRecord) (x : TakenSo taking config records [] before hs t)
-      → StoppedAt taking config r hs (at_state t r.time) u stops.JournalFull
+  pub stopped_full : {records : List TimedRecord} {before : K} {at : ReplayPoint}
+      {t u : ReplayState K} (r : TimedRecord) (x : TakenSo taking config records [] before at t)
+      → StoppedAt taking config r at (at_state t r.time) u stops.JournalFull
       → ToldAtStop (records ++ r ∷ []) (IsToldToFull config)
       (λ told. taking.takes before told u.sink)
   stopped_full {before = before} {t = t} {u = u} r x k =
@@ -106,7 +106,7 @@ module _ {K : Type 0} {taking : SinkTaking K} (sinks : SinkLaws taking)
         told = _;
         is = full_told r k.last k.left y k.is_last f.first f.next f.others
             (subst (λ (l : List ReplayEvent). EmitsRecord config.window config.gaps k.last.what
-            k.mid l k.after) f.emitted_is k.last_tells)
+            k.mid.histories l k.after) f.emitted_is k.last_tells)
             (rw (← f.goes.entries, ← f.goes.journal) (f.goes.within y.within))
             (rw (
               entries_more k.state.entries f.first (f.next ∷ []),
@@ -119,22 +119,22 @@ module _ {K : Type 0} {taking : SinkTaking K} (sinks : SinkLaws taking)
       }
 
   -- the next one was taken with all of its events, which have room
-  so_next : {records : List TimedRecord} {before : K} {hs : List History} {t : ReplayState K}
+  so_next : {records : List TimedRecord} {before : K} {at : ReplayPoint} {t : ReplayState K}
       (r last : TimedRecord) (left : List TimedRecord) (x : TakenSo taking config records (r ∷ [])
-      before hs t) → IsTakenNext config hs (r ∷ []) last left
+      before at t) → IsTakenNext config at (r ∷ []) last left
       → (emitted : List ReplayEvent) (after : List History)
-      → EmitsRecord config.window config.gaps last.what hs emitted after
+      → EmitsRecord config.window config.gaps last.what at.histories emitted after
       → length (entries_of t.entries emitted) ≤ t.journal
       → IsToldSome config records (x.told
       ++ at_time last.time (told_of config.symbols.now (entries_of [] x.emitted) emitted))
-  so_next {records = records} {hs = hs} {t = t} r last left x is emitted after emits room =
+  so_next {records = records} {at = at} {t = t} r last left x is emitted after emits room =
       let T : List TimedEvent = at_time last.time (told_of config.symbols.now
       (entries_of [] x.emitted) emitted) in
       let has : entries_of [] (x.emitted ++ emitted) ≡ entries_of t.entries emitted =
       entries_more [] x.emitted emitted
       ∙ ap (λ (es : List Entry). entries_of es emitted) (sym x.entries) in
       let tells = tells_after config x.taken (last ∷ []) (new_histories config) [] x.emitted emitted
-      x.told T hs after x.tells (
+      x.told T at.histories after x.tells (
         after,
         emitted,
         [],
@@ -151,8 +151,10 @@ module _ {K : Type 0} {taking : SinkTaking K} (sinks : SinkLaws taking)
           taken = x.taken ++ last ∷ [];
           emitted = x.emitted ++ emitted;
           histories = after;
-          are_taken = taken_more config records x.taken (last ∷ []) (new_histories config)
-              (r ∷ []) hs left after x.are_taken (left, emitted, after, is, emits, (refl, refl));
+          standing = (point_after config at last after).standing;
+          are_taken = taken_more config records x.taken (last ∷ []) (new_point config)
+              (r ∷ []) at left (point_after config at last after) x.are_taken
+              (left, emitted, after, is, emits, (refl, refl));
           emits = e.0;
           room = rw (has, ← x.journal) room;
           told_is = e.1;
@@ -160,9 +162,9 @@ module _ {K : Type 0} {taking : SinkTaking K} (sinks : SinkLaws taking)
       )
 
   -- the sink failed within a record, or within a skip before it
-  pub stopped_within : {records : List TimedRecord} {before : K} {hs : List History}
-      {t u : ReplayState K} (r : TimedRecord) (x : TakenSo taking config records [] before hs t)
-      → StoppedAt taking config r hs (at_state t r.time) u stops.SinkFailed
+  pub stopped_within : {records : List TimedRecord} {before : K} {at : ReplayPoint}
+      {t u : ReplayState K} (r : TimedRecord) (x : TakenSo taking config records [] before at t)
+      → StoppedAt taking config r at (at_state t r.time) u stops.SinkFailed
       → ToldAtStop (records ++ r ∷ []) (IsToldPart (told_facts config))
       (λ told. taking.fails before told u.sink)
   stopped_within {before = before} {t = t} {u = u} r x k =
@@ -190,7 +192,7 @@ module _ {K : Type 0} {taking : SinkTaking K} (sinks : SinkLaws taking)
           told = y.told ++ told (f.first ++ f.others);
           is = inl (so_next r k.last k.left y k.is_last (f.first ++ f.others) k.after
               (subst (λ (l : List ReplayEvent). EmitsRecord config.window config.gaps k.last.what
-              k.mid l k.after) f.emitted_is k.last_tells)
+              k.mid.histories l k.after) f.emitted_is k.last_tells)
               (rw (entries_more k.state.entries f.first f.others) all));
           took = longer f.others;
         }
@@ -198,7 +200,7 @@ module _ {K : Type 0} {taking : SinkTaking K} (sinks : SinkLaws taking)
           told = y.told ++ told (f.first ++ front);
           is = inr (inl (full_told r k.last k.left y k.is_last (f.first ++ front) next others
               (subst (λ (l : List ReplayEvent). EmitsRecord config.window config.gaps k.last.what
-              k.mid l k.after) (f.emitted_is ∙ ap (λ (l : List ReplayEvent). f.first ++ l) is
+              k.mid.histories l k.after) (f.emitted_is ∙ ap (λ (l : List ReplayEvent). f.first ++ l) is
               ∙ sym (append_assoc f.first front (next ∷ others))) k.last_tells)
               (rw (entries_more k.state.entries f.first front) fits)
               (rw (

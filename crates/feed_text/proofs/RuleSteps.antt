@@ -1,39 +1,32 @@
--- What a rule gives up: nothing that has come, so the skip is made, and the front goes on.
+-- What is given up: nothing that has come, so the skip is made.
 use Rattle.std.proofs.Common.{◌≡◌, inl, inr, ℕ, zero, suc, ◌+◌, ◌-◌, ◌^◌, ◌<◌, ◌≤◌, Bool, true, false, cond, List, [], ◌∷◌, ◌++◌, length, get_or, refl, sym, ap, ◌∙◌, subst, arith, Some, None, Option}
-use Rattle.std.specs.Prelude.{Result, Ok, ◌==◌, min, is_some, is_none, count_by, slice_get}
+use Rattle.std.specs.Prelude.{Result, Ok, ◌==◌, min, is_some, is_none, count_by}
 use Rattle.std.specs.Option.{option_map_or}
 use Rattle.std.specs.List.{range_with_len}
 use Rattle.std.proofs.lemmas.Bool.{cases_Bool, cases_lt, cases_eq, false≢true}
 use Rattle.std.proofs.lemmas.Bool.Decides.{nat_tests}
-use Rattle.std.proofs.lemmas.Option.{slice_get_within}
 use Rattle.std.proofs.lemmas.List.Sums.{prefix_len-le-length, prefix_len_passes, sum_by-cons}
 use Rattle.std.proofs.lemmas.List.FromFn.{length-range_with_len, get_or-range_with_len}
-use Rattle.std.proofs.Math.ListN.{length-set}
-use Rattle.feed_types.specs.ListLaws.{get_within}
 use Rattle.mold_packet.specs.declared.packet.Kind.{Kind}
 use Rattle.mold_packet.specs.declared.packet.Kind.TheVariants as kinds
 use Rattle.mold_packet.specs.Content.{Content, IsContent, KindFits, last_number}
-use Rattle.line_arbiter.specs.declared.outcome.Outcome.TheVariants.{Ahead}
+use Rattle.line_arbiter.specs.declared.outcome.Outcome.{Outcome}
+use Rattle.line_arbiter.specs.declared.outcome.Outcome.TheVariants.{Ahead, Ended, Heartbeat, Taken}
 use Rattle.line_arbiter.specs.declared.faults.SkipFault.{SkipFault}
 use Rattle.line_arbiter.specs.Packets.{Input, Skip, carried, end_of, top_of, known_of}
 use Rattle.mold_packet.specs.declared.request.Request.{Request}
 use Rattle.line_arbiter.specs.Streams.{end_at, front_of, gap_of, held_count, missing_count}
-use Rattle.line_arbiter.specs.Histories.{History, skip_after}
-use Rattle.line_arbiter.specs.Outcomes.{IsBefore, ToKind}
+use Rattle.line_arbiter.specs.Histories.{History}
+use Rattle.line_arbiter.specs.Outcomes.{IsBefore, IsOutcome, ToKind}
 use Rattle.line_arbiter.specs.Skips.{IsSkip, MaySkip}
-use Rattle.line_arbiter.specs.laws.Bringing.{first_of-push}
-use Rattle.line_arbiter.specs.laws.Fronts.{carried_above, front_greatest, given_up, none_is}
+use Rattle.line_arbiter.specs.laws.Fronts.{carried_above, none_is}
 use Rattle.line_arbiter.specs.laws.SkipAnswers.{one_skip}
-use Rattle.feed_text.specs.declared.replay.ReplayConfig.{ReplayConfig}
 use Rattle.run_settings.specs.declared.skip_rule.SkipRule.{SkipRule}
-use Rattle.feed_text.specs.Capture.{CaptureRecord, datagram_record, renewal_record, skip_record, self_help_record, record_venue}
+use Rattle.run_settings.specs.declared.skip_rule.SkipRule.TheVariants.{Never, Join, Gaps, After}
+use Rattle.feed_text.specs.declared.standing_gap.StandingGap.{StandingGap}
 use Rattle.line_arbiter.specs.LastSent.{last_sent}
-use Rattle.feed_text.specs.Emitted.{EmitsAt}
-use Rattle.feed_text.specs.Rules.{IsAhead, PutsIn, SkipsAt, SkipsBefore, first_come, held_at_last, skip_at}
-use Rattle.feed_text.specs.ReplayStates.{SinkTaking, ReplayState}
-use Rattle.feed_text.specs.Following.{ReplayVenue, FollowAll, EmitsNext}
+use Rattle.feed_text.specs.Rules.{IsAhead, IsJoinedAt, IsOverdue, IsPastGap, SkipsBefore, first_come, held_at_last}
 use Rattle.line_arbiter.specs.laws.LastSent.{last_all}
-use Rattle.feed_text.specs.laws.Lists.{get_set_same}
 
 ahead_kind : (kind : Kind) (window sent : ℕ) (packets : List Input) (p : Content)
     → ToKind kind window sent packets p (Ok Ahead)
@@ -50,7 +43,7 @@ pub ahead_is : (window : ℕ) (h : History) (p : Content) → IsAhead window h p
 ahead_is window h p (inl x) = absurd (cc)
 ahead_is window h p (inr x) = ahead_kind p.kind window (last_sent h) h.present.packets p x.1
 
-has_messages : (p : Content) → IsContent p → p.kind ≡ kinds.Messages → 1 ≤ length p.messages
+pub has_messages : (p : Content) → IsContent p → p.kind ≡ kinds.Messages → 1 ≤ length p.messages
 has_messages p c is = (subst (λ (k : Kind). KindFits k p.messages) is c.fits).0
 
 abbrev one_if : Bool → ℕ
@@ -73,7 +66,7 @@ count_nothing q a (suc n) m none least most =
     ]
 
 -- nothing is held past the last item, so nothing past it has come
-none_held : (packets : List Input) (sent m : ℕ) → held_count sent packets ≡ 0 → sent < m
+pub none_held : (packets : List Input) (sent m : ℕ) → held_count sent packets ≡ 0 → sent < m
     → carried packets m ≡ None
 none_held packets sent m none past = elim (cases_lt (top_of packets) m) [
   | inl above ↦ carried_above packets m above
@@ -137,18 +130,38 @@ first_held window h p some =
     let other : (held_at_last h == 0) ≡ false = grind (arith, nat_tests) in
     rw other refl
 
-module _ (rule : SkipRule) (window : ℕ) (h : History) (p : Content) (n : ℕ) (c : IsContent p)
-    (x : SkipsBefore rule window h p n) where
+-- no end is announced at the front, so the last item is the message there
+last_is_front : (h : History) → ((e : ℕ) → end_of h.present.packets ≡ Some e
+    → front_of h.present.packets + 1 < e) → last_sent h ≡ front_of h.present.packets
+last_is_front h later =
+    let none = no_end (end_of h.present.packets) (front_of h.present.packets + 1) later in
+    omega arith
+
+-- where no end is announced below a number, and none past the front and below it has come
+may_skip_to : (h : History) (n : ℕ) → front_of h.present.packets + 1 < n
+    → ((e : ℕ) → end_of h.present.packets ≡ Some e → n ≤ e)
+    → ((last_sent h ≡ front_of h.present.packets) → (m : ℕ) → front_of h.present.packets < m → m < n
+    → carried h.present.packets m ≡ None) → MaySkip h.present.packets n
+may_skip_to h n past ends none = record {
+  past = past;
+  not_ended = ends;
+  missing = none (last_is_front h (λ e is. let later = ends e is in omega arith));
+}
+
+-- ---- before a packet that would be answered Ahead
+
+module _ (window : ℕ) (h : History) (p : Content) (n : ℕ) (c : IsContent p)
+    (x : IsPastGap window h p n) where
   abbrev packets : List Input
   packets = h.present.packets
 
-  first_by_own : n ≤ p.number
+  pub first_by_own : n ≤ p.number
   first_by_own = elim (cases_Bool (held_at_last h == 0)) [
     | inl none ↦ let first = rw none at x.first in omega arith
     | inr some ↦ let first = rw some at x.first in omega arith
   ]
 
-  before_end : (e : ℕ) → end_of packets ≡ Some e → n < e
+  before_end : (e : ℕ) → end_of packets ≡ Some e → n ≤ e
   before_end e is =
       let ahead = ahead_is window h p x.ahead in
       let later : last_number p < e = ahead.1 e is in
@@ -156,99 +169,162 @@ module _ (rule : SkipRule) (window : ℕ) (h : History) (p : Content) (n : ℕ) 
       let own = first_by_own in
       omega arith
 
-  last_is_front : last_sent h ≡ front_of packets
-  last_is_front =
-      let none = no_end (end_of packets) (front_of packets + 1) (λ e is. let later = before_end e is
-      in let past = x.missing in omega arith) in
-      omega arith
-
-  none_came : (m : ℕ) → front_of packets < m → m < n → carried packets m ≡ None
-  none_came m past below = elim (cases_Bool (held_at_last h == 0)) [
+  none_came : last_sent h ≡ front_of packets → (m : ℕ) → front_of packets < m → m < n
+      → carried packets m ≡ None
+  none_came last m past below = elim (cases_Bool (held_at_last h == 0)) [
     | inl none ↦
         let held : held_at_last h ≡ 0 = grind (arith, nat_tests) in
-        let last = last_is_front in
         none_held packets (last_sent h) m held (omega arith)
     | inr some ↦
         let first = rw some at x.first in
         none_in_row window (last_sent h) packets m past (omega arith)
   ]
 
-  -- so the skip may be made
-  pub may_skip : MaySkip packets n
-  may_skip = record {
-    past = x.missing;
-    not_ended = λ e is. let later = before_end e is in omega arith;
-    missing = none_came;
-  }
+  pub may_pass : MaySkip packets n
+  may_pass = may_skip_to h n x.missing before_end none_came
 
-  -- and its answer is that it is
-  pub skip_answer : (answer : Result (Unit {0}) SkipFault) → IsSkip packets (last_sent h) n answer
-      → answer ≡ Ok tt
-  skip_answer answer is = one_skip packets (last_sent h) n answer (Ok tt) is (last_all h, may_skip)
+-- ---- at a session's first packet
 
--- the front goes on to what was given up
-front_goes : (packets : List Input) (n : ℕ) → n ≤ front_of (packets ++ Skip n ∷ []) + 1
-front_goes packets n =
-    let all = packets ++ Skip n ∷ [] in
-    let first = first_of-push packets (Skip n) in
-    let most = front_greatest all (n - 1) (λ m one within. given_up all m one (omega arith)) in
+accepted_before : (kind : Kind) (window sent : ℕ) (packets : List Input) (p : Content)
+    (outcome : Outcome) → ToKind kind window sent packets p (Ok outcome) → IsContent p
+    → p.kind ≡ kind → (e : ℕ) → end_of packets ≡ Some e → p.number ≤ e
+accepted_before kinds.Messages window sent packets p Ahead x c is e end =
+    let later = x.0 e end in let some = has_messages p c is in omega arith
+accepted_before kinds.Messages window sent packets p (Taken new repeated) x c is e end =
+    let later = x.0 e end in let some = has_messages p c is in omega arith
+accepted_before kinds.Messages window sent packets p Heartbeat x c is e end = absurd x
+accepted_before kinds.Messages window sent packets p Ended x c is e end = absurd x
+accepted_before kinds.Heartbeat window sent packets p Heartbeat x c is e end = x e end
+accepted_before kinds.Heartbeat window sent packets p Ahead x c is e end = absurd x
+accepted_before kinds.Heartbeat window sent packets p (Taken new repeated) x c is e end = absurd x
+accepted_before kinds.Heartbeat window sent packets p Ended x c is e end = absurd x
+accepted_before kinds.End window sent packets p Ended (inl x) c is e end =
+    let same : Some e ≡ Some p.number = sym end ∙ x in
+    let number : e ≡ p.number = cc in omega (arith, number)
+accepted_before kinds.End window sent packets p Ended (inr x) c is e end =
+    let same : Some e ≡ None = sym end ∙ x.0 in absurd (cc)
+accepted_before kinds.End window sent packets p Ahead x c is e end = absurd x
+accepted_before kinds.End window sent packets p (Taken new repeated) x c is e end = absurd x
+accepted_before kinds.End window sent packets p Heartbeat x c is e end = absurd x
+
+outcome_before : (session : List ℕ) (window sent : ℕ) (packets : List Input) (p : Content)
+    (outcome : Outcome) → IsOutcome session window sent packets p (Ok outcome) → IsContent p
+    → (e : ℕ) → end_of packets ≡ Some e → p.number ≤ e
+outcome_before session window sent packets p outcome (inl x) c e end =
+    let wrong = x.1 in absurd (cc)
+outcome_before session window sent packets p outcome (inr x) c e end =
+    accepted_before p.kind window sent packets p outcome x.1 c refl e end
+
+pub may_join : (h : History) (p : Content) (n : ℕ) → IsContent p → IsJoinedAt h p n
+    → MaySkip h.present.packets n
+may_join h p n c x =
+    let front = x.fresh.front in
+    let first = x.first in
+    let missing = x.missing in
+    may_skip_to h n (omega arith)
+    (λ e is. let before = outcome_before h.present.name x.window (last_sent h) h.present.packets p
+    x.outcome x.accepted c e is in omega arith)
+    (λ last m past below. none_held h.present.packets (last_sent h) m x.fresh.held (omega arith))
+
+-- ---- where a gap has stood
+
+-- a gap by its parts
+pub gap_parts : (name : List ℕ) (window sent : ℕ) (packets : List Input) (r : Request)
+    → gap_of name window sent packets ≡ Some r → (r.number ≡ front_of packets + 1)
+    × (r.count ≡ missing_count window sent packets) × (1 ≤ missing_count window sent packets)
+gap_parts name window sent packets r e =
+    elim (cases_Bool (missing_count window sent packets == 0)) [
+      | inl none ↦ let is = rw none at e in absurd (cc)
+      | inr some ↦
+          let is = rw some at e in
+          let count = gap_some name window sent packets r (sym e) in
+          let number : r.number ≡ front_of packets + 1 =
+          ap (λ (o : Option Request). option_map_or (λ (q : Request). q.number) o 0) (sym is) in (
+            number,
+            count,
+            grind (arith, nat_tests),
+          )
+    ]
+
+-- what is missing in a row is known to exist
+missing_known : (window sent : ℕ) (packets : List Input)
+    → 1 ≤ missing_count window sent packets
+    → front_of packets + missing_count window sent packets ≤ known_of packets
+missing_known window sent packets some =
+    let front = front_of packets in
+    let count = min (known_of packets) (sent + window) - front in
+    let most = prefix_len-le-length (λ (k : ℕ). is_none (carried packets k))
+    (range_with_len (front + 1) count) in
+    let len = length-range_with_len (front + 1) count in
     omega arith
 
--- the front of the venue at a place
-unfoldable pub front_at : List ReplayVenue → ℕ → ℕ
-front_at vs i = option_map_or (λ (v : ReplayVenue). v.arbiter.front) (slice_get vs i) 0
+-- what is known of goes to before an announced end
+known_before : (packets : List Input) (e : ℕ) → end_of packets ≡ Some e → known_of packets ≡ e - 1
+known_before packets e is = rw is refl
 
-front_here : (vs : List ReplayVenue) (i : ℕ) (v : ReplayVenue) → slice_get vs i ≡ Some v
-    → front_at vs i ≡ v.arbiter.front
-unfolding front_at
-front_here vs i v at = ap (λ (o : Option ReplayVenue). option_map_or
-    (λ (v : ReplayVenue). v.arbiter.front) o 0) at
+module _ (window span time : ℕ) (h : History) (standing : Option StandingGap) (n : ℕ)
+    (x : IsOverdue window span time h standing n) where
+  abbrev inputs : List Input
+  inputs = h.present.packets
 
--- the front of a venue that follows a history is the history's
-front_follows : (window : ℕ) (vs : List ReplayVenue) (hs : List History) (i : ℕ) (h : History)
-    → FollowAll window vs hs → slice_get hs i ≡ Some h → front_at vs i ≡ front_of h.present.packets
-front_follows window vs hs i h f at =
-    let within = slice_get_within hs i h at in
-    let same = f.count in
-    let v = get_within vs i (omega arith) in
-    front_here vs i v.0 v.1 ∙ (f.each i v.0 h v.1 at).history.present.front
+  parts : (x.gap.number ≡ front_of inputs + 1) × (x.gap.count ≡ missing_count window (last_sent h)
+      inputs) × (1 ≤ missing_count window (last_sent h) inputs)
+  parts = gap_parts h.present.name window (last_sent h) inputs x.gap x.lacks
 
-pub skips_on : (rule : SkipRule) (window n : ℕ) (gaps : Bool) (r : CaptureRecord)
-    (h after : History) (emitted : List _) → SkipsAt rule window r h n
-    → EmitsAt window gaps (skip_at r n) h emitted after
-    → (after ≡ skip_after h n (Ok tt)) × (front_of h.present.packets + 1 < n) × (n < 2 ^ 64)
-skips_on rule window n gaps (datagram_record venue line bytes) h after emitted
-    (p, rest, spells, x) e =
-    let is = skip_answer rule window h p n spells.content x e.answer e.skipped.right in
-    let most = first_by_own rule window h p n spells.content x in
-    let small = spells.content.small in
-    (e.skipped.is ∙ ap (skip_after h n) is, x.missing, omega arith)
-skips_on rule window n gaps (renewal_record venue name) h after emitted x e = absurd x
-skips_on rule window n gaps (skip_record venue skipped) h after emitted x e = absurd x
-skips_on rule window n gaps (self_help_record venue on) h after emitted x e = absurd x
+  known : front_of inputs + missing_count window (last_sent h) inputs ≤ known_of inputs
+  known = missing_known window (last_sent h) inputs parts.2
 
--- A skip that the rule puts in takes the venue's front on.
-pub skip_progress : {K : Type 0} (taking : SinkTaking K) (config : ReplayConfig) (r : CaptureRecord)
-    (n : ℕ) (hs : List History) (vs ws : List ReplayVenue) (t u : ReplayState K)
-    → FollowAll config.window vs hs → PutsIn config hs r n
-    → EmitsNext taking config.window config.gaps (skip_at r n) hs t u ws (Ok tt)
-    → (front_at vs (record_venue r) + 1 < n) × (n ≤ front_at ws (record_venue r) + 1) × (n < 2 ^ 64)
-skip_progress taking config r n hs vs ws t u f puts y =
-    let i : ℕ = record_venue r in
-    let tells = y.record_tells in
-    let some : Some puts.before ≡ Some tells.before = sym puts.at ∙ tells.at in
-    let same : tells.before ≡ puts.before = cc in
-    let on = skips_on config.skips config.window n config.gaps r puts.before tells.after y.emitted
-    puts.skips (subst (λ (h : History). EmitsAt config.window config.gaps (skip_at r n) h
-    y.emitted tells.after) same tells.emits) in
-    let within = slice_get_within hs i puts.before puts.at in
-    let len : length y.after ≡ length hs = ap length tells.others ∙ length-set hs i tells.after in
-    let k = get_within y.after i (omega arith) in
-    let new : k.0 ≡ tells.after = get_set_same hs i tells.after k.0
-    (subst (λ (l : List History). slice_get l i ≡ Some k.0) tells.others k.1) in
-    let old_front = front_follows config.window vs hs i puts.before f puts.at in
-    let new_front = front_follows config.window ws y.after i k.0 y.follow k.1
-    ∙ ap (λ (h : History). front_of h.present.packets) (new ∙ on.0) in
-    let goes = front_goes puts.before.present.packets n in
-    let past = on.1 in
-    (omega arith, omega arith, on.2)
+  most_known : n ≤ known_of inputs + 1
+  most_known = elim (cases_Bool (held_at_last h == 0)) [
+    | inl none ↦ let first = rw none at x.first in omega arith
+    | inr some ↦
+        let first = rw some at x.first in
+        omega (arith, first, parts.0, parts.1, known)
+  ]
+
+  pub most_number : n < 2 ^ 64
+  most_number = let first = x.first in omega arith
+
+  overdue_ends : (e : ℕ) → end_of inputs ≡ Some e → n ≤ e
+  overdue_ends e is =
+      let before = known_before inputs e is in
+      let missing = x.missing in
+      omega (arith, before, missing, most_known, known, parts.0, parts.2)
+
+  none_yet : last_sent h ≡ front_of inputs → (m : ℕ) → front_of inputs < m → m < n
+      → carried inputs m ≡ None
+  none_yet last m past below = elim (cases_Bool (held_at_last h == 0)) [
+    | inl none ↦
+        let held : held_at_last h ≡ 0 = grind (arith, nat_tests) in
+        none_held inputs (last_sent h) m held (omega arith)
+    | inr some ↦
+        let first = rw some at x.first in
+        none_in_row window (last_sent h) inputs m past
+        (omega (arith, first, parts.0, parts.1, below))
+  ]
+
+  pub may_give_up : MaySkip inputs n
+  may_give_up =
+      let missing = x.missing in
+      may_skip_to h n (omega (arith, missing, parts.0)) overdue_ends none_yet
+
+-- ---- so it is made
+
+-- the answer of a skip that may be made
+pub skip_answer : (h : History) (n : ℕ) (answer : Result (Unit {0}) SkipFault)
+    → MaySkip h.present.packets n → IsSkip h.present.packets (last_sent h) n answer
+    → answer ≡ Ok tt
+skip_answer h n answer may is =
+    one_skip h.present.packets (last_sent h) n answer (Ok tt) is (last_all h, may)
+
+-- what is given up before a packet may be, and is below 2^64
+pub may_skip_before : (rule : SkipRule) (window : ℕ) (h : History) (p : Content) (n : ℕ)
+    → IsContent p → SkipsBefore rule window h p n → MaySkip h.present.packets n × (n < 2 ^ 64)
+may_skip_before Never window h p n c x = absurd x
+may_skip_before Join window h p n c x =
+    let first = x.first in let small = c.small in (may_join h p n c x, omega arith)
+may_skip_before Gaps window h p n c x =
+    let most = first_by_own window h p n c x in
+    let small = c.small in (may_pass window h p n c x, omega arith)
+may_skip_before (After ms) window h p n c x =
+    let first = x.first in let small = c.small in (may_join h p n c x, omega arith)

@@ -11,6 +11,9 @@ use Rattle.feed_text.specs.Devices.{Reading}
 use Rattle.feed_text.specs.EventReplays.{ReadAndTold, IsToldPart, AnswersRun, TookAll, venues_in}
 use Rattle.feed_text.specs.Following.{VenueList, FollowAll}
 use Rattle.feed_text.specs.Formats.{TimedRecord, Parsing, TakesPiece, HasReadRecords}
+use Rattle.feed_text.specs.declared.standing_gaps.StandingGaps.{StandingGaps}
+use Rattle.feed_text.specs.Rules.{ReplayPoint}
+use Rattle.feed_text.specs.Standings.{Knows}
 use Rattle.feed_text.specs.ReplayStates.{SinkTaking, ReplayState}
 use Rattle.feed_text.specs.Running.{ClosesSink, RanToEnd, ShowsBefore, StoppedAt, StopsShown}
 use Rattle.feed_text.specs.SinkEvents.{TimedEvent, at_time}
@@ -26,10 +29,10 @@ module _ {R S F K : Type 0} {reading : Reading R} {parsing : Parsing S F} {takin
     (ins : InLaws reading parsing) (sinks : SinkLaws taking) (config : ReplayConfig) where
   -- the sink took all that the records tell, and shows it
   pub ran_by : {calls : ℕ} {from mid : R} {start format : S} {rest : List ℕ} {before : K}
-      {venues : VenueList} {t : ReplayState K} (is_shown : K → Type 0) (IsLeft : List ℕ → Type 0)
+      {venues : VenueList} {gaps : StandingGaps} {t : ReplayState K} (is_shown : K → Type 0) (IsLeft : List ℕ → Type 0)
       (CameTo : ℕ → R → Type 0) (after : K)
       → IsLeft rest → CameTo calls mid → taking.takes t.sink [] after → is_shown after
-      → Ran reading parsing taking config from calls mid start format rest before venues t
+      → Ran reading parsing taking config from calls mid start format rest before venues gaps t
       → ReadAndTold reading parsing (venues_in config) from start format IsLeft CameTo
       (IsToldOf config) (TookAll taking is_shown before after)
   ran_by is_shown IsLeft CameTo after left came took shown x =
@@ -49,8 +52,8 @@ module _ {R S F K : Type 0} {reading : Reading R} {parsing : Parsing S F} {takin
 
   -- the sink failed as it showed what it took
   ran_unshown : {calls : ℕ} {from to : R} {start format : S} {rest : List ℕ} {before : K}
-      {venues : VenueList} {t : ReplayState K} (after : K) → taking.fails t.sink [] after
-      → Ran reading parsing taking config from calls to start format rest before venues t
+      {venues : VenueList} {gaps : StandingGaps} {t : ReplayState K} (after : K) → taking.fails t.sink [] after
+      → Ran reading parsing taking config from calls to start format rest before venues gaps t
       → ReadAndTold reading parsing (venues_in config) from start format (λ rest. ⊤)
       (λ calls mid. (mid ≡ to) ⊎ reading.ends mid to) (IsToldPart (told_facts config))
       (λ told. taking.fails before told after)
@@ -69,9 +72,9 @@ module _ {R S F K : Type 0} {reading : Reading R} {parsing : Parsing S F} {takin
   }
 
   pub answers_unshown : {calls : ℕ} {from to : R} {start format : S} {rest : List ℕ} {before : K}
-      {venues : VenueList} {t : ReplayState K} (is_shown : K → Type 0) (result : ReplayStop F)
+      {venues : VenueList} {gaps : StandingGaps} {t : ReplayState K} (is_shown : K → Type 0) (result : ReplayStop F)
       (after : K) → result ≡ SinkFailed → taking.fails t.sink [] after
-      → Ran reading parsing taking config from calls to start format rest before venues t
+      → Ran reading parsing taking config from calls to start format rest before venues gaps t
       → AnswersRun reading parsing taking is_shown config (told_facts config) from to start format
       before after (Err result)
   answers_unshown {from = from} {to = to} {start = start} {format = format} {before = before}
@@ -82,11 +85,11 @@ module _ {R S F K : Type 0} {reading : Reading R} {parsing : Parsing S F} {takin
 
   -- no piece begins the rest
   pub answers_bad : {calls : ℕ} {from to : R} {start format : S} {rest : List ℕ} {before : K}
-      {venues : VenueList} {t : ReplayState K} (is_shown : K → Type 0) (fault : F)
+      {venues : VenueList} {gaps : StandingGaps} {t : ReplayState K} (is_shown : K → Type 0) (fault : F)
       (result : ReplayStop F) (after : K)
       → ShowsBefore taking.takes taking.fails is_shown (Bad fault) t.sink after result
       → parsing.is_bad format rest fault
-      → Ran reading parsing taking config from calls to start format rest before venues t
+      → Ran reading parsing taking config from calls to start format rest before venues gaps t
       → AnswersRun reading parsing taking is_shown config (told_facts config) from to start format
       before after (Err result)
   answers_bad {from = from} {to = to} {start = start} {format = format} {before = before} is_shown
@@ -101,20 +104,21 @@ module _ {R S F K : Type 0} {reading : Reading R} {parsing : Parsing S F} {takin
   -- a stop within a record: the journal was full, and the sink showed what it took, or the sink
   -- failed
   pub answers_stopped : {calls len : ℕ} {from to : R} {start format next : S} {rest seen : List ℕ}
-      {before : K} {venues : VenueList} {t u : ReplayState K} (is_shown : K → Type 0)
+      {before : K} {venues : VenueList} {gaps : StandingGaps} {t u : ReplayState K} (is_shown : K → Type 0)
       (r : TimedRecord) (stop : _) (result : ReplayStop F) (after : K)
       → IsRecord (venues_in config) r.what → seen ≡ rest
       → TakesPiece parsing.reads format seen (r ∷ []) len next
-      → ((hs : List History) → FollowAll config.window venues.items hs → StoppedAt taking config r
-      hs (at_state t r.time) u stop) → StopsShown taking.takes taking.fails is_shown
+      → ((at : ReplayPoint) → FollowAll config.window venues.items at.histories
+      → Knows config gaps at → StoppedAt taking config r at (at_state t r.time) u stop)
+      → StopsShown taking.takes taking.fails is_shown
       stop u.sink after result
-      → Ran reading parsing taking config from calls to start format rest before venues t
+      → Ran reading parsing taking config from calls to start format rest before venues gaps t
       → AnswersRun reading parsing taking is_shown config (told_facts config) from to start next
       before after (Err result)
   answers_stopped {len = len} {from = from} {to = to} {start = start} {next = next} {rest = rest}
       {before = before} {u = u} is_shown r stops.JournalFull result after is same piece takes s x =
       let read = record_read ins {left = drop len rest} r is same piece refl x.read in
-      let k = stopped_full sinks config r x.has.so (takes x.has.histories x.has.follow) in
+      let k = stopped_full sinks config r x.has.so (takes x.has.at x.has.follow x.has.knows) in
       elim s [
         | inl a ↦ subst (λ (r : ReplayStop F). AnswersRun reading parsing taking is_shown config
             (told_facts config) from to start next before after (Err r)) (sym a.0)
@@ -152,7 +156,7 @@ module _ {R S F K : Type 0} {reading : Reading R} {parsing : Parsing S F} {takin
       ]
   answers_stopped {len = len} {from = from} {to = to} {start = start} {next = next} {rest = rest}
       {before = before} {u = u} is_shown r stops.SinkFailed result after is same piece takes s x =
-      let k = stopped_within sinks config r x.has.so (takes x.has.histories x.has.follow) in
+      let k = stopped_within sinks config r x.has.so (takes x.has.at x.has.follow x.has.knows) in
       subst (λ (r : ReplayStop F). AnswersRun reading parsing taking is_shown config
       (told_facts config) from to start next before after (Err r)) (sym s.0)
       (record {
@@ -170,9 +174,9 @@ module _ {R S F K : Type 0} {reading : Reading R} {parsing : Parsing S F} {takin
 
   -- all was read
   pub ran_to_end : {calls : ℕ} {from mid to : R} {start format : S} {rest : List ℕ} {before : K}
-      {venues : VenueList} {t : ReplayState K} → rest ≡ [] → parsing.is_whole format
+      {venues : VenueList} {gaps : StandingGaps} {t : ReplayState K} → rest ≡ [] → parsing.is_whole format
       → calls + 1 ≤ config.turns → reading.ends mid to
-      → Ran reading parsing taking config from calls mid start format rest before venues t
+      → Ran reading parsing taking config from calls mid start format rest before venues gaps t
       → RanToEnd reading parsing taking config from to start format before t.sink venues.items
   ran_to_end {calls = calls} {from = from} {mid = mid} {start = start} {format = format}
       {before = before} {t = t} none whole few ends x =

@@ -10,31 +10,34 @@ use Rattle.feed_text.specs.Devices.{Reading, HasGiven}
 use Rattle.feed_text.specs.EventReplays.{venues_in}
 use Rattle.feed_text.specs.Following.{VenueList, FollowAll}
 use Rattle.feed_text.specs.Formats.{TimedRecord, Parsing, TakesPiece, HasReadRecords}
+use Rattle.feed_text.specs.declared.standing_gaps.StandingGaps.{StandingGaps}
+use Rattle.feed_text.specs.Rules.{ReplayPoint}
+use Rattle.feed_text.specs.Standings.{KeepsNone, Knows}
 use Rattle.feed_text.specs.ReplayStates.{SinkTaking, ReplayState}
 use Rattle.feed_text.specs.Running.{IsReplayStart, KeepsVenues, TakesNext}
 use Rattle.feed_text.proofs.Tales.{SinkLaws, tale_from, tale_with}
 use Rattle.feed_text.proofs.TakenRecords.{HasTaken, at_state, taken_next, taken_none, taken_shown}
 use Rattle.feed_text.proofs.ReadRecords.{InLaws, bytes_came, piece_passed, record_read}
 
--- `calls` calls read these records and then this rest, and they were taken.
+-- `calls` calls read these records and known this rest, and they were taken.
 pub record Ran {R S F K : Type 0} (reading : Reading R) (parsing : Parsing S F)
     (taking : SinkTaking K) (config : ReplayConfig)
     (from : R) (calls : ℕ) (to : R) (start format : S) (rest : List ℕ) (before : K)
-    (venues : VenueList) (state : ReplayState K) : Type 0 where
+    (venues : VenueList) (kept : StandingGaps) (state : ReplayState K) : Type 0 where
   pub records : List TimedRecord
   pub read : HasReadRecords reading parsing (venues_in config) from calls to
       start records format rest
-  pub has : HasTaken taking config records before venues state
+  pub has : HasTaken taking config records before venues kept state
 
 module _ {R S F K : Type 0} {reading : Reading R} {parsing : Parsing S F} {taking : SinkTaking K}
     (ins : InLaws reading parsing) (sinks : SinkLaws taking) (config : ReplayConfig) where
   pub ran_none : {held : List ℕ} {venues : VenueList} {journal : NumberedState} (time : Option ℕ)
-      (from : R) (start : S) (sink : K) (calls : ℕ) → calls ≡ 0
-      → IsReplayStart config held venues journal
-      → Ran reading parsing taking config from calls from start start held sink venues
+      (from : R) (start : S) (sink : K) (calls : ℕ) (kept : StandingGaps) → calls ≡ 0
+      → KeepsNone kept → IsReplayStart config held venues journal
+      → Ran reading parsing taking config from calls from start start held sink venues kept
       (tale_from journal time sink)
   ran_none {held = held} {venues = venues} {journal = journal} time from start sink
-      calls none s = record {
+      calls kept none empty s = record {
         records = [];
         read = record {
           each = All-nil (IsRecord (venues_in config));
@@ -43,29 +46,31 @@ module _ {R S F K : Type 0} {reading : Reading R} {parsing : Parsing S F} {takin
               rw none (ins.gives_none from);
           read = rw s.unread (ins.reads_none start []);
         };
-        has = taken_none sinks config held venues journal time sink s;
+        has = taken_none sinks config held venues journal time sink kept empty s;
       }
 
   pub ran_step : {calls len : ℕ} {from to : R} {start format next : S} {rest left seen : List ℕ}
-      {before : K} {venues after : VenueList} {t u : ReplayState K} (r : TimedRecord)
+      {before : K} {venues after : VenueList} {gaps known : StandingGaps} {t u : ReplayState K}
+      (r : TimedRecord)
       → IsRecord (venues_in config) r.what → seen ≡ rest
       → TakesPiece parsing.reads format seen (r ∷ []) len next → left ≡ drop len rest
       → KeepsVenues venues after
-      → ((hs : List History) → FollowAll config.window venues.items hs → TakesNext taking config r
-      hs (at_state t r.time) u after.items (Ok tt))
-      → Ran reading parsing taking config from calls to start format rest before venues t
-      → Ran reading parsing taking config from calls to start next left before after u
+      → ((at : ReplayPoint) → FollowAll config.window venues.items at.histories
+      → Knows config gaps at
+      → TakesNext taking config r at (at_state t r.time) u after.items known (Ok tt))
+      → Ran reading parsing taking config from calls to start format rest before venues gaps t
+      → Ran reading parsing taking config from calls to start next left before after known u
   ran_step r is same piece gone kept takes x = record {
     records = x.records ++ r ∷ [];
     read = record_read ins r is same piece gone x.read;
-    has = taken_next sinks config r x.has kept (takes x.has.histories x.has.follow);
+    has = taken_next sinks config r x.has kept (takes x.has.at x.has.follow x.has.knows);
   }
 
   pub ran_passed : {calls len : ℕ} {from to : R} {start format next : S} {rest left seen : List ℕ}
-      {before : K} {venues : VenueList} {t : ReplayState K} → seen ≡ rest
+      {before : K} {venues : VenueList} {gaps : StandingGaps} {t : ReplayState K} → seen ≡ rest
       → TakesPiece parsing.reads format seen [] len next → left ≡ drop len rest
-      → Ran reading parsing taking config from calls to start format rest before venues t
-      → Ran reading parsing taking config from calls to start next left before venues t
+      → Ran reading parsing taking config from calls to start format rest before venues gaps t
+      → Ran reading parsing taking config from calls to start next left before venues gaps t
   ran_passed same piece gone x = record {
     records = x.records;
     read = piece_passed ins same piece
@@ -74,10 +79,10 @@ module _ {R S F K : Type 0} {reading : Reading R} {parsing : Parsing S F} {takin
   }
 
   pub ran_read : {calls all : ℕ} {from mid to : R} {start format : S} {rest longer : List ℕ}
-      {before : K} {venues : VenueList} {t : ReplayState K} → calls + 1 ≡ all
+      {before : K} {venues : VenueList} {gaps : StandingGaps} {t : ReplayState K} → calls + 1 ≡ all
       → HasGiven reading.gives mid to rest longer 1
-      → Ran reading parsing taking config from calls mid start format rest before venues t
-      → Ran reading parsing taking config from all to start format longer before venues t
+      → Ran reading parsing taking config from calls mid start format rest before venues gaps t
+      → Ran reading parsing taking config from all to start format longer before venues gaps t
   ran_read count came x = record {
     records = x.records;
     read = bytes_came ins count came x.read;
@@ -85,10 +90,10 @@ module _ {R S F K : Type 0} {reading : Reading R} {parsing : Parsing S F} {takin
   }
 
   pub ran_shown : {calls : ℕ} {from to : R} {start format : S} {rest : List ℕ} {before : K}
-      {venues : VenueList} {t : ReplayState K} (sink : K) → taking.takes t.sink [] sink
-      → Ran reading parsing taking config from calls to start format rest before venues t
+      {venues : VenueList} {gaps : StandingGaps} {t : ReplayState K} (sink : K) → taking.takes t.sink [] sink
+      → Ran reading parsing taking config from calls to start format rest before venues gaps t
       → Ran reading parsing taking config from calls to start format rest before
-      venues (tale_with t sink)
+      venues gaps (tale_with t sink)
   ran_shown sink shown x = record {
     records = x.records;
     read = x.read;
@@ -97,10 +102,10 @@ module _ {R S F K : Type 0} {reading : Reading R} {parsing : Parsing S F} {takin
   }
 
   pub ran_kept : {calls : ℕ} {from to : R} {start format next : S} {rest : List ℕ} {before : K}
-      {venues : VenueList} {t : ReplayState K} → next ≡ format
-      → Ran reading parsing taking config from calls to start format rest before venues t
-      → Ran reading parsing taking config from calls to start next rest before venues t
+      {venues : VenueList} {gaps : StandingGaps} {t : ReplayState K} → next ≡ format
+      → Ran reading parsing taking config from calls to start format rest before venues gaps t
+      → Ran reading parsing taking config from calls to start next rest before venues gaps t
   ran_kept {calls = calls} {from = from} {to = to} {start = start} {rest = rest} {before = before}
-      {venues = venues} {t = t} e x =
+      {venues = venues} {gaps = gaps} {t = t} e x =
       subst (λ (f : S). Ran reading parsing taking config from calls to start f rest
-      before venues t) (sym e) x
+      before venues gaps t) (sym e) x

@@ -12,7 +12,7 @@ use Rattle.feed_text.specs.declared.replay_sink.PublishStop.{PublishStop}
 use Rattle.feed_text.specs.Tellings.{last_told, lasts_told}
 use Rattle.feed_text.specs.ReplayStates.{SinkTaking, ReplayState, EmitsInto}
 use Rattle.feed_text.specs.ReplayEvents.{self_help_declared}
-use Rattle.feed_text.specs.Following.{ReplayVenue, VenueList, Follows, FollowAll, EmitsOne, TakesRecord}
+use Rattle.feed_text.specs.Following.{ReplayVenue, VenueList, Follows, FollowAll, EmitsNext, EmitsOne, TakesRecord}
 use Rattle.feed_types.specs.ListLaws.{get_within}
 use Rattle.feed_text.specs.laws.Lists.{get_set_same, get_set_other, same_or_not, same_set}
 use Rattle.feed_text.specs.declared.lack.Lack.{Lack}
@@ -21,7 +21,7 @@ use Rattle.feed_text.proofs.VenueSteps.{on_ok}
 use Rattle.feed_text.proofs.Rest.{rest_at}
 
 -- one venue and its history go on
-follow_set : (window i : ℕ) (vs : List ReplayVenue) (hs : List History) (v : ReplayVenue)
+pub follow_set : (window i : ℕ) (vs : List ReplayVenue) (hs : List History) (v : ReplayVenue)
     (h : History) → FollowAll window vs hs → Follows window i v h
     → FollowAll window (slice_set vs i v) (slice_set hs i h)
 follow_set window i vs hs v h f now = record {
@@ -48,6 +48,28 @@ history_at window vs hs i v f at =
     let h = get_within hs i (omega arith) in
     (h.0, h.1, f.each i v h.0 at h.1)
 
+-- the events of one record at its venue are those of the record
+pub emits_next : {K : Type 0} {taking : SinkTaking K} → (window : ℕ) (gaps : Bool)
+    (vs : List ReplayVenue) (hs : List History) (r : CaptureRecord) (w : ReplayVenue) (h : History)
+    (old new : ReplayState K) (done : Result (Unit {0}) PublishStop)
+    → FollowAll window vs hs → slice_get hs (record_venue r) ≡ Some h
+    → EmitsOne taking window gaps r h old new w done
+    → EmitsNext taking window gaps r hs old new (slice_set vs (record_venue r) w) done
+emits_next window gaps vs hs r w h old new done f at one = record {
+  emitted = one.emitted;
+  after = slice_set hs (record_venue r) one.after;
+  record_tells = record {
+    before = h;
+    after = one.after;
+    at = at;
+    emits = one.at;
+    others = refl;
+  };
+  emits = one.emits;
+  follow = on_ok_weaker done (λ g. follow_set window (record_venue r) vs hs w one.after f g)
+      one.follows;
+}
+
 -- one record
 pub takes_one : {K : Type 0} {taking : SinkTaking K} → (from to : VenueList) (r : CaptureRecord)
     (old new : ReplayState K) (done : Result (Unit {0}) PublishStop) (v w : ReplayVenue)
@@ -60,22 +82,9 @@ takes_one {K} {taking} from to r old new done v w at set gaps step = record {
   count = on_ok done (ap length set ∙ length-set from.items (record_venue r) w);
   emitted = λ window hs f.
       let h = history_at window from.items hs (record_venue r) v f at in
-      let one = step window h.0 h.2 in
-      record {
-        emitted = one.emitted;
-        after = slice_set hs (record_venue r) one.after;
-        record_tells = record {
-          before = h.0;
-          after = one.after;
-          at = h.1;
-          emits =
-              one.at;
-          others = refl;
-        };
-        emits = one.emits;
-        follow = on_ok_weaker done (λ g. rw set (follow_set window (record_venue r) from.items hs w
-            one.after f g)) one.follows;
-      };
+      subst (λ (ws : List ReplayVenue). EmitsNext taking window from.gaps r hs old new ws done)
+      (sym set) (emits_next window from.gaps from.items hs r w h.0 old new done f h.1
+      (step window h.0 h.2));
 }
 
 -- a declaration: the venues and what came to them stay

@@ -7,7 +7,7 @@ use Rattle.feed_text.specs.declared.replay.ReplayConfig.{ReplayConfig}
 use Rattle.feed_text.specs.Emitted.{EmitsRecord, Emits}
 use Rattle.feed_text.specs.Formats.{TimedRecord, what_of}
 use Rattle.feed_text.specs.ReplayEvents.{ReplayEvent, entries_of}
-use Rattle.feed_text.specs.Rules.{AreTakenOf, IsTakenNext}
+use Rattle.feed_text.specs.Rules.{AreTakenOf, IsTakenNext, ReplayPoint, point_after}
 use Rattle.feed_text.specs.SinkEvents.{TimedEvent, at_time, timed_event}
 use Rattle.feed_text.specs.Tellings.{told_of}
 use Rattle.feed_text.specs.Told.{told_by_records}
@@ -96,15 +96,15 @@ told_both symbols time entries xs ys = ap (at_time time) (told_more symbols entr
     (told_of symbols (entries_of entries xs) ys)
 
 -- what is taken next of a record has its time
-pub next_time : (config : ReplayConfig) (hs : List History) (r t : TimedRecord)
-    (left : List TimedRecord) → IsTakenNext config hs (r ∷ []) t left → t.time ≡ r.time
+pub next_time : (config : ReplayConfig) (at : ReplayPoint) (r t : TimedRecord)
+    (left : List TimedRecord) → IsTakenNext config at (r ∷ []) t left → t.time ≡ r.time
 next_time config hs r t left (inl x) = ap (λ (q : TimedRecord). q.time) x.0.2
 next_time config hs r t left (inr x) = ap (λ (q : TimedRecord). q.time) x.1
 
 -- nothing is taken of no record
 taken_of_none : (config : ReplayConfig) (time : Option ℕ) (ts : List TimedRecord)
-    (at hs : List History) (left : List TimedRecord) (after : List History) (entries : List Entry)
-    (emitted : List ReplayEvent) (new : List History)
+    (at : ReplayPoint) (hs : List History) (left : List TimedRecord) (after : ReplayPoint)
+    (entries : List Entry) (emitted : List ReplayEvent) (new : List History)
     → AreTakenOf config [] at ts left after
     → Emits config.window config.gaps (map what_of ts) hs emitted new
     → Tells config ts hs entries emitted (at_time time (told_of config.symbols.now entries emitted))
@@ -121,8 +121,8 @@ taken_of_none config time (t ∷ ts) at hs left after entries emitted new (
 
 -- what is told of what is taken of one record
 pub taken_of_one : (config : ReplayConfig) (r : TimedRecord) (ts : List TimedRecord)
-    (at hs : List History) (left : List TimedRecord) (after : List History) (entries : List Entry)
-    (emitted : List ReplayEvent) (new : List History)
+    (at : ReplayPoint) (hs : List History) (left : List TimedRecord) (after : ReplayPoint)
+    (entries : List Entry) (emitted : List ReplayEvent) (new : List History)
     → AreTakenOf config (r ∷ []) at ts left after
     → Emits config.window config.gaps (map what_of ts) hs emitted new
     → Tells config ts hs entries emitted
@@ -138,12 +138,13 @@ taken_of_one config r (t ∷ ts) at hs left after entries emitted new (
 ) (m, first, others, one, more, whole) =
     let T : List TimedEvent = at_time r.time (told_of config.symbols.now
     (entries_of entries first) others) in
+    let later : ReplayPoint = point_after config at t mid in
     let time = next_time config at r t left_after next in
     let tail : Tells config ts m (entries_of entries first) others T new = elim next [
-      | inl x ↦ taken_of_one config r ts mid m left after (entries_of entries first) others new
-          (subst (λ (l : List TimedRecord). AreTakenOf config l mid ts left after) x.1 rest) more
-      | inr x ↦ taken_of_none config r.time ts mid m left after (entries_of entries first) others
-          new (subst (λ (l : List TimedRecord). AreTakenOf config l mid ts left after) x.2 rest)
+      | inl x ↦ taken_of_one config r ts later m left after (entries_of entries first) others new
+          (subst (λ (l : List TimedRecord). AreTakenOf config l later ts left after) x.1 rest) more
+      | inr x ↦ taken_of_none config r.time ts later m left after (entries_of entries first) others
+          new (subst (λ (l : List TimedRecord). AreTakenOf config l later ts left after) x.2 rest)
           more
     ] in (
       m,

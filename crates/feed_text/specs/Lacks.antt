@@ -4,12 +4,12 @@ use Rattle.mold_packet.specs.declared.request.Request.{Request}
 use Rattle.line_arbiter.specs.Histories.{History}
 use Rattle.feed_text.specs.declared.lack.Lack.{Lack}
 use Rattle.feed_text.specs.declared.replay.ReplayConfig.{ReplayConfig}
+use Rattle.feed_text.specs.declared.standing_gap.StandingGap.{StandingGap}
 use Rattle.feed_text.specs.Devices.{Reading}
 use Rattle.line_arbiter.specs.LastSent.{last_gap}
 use Rattle.feed_text.specs.EventReplays.{venues_in}
 use Rattle.feed_text.specs.Formats.{TimedRecord, Parsing, HasReadRecords}
-use Rattle.feed_text.specs.Rules.{AreTakenOf}
-use Rattle.feed_text.specs.Texts.{new_histories}
+use Rattle.feed_text.specs.Rules.{AreTakenOf, new_point}
 
 -- what a venue lacks by its gap
 abbrev pub lack_by : ℕ → Option Request → List Lack
@@ -36,5 +36,7 @@ pub record AppendsLacks {R S F : Type 0} (reading : Reading R) (parsing : Parsin
   pub end : reading.ends mid to
   pub taken : List TimedRecord
   pub histories : List History
-  pub are_taken : AreTakenOf config records (new_histories config) taken [] histories
+  pub standing : ℕ → Option StandingGap
+  pub are_taken : AreTakenOf config records (new_point config) taken []
+      (record { histories = histories; standing = standing })
   pub lacks : new ≡ old ++ lacks_of config.window 0 histories

@@ -6,6 +6,12 @@ pub mod Lines
 pub mod ReplayEvents
 pub mod Emitted
 pub mod Rules
+pub mod Standings
+pub mod Joining
+pub mod Skipping
+pub mod Renewing
+pub mod RenewingVenues
+pub mod PuttingIn
 pub mod VenueItems
 pub mod Texts
 pub mod ReplayStates

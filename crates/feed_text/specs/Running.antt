@@ -7,6 +7,8 @@ use Rattle.feed_text.specs.declared.replay_stop.ReplayStop.{ReplayStop}
 use Rattle.feed_text.specs.declared.replay_stop.ReplayStop.TheVariants.{JournalFull, SinkFailed}
 use Rattle.feed_text.specs.declared.replay_sink.PublishStop.{PublishStop}
 use Rattle.feed_text.specs.declared.replay_sink.PublishStop.TheVariants as stops
+use Rattle.feed_text.specs.declared.standing_gaps.StandingGaps.{StandingGaps}
+use Rattle.feed_text.specs.Capture.{CaptureRecord}
 use Rattle.feed_text.specs.Devices.{Reading}
 use Rattle.feed_text.specs.Emitted.{EmitsRecord, Emits}
 use Rattle.feed_text.specs.EventReplays.{AnswersRun, venues_in}
@@ -14,8 +16,9 @@ use Rattle.feed_text.specs.Following.{ReplayVenue, VenueList, FollowAll}
 use Rattle.feed_text.specs.Formats.{TimedRecord, Parsing, HasReadRecords, what_of}
 use Rattle.feed_text.specs.ReplayEvents.{ReplayEvent}
 use Rattle.feed_text.specs.ReplayStates.{SinkTaking, ReplayState, EmitsInto, GoesOn}
-use Rattle.feed_text.specs.Rules.{AreTakenOf, IsTakenNext, PutsIn}
+use Rattle.feed_text.specs.Rules.{AreTakenOf, IsTakenNext, PutsIn, ReplayPoint}
 use Rattle.feed_text.specs.SinkEvents.{TimedEvent, at_time}
+use Rattle.feed_text.specs.Standings.{Awaits, Knows}
 use Rattle.feed_text.specs.Tellings.{lasts_told}
 use Rattle.feed_text.specs.Texts.{new_histories}
 use Rattle.feed_text.specs.Told.{IsToldUpTo, told_facts}
@@ -25,65 +28,75 @@ pub record KeepsVenues (from to : VenueList) : Type 0 where
   pub gaps : to.gaps ≡ from.gaps
   pub count : length to.items ≡ length from.items
 
--- the venues follow some histories
-abbrev pub FollowSome : ReplayConfig → VenueList → Type 0
-FollowSome config at = (hs : List History) × FollowAll config.window at.items hs
+-- the venues follow some histories, and the gaps that stand are known
+abbrev pub FollowSome : ReplayConfig → VenueList → StandingGaps → Type 0
+FollowSome config venues kept =
+    (at : ReplayPoint) × FollowAll config.window venues.items at.histories × Knows config kept at
 
--- These were taken of a record that was read last, the skips before it or these and itself, and
+-- These were taken of a record that was read last, what is put in before it or that and itself, and
 -- their events were emitted.
 pub record TookSome {K : Type 0} (taking : SinkTaking K) (config : ReplayConfig)
-    (read left : List TimedRecord) (hs : List History) (old new : ReplayState K)
-    (after : List History) : Type 0 where
+    (read left : List TimedRecord) (at : ReplayPoint) (old new : ReplayState K)
+    (after : ReplayPoint) : Type 0 where
   pub taken : List TimedRecord
   pub emitted : List ReplayEvent
-  pub are : AreTakenOf config read hs taken left after
-  pub emits : Emits config.window config.gaps (map what_of taken) hs emitted after
+  pub are : AreTakenOf config read at taken left after
+  pub emits : Emits config.window config.gaps (map what_of taken) at.histories emitted
+      after.histories
   pub goes : GoesOn taking old emitted new
 
--- A record was taken, after the skips that the rule puts in before it, and the venues follow the
--- histories after it.
+-- A record was taken, after what is put in before it, the venues follow the histories after it, and
+-- the gaps that stand are known.
 pub record TookNext {K : Type 0} (taking : SinkTaking K) (config : ReplayConfig)
-    (r : TimedRecord) (hs : List History) (old new : ReplayState K) (vs : List ReplayVenue)
-    : Type 0 where
-  pub after : List History
-  pub took : TookSome taking config (r ∷ []) [] hs old new after
-  pub follow : FollowAll config.window vs after
+    (r : TimedRecord) (at : ReplayPoint) (old new : ReplayState K) (vs : List ReplayVenue)
+    (kept : StandingGaps) : Type 0 where
+  pub after : ReplayPoint
+  pub took : TookSome taking config (r ∷ []) [] at old new after
+  pub follow : FollowAll config.window vs after.histories
+  pub knows : Knows config kept after
 
--- The skips before a record were taken, and the venues follow the histories after them: none is put
--- in any more.
-pub record TookSkips {K : Type 0} (taking : SinkTaking K) (config : ReplayConfig)
-    (r : TimedRecord) (hs : List History) (old new : ReplayState K) (vs : List ReplayVenue)
-    : Type 0 where
-  pub after : List History
-  pub took : TookSome taking config (r ∷ []) (r ∷ []) hs old new after
-  pub follow : FollowAll config.window vs after
-  pub none : (number : ℕ) → PutsIn config after r.what number → ⊥
+-- What is put in before a record was taken, and the venues follow the histories after it: nothing
+-- is put in any more.
+pub record TookPutIn {K : Type 0} (taking : SinkTaking K) (config : ReplayConfig)
+    (r : TimedRecord) (at : ReplayPoint) (old new : ReplayState K) (vs : List ReplayVenue)
+    (kept : StandingGaps) : Type 0 where
+  pub after : ReplayPoint
+  pub took : TookSome taking config (r ∷ []) (r ∷ []) at old new after
+  pub follow : FollowAll config.window vs after.histories
+  pub awaits : Awaits config kept r after
+  pub none : (put_in : CaptureRecord) → PutsIn config after r put_in → ⊥
 
--- A stop came within a record, or within a skip before it.
+-- A stop came within a record, or within one that is put in before it.
 pub record StoppedAt {K : Type 0} (taking : SinkTaking K) (config : ReplayConfig)
-    (r : TimedRecord) (hs : List History) (old new : ReplayState K) (stop : PublishStop)
+    (r : TimedRecord) (at : ReplayPoint) (old new : ReplayState K) (stop : PublishStop)
     : Type 0 where
-  pub mid : List History
+  pub mid : ReplayPoint
   pub state : ReplayState K
-  pub took : TookSome taking config (r ∷ []) (r ∷ []) hs old state mid
+  pub took : TookSome taking config (r ∷ []) (r ∷ []) at old state mid
   pub last : TimedRecord
   pub left : List TimedRecord
   pub is_last : IsTakenNext config mid (r ∷ []) last left
   pub emitted : List ReplayEvent
   pub after : List History
-  pub last_tells : EmitsRecord config.window config.gaps last.what mid emitted after
+  pub last_tells : EmitsRecord config.window config.gaps last.what mid.histories emitted after
   pub stopped : EmitsInto taking state emitted new (Err stop)
 
--- A record and the skips before it, by the answer; or the skips before it alone.
-abbrev pub TakesNext : {K : Type 0} → SinkTaking K → ReplayConfig → TimedRecord → List History
-    → ReplayState K → ReplayState K → List ReplayVenue → Result (Unit {0}) PublishStop → Type 0
-TakesNext taking config r hs old new vs (Ok done) = TookNext taking config r hs old new vs
-TakesNext taking config r hs old new vs (Err stop) = StoppedAt taking config r hs old new stop
+-- A record and what is put in before it, by the answer; or what is put in alone.
+abbrev pub TakesNext : {K : Type 0} → SinkTaking K → ReplayConfig → TimedRecord → ReplayPoint
+    → ReplayState K → ReplayState K → List ReplayVenue → StandingGaps
+    → Result (Unit {0}) PublishStop → Type 0
+TakesNext taking config r at old new vs kept (Ok done) =
+    TookNext taking config r at old new vs kept
+TakesNext taking config r at old new vs kept (Err stop) =
+    StoppedAt taking config r at old new stop
 
-abbrev pub TakesSkips : {K : Type 0} → SinkTaking K → ReplayConfig → TimedRecord → List History
-    → ReplayState K → ReplayState K → List ReplayVenue → Result (Unit {0}) PublishStop → Type 0
-TakesSkips taking config r hs old new vs (Ok done) = TookSkips taking config r hs old new vs
-TakesSkips taking config r hs old new vs (Err stop) = StoppedAt taking config r hs old new stop
+abbrev pub TakesPutIn : {K : Type 0} → SinkTaking K → ReplayConfig → TimedRecord → ReplayPoint
+    → ReplayState K → ReplayState K → List ReplayVenue → StandingGaps
+    → Result (Unit {0}) PublishStop → Type 0
+TakesPutIn taking config r at old new vs kept (Ok done) =
+    TookPutIn taking config r at old new vs kept
+TakesPutIn taking config r at old new vs kept (Err stop) =
+    StoppedAt taking config r at old new stop
 
 -- Nothing came yet.
 pub record IsReplayStart (config : ReplayConfig) (held : List ℕ) (at : VenueList)

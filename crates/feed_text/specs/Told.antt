@@ -1,16 +1,17 @@
 -- What a sink is told of the records of a capture: of those that are taken, which are the records
--- and the skips that a rule puts in, each one's events at its time.
-use Rattle.std.specs.Prelude.{◌≡◌, ◌<◌, List, [], ◌∷◌, ◌++◌, length, map, None}
+-- and those that a replay puts in, each one's events at its time.
+use Rattle.std.specs.Prelude.{◌≡◌, ◌<◌, ℕ, Option, List, [], ◌∷◌, ◌++◌, length, map, None}
 use Rattle.feed_types.specs.declared.journal.Entry.{Entry}
 use Rattle.line_arbiter.specs.Histories.{History}
 use Rattle.feed_text.specs.declared.replay.ReplayConfig.{ReplayConfig}
+use Rattle.feed_text.specs.declared.standing_gap.StandingGap.{StandingGap}
 use Rattle.feed_text.specs.Formats.{TimedRecord, what_of}
 use Rattle.feed_text.specs.ReplayEvents.{ReplayEvent, entries_of}
 use Rattle.feed_text.specs.Emitted.{Emits, EmitsRecord}
 use Rattle.feed_text.specs.SinkEvents.{TimedEvent, at_time}
 use Rattle.feed_text.specs.Tellings.{told_of, lasts_told}
 use Rattle.feed_text.specs.Texts.{EmitsAll, HasJournalRoom, new_histories}
-use Rattle.feed_text.specs.Rules.{AreTakenOf, IsTakenNext}
+use Rattle.feed_text.specs.Rules.{AreTakenOf, IsTakenNext, ReplayPoint, new_point}
 
 -- what is told of records that emit these events, after these entries
 abbrev pub told_by_records : (config : ReplayConfig) (records : List TimedRecord)
@@ -22,18 +23,25 @@ told_by_records config (r ∷ rs) old entries emitted new (mid, first, others, o
     ++ told_by_records config rs mid (entries_of entries first) others new rest
 
 -- What is told of records of which these are left: of the others these are taken, the records
--- themselves and the skips that the rule puts in; they emit these events, which have room in the
+-- themselves and those that a replay puts in; they emit these events, which have room in the
 -- journal, and lead to these histories.
 pub record IsToldUpTo (config : ReplayConfig) (records left : List TimedRecord)
     (told : List TimedEvent) : Type 0 where
   pub taken : List TimedRecord
   pub emitted : List ReplayEvent
   pub histories : List History
-  pub are_taken : AreTakenOf config records (new_histories config) taken left histories
+  pub standing : ℕ → Option StandingGap
+  pub are_taken : AreTakenOf config records (new_point config) taken left
+      (record { histories = histories; standing = standing })
   pub emits : EmitsAll config (map what_of taken) emitted histories
   pub room : HasJournalRoom config emitted
   pub told_is : told
       ≡ told_by_records config taken (new_histories config) [] emitted histories emits
+
+-- the point that they lead to
+abbrev pub point_told : {config : ReplayConfig} {records left : List TimedRecord}
+    {told : List TimedEvent} → IsToldUpTo config records left told → ReplayPoint
+point_told x = record { histories = x.histories; standing = x.standing }
 
 -- what is told of records, without the venues' last events; and of some of them
 abbrev pub IsToldOf : ReplayConfig → List TimedRecord → List TimedEvent → Type 0
@@ -50,7 +58,7 @@ pub record IsToldOfAll (config : ReplayConfig) (records : List TimedRecord)
   pub told_is : told ≡ first ++ at_time None (lasts_told 0 is.histories)
 
 -- What is told up to a full journal: all that is taken before the last one, which is the record
--- that was read last, or a skip before it; its first events have room, too, and the next one would
+-- that was read last, or one that is put in before it; its first events have room, too, and the next one would
 -- add an entry past the journal's end.
 pub record IsToldToFull (config : ReplayConfig) (records : List TimedRecord)
     (told : List TimedEvent) : Type 0 where
@@ -59,7 +67,7 @@ pub record IsToldToFull (config : ReplayConfig) (records : List TimedRecord)
   pub before : IsToldUpTo config records (read_last ∷ []) told_before
   pub last : TimedRecord
   pub left : List TimedRecord
-  pub is_last : IsTakenNext config before.histories (read_last ∷ []) last left
+  pub is_last : IsTakenNext config (point_told before) (read_last ∷ []) last left
   pub first : List ReplayEvent
   pub next : ReplayEvent
   pub others : List ReplayEvent

@@ -1,17 +1,17 @@
 //! Laws of the definitions.
-ghost use Rattle.std.specs.Prelude.{◌≡◌, ℕ, Bool, List, [], Ok, Some, All, slice_get};
-ghost use Rattle.line_arbiter.specs.Histories.{History, skip_after, streams_of};
+ghost use Rattle.std.specs.Prelude.{◌≡◌, ℕ, Bool, List, [], Some, All, slice_get};
+ghost use Rattle.line_arbiter.specs.Histories.{History, streams_of};
 ghost use Rattle.feed_text.specs.declared.replay.ReplayConfig.{ReplayConfig};
-ghost use Rattle.feed_text.specs.Capture.{CaptureRecord, HoldsBytes, IsRecord, NoRecord, capture_of};
+ghost use Rattle.feed_text.specs.Capture.{CaptureRecord, HoldsBytes, IsRecord, NoRecord, capture_of, record_venue};
 ghost use Rattle.feed_text.specs.ReplayEvents.{ReplayEvent};
 ghost use Rattle.feed_text.specs.Emitted.{Emits, EmitsAt};
 ghost use Rattle.feed_text.specs.EventReplays.{venues_in};
 ghost use Rattle.feed_text.specs.Formats.{TimedRecord};
 ghost use Rattle.feed_text.specs.SinkEvents.{TimedEvent};
-ghost use Rattle.feed_text.specs.Texts.{EmitsAll, new_histories};
+ghost use Rattle.feed_text.specs.Texts.{EmitsAll};
 ghost use Rattle.feed_text.specs.Told.{IsToldOf, IsToldOfAll, IsToldToFull};
 ghost use Rattle.run_settings.specs.declared.skip_rule.SkipRule.{SkipRule};
-ghost use Rattle.feed_text.specs.Rules.{AreTakenOf, SkipsAt, skip_at};
+ghost use Rattle.feed_text.specs.Rules.{AreTakenOf, IsMade, PutsIn, ReplayPoint, new_point};
 ghost use Rattle.feed_text.specs.VenueItems.{items_taken};
 
 /// A capture has one reading: where the same bytes are records and then a rest that begins with
@@ -63,14 +63,16 @@ pub fn items_are_the_streams()
         → items_taken place emitted ≡ streams_of h }
 {}
 
-/// Without a rule what is taken of a capture's records are these records; and a skip that a rule
-/// puts in is made.
-pub fn rules_put_in_skips_that_are_made()
+/// Without a rule and next sessions what is taken of a capture's records are these records; and of
+/// what is put in a skip is made and a session begins.
+pub fn what_is_put_in_is_made()
     ensures never { (config : ReplayConfig) (records taken : List TimedRecord)
-        (histories : List History) → config.skips ≡ SkipRule.Never
-        → AreTakenOf config records (new_histories config) taken [] histories → taken ≡ records }
-    ensures made { (rule : SkipRule) (window number : ℕ) (gaps : Bool) (r : CaptureRecord)
-        (h after : History) (emitted : List ReplayEvent) → SkipsAt rule window r h number
-        → EmitsAt window gaps (skip_at r number) h emitted after
-        → after ≡ skip_after h number (Ok tt) }
+        (last : ReplayPoint) → config.skips ≡ SkipRule.Never → config.next_sessions.now ≡ []
+        → AreTakenOf config records (new_point config) taken [] last → taken ≡ records }
+    ensures made { (config : ReplayConfig) (at : ReplayPoint) (r : TimedRecord)
+        (put_in : CaptureRecord) (h after : History) (emitted : List ReplayEvent)
+        → PutsIn config at r put_in
+        → slice_get at.histories (record_venue put_in) ≡ Some h
+        → EmitsAt config.window config.gaps put_in h emitted after
+        → IsMade put_in h after }
 {}

@@ -36,23 +36,28 @@ mod event;
 mod event_sink;
 mod fault;
 mod fields;
+mod joining;
 mod lack;
 mod lack_lines;
 mod laws;
 mod lines;
 mod memory;
 mod output;
+mod overdue;
 mod own_format;
 mod page;
 mod parts;
+mod put_in;
 mod record_format;
+mod renewing;
 pub mod replay;
 mod replay_sink;
 mod replay_stop;
-mod rule_skips;
 mod run;
 mod skipping;
 mod standard_error;
+mod standing_gap;
+mod standing_gaps;
 mod system;
 mod text_page;
 mod text_sink;
@@ -69,8 +74,7 @@ pub use fault::ReplayFault;
 pub use lack::Lack;
 pub use lack_lines::write_lacks;
 pub use laws::{
-    every_capture_tells, items_are_the_streams, one_reading, one_telling,
-    rules_put_in_skips_that_are_made,
+    every_capture_tells, items_are_the_streams, one_reading, one_telling, what_is_put_in_is_made,
 };
 pub use lines::{put_change, put_venue};
 pub use memory::{MemoryIn, MemoryOut};
@@ -80,7 +84,7 @@ pub use page::LineBuffer;
 pub use parts::{put_bytes, put_name, put_number, put_price};
 pub use record_format::{CAPTURE_ROOM, RecordFormat, Step, is_complete};
 pub use replay_stop::{ReplayStop, Replayed};
-pub use skipping::skip_before;
+pub use standing_gap::StandingGap;
 pub use standard_error::{write_number, write_stderr};
 pub use system::{StreamIn, StreamOut};
 pub use text_page::TextPage;

@@ -5,11 +5,12 @@ ghost use Rattle.feed_text.specs.Running.{IsReplayStart, RunsToEnd, ShowsBefore,
 
 use crate::devices::CaptureIn;
 use crate::event_sink::{EventSink, SinkStop};
+use crate::put_in::follow_rule;
 use crate::record_format::{CAPTURE_ROOM, RecordFormat, Step, is_complete};
 use crate::replay::ReplayConfig;
 use crate::replay_sink::{PublishStop, ReplaySink};
 use crate::replay_stop::ReplayStop;
-use crate::rule_skips::follow_rule;
+use crate::standing_gaps::StandingGaps;
 use crate::unread::{ReadBuffer, ReadStep};
 use crate::venues::Venues;
 
@@ -55,11 +56,12 @@ pub fn run<R: CaptureIn, F: RecordFormat, K: EventSink>(
         venues.new.items result }
 {
     let mut turns = config.turns;
+    let mut kept = StandingGaps::new();
     'pieces: loop {
         match format.next(unread.bytes()) {
             Step::Came { record, time, len } => {
                 output.time = time;
-                if let Err(stop) = follow_rule(config, venues, &record, output) {
+                if let Err(stop) = follow_rule(config, venues, &mut kept, &record, output) {
                     return Err(stopped(stop, &mut output.sink));
                 }
                 if let Err(stop) = venues.take(record, output) {

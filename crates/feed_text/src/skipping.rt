@@ -1,32 +1,19 @@
 //! What a rule gives up of a venue before a packet.
-ghost use Rattle.std.specs.Prelude.{◌≡◌, ◌≤◌, ◌+◌, ℕ, MatchBool, MatchOption};
-ghost use Rattle.feed_types.specs.declared.line.LineId.{LineId};
+ghost use Rattle.std.specs.Prelude.{◌≡◌, ◌≤◌, ◌+◌, ⊤, ℕ, MatchBool, MatchOption};
 ghost use Rattle.mold_packet.specs.Content.{Content};
 ghost use Rattle.line_arbiter.specs.Fits.{cursors_of};
 ghost use Rattle.line_arbiter.specs.Histories.{History};
-ghost use Rattle.feed_text.specs.Capture.{datagram_record};
 ghost use Rattle.line_arbiter.specs.LastSent.{last_sent};
 ghost use Rattle.feed_text.specs.Following.{Follows};
-ghost use Rattle.feed_text.specs.Rules.{Allows, HasSentAll, IsAhead, SkipsAt, SkipsBefore, first_come};
+ghost use Rattle.feed_text.specs.Rules.{HasSentAll, IsAhead, IsPastGap, SkipsBefore, first_come};
+ghost use Rattle.feed_text.specs.Skipping.{SkipsBytes, SkipsNever};
 
+use crate::joining::{is_fresh, join_at};
 use crate::venue::VenueReplay;
 use feed_types::Anything;
 use line_arbiter::{Arbiter, ArbiterStatus};
 use mold_packet::{Kind, Packet, read_packet};
 use run_settings::SkipRule;
-
-/// Returns whether the rule gives anything up of a venue with these cursors.
-fn allows(rule: SkipRule, cursors: &ArbiterStatus) -> bool
-    ensures { (h : History) → cursors.now ≡ cursors_of (last_sent h) h.present.packets
-        → MatchBool result (Allows rule h) (Allows rule h → ⊥) }
-{
-    match rule {
-        SkipRule::Never => false,
-        SkipRule::Join => cursors.front == 0 && cursors.held == 0,
-        SkipRule::Gaps => true,
-        SkipRule::After(_) => false,
-    }
-}
 
 /// Returns whether the packet would be answered Ahead. `window` is the arbiter's.
 fn is_ahead(
@@ -70,21 +57,16 @@ fn first_past(arbiter: &Arbiter<Anything>, cursors: &ArbiterStatus, own: u64) ->
     if own <= missing { own } else { missing + 1 }
 }
 
-/// Returns the number below which the rule gives up what is missing before the packet, if it gives
-/// anything up, of an arbiter that has sent all that is ready. `window` is the arbiter's.
-pub fn skip_before(
-    rule: SkipRule,
-    window: u32,
-    arbiter: &Arbiter<Anything>,
-    packet: &Packet<'_>,
-) -> Option<u64>
+/// Returns the number below which what is missing is given up before the packet, where it would be
+/// answered Ahead, of an arbiter that has sent all that is ready. `window` is the arbiter's.
+fn gap_before(window: u32, arbiter: &Arbiter<Anything>, packet: &Packet<'_>) -> Option<u64>
     ensures { (h : History) → HasSentAll window arbiter.now h
         → MatchOption result
-        ((number : ℕ) → SkipsBefore rule window h packet.now number → ⊥)
-        (λ number. SkipsBefore rule window h packet.now number) }
+        ((number : ℕ) → IsPastGap window h packet.now number → ⊥)
+        (λ number. IsPastGap window h packet.now number) }
 {
     let cursors = arbiter.status();
-    if !allows(rule, &cursors) || !is_ahead(arbiter, &cursors, window, packet) {
+    if !is_ahead(arbiter, &cursors, window, packet) {
         return None;
     }
     let number = packet.number();
@@ -99,17 +81,53 @@ pub fn skip_before(
     }
 }
 
+/// Returns the number below which the rule gives up what is missing before the packet, if it gives
+/// anything up, of an arbiter that has sent all that is ready. `window` is the arbiter's.
+fn skip_before(
+    rule: SkipRule,
+    window: u32,
+    arbiter: &Arbiter<Anything>,
+    packet: &Packet<'_>,
+) -> Option<u64>
+    ensures { (h : History) → HasSentAll window arbiter.now h
+        → MatchOption result
+        ((number : ℕ) → SkipsBefore rule window h packet.now number → ⊥)
+        (λ number. SkipsBefore rule window h packet.now number) }
+{
+    match rule {
+        SkipRule::Never => None,
+        SkipRule::Join => join_at(arbiter, packet),
+        SkipRule::After(_) => join_at(arbiter, packet),
+        SkipRule::Gaps => gap_before(window, arbiter, packet),
+    }
+}
+
+/// Returns whether the rule may give anything up of the arbiter before a packet. Most often it
+/// gives nothing up, and no packet is read.
+fn may_skip(rule: SkipRule, arbiter: &Arbiter<Anything>) -> bool
+    ensures { (window : ℕ) (h : History) → HasSentAll window arbiter.now h
+        → MatchBool result ⊤ (SkipsNever rule window h) }
+{
+    match rule {
+        SkipRule::Never => false,
+        SkipRule::Join | SkipRule::After(_) => is_fresh(&arbiter.status()),
+        SkipRule::Gaps => true,
+    }
+}
+
 impl VenueReplay {
     /// Returns the number below which the rule gives up what is missing before a datagram of these
     /// bytes, if it gives anything up. `window` is that of the venue.
     pub fn skip_before_datagram(&self, rule: SkipRule, window: u32, bytes: &[u8]) -> Option<u64>
-        ensures { (place : ℕ) (line : LineId) (h : History) → Follows window place self.now h
+        ensures { (place : ℕ) (h : History) → Follows window place self.now h
             → MatchOption result
-            ((number : ℕ)
-            → SkipsAt rule window (datagram_record place line bytes.now) h number → ⊥)
-            (λ number. SkipsAt rule window (datagram_record place line bytes.now) h number) }
+            ((number : ℕ) → SkipsBytes rule window h bytes.now number → ⊥)
+            (λ number. SkipsBytes rule window h bytes.now number) }
     {
         mold_packet::one_reading();
+        if !may_skip(rule, &self.arbiter) {
+            return None;
+        }
         match read_packet(bytes) {
             Ok(packet) => skip_before(rule, window, &self.arbiter, &packet),
             Err(_) => None,

@@ -8,6 +8,7 @@ ghost use Rattle.line_arbiter.specs.Streams.{gap_of, place_of, stream_of};
 ghost use Rattle.line_arbiter.specs.Counts.{shown};
 ghost use Rattle.line_arbiter.specs.Fits.{Fits};
 ghost use Rattle.line_arbiter.specs.Histories.{History, new_history, streams_of};
+ghost use Rattle.line_arbiter.specs.LastSent.{last_gap};
 ghost use Rattle.feed_text.specs.Capture.{datagram_record, renewal_record, skip_record};
 ghost use Rattle.feed_text.specs.ReplayEvents.{item_taken, packet_answered};
 ghost use Rattle.feed_text.specs.Emitted.{gap_event};
@@ -23,7 +24,7 @@ use crate::lack::Lack;
 use crate::replay_sink::{PublishStop, ReplaySink};
 use feed_types::{Anything, Entry, LineId, Numbered, VenueId};
 use line_arbiter::{Arbiter, LineFault, Outcome, RenewFault, SkipFault};
-use mold_packet::{Messages, Packet, read_packet};
+use mold_packet::{Messages, Packet, Request, read_packet};
 use quote_payload::{peek_symbol_bytes, read_item};
 use std::alloc::{AllocError, Global};
 use std::marker::Model;
@@ -394,7 +395,7 @@ impl VenueReplay {
     }
 
     /// Begins the next session, where it may begin. Returns its ordinal.
-    fn next_session(&mut self, session: [u8; 10]) -> Result<u64, RenewFault>
+    pub(crate) fn next_session(&mut self, session: [u8; 10]) -> Result<u64, RenewFault>
         ensures { (width place : ℕ) (h : History) → Follows width place self.old h
             → Renews width place session h self.new result }
     {
@@ -460,6 +461,14 @@ impl VenueReplay {
             answer: &answer,
         })?;
         publish_each(&mut self.arbiter, venue, output)
+    }
+
+    /// Returns the run of messages that the venue lacks, if it lacks any.
+    pub fn gap(&self) -> Option<Request>
+        ensures { (width place : ℕ) (h : History) → Follows width place self.now h
+            → result ≡ last_gap width h }
+    {
+        self.arbiter.gap()
     }
 
     /// Appends what the venue lacks, if it lacks anything. There is memory for it.

@@ -1,13 +1,14 @@
 //! The venues of a replay.
 ghost use Rattle.std.specs.Prelude.{◌≡◌, ◌<◌, ◌≤◌, ◌+◌, ℕ, List, IfOk, MatchOption, None, OnErr, OnOk, length, map, vec_capacity};
-ghost use Rattle.feed_text.specs.Capture.{IsRecord, datagram_record, record_of, skip_record};
-ghost use Rattle.feed_types.specs.declared.line.LineId.{LineId};
+ghost use Rattle.feed_text.specs.Capture.{IsRecord, record_of, skip_record};
 ghost use Rattle.line_arbiter.specs.Histories.{History, new_history};
 ghost use Rattle.feed_text.specs.SinkEvents.{at_time};
 ghost use Rattle.feed_text.specs.Tellings.{lasts_told};
 ghost use Rattle.feed_text.specs.ReplayStates.{state_of_replay};
 ghost use Rattle.feed_text.specs.Following.{FollowAll, LeavesLacks, TakesRecord};
-ghost use Rattle.feed_text.specs.Rules.{PutsIn};
+ghost use Rattle.feed_text.specs.Rules.{gap_at};
+ghost use Rattle.feed_text.specs.Skipping.{SkipsAtVenue};
+ghost use Rattle.feed_text.specs.RenewingVenues.{RenewsAtVenue};
 
 use crate::capture::Record;
 use crate::event_sink::{EventSink, SinkStop};
@@ -16,13 +17,14 @@ use crate::replay::ReplayConfig;
 use crate::replay_sink::{PublishStop, ReplaySink};
 use crate::venue::VenueReplay;
 use feed_types::VenueId;
+use mold_packet::Request;
 use std::alloc::{AllocError, Global};
 use std::marker::Model;
 
 /// The venues of a replay, by their numbers, and whether gap lines are asked for.
 #[derive(Drop)]
 pub struct Venues {
-    venues: Vec<VenueReplay>,
+    pub(crate) venues: Vec<VenueReplay>,
     gaps: bool,
 }
 
@@ -115,15 +117,44 @@ impl Venues {
         bytes: &[u8],
     ) -> Option<u64>
         requires { venue < length self.now.items }
-        ensures { (line : LineId) (hs : List History)
-            → FollowAll config.now.window self.now.items hs
+        ensures { (hs : List History) → FollowAll config.now.window self.now.items hs
             → MatchOption result
-            ((number : ℕ)
-            → PutsIn config.now hs (datagram_record venue line bytes.now) number → ⊥)
-            (λ number. PutsIn config.now hs (datagram_record venue line bytes.now) number) }
+            ((number : ℕ) → SkipsAtVenue config.now hs venue bytes.now number → ⊥)
+            (λ number. SkipsAtVenue config.now hs venue bytes.now number) }
     {
         let replay = &self.venues[venue.index()];
         replay.skip_before_datagram(config.skips, config.window, bytes)
+    }
+
+    /// Begins the venue's next session before a datagram of these bytes, where that is a packet of
+    /// it and it may begin, and publishes the events of that. Returns whether it has begun.
+    pub fn renew_before<K: EventSink>(
+        &mut self,
+        config: &ReplayConfig<'_>,
+        venue: VenueId,
+        bytes: &[u8],
+        output: &mut ReplaySink<K>,
+    ) -> Result<bool, PublishStop>
+        requires { venue < length self.old.items }
+        ensures { RenewsAtVenue (record { takes = K.takes; fails = K.fails })
+            config.now.next_sessions.now venue bytes.now self.old self.new
+            (state_of_replay output.old) (state_of_replay output.new) result }
+    {
+        let replay = &mut self.venues[venue.index()];
+        replay.renew_before(config.next_sessions, venue, bytes, output)
+    }
+
+    /// Returns the run of messages that the venue lacks, if it lacks any.
+    pub fn gap(&self, venue: VenueId) -> Option<Request>
+        ensures { (window : ℕ) (hs : List History) → FollowAll window self.now.items hs
+            → result ≡ gap_at window hs venue }
+    {
+        let place = venue.index();
+        if place >= self.venues.len() {
+            return None;
+        }
+        let replay = &self.venues[place];
+        replay.gap()
     }
 
     /// Appends what each venue lacks, of each that lacks anything. There is memory for them.

@@ -43,7 +43,7 @@ laws_of g = laws_by g.met.K.EventSink.takes_none g.met.K.EventSink.takes_more
 pub pieces-init : goal.pieces-init
 pieces-init g c = record {
   ran = ran_none (in_laws g) (laws_of g) c.args.config.now c.args.output.now.time _ _ _ _
-      (omega arith) c.requires.starts;
+      c.new-kept.result (omega arith) c.new-kept.ensures c.requires.starts;
   turns = omega arith;
   room = rw c.requires.starts.unread (omega arith);
   reads = refl;
@@ -66,9 +66,10 @@ returns-in-Err-take g c =
     c.in-Err-take.stop c.stopped-in-Err-take.result c.stopped-in-Err-take.new.sink
     (rw (← c.pieces.invariant.of_venues) c.in-Came.ensures.came) c.bytes.ensures
     c.in-Came.ensures.steps
-    (λ hs f. next_taken (laws_of g) c.args.config.now r hs c.follow_rule.new.venues c.take.new.self
-    _ (state_of_replay c.follow_rule.new.output) (state_of_replay c.take.new.output)
-    (Err c.in-Err-take.stop) gaps (c.in_default.ensures.taken hs f) c.in-Err-take.ensures)
+    (λ at f k. next_taken (laws_of g) c.args.config.now r at c.follow_rule.new.venues
+    c.take.new.self _ (state_of_replay c.follow_rule.new.output)
+    (state_of_replay c.take.new.output) c.follow_rule.new.kept (Err c.in-Err-take.stop) gaps
+    (c.in_default.ensures.taken at f k) c.in-Err-take.ensures)
     c.stopped-in-Err-take.ensures c.pieces.invariant.ran
 
 pub pieces-preserved-in-Came : goal.pieces-preserved-in-Came
@@ -85,10 +86,10 @@ pieces-preserved-in-Came g c =
             count =
                 c.in_default-take.ensures.count ∙ c.in_default.ensures.kept.count;
           })
-          (λ hs f. next_taken (laws_of g) c.args.config.now r hs c.follow_rule.new.venues
+          (λ at f k. next_taken (laws_of g) c.args.config.now r at c.follow_rule.new.venues
           c.take.new.self _ (state_of_replay c.follow_rule.new.output)
-          (state_of_replay c.take.new.output) (Ok tt) gaps (c.in_default.ensures.taken hs f)
-          c.in_default-take.ensures)
+          (state_of_replay c.take.new.output) c.follow_rule.new.kept (Ok tt) gaps
+          (c.in_default.ensures.taken at f k) c.in_default-take.ensures)
           c.pieces.invariant.ran;
       turns = c.pieces.invariant.turns;
       room = rw c.advance.ensures (omega (arith, c.pieces.invariant.room, length-drop {A = ℕ}));

@@ -22,7 +22,7 @@ invariant-pieces g l = record {
       })
       (record { takes = g.K.EventSink.takes; fails = g.K.EventSink.fails })
       l.config l.fn.reader (l.config.turns - l.turns) l.reader l.fn.format l.format l.unread
-      l.fn.output.sink l.venues (state_of_replay l.output);
+      l.fn.output.sink l.venues l.kept (state_of_replay l.output);
   turns : l.turns ≤ l.config.turns;
   room : length l.unread ≤ 1179648;
   reads : g.R.CaptureIn.failures l.reader ≡ g.R.CaptureIn.failures l.fn.reader;

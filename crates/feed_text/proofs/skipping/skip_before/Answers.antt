@@ -1,55 +1,17 @@
-use Rattle.feed_text.specs.Rules.{HasSentAll}
-use Rattle.std.proofs.Common.{◌≡◌, arith, ap, ◌∙◌}
-use Rattle.line_arbiter.specs.Fits.{cursors_of}
-use Rattle.line_arbiter.specs.Histories.{History}
-use Rattle.line_arbiter.specs.declared.arbiter.ArbiterStatus.{ArbiterStatus}
-use Rattle.line_arbiter.specs.LastSent.{last_sent}
-use Rattle.feed_text.proofs.VenueSteps.{cursors_shown}
+use Rattle.std.proofs.Common.{◌≡◌, ℕ, sym, subst}
+use Rattle.std.specs.Prelude.{MatchOption}
+use Rattle.run_settings.specs.declared.skip_rule.SkipRule.{SkipRule}
+use Rattle.feed_text.specs.Rules.{SkipsBefore}
 use Rattle.feed_text.proofs.skipping.skip_before.Goals as goal
-use Rattle.feed_text.proofs.skipping.skip_before.Goals.{After-status-cursors}
-use Rattle.feed_text.proofs.skipping.skip_before.Goals.{then-not-allows-via-then-not-allows, then-not-allows-via-else-not-allows+then-not-is_ahead}
 
-cursors_are : (c : After-status-cursors) (h : History) → HasSentAll c.args.window c.args.arbiter.now
-    h → c.status-cursors.result ≡ cursors_of (last_sent h) h.present.packets
-cursors_are c h f =
-    c.status-cursors.ensures.packets h.present.packets f.history.present ∙ cursors_shown h f
+pub returns-in-Join : goal.returns-in-Join
+returns-in-Join c = λ h f. subst (λ (rule : SkipRule). MatchOption c.join_at.result
+    ((number : ℕ) → SkipsBefore rule c.args.window h c.args.packet.now number → ⊥)
+    (λ number. SkipsBefore rule c.args.window h c.args.packet.now number)) (sym c.in-Join.is)
+    (c.join_at.ensures c.args.window h f)
 
-pub returns-then-not-allows : goal.returns-then-not-allows
-returns-then-not-allows c = λ h f number x.
-    let cursors = cursors_are (goal.at.returns-then-not-allows c).After-status-cursors h f in
-    elim c.then-not-allows.branch [
-      | then-not-allows-via-then-not-allows w ↦ w.if-not-allows.ensures h cursors x.allowed
-      | then-not-allows-via-else-not-allows+then-not-is_ahead w ↦ w.if-not-is_ahead.ensures h f
-          cursors x.ahead
-    ]
-
-pub overflow_add-result : goal.overflow_add-result
-overflow_add-result c = let most = c.first_past-past.ensures.most in omega arith
-
-pub returns-then-past-gt1 : goal.returns-then-past-gt1
-returns-then-past-gt1 c = λ h f.
-    let cursors = cursors_are (goal.at.returns-then-past-gt1 c).After-status-cursors h f in
-    let front = ap (λ (s : ArbiterStatus). s.front) cursors in
-    let own = c.number-number.ensures.value in
-    let test = c.if-number-cursors.false in
-    let past = c.if-past-gt1.true in
-    record {
-      allowed = c.if-not-allows.ensures h cursors;
-      ahead = c.if-not-is_ahead.ensures h f cursors;
-      first = c.first_past-past.ensures.first c.args.window h c.args.packet.now f cursors
-          (omega (arith, own, test));
-      missing = omega (arith, front, past);
-    }
-
-pub returns-else-past-gt1 : goal.returns-else-past-gt1
-returns-else-past-gt1 c = λ h f number x.
-    let cursors = cursors_are (goal.at.returns-else-past-gt1 c).After-status-cursors h f in
-    let front = ap (λ (s : ArbiterStatus). s.front) cursors in
-    let own = c.number-number.ensures.value in
-    let test = c.if-number-cursors.false in
-    let past = c.if-past-gt1.false in
-    let first = c.first_past-past.ensures.first c.args.window h c.args.packet.now f cursors
-    (omega (arith, own, test)) in
-    let is = x.first in
-    let missing = x.missing in
-    omega (arith, first, is, missing, front, past)
+pub returns-in-After : goal.returns-in-After
+returns-in-After c = λ h f. subst (λ (rule : SkipRule). MatchOption c.join_at-in-After.result
+    ((number : ℕ) → SkipsBefore rule c.args.window h c.args.packet.now number → ⊥)
+    (λ number. SkipsBefore rule c.args.window h c.args.packet.now number)) (sym c.in-After.is)
+    (c.join_at-in-After.ensures c.args.window h f)

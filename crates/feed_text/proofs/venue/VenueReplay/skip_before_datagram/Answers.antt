@@ -23,7 +23,7 @@ by_packet rule window h bytes p rest None one spells none = λ number y. none nu
 by_packet rule window h bytes p rest (Some n) one spells some = (p, rest, spells, some)
 
 pub returns-in-Ok : goal.returns-in-Ok
-returns-in-Ok c = λ place line h f.
+returns-in-Ok c = λ place h f.
     by_packet c.args.rule c.args.window h c.args.bytes.now c.in-Ok.packet
     c.in-Ok.ensures.spelled.0 c.skip_before.result
     (λ x y more less a b. c.one_reading.ensures.packet c.args.bytes.now x y more less a b)
@@ -31,3 +31,9 @@ returns-in-Ok c = λ place line h f.
     (c.skip_before.ensures h
     (all_sent h (subst (λ (w : ReplayVenue). Follows c.args.window place w h)
     (sym c.self.view_is) f)))
+
+pub returns-then-not-may_skip : goal.returns-then-not-may_skip
+returns-then-not-may_skip c = λ place h f number x.
+    c.if-not-may_skip.ensures c.args.window h
+    (all_sent h (subst (λ (w : ReplayVenue). Follows c.args.window place w h)
+    (sym c.self.view_is) f)) x.0 number x.3
