@@ -1,0 +1,3 @@
+pub mod GapCells
+pub mod GapMakers
+pub mod GapMakerLaws

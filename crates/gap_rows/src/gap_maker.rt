@@ -1,0 +1,126 @@
+//! What makes the rows of gaps.
+ghost use Rattle.std.specs.Prelude.{◌≡◌, []};
+ghost use Rattle.report_rows.specs.RowSinks.{IsNewRowSink};
+ghost use Rattle.report_rows.specs.RowTexts.{header_text};
+ghost use Rattle.gap_rows.specs.GapCells.{gap_names};
+
+use crate::gap_row::{gap_names, write_gaps};
+use feed_text::{Event, SinkStop, TextOut, TextPage};
+use feed_types::VenueId;
+use line_gaps::{EndedGaps, VenueGaps};
+use report_rows::{RowMaker, RowSink};
+use run_settings::RowFormat;
+
+/// What makes the rows of the gaps of venues, as they end, and at the end of the capture those of
+/// the gaps that are open.
+#[derive(Drop)]
+pub struct GapMaker {
+    pub format: RowFormat,
+    pub venues: Vec<VenueGaps>,
+    /// The gaps that the latest event ended.
+    pub ended: EndedGaps,
+}
+
+/// Returns the venue that an event is of, if gaps have a part in it.
+fn venue_of(event: &Event<'_>) -> Option<VenueId> {
+    match event {
+        Event::Packet { venue, .. } => Some(*venue),
+        Event::Renewal { venue, .. } => Some(*venue),
+        Event::Skip { venue, .. } => Some(*venue),
+        Event::Last { venue, .. } => Some(*venue),
+        Event::Item { .. } => None,
+        Event::Refusal { .. } => None,
+        Event::Best { .. } => None,
+        Event::Gap { .. } => None,
+        Event::Declaration { .. } => None,
+    }
+}
+
+/// Has a venue take an event of it, and appends the gaps that it ends.
+#[inline(always)]
+fn take_at(
+    venues: &mut Vec<VenueGaps>,
+    venue: VenueId,
+    time: Option<u64>,
+    event: &Event<'_>,
+    ended: &mut EndedGaps,
+)
+    requires { ended.old.gaps.items ≡ [] }
+{
+    let place = venue.index();
+    if place < venues.len() {
+        venues[place].take(time, event, ended);
+    }
+}
+
+impl GapMaker {
+    /// Of these venues.
+    pub fn new(format: RowFormat, venues: Vec<VenueGaps>) -> GapMaker
+        ensures format { result.format ≡ format }
+        ensures venues { result.venues ≡ venues }
+    {
+        GapMaker {
+            format,
+            venues,
+            ended: EndedGaps::new(),
+        }
+    }
+
+    /// Takes an event, and returns its venue, if it has one. What it ends are the gaps that ended.
+    #[inline(always)]
+    fn take_event(&mut self, time: Option<u64>, event: &Event<'_>) -> VenueId
+        ensures { self.new.format ≡ self.old.format }
+    {
+        self.ended.clear();
+        match venue_of(event) {
+            None => VenueId::at(0),
+            Some(venue) => {
+                take_at(&mut self.venues, venue, time, event, &mut self.ended);
+                venue
+            }
+        }
+    }
+}
+
+/// Makes the sink of the rows of gaps of these venues.
+pub fn new_gap_rows<W>(
+    page: TextPage<W>,
+    format: RowFormat,
+    venues: Vec<VenueGaps>,
+) -> RowSink<W, GapMaker>
+    requires { page.text.items ≡ [] }
+    ensures { IsNewRowSink page.writer result.maker (header_text format gap_names) result }
+{
+    RowSink::new(page, GapMaker::new(format, venues), format, &gap_names())
+}
+
+impl RowMaker for GapMaker {
+    ghost use Rattle.gap_rows.specs.GapMakers.{MakesGaps, TellsGaps};
+    ghost use Rattle.gap_rows.specs.GapMakerLaws.{makes_more_gaps, makes_no_gaps, tells_after_gaps, tells_no_gaps};
+
+    ghost tells = { TellsGaps };
+
+    ghost makes = { MakesGaps };
+
+    fn make<W: TextOut>(
+        &mut self,
+        page: &mut TextPage<W>,
+        time: Option<u64>,
+        event: &Event<'_>,
+    ) -> Result<(), SinkStop> {
+        let venue = self.take_event(time, event);
+        write_gaps(page, self.format, venue, self.ended.as_slice())
+    }
+
+    fn pass(&mut self, time: Option<u64>, event: &Event<'_>) {
+        let _venue = self.take_event(time, event);
+    }
+
+    ghost makes_none = { makes_no_gaps };
+
+    ghost makes_more = { makes_more_gaps };
+
+    ghost tells_none = { tells_no_gaps };
+
+    ghost tells_after = { tells_after_gaps };
+}
