@@ -69,6 +69,22 @@ pub all_elsewhere : (window : ℕ) (e : TimedEvent) (events : List TimedEvent) (
 all_elsewhere window e events vs away are = λ n v got.
     untouched window n e events v (away n (slice_get_within vs n v got)) (are n v got)
 
+-- one venue, which is what it was
+pub one_same : (window place : ℕ) (events : List TimedEvent) (vs : List VenueStats)
+    (old new : VenueStats) → slice_get vs place ≡ Some old
+    → ((own : List TimedEvent) → IsVenueOf window own old → IsVenueOf window own new)
+    → AreVenuesOf window events vs → AreVenuesOf window events (slice_set vs place new)
+one_same window place events vs old new was same are = λ n v got.
+    elim (cases_eq n place) [
+      | inl at ↦
+          let is : new ≡ v = got_same vs place new v
+          (subst (λ (k : ℕ). slice_get (slice_set vs place new) k ≡ Some v) at got) in
+          subst (λ (k : ℕ). IsVenueOf window (events_at k events) v) (sym at)
+          (subst (λ (x : VenueStats). IsVenueOf window (events_at place events) x) is
+          (same (events_at place events) (are place old was)))
+      | inr apart ↦ are n v (sym (got_other vs place n new apart) ∙ got)
+    ]
+
 -- one venue, to which the event came
 pub one_touched : (window place : ℕ) (e : TimedEvent) (events : List TimedEvent)
     (vs : List VenueStats) (old new : VenueStats) → slice_get vs place ≡ Some old

@@ -26,7 +26,6 @@ pub use report::figures::{
     busiest_figures, duration_figures, gap_figures, item_figures, leading_figures, line_figures,
     line_loss_figures, loss_figures, packet_figures, refusal_figures, state_figures, venue_figures,
 };
-pub use report::gap_sums::{GapEnds, GapSums};
 pub use report::statistics_report::Report;
 pub use report::summary::summary_figures;
 pub use report::venue_report::{GapReport, VenueReport};

@@ -3,7 +3,6 @@
 pub(crate) mod csv;
 pub(crate) mod figure;
 pub(crate) mod figures;
-pub(crate) mod gap_sums;
 pub(crate) mod json;
 pub(crate) mod statistics_report;
 pub(crate) mod summary;

@@ -8,7 +8,7 @@ use Rattle.replay_reports.specs.declared.counts.venue_counts.VenueCounts.{VenueC
 use Rattle.replay_reports.specs.declared.report.figure.Figure.{Figure}
 use Rattle.replay_reports.specs.declared.report.figure.FigureValue.{FigureValue}
 use Rattle.replay_reports.specs.declared.report.figure.FigureValue.TheVariants.{Nothing, Count, Time}
-use Rattle.replay_reports.specs.declared.report.gap_sums.GapSums.{GapSums}
+use Rattle.line_gaps.specs.declared.gap_sums.GapSums.{GapSums}
 use Rattle.replay_reports.specs.declared.report.venue_report.GapReport.{GapReport}
 use Rattle.replay_reports.specs.declared.times.busiest_period.Peak.{Peak}
 use Rattle.replay_reports.specs.declared.times.duration_stats.DurationStats.{DurationStats}

@@ -1,6 +1,6 @@
 -- What is held of a replay's events. Of a list of events the last one stands first.
 use Rattle.std.specs.Prelude.{◌≡◌, ℕ, ◌==◌, Bool, false, List, map, filter, slice_get, Some}
-use Rattle.feed_text.specs.SinkEvents.{SinkEvent, TimedEvent, told_packet, told_refusal, told_item, told_renewal, told_skip, told_declaration}
+use Rattle.feed_text.specs.SinkEvents.{SinkEvent, TimedEvent, told_packet, told_refusal, told_item, told_renewal, told_skip, told_declaration, told_last}
 use Rattle.replay_reports.specs.declared.stats.venue_stats.VenueStats.{VenueStats}
 use Rattle.replay_reports.specs.declared.stats.replay_stats.ReplayStats.{ReplayStats}
 use Rattle.replay_reports.specs.counts.Counts.{best_counts, venue_counts}
@@ -19,6 +19,7 @@ is_at_venue venue (told_item at numbered) = at == venue
 is_at_venue venue (told_renewal at answer) = at == venue
 is_at_venue venue (told_skip at number answer) = at == venue
 is_at_venue venue (told_declaration at on position) = at == venue
+is_at_venue venue (told_last at sent a b recovery) = at == venue
 is_at_venue venue _ = false
 
 abbrev pub events_at : ℕ → List TimedEvent → List TimedEvent

@@ -7,11 +7,11 @@ use crate::counts::item_counts::ItemCounts;
 use crate::counts::line_counts::LineCounts;
 use crate::counts::venue_counts::VenueCounts;
 use crate::report::figure::{Figure, count, count_if, time};
-use crate::report::gap_sums::GapSums;
 use crate::report::venue_report::GapReport;
 use crate::times::busiest_period::Peak;
 use crate::times::duration_stats::DurationStats;
 use feed_types::PerLine;
+use line_gaps::GapSums;
 
 /// Returns the figures of a line's datagrams.
 pub fn line_figures(s: &LineCounts) -> [Figure; 8]

@@ -1,9 +1,9 @@
 //! The figures of a venue.
 
 use crate::counts::venue_counts::VenueCounts;
-use crate::report::gap_sums::GapSums;
 use crate::times::duration_stats::DurationStats;
 use feed_types::PerLine;
+use line_gaps::GapSums;
 
 /// The gaps of a venue: of each line, and of all of them, and what became of its messages.
 #[derive(Clone, Copy, Debug, Default, PartialEq, Eq)]

@@ -16,6 +16,7 @@ use crate::stats::venue_stats::VenueStats;
 use crate::times::busiest_period::{BusiestPeriod, datagram_messages};
 use feed_text::{Event, EventSink, SinkStop};
 use feed_types::VenueId;
+use line_gaps::EndedGaps;
 use report_rows::SpannedSink;
 use run_settings::ReportFormat;
 use std::alloc::{AllocError, Global};
@@ -29,6 +30,8 @@ pub struct ReplayStats {
     /// The busiest second of all lines, and the busiest millisecond.
     pub second: BusiestPeriod,
     pub millisecond: BusiestPeriod,
+    /// The gaps that the last event ended.
+    ended: EndedGaps,
     /// Whether the capture's records have times, so that their figures are told.
     pub has_times: bool,
 }
@@ -48,7 +51,7 @@ fn venue_of(event: &Event<'_>) -> Option<VenueId>
         Event::Declaration { venue, .. } => Some(*venue),
         Event::Best { .. } => None,
         Event::Gap { .. } => None,
-        Event::Last { .. } => None,
+        Event::Last { venue, .. } => Some(*venue),
     }
 }
 
@@ -66,7 +69,12 @@ fn new_venues(alloc: Global, count: usize, window: usize) -> Result<Vec<VenueSta
 
 /// Takes an event at its venue, if there is one of its number.
 #[inline(always)]
-fn take_at(venues: &mut Vec<VenueStats>, time: Option<u64>, event: &Event<'_>)
+fn take_at(
+    venues: &mut Vec<VenueStats>,
+    ended: &mut EndedGaps,
+    time: Option<u64>,
+    event: &Event<'_>,
+)
     ensures count { length venues.new.items ≡ length venues.old.items }
     ensures stats { (window : ℕ) (events : List TimedEvent)
         → AreVenuesOf window events venues.old.items
@@ -77,7 +85,28 @@ fn take_at(venues: &mut Vec<VenueStats>, time: Option<u64>, event: &Event<'_>)
     };
     let place = venue.index();
     if place < venues.len() {
-        venues[place].take(time, event);
+        venues[place].take(time, event, ended);
+    }
+}
+
+/// Takes an event before all that is counted at its venue, if there is one of its number.
+fn pass_at(
+    venues: &mut Vec<VenueStats>,
+    ended: &mut EndedGaps,
+    time: Option<u64>,
+    event: &Event<'_>,
+)
+    ensures count { length venues.new.items ≡ length venues.old.items }
+    ensures stats { (window : ℕ) (events : List TimedEvent)
+        → AreVenuesOf window events venues.old.items
+        → AreVenuesOf window events venues.new.items }
+{
+    let Some(venue) = venue_of(event) else {
+        return;
+    };
+    let place = venue.index();
+    if place < venues.len() {
+        venues[place].pass(time, event, ended);
     }
 }
 
@@ -119,6 +148,7 @@ impl ReplayStats {
             bests: BestCounts::none(),
             second: BusiestPeriod::new(1_000_000_000),
             millisecond: BusiestPeriod::new(1_000_000),
+            ended: EndedGaps::new(),
             has_times,
         })
     }
@@ -201,7 +231,7 @@ impl EventSink for ReplayStats {
 
     #[inline(always)]
     fn take(&mut self, time: Option<u64>, event: &Event<'_>) -> Result<(), SinkStop> {
-        take_at(&mut self.venues, time, event);
+        take_at(&mut self.venues, &mut self.ended, time, event);
         count_best(&mut self.bests, event);
         let messages = datagram_messages(event);
         self.second.add(time, messages);
@@ -215,5 +245,7 @@ impl EventSink for ReplayStats {
 }
 
 impl SpannedSink for ReplayStats {
-    fn take_before(&mut self, _time: Option<u64>, _event: &Event<'_>) {}
+    fn take_before(&mut self, time: Option<u64>, event: &Event<'_>) {
+        pass_at(&mut self.venues, &mut self.ended, time, event);
+    }
 }

@@ -8,6 +8,7 @@ use crate::counts::venue_counts::VenueCounts;
 use crate::report::venue_report::{GapReport, VenueReport};
 use crate::times::venue_times::VenueTimes;
 use feed_text::Event;
+use line_gaps::{EndedGaps, GapLine, VenueGaps};
 use std::alloc::{AllocError, Global};
 
 /// The statistics of a venue: its events, counted, the gaps in its numbers, and how its packets run
@@ -15,7 +16,22 @@ use std::alloc::{AllocError, Global};
 #[derive(Drop)]
 pub struct VenueStats {
     pub counts: VenueCounts,
+    pub gaps: VenueGaps,
     pub times: VenueTimes,
+}
+
+/// Returns the figures of a venue's gaps.
+fn gap_report(gaps: &VenueGaps) -> GapReport {
+    GapReport {
+        a: gaps.sums(GapLine::A),
+        b: gaps.sums(GapLine::B),
+        all: gaps.sums(GapLine::All),
+        known: gaps.known(),
+        missing: gaps.missing(),
+        lost_by_both: gaps.lost_by_both(),
+        given_up: gaps.given_up(),
+        before_join: gaps.before_join(),
+    }
 }
 
 impl VenueStats {
@@ -26,16 +42,29 @@ impl VenueStats {
     {
         Ok(VenueStats {
             counts: VenueCounts::none(),
+            gaps: VenueGaps::new(),
             times: VenueTimes::new(alloc, window)?,
         })
     }
 
-    /// Takes an event of the venue.
+    /// Takes an event of the venue before all that is counted: the gaps know of it.
+    pub(crate) fn pass(&mut self, time: Option<u64>, event: &Event<'_>, ended: &mut EndedGaps)
+        ensures { (window : ℕ) (own : List TimedEvent) → IsVenueOf window own self.old
+            → IsVenueOf window own self.new }
+    {
+        ended.clear();
+        self.gaps.take(time, event, ended);
+        self.gaps.restart();
+    }
+
+    /// Takes an event of the venue. The gaps that it ends are left in `ended`.
     #[inline(always)]
-    pub(crate) fn take(&mut self, time: Option<u64>, event: &Event<'_>)
+    pub(crate) fn take(&mut self, time: Option<u64>, event: &Event<'_>, ended: &mut EndedGaps)
         ensures { (window : ℕ) (own : List TimedEvent) → IsVenueOf window own self.old
             → IsVenueOf window (timed_event time (told_by event.now) ∷ own) self.new }
     {
+        ended.clear();
+        self.gaps.take(time, event, ended);
         self.counts.add(event);
         self.times.take(time, event);
     }
@@ -49,7 +78,7 @@ impl VenueStats {
     {
         VenueReport {
             counts: self.counts,
-            gaps: GapReport::default(),
+            gaps: gap_report(&self.gaps),
             a_first: self.times.leads.a.stats(),
             b_first: self.times.leads.b.stats(),
             last_packets: self.times.last_packets,

@@ -4,9 +4,9 @@ use Rattle.replay_reports.proofs.stats.replay_stats.ReplayStatsSpannedSink.take_
 pub returns : goal.returns
 returns c = record {
   same_times = refl;
-  same_venues = refl;
+  same_venues = c.pass_at.ensures.count;
   stats = λ window earlier are. record {
-    venues = are.venues;
+    venues = c.pass_at.ensures.stats window earlier are.venues;
     bests = are.bests;
     second = are.second;
     millisecond = are.millisecond;
