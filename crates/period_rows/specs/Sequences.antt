@@ -1,40 +1,60 @@
 -- The numbers of lines' packets, and how many of them their packets pass over.
-use Rattle.std.specs.Prelude.{ℕ, ◌+◌, ◌-◌, ◌*◌, true, false, List, max, Option, None, Some, Ok, slice_index_or, slice_set, if◌then◌else◌}
-use Rattle.feed_types.specs.FullCounts.{count_after}
+use Rattle.std.specs.Prelude.{ℕ, ◌+◌, ◌-◌, ◌*◌, ◌||◌, false, is_some, List, max, Option, None, Some, Ok, slice_index_or, slice_set, if◌then◌else◌}
 use Rattle.feed_types.specs.declared.line.LineId.{LineId}
 use Rattle.feed_types.specs.declared.line.LineId.TheVariants.{A, B, Recovery}
-use Rattle.line_arbiter.specs.declared.outcome.Outcome.{Outcome}
-use Rattle.line_arbiter.specs.declared.outcome.Outcome.TheVariants.{Ended}
+use Rattle.line_arbiter.specs.declared.outcome.Outcome.TheVariants.{Ahead}
 use Rattle.feed_text.specs.SinkEvents.{SinkEvent, told_before, told_packet, told_renewal, told_skip}
+use Rattle.line_gaps.specs.Gaps.{far_that, heard, highest_with}
+use Rattle.line_gaps.specs.declared.heard_packet.HeardPacket.{HeardPacket}
 use Rattle.period_rows.specs.declared.line_sequence.LineSequence.{LineSequence}
 
 -- ---- a line
 
 abbrev pub no_sequence : LineSequence
-no_sequence = record { begun = false; highest = 0 }
+no_sequence = record { begun = false; highest = 0; far = None }
 
--- the end of a session says which number is its last
-abbrev pub highest_after : Outcome → ℕ → ℕ → ℕ
-highest_after Ended highest last = last
-highest_after _ highest last = max highest last
+-- The packet that counts with an event of the line: its own, unless that was refused, or is past
+-- the window. One past the window counts with the line's next one of these, if that goes on from it
+-- (as for gaps).
+abbrev pub counts_now : Option HeardPacket → SinkEvent → Option HeardPacket
+counts_now far (told_packet venue line number count bytes (Ok Ahead)) = far_that number far
+counts_now far (told_packet venue line number count bytes (Ok outcome)) =
+    Some (heard line number count None)
+counts_now far _ = None
+
+-- the line's latest packet past the window
+abbrev pub far_after : Option HeardPacket → SinkEvent → Option HeardPacket
+far_after far (told_packet venue line number count bytes (Ok Ahead)) =
+    Some (heard line number count None)
+far_after far _ = far
+
+-- the line's numbers after the packet that counts
+abbrev pub sequence_counted : LineSequence → Option HeardPacket → Option HeardPacket
+    → LineSequence
+sequence_counted s counted far = record {
+  begun = is_some counted || s.begun;
+  highest = highest_with s.highest counted;
+  far = far;
+}
 
 -- A line's numbers after an event of it or of its venue: a packet that is refused says nothing, a
 -- next session begins at 1, and after a skip a line of which nothing came begins there.
 abbrev pub sequence_after : LineSequence → SinkEvent → LineSequence
-sequence_after s (told_packet venue line number count bytes (Ok outcome)) = record {
-  begun = true;
-  highest = highest_after outcome s.highest (count_after (number - 1) count);
-}
+sequence_after s (told_packet venue line number count bytes answer) =
+    sequence_counted s (counts_now s.far (told_packet venue line number count bytes answer))
+    (far_after s.far (told_packet venue line number count bytes answer))
 sequence_after s (told_renewal venue (Ok ordinal)) = no_sequence
 sequence_after s (told_skip venue number (Ok done)) =
-    record s { highest = if s.begun then s.highest else number - 1 }
+    record s { highest = if s.begun then s.highest else max s.highest (number - 1) }
 sequence_after s _ = s
 
 -- how many numbers a packet passes over: those between the highest one and its own
+abbrev pub passed_by : ℕ → Option HeardPacket → ℕ
+passed_by highest None = 0
+passed_by highest (Some packet) = packet.number - (highest + 1)
+
 abbrev pub passed_over : LineSequence → SinkEvent → ℕ
-passed_over s (told_packet venue line number count bytes (Ok outcome)) =
-    number - (s.highest + 1)
-passed_over s _ = 0
+passed_over s event = passed_by s.highest (counts_now s.far event)
 
 -- ---- the lines of a capture: A and B of venue 0, then those of venue 1, and so on
 

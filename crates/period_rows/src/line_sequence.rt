@@ -1,44 +1,89 @@
 //! The numbers of a line's packets.
-ghost use Rattle.std.specs.Prelude.{◌≡◌, ◌<◌, IfSome, length};
-ghost use Rattle.feed_text.specs.SinkEvents.{told_by};
-ghost use Rattle.period_rows.specs.Sequences.{both_sequences, highest_after, line_place, own_sequence, passed_over, sequence_after, sequence_at, sequences_after};
+ghost use Rattle.std.specs.Prelude.{◌≡◌, ◌<◌, ℕ, IfSome, None, Ok, length};
+ghost use Rattle.feed_text.specs.SinkEvents.{told_by, told_packet};
+ghost use Rattle.line_gaps.specs.Gaps.{heard};
+ghost use Rattle.period_rows.specs.Sequences.{both_sequences, counts_now, line_place, own_sequence, passed_over, sequence_after, sequence_at, sequence_counted, sequences_after};
 
 use feed_text::Event;
 use feed_types::{LineId, VenueId};
 use line_arbiter::Outcome;
+use line_gaps::HeardPacket;
 
 /// Which numbers the packets of a line have brought.
 #[derive(Clone, Copy, Debug, Default, PartialEq, Eq)]
 pub struct LineSequence {
-    /// Whether a packet of the present session came.
+    /// Whether a packet of the present session counted.
     pub begun: bool,
     /// The highest number of the present session: that of a packet's last message, or the one below
-    /// a heartbeat's, or the session's last one once its end is announced.
+    /// a heartbeat's or an end's.
     pub highest: u64,
+    /// The latest packet past the window.
+    pub far: Option<HeardPacket>,
 }
 
-/// Returns the highest number once a packet's last one is this.
-fn highest_after(outcome: &Outcome, highest: u64, last: u64) -> u64
-    ensures { result ≡ highest_after outcome.now highest last }
+/// Returns a packet of a line, without its time.
+fn heard(line: LineId, number: u64, count: u16) -> HeardPacket
+    ensures { result ≡ heard line number count None }
 {
-    match outcome {
-        Outcome::Ended => last,
-        Outcome::Taken { .. } | Outcome::Heartbeat | Outcome::Ahead => highest.max(last),
+    HeardPacket {
+        line,
+        number,
+        count,
+        time: None,
     }
 }
 
 impl LineSequence {
+    /// Returns the packet that counts with an event of the line: its own, but of packets past the
+    /// window the one before, where this one goes on from it.
+    fn counts_now(&self, event: &Event<'_>) -> Option<HeardPacket>
+        ensures { result ≡ counts_now self.now.far (told_by event.now) }
+    {
+        match event {
+            Event::Packet {
+                line,
+                number,
+                count,
+                answer: Ok(outcome),
+                ..
+            } => self.counted(heard(*line, *number, *count), outcome),
+            _ => None,
+        }
+    }
+
+    /// Returns the packet that counts with one that was answered so.
+    fn counted(&self, packet: HeardPacket, outcome: &Outcome) -> Option<HeardPacket>
+        ensures { (venue bytes : ℕ) → packet.time ≡ None → result ≡ counts_now self.now.far
+            (told_packet venue packet.line packet.number packet.count bytes (Ok outcome.now)) }
+    {
+        match outcome {
+            Outcome::Ahead => match self.far {
+                Some(earlier) if packet.goes_on(&earlier) => Some(earlier),
+                _ => None,
+            },
+            Outcome::Taken { .. } | Outcome::Heartbeat | Outcome::Ended => Some(packet),
+        }
+    }
+
     /// Returns how many numbers a packet passes over.
     pub(crate) fn passed_over(&self, event: &Event<'_>) -> u64
         ensures { result ≡ passed_over self.now (told_by event.now) }
     {
-        match event {
-            Event::Packet {
-                number,
-                answer: Ok(_),
-                ..
-            } => number.saturating_sub(self.highest.saturating_add(1)),
-            _ => 0,
+        match self.counts_now(event) {
+            Some(packet) => packet
+                .number
+                .saturating_sub(self.highest.saturating_add(1)),
+            None => 0,
+        }
+    }
+
+    /// Takes the packet that counts with an event.
+    fn count(&mut self, packet: Option<HeardPacket>)
+        ensures { self.new ≡ sequence_counted self.old packet self.old.far }
+    {
+        if let Some(packet) = packet {
+            self.highest = self.highest.max(packet.last());
+            self.begun = true;
         }
     }
 
@@ -46,28 +91,27 @@ impl LineSequence {
     pub(crate) fn take(&mut self, event: &Event<'_>)
         ensures { self.new ≡ sequence_after self.old (told_by event.now) }
     {
+        let packet = self.counts_now(event);
         match event {
             Event::Packet {
+                line,
                 number,
                 count,
-                answer: Ok(outcome),
+                answer: Ok(Outcome::Ahead),
                 ..
             } => {
-                let last = number.saturating_sub(1).saturating_add(u64::from(*count));
-                self.highest = highest_after(outcome, self.highest, last);
-                self.begun = true;
+                self.count(packet);
+                self.far = Some(heard(*line, *number, *count));
             }
-            Event::Renewal { answer: Ok(_), .. } => {
-                self.highest = 0;
-                self.begun = false;
-            }
+            Event::Packet { .. } => self.count(packet),
+            Event::Renewal { answer: Ok(_), .. } => *self = LineSequence::default(),
             Event::Skip {
                 number,
                 answer: Ok(()),
                 ..
             } => {
                 if !self.begun {
-                    self.highest = number.saturating_sub(1);
+                    self.highest = self.highest.max(number.saturating_sub(1));
                 }
             }
             _ => {}
