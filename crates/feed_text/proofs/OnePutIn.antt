@@ -1,5 +1,6 @@
 -- Before a record one record is put in, or none.
 use Rattle.std.proofs.Common.{◌≡◌, ◌<◌, ◌*◌, ℕ, List, [], ◌∷◌, ◌++◌, map, Option, Some, None, refl, sym, ap, subst, ◌∙◌, arith, inl, inr}
+use Rattle.feed_text.proofs.RuleSteps.{first_unheld}
 use Rattle.std.specs.Prelude.{Ok, Err, Contains, slice_get}
 use Rattle.std.proofs.lemmas.Bool.{cases_lt}
 use Rattle.std.proofs.lemmas.List.{map-append}
@@ -34,7 +35,9 @@ skips_session : (rule : SkipRule) (window : ℕ) (h : History) (p : Content) (nu
 skips_session Never window h p number x = absurd x
 skips_session Join window h p number x = of_session h.present.name x.window (last_sent h)
     h.present.packets p x.outcome x.accepted
-skips_session Gaps window h p number x = of_session h.present.name window (last_sent h)
+skips_session Gaps window h p number (inl x) = of_session h.present.name x.window (last_sent h)
+    h.present.packets p x.outcome x.accepted
+skips_session Gaps window h p number (inr x) = of_session h.present.name window (last_sent h)
     h.present.packets p _ x.ahead
 skips_session (After ms) window h p number x = of_session h.present.name x.window (last_sent h)
     h.present.packets p x.outcome x.accepted
@@ -59,7 +62,12 @@ one_number : (rule : SkipRule) (window : ℕ) (h : History) (p : Content) (m n :
     → SkipsBefore rule window h p m → SkipsBefore rule window h p n → m ≡ n
 one_number Never window h p m n x y = absurd x
 one_number Join window h p m n x y = x.first ∙ sym y.first
-one_number Gaps window h p m n x y = x.first ∙ sym y.first
+one_number Gaps window h p m n (inl x) (inl y) = x.first ∙ sym y.first
+one_number Gaps window h p m n (inl x) (inr y) =
+    x.first ∙ sym (first_unheld window h p x.fresh.held) ∙ sym y.first
+one_number Gaps window h p m n (inr x) (inl y) =
+    x.first ∙ first_unheld window h p y.fresh.held ∙ sym y.first
+one_number Gaps window h p m n (inr x) (inr y) = x.first ∙ sym y.first
 one_number (After ms) window h p m n x y = x.first ∙ sym y.first
 
 one_before : (config : ReplayConfig) (venue : ℕ) (h : History) (p : Content)

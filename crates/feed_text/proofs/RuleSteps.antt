@@ -323,7 +323,9 @@ pub may_skip_before : (rule : SkipRule) (window : ℕ) (h : History) (p : Conten
 may_skip_before Never window h p n c x = absurd x
 may_skip_before Join window h p n c x =
     let first = x.first in let small = c.small in (may_join h p n c x, omega arith)
-may_skip_before Gaps window h p n c x =
+may_skip_before Gaps window h p n c (inl x) =
+    let first = x.first in let small = c.small in (may_join h p n c x, omega arith)
+may_skip_before Gaps window h p n c (inr x) =
     let most = first_by_own window h p n c x in
     let small = c.small in (may_pass window h p n c x, omega arith)
 may_skip_before (After ms) window h p n c x =

@@ -165,7 +165,7 @@ pub record IsPastGap (window : ℕ) (h : History) (p : Content) (number : ℕ) :
 abbrev pub SkipsBefore : SkipRule → ℕ → History → Content → ℕ → Type 0
 SkipsBefore Never window h p number = ⊥
 SkipsBefore Join window h p number = IsJoinedAt h p number
-SkipsBefore Gaps window h p number = IsPastGap window h p number
+SkipsBefore Gaps window h p number = IsJoinedAt h p number ⊎ IsPastGap window h p number
 SkipsBefore (After ms) window h p number = IsJoinedAt h p number
 
 -- the names of the sessions that follow a venue's first one

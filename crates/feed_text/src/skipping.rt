@@ -1,11 +1,11 @@
 //! What a rule gives up of a venue before a packet.
-ghost use Rattle.std.specs.Prelude.{◌≡◌, ◌≤◌, ◌+◌, ⊤, ℕ, MatchBool, MatchOption};
+ghost use Rattle.std.specs.Prelude.{◌≡◌, ◌≤◌, ◌+◌, ◌⊎◌, ⊤, ℕ, MatchBool, MatchOption};
 ghost use Rattle.mold_packet.specs.Content.{Content};
 ghost use Rattle.line_arbiter.specs.Fits.{cursors_of};
 ghost use Rattle.line_arbiter.specs.Histories.{History};
 ghost use Rattle.line_arbiter.specs.LastSent.{last_sent};
 ghost use Rattle.feed_text.specs.Following.{Follows};
-ghost use Rattle.feed_text.specs.Rules.{HasSentAll, IsAhead, IsPastGap, SkipsBefore, first_come};
+ghost use Rattle.feed_text.specs.Rules.{HasSentAll, IsAhead, IsJoinedAt, IsPastGap, SkipsBefore, first_come};
 ghost use Rattle.feed_text.specs.Skipping.{SkipsBytes, SkipsNever};
 
 use crate::joining::{is_fresh, join_at};
@@ -81,6 +81,20 @@ fn gap_before(window: u32, arbiter: &Arbiter<Anything>, packet: &Packet<'_>) -> 
     }
 }
 
+/// Returns the number at which the session is joined, or below which what is missing is given up
+/// before the packet, of an arbiter that has sent all that is ready. `window` is the arbiter's.
+fn join_or_gap(window: u32, arbiter: &Arbiter<Anything>, packet: &Packet<'_>) -> Option<u64>
+    ensures { (h : History) → HasSentAll window arbiter.now h
+        → MatchOption result
+        ((number : ℕ) → IsJoinedAt h packet.now number ⊎ IsPastGap window h packet.now number → ⊥)
+        (λ number. IsJoinedAt h packet.now number ⊎ IsPastGap window h packet.now number) }
+{
+    match join_at(arbiter, packet) {
+        Some(number) => Some(number),
+        None => gap_before(window, arbiter, packet),
+    }
+}
+
 /// Returns the number below which the rule gives up what is missing before the packet, if it gives
 /// anything up, of an arbiter that has sent all that is ready. `window` is the arbiter's.
 fn skip_before(
@@ -98,7 +112,7 @@ fn skip_before(
         SkipRule::Never => None,
         SkipRule::Join => join_at(arbiter, packet),
         SkipRule::After(_) => join_at(arbiter, packet),
-        SkipRule::Gaps => gap_before(window, arbiter, packet),
+        SkipRule::Gaps => join_or_gap(window, arbiter, packet),
     }
 }
 
