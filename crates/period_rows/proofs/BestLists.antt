@@ -118,7 +118,8 @@ none_at p xs k none few =
     (length xs) refl none in
     let turn : ℕ → Bool = λ x. not (p x) in
     let same : prefix_len turn xs ≡ position_or_len p xs =
-    is_position_or_len (prefix_len turn) p refl (λ y ys. turned (p y) (1 + prefix_len turn ys)) xs in
+    is_position_or_len (prefix_len turn) p refl (λ y ys. turned (p y) (1 + prefix_len turn ys)) xs
+    in
     is_false (p (slice_index_or xs k 0))
     (prefix_len_passes turn xs k 0 (omega (arith, past, few, same)))
 

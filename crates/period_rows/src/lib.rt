@@ -1,10 +1,11 @@
 //! Rows of periods of the clock: what each line brought in each, and how long national bests stood.
 //!
-//! Contract: a sink of [`count_rows`] writes, for each period in which a datagram came, a row of
-//! each line (`specs/CountRows.antt`): it counts those of the period, and a frame that comes late
-//! counts in its own period while that is one of the 16 latest.
+//! Contract: a sink of [`new_count_rows`] writes, for each period in which a datagram came, a row
+//! of each line (`specs/CountRows.antt`); a frame that comes late counts in its own period while
+//! that is one of the 16 latest. A sink of [`new_best_rows`] writes how long the national bests of
+//! symbols stood in each period, on a clock that never goes back (`specs/BestRows.antt`).
 //!
-//! Begin with `count_maker.rt`.
+//! Begin with `count_maker.rt` and `best_maker.rt`.
 #![tactic(auto)]
 
 mod best_clock;

@@ -127,8 +127,8 @@ fn put_json_label(text: &mut LineBuffer, name: &str)
 fn put_json_member(text: &mut LineBuffer, style: TimeStyle, name: &str, cell: &Cell<'_>)
     requires short { IsShort cell.now }
     requires room { 62 + 2 * length name.now ≤ text.old.room }
-    ensures { Appends text.old (json_member style name.now (shown cell.now)) (62 + 2 * length name.now)
-        text.new }
+    ensures { Appends text.old (json_member style name.now (shown cell.now))
+        (62 + 2 * length name.now) text.new }
 {
     put_json_label(text, name);
     put_json_value(text, style, name, cell);
@@ -138,8 +138,8 @@ fn put_json_member(text: &mut LineBuffer, style: TimeStyle, name: &str, cell: &C
 pub(crate) fn put_cell(text: &mut LineBuffer, format: RowFormat, name: &str, cell: &Cell<'_>)
     requires short { IsShort cell.now }
     requires room { 62 + 2 * length name.now ≤ text.old.room }
-    ensures { Appends text.old (cell_text format name.now (shown cell.now)) (62 + 2 * length name.now)
-        text.new }
+    ensures { Appends text.old (cell_text format name.now (shown cell.now))
+        (62 + 2 * length name.now) text.new }
 {
     match format {
         RowFormat::Csv(style) => put_csv_cell(text, style, cell),

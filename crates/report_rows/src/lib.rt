@@ -1,9 +1,9 @@
 //! Rows of reports, and the sinks that write them.
 //!
 //! Contract: [`put_row`] appends exactly the row of some cells under the names of their columns, as
-//! comma-separated values or as a JSON object (`specs/RowTexts.antt`). A [`RowSink`] writes what its
-//! [`RowMaker`] makes of each event (`specs/RowSinks.antt`). A [`SpanSink`] tells another sink the
-//! events of a span of time, and the ones before it as such (`specs/SpanEvents.antt`). A
+//! comma-separated values or as a JSON object (`specs/RowTexts.antt`). A [`RowSink`] writes what
+//! its [`RowMaker`] makes of each event (`specs/RowSinks.antt`). A [`SpanSink`] gives another sink
+//! the events of a span of time, and those before it as such (`specs/SpanEvents.antt`). A
 //! [`KeptPeriods`] keeps the figures of the 16 latest periods (`specs/PeriodLists.antt`), so that a
 //! frame that comes late is counted in its own.
 //!
