@@ -50,9 +50,9 @@ class Replay:
         """The words after `replay`."""
         return [*LARGE_JOURNAL, *script('bench/generate').arguments_for(self.settings(0))]
 
-    def count(self, program: str, folder: Path) -> float:
-        """The instructions a message by callgrind: the difference of the two lengths."""
-        command = [program, 'replay', *self.words()]
+    def count(self, program: str, folder: Path, own: Sequence[str] = ()) -> float:
+        """The instructions a message by callgrind: the difference of the two lengths. The program alone is given `own`."""
+        command = [program, 'replay', *self.words(), *own]
         fewer = self.capture(self.fewer, folder) if self.fewer else os.devnull
         taken = instructions(command, self.capture(self.more, folder)) - instructions(command, fewer)
         return taken / ((self.more - self.fewer) * self.venues())

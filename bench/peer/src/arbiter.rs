@@ -18,6 +18,8 @@ pub enum Outcome {
 
 /// The state of a venue's present session, and what is counted over all of them.
 pub struct Arbiter {
+    session: SessionName,
+    /// All names that the venue's sessions have had.
     names: Vec<SessionName>,
     window: u64,
     /// All numbers up to this one have come out or were given up.
@@ -38,6 +40,7 @@ pub struct Arbiter {
 impl Arbiter {
     pub fn new(session: SessionName, window: u32) -> Arbiter {
         Arbiter {
+            session,
             names: vec![session],
             window: u64::from(window),
             front: 0,
@@ -55,7 +58,7 @@ impl Arbiter {
     /// Answers a packet that came on a line. What is new of one that was taken is then to be delivered.
     #[inline]
     pub fn answer(&mut self, line: usize, packet: &Packet<'_>) -> Result<Outcome, Refusal> {
-        if self.names.last() != Some(&packet.session) {
+        if self.session != *packet.session {
             return Err(Refusal::OtherSession);
         }
         match packet.kind {
@@ -223,6 +226,7 @@ impl Arbiter {
         if self.names.len() == MOST_SESSIONS {
             return Err(Refusal::TooManySessions);
         }
+        self.session = name;
         self.names.push(name);
         (self.front, self.known, self.greatest) = (0, 0, 0);
         (self.end, self.is_over) = (None, false);

@@ -14,6 +14,7 @@ mod packet;
 mod records;
 mod refusal;
 mod replay;
+mod row;
 mod rows;
 mod side;
 mod symbols;

@@ -17,7 +17,7 @@ pub enum Kind {
 /// A packet whose blocks are whole.
 #[derive(Clone, Copy, Debug, PartialEq, Eq)]
 pub struct Packet<'a> {
-    pub session: SessionName,
+    pub session: &'a SessionName,
     pub number: u64,
     pub kind: Kind,
     pub count: u16,
@@ -45,7 +45,7 @@ impl<'a> Packet<'a> {
         if count > 0 && number.checked_add(u64::from(count) - 1).is_none() {
             return Err(Refusal::SequenceOverflow);
         }
-        let session = header[..10].try_into().unwrap();
+        let session = header.first_chunk().unwrap();
         Ok(Packet { session, number, kind, count, blocks })
     }
 

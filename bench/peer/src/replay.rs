@@ -53,14 +53,18 @@ impl<O: Order, W: Write> Replay<O, W> {
     #[inline]
     fn datagram(&mut self, venue: usize, line: usize, bytes: &[u8]) -> Result<(), Fault> {
         let (journal, arbiter) = (&mut self.journal, &mut self.venues[venue]);
-        let read = Packet::read(bytes);
-        let answer = read.and_then(|packet| arbiter.answer(line, &packet));
-        journal.rows.packet(venue, line, &answer)?;
-        let take = |number, item: &Item| journal.record(venue, number, item);
-        match (&answer, &read) {
-            (Ok(Outcome::Taken { new: 1.., .. }), Ok(packet)) => arbiter.deliver(packet, take)?,
-            (Ok(Outcome::Ended), _) => arbiter.deliver_held(take)?,
-            _ => (),
+        match Packet::read(bytes) {
+            Err(refusal) => journal.rows.packet(venue, line, &Err(refusal))?,
+            Ok(packet) => {
+                let answer = arbiter.answer(line, &packet);
+                journal.rows.packet(venue, line, &answer)?;
+                let take = |number, item: &Item| journal.record(venue, number, item);
+                match answer {
+                    Ok(Outcome::Taken { new: 1.., .. }) => arbiter.deliver(&packet, take)?,
+                    Ok(Outcome::Ended) => arbiter.deliver_held(take)?,
+                    _ => (),
+                }
+            }
         }
         if self.has_gaps {
             if let Some((number, count)) = arbiter.gap() {
@@ -73,7 +77,7 @@ impl<O: Order, W: Write> Replay<O, W> {
     fn renew(&mut self, venue: usize, held: &[u8]) -> Result<(), Fault> {
         let name = held.try_into().map_err(|_| Fault::BadRecord)?;
         let answer = self.venues[venue].renew(name).map(|ordinal| ordinal as u64);
-        self.journal.rows.wish(b"renew ", venue, &answer)?;
+        self.journal.rows.wish("renew", venue, &answer)?;
         Ok(())
     }
 
@@ -81,7 +85,7 @@ impl<O: Order, W: Write> Replay<O, W> {
         let number = u64::from_be_bytes(held.try_into().map_err(|_| Fault::BadRecord)?);
         let (journal, arbiter) = (&mut self.journal, &mut self.venues[venue]);
         let answer = arbiter.skip(number);
-        journal.rows.wish(b"skip ", venue, &answer.map(|()| number))?;
+        journal.rows.wish("skip", venue, &answer.map(|()| number))?;
         if answer.is_ok() {
             journal.record(venue, number - 1, &Item::Skipped)?;
             arbiter.deliver_held(|number, item| journal.record(venue, number, item))?;

@@ -2,73 +2,49 @@
 
 use std::io::{self, Write};
 
-use crate::arbiter::Outcome;
+use crate::arbiter::{Outcome, LINES};
 use crate::book::National;
 use crate::item::{Item, Symbol};
+use crate::order::VENUES;
 use crate::refusal::Refusal;
-use crate::side::Best;
+use crate::row::{Prefix, Row, LONGEST};
 
 const SIZE: usize = 1 << 16;
-/// No row is longer.
-const LONGEST: usize = 256;
-const LETTERS: [&[u8; 1]; 3] = [b"A", b"B", b"R"];
-const PAIRS: [[u8; 2]; 100] = pairs();
-
-const fn pairs() -> [[u8; 2]; 100] {
-    let mut found = [[0; 2]; 100];
-    let mut number = 0;
-    while number < 100 {
-        found[number] = [b'0' + number as u8 / 10, b'0' + number as u8 % 10];
-        number += 1;
-    }
-    found
-}
-
 pub struct Rows<W> {
     output: W,
     bytes: Box<[u8]>,
     length: usize,
+    /// What the rows of packets begin with, of a venue's lines, and those of items.
+    packets: [[Prefix; LINES]; VENUES],
+    items: [Prefix; VENUES],
+    best: Prefix,
     /// Where the best rows alone are printed, the others are left out.
     is_best_only: bool,
 }
 
 impl<W: Write> Rows<W> {
     pub fn new(output: W, is_best_only: bool) -> Rows<W> {
-        Rows { output, bytes: vec![0; SIZE + LONGEST].into(), length: 0, is_best_only }
+        let line_of = |venue| ["A", "B", "R"].map(|line| Prefix::new(&format!("packet {venue} {line}")));
+        Rows {
+            output,
+            bytes: vec![0; SIZE + LONGEST].into(),
+            length: 0,
+            packets: std::array::from_fn(line_of),
+            items: std::array::from_fn(|venue| Prefix::new(&format!("item {venue} "))),
+            best: Prefix::new("best "),
+            is_best_only,
+        }
     }
 
-    #[inline]
-    fn text<const N: usize>(&mut self, text: &[u8; N]) -> &mut Self {
-        self.bytes[self.length..self.length + N].copy_from_slice(text);
-        self.length += N;
-        self
+    /// Begins a row of another kind for a venue.
+    fn row(&mut self, word: &str, venue: usize) -> Row<'_> {
+        Row::new(room(&mut self.bytes, self.length), &Prefix::new(&format!("{word} {venue}")))
     }
 
-    #[inline]
-    fn number(&mut self, number: u64) -> &mut Self {
-        if number < 10 {
-            return self.text(&[b'0' + number as u8]);
-        }
-        let digits = number.ilog10() as usize + 1;
-        let mut left = number;
-        let row = &mut self.bytes[self.length..self.length + digits];
-        let mut place = digits;
-        while place >= 2 {
-            row[place - 2..place].copy_from_slice(&PAIRS[(left % 100) as usize]);
-            left /= 100;
-            place -= 2;
-        }
-        if place == 1 {
-            row[0] = b'0' + left as u8;
-        }
-        self.length += digits;
-        self
-    }
-
-    /// Ends a row; the buffer is written where a next one may not fit.
-    #[inline]
-    fn end(&mut self) -> io::Result<()> {
-        self.text(b"\n");
+    /// Ends a row of a length; the buffer is written where a next one may not fit.
+    #[inline(always)]
+    fn end(&mut self, length: usize) -> io::Result<()> {
+        self.length += length;
         if self.length < SIZE { Ok(()) } else { self.flush() }
     }
 
@@ -84,17 +60,18 @@ impl<W: Write> Rows<W> {
         if self.is_best_only {
             return Ok(());
         }
-        self.text(b"packet ").number(venue as u64).text(b" ").text(LETTERS[line]);
+        let mut row = Row::new(room(&mut self.bytes, self.length), &self.packets[venue][line]);
         match answer {
             Ok(Outcome::Taken { new, repeated }) => {
-                self.text(b" taken ").number(*new).text(b" ").number(*repeated)
+                row.text(b" taken ").number(*new).text(b" ").number(*repeated)
             }
-            Ok(Outcome::Heartbeat) => self.text(b" heartbeat"),
-            Ok(Outcome::Ended) => self.text(b" ended"),
-            Ok(Outcome::Ahead) => self.text(b" ahead"),
-            Err(refusal) => self.text(b" refused ").number(*refusal as u64),
+            Ok(Outcome::Heartbeat) => row.text(b" heartbeat"),
+            Ok(Outcome::Ended) => row.text(b" ended"),
+            Ok(Outcome::Ahead) => row.text(b" ahead"),
+            Err(refusal) => row.text(b" refused ").number(*refusal as u64),
         };
-        self.end()
+        let length = row.end();
+        self.end(length)
     }
 
     #[inline]
@@ -102,52 +79,44 @@ impl<W: Write> Rows<W> {
         if self.is_best_only {
             return Ok(());
         }
-        self.text(b"item ").number(venue as u64).text(b" ").number(number);
+        let mut row = Row::new(room(&mut self.bytes, self.length), &self.items[venue]);
+        row.number(number);
         match item {
-            Item::Quote(_) => self.text(b" quote"),
-            Item::Halt(_) => self.text(b" halt"),
-            Item::Trading(_) => self.text(b" trading"),
-            Item::Other => self.text(b" other"),
-            Item::Skipped => self.text(b" skipped"),
-            Item::End => self.text(b" end"),
+            Item::Quote(_) => row.text(b" quote"),
+            Item::Halt(_) => row.text(b" halt"),
+            Item::Trading(_) => row.text(b" trading"),
+            Item::Other => row.text(b" other"),
+            Item::Skipped => row.text(b" skipped"),
+            Item::End => row.text(b" end"),
         };
-        self.end()
+        let length = row.end();
+        self.end(length)
     }
 
     #[inline]
     pub fn best(&mut self, notice: u64, position: u32, symbol: Symbol, national: &National) -> io::Result<()> {
-        self.text(b"best ").number(notice).text(b" ").number(u64::from(position)).text(b" ");
-        let spaces = (symbol ^ u64::from_be_bytes([b' '; 8])).trailing_zeros() as usize / 8;
-        self.text(&symbol.to_be_bytes());
-        self.length -= spaces;
-        self.text(b" ").side(&national.bid).text(b" ").side(&national.offer);
+        let mut row = Row::new(room(&mut self.bytes, self.length), &self.best);
+        row.number(notice).text(b" ").number(u64::from(position)).text(b" ");
+        row.symbol(symbol).text(b" ").side(&national.bid).text(b" ").side(&national.offer);
         match (&national.bid, &national.offer) {
-            (None, None) => self.text(b" empty"),
-            (Some(bid), Some(offer)) if bid.price < offer.price => self.text(b" normal"),
-            (Some(bid), Some(offer)) if bid.price == offer.price => self.text(b" locked"),
-            (Some(_), Some(_)) => self.text(b" crossed"),
-            _ => self.text(b" one-sided"),
+            (None, None) => row.text(b" empty"),
+            (Some(bid), Some(offer)) if bid.price < offer.price => row.text(b" normal"),
+            (Some(bid), Some(offer)) if bid.price == offer.price => row.text(b" locked"),
+            (Some(_), Some(_)) => row.text(b" crossed"),
+            _ => row.text(b" one-sided"),
         };
-        self.end()
-    }
-
-    #[inline]
-    fn side(&mut self, best: &Option<Best>) -> &mut Self {
-        let Some(best) = best else {
-            return self.text(b"none");
-        };
-        let cents = best.price % 10_000;
-        self.number(best.venue as u64).text(b":").number(u64::from(best.price / 10_000)).text(b".");
-        self.text(&PAIRS[cents as usize / 100]).text(&PAIRS[cents as usize % 100]);
-        self.text(b"x").number(best.size)
+        let length = row.end();
+        self.end(length)
     }
 
     pub fn gap(&mut self, venue: usize, number: u64, count: u64) -> io::Result<()> {
         if self.is_best_only {
             return Ok(());
         }
-        self.text(b"gap ").number(venue as u64).text(b" ").number(number).text(b" ").number(count);
-        self.end()
+        let mut row = self.row("gap", venue);
+        row.text(b" ").number(number).text(b" ").number(count);
+        let length = row.end();
+        self.end(length)
     }
 
     /// Prints a declaration with its position in the journal, or that it was so already.
@@ -155,49 +124,55 @@ impl<W: Write> Rows<W> {
         if self.is_best_only {
             return Ok(());
         }
-        self.text(b"declare ").number(venue as u64);
-        if is_on { self.text(b" on ") } else { self.text(b" off ") };
+        let mut row = self.row("declare", venue);
+        if is_on { row.text(b" on ") } else { row.text(b" off ") };
         match position {
-            Some(position) => self.number(u64::from(position)),
-            None => self.text(b"already"),
+            Some(position) => row.number(u64::from(position)),
+            None => row.text(b"already"),
         };
-        self.end()
+        let length = row.end();
+        self.end(length)
     }
 
     /// Prints a renewal or a skip: its ordinal or number, or why it was refused.
-    pub fn wish<const N: usize>(
-        &mut self,
-        word: &[u8; N],
-        venue: usize,
-        answer: &Result<u64, Refusal>,
-    ) -> io::Result<()> {
+    pub fn wish(&mut self, word: &str, venue: usize, answer: &Result<u64, Refusal>) -> io::Result<()> {
         if self.is_best_only {
             return Ok(());
         }
-        self.text(word).number(venue as u64);
+        let mut row = self.row(word, venue);
         match answer {
-            Ok(number) => self.text(b" ").number(*number),
-            Err(refusal) => self.text(b" refused ").number(*refusal as u64),
+            Ok(number) => row.text(b" ").number(*number),
+            Err(refusal) => row.text(b" refused ").number(*refusal as u64),
         };
-        self.end()
+        let length = row.end();
+        self.end(length)
     }
 
     pub fn venue(&mut self, venue: usize, sent: u64, wins: &[u64; 3]) -> io::Result<()> {
         if self.is_best_only {
             return Ok(());
         }
-        self.text(b"venue ").number(venue as u64).text(b" sent ").number(sent).text(b" wins");
+        let mut row = self.row("venue", venue);
+        row.text(b" sent ").number(sent).text(b" wins");
         for count in wins {
-            self.text(b" ").number(*count);
+            row.text(b" ").number(*count);
         }
-        self.end()
+        let length = row.end();
+        self.end(length)
     }
+}
+
+/// Returns the room for a row after those that the buffer holds.
+#[inline(always)]
+fn room(bytes: &mut [u8], length: usize) -> &mut [u8; LONGEST] {
+    bytes[length..].first_chunk_mut().expect("a row has room")
 }
 
 #[cfg(test)]
 mod tests {
     use super::*;
     use crate::item::symbol_of;
+    use crate::side::Best;
 
     /// Returns what is printed.
     fn printed(print: impl Fn(&mut Rows<&mut Vec<u8>>)) -> String {
@@ -207,16 +182,6 @@ mod tests {
         rows.flush().unwrap();
         drop(rows);
         String::from_utf8(output).unwrap()
-    }
-
-    #[test]
-    fn numbers() {
-        for number in (0..20).map(|it| 10_u64.pow(it)).flat_map(|it| [it - 1, it, it + 1]).chain([u64::MAX]) {
-            let text = printed(|rows| {
-                rows.number(number);
-            });
-            assert_eq!(text, number.to_string());
-        }
     }
 
     #[test]
@@ -243,8 +208,8 @@ mod tests {
             rows.gap(0, 2, 1).unwrap();
             rows.declare(0, true, Some(4)).unwrap();
             rows.declare(0, false, None).unwrap();
-            rows.wish(b"renew ", 0, &Ok(2)).unwrap();
-            rows.wish(b"skip ", 0, &Err(Refusal::HeldBelow)).unwrap();
+            rows.wish("renew", 0, &Ok(2)).unwrap();
+            rows.wish("skip", 0, &Err(Refusal::HeldBelow)).unwrap();
             rows.venue(2, 5, &[4, 1, 0]).unwrap();
         });
         let rows = [
