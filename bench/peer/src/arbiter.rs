@@ -1,4 +1,5 @@
-//! One sequence of two lines and recovery: which of a venue's packets bring what is new, and which items are ready.
+//! One sequence of two lines and recovery: which of a venue's packets bring what is new, and which
+//! items are ready.
 
 use crate::item::Item;
 use crate::packet::{Kind, Packet, SessionName};
@@ -55,7 +56,8 @@ impl Arbiter {
         }
     }
 
-    /// Answers a packet that came on a line. What is new of one that was taken is then to be delivered.
+    /// Answers a packet that came on a line. What is new of one that was taken is then to be
+    /// delivered.
     #[inline]
     pub fn answer(&mut self, line: usize, packet: &Packet<'_>) -> Result<Outcome, Refusal> {
         if self.session != *packet.session {
@@ -90,7 +92,8 @@ impl Arbiter {
         Ok(Outcome::Taken { new: count - repeated, repeated })
     }
 
-    /// Counts the messages that came before, or reports that one differs from that which is held at its number.
+    /// Counts the messages that came before, or reports that one differs from that which is held at
+    /// its number.
     fn repeats(&self, packet: &Packet<'_>) -> Result<u64, Refusal> {
         let mut repeated = 0;
         for (number, message) in (packet.number..=packet.last()).zip(packet.messages()) {
@@ -197,7 +200,8 @@ impl Arbiter {
         Some((self.front + 1, last - self.front))
     }
 
-    /// Gives up the numbers below this one that are missing, of which none may be held past the front.
+    /// Gives up the numbers below this one that are missing, of which none may be held past the
+    /// front.
     pub fn skip(&mut self, number: u64) -> Result<(), Refusal> {
         if self.end.is_some_and(|end| end < number) {
             return Err(Refusal::SkipPastEnd);
@@ -215,7 +219,8 @@ impl Arbiter {
         Ok(())
     }
 
-    /// Begins the venue's next session once the present one is over, and returns which one it is, from 2.
+    /// Begins the venue's next session once the present one is over, and returns which one it is,
+    /// from 2.
     pub fn renew(&mut self, name: SessionName) -> Result<usize, Refusal> {
         if !self.is_over {
             return Err(Refusal::NotEnded);

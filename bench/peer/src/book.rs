@@ -59,9 +59,15 @@ impl<O: Order> Book<O> {
         self.is_helped[venue]
     }
 
-    /// Takes a quotation, and returns the place of its symbol and the national best where that has changed.
+    /// Takes a quotation, and returns the place of its symbol and the national best where that has
+    /// changed.
     #[inline]
-    pub fn quote(&mut self, venue: usize, position: u32, quote: &Quote) -> Option<(usize, National)> {
+    pub fn quote(
+        &mut self,
+        venue: usize,
+        position: u32,
+        quote: &Quote,
+    ) -> Option<(usize, National)> {
         let place = self.table.place_of(quote.symbol)?;
         let market = &mut self.markets[place];
         let is_open = !market.halted[venue] && !self.is_helped[venue];
@@ -73,7 +79,12 @@ impl<O: Order> Book<O> {
     }
 
     /// Halts a symbol on a venue, or resumes its trading, and returns as `quote` does.
-    pub fn halt(&mut self, venue: usize, symbol: Symbol, is_halt: bool) -> Option<(usize, National)> {
+    pub fn halt(
+        &mut self,
+        venue: usize,
+        symbol: Symbol,
+        is_halt: bool,
+    ) -> Option<(usize, National)> {
         let place = self.table.place_of(symbol)?;
         let market = &mut self.markets[place];
         let before = market.national();
@@ -88,7 +99,8 @@ impl<O: Order> Book<O> {
         self.is_helped[venue] = is_on;
     }
 
-    /// Counts a venue's quotations in a symbol, or not, by a declaration, and returns the national best where it has changed.
+    /// Counts a venue's quotations in a symbol, or not, by a declaration, and returns the national
+    /// best where it has changed.
     pub fn help(&mut self, place: usize, venue: usize) -> Option<National> {
         let market = &mut self.markets[place];
         let before = market.national();
@@ -97,7 +109,8 @@ impl<O: Order> Book<O> {
         (national != before).then_some(national)
     }
 
-    /// Forgets what a venue shows in a symbol, and returns the national best where that has changed.
+    /// Forgets what a venue shows in a symbol, and returns the national best where that has
+    /// changed.
     pub fn leave(&mut self, place: usize, venue: usize) -> Option<National> {
         let market = &mut self.markets[place];
         let before = market.national();

@@ -1,4 +1,5 @@
-//! What a message says: three forms, each with a first byte and a length of its own; all else is Other.
+//! What a message says: three forms, each with a first byte and a length of its own; all else is
+//! Other.
 
 /// The eight bytes of a symbol's field, the first of them highest.
 pub type Symbol = u64;
@@ -149,7 +150,8 @@ pub mod tests {
         for field in [*b"A       ", *b"ABCDEFGH", *b"!~      "] {
             assert_eq!(read_symbol(&field), Some(u64::from_be_bytes(field)));
         }
-        let wrong = [b"        ", b" A      ", b"A B     ", b"A\x7f      ", b"A\x1f      ", b"\xa0B      "];
+        let wrong =
+            [b"        ", b" A      ", b"A B     ", b"A\x7f      ", b"A\x1f      ", b"\xa0B      "];
         for field in wrong {
             assert_eq!(read_symbol(field), None);
         }

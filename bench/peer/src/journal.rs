@@ -1,4 +1,5 @@
-//! The entries, of which the number alone is kept, and the rows of the national bests that they change.
+//! The entries, of which the number alone is kept, and the rows of the national bests that they
+//! change.
 
 use std::io::Write;
 

@@ -1,8 +1,9 @@
-//! A replay of a capture, as `nbbo replay` does it: plain Rust, unproved and written for speed, to be measured beside it.
+//! A replay of a capture, as `nbbo replay` does it: plain Rust, unproved and written for speed, to
+//! be measured beside it.
 //!
-//! `main` reads the words (`words`), and hands the capture (`records`) to a `replay`: a venue's packets (`packet`) go to
-//! its `arbiter`, which holds what is ahead of the sequence in a `window`; each `item` that is ready goes to the `journal`,
-//! which gives it to the `book` and prints `rows`.
+//! `main` reads the words (`words`), and hands the capture (`records`) to a `replay`: a venue's
+//! packets (`packet`) go to its `arbiter`, which holds what is ahead of the sequence in a `window`;
+//! each `item` that is ready goes to the `journal`, which gives it to the `book` and prints `rows`.
 
 mod arbiter;
 mod book;

@@ -1,4 +1,5 @@
-//! Which venue's side comes first in a symbol: by its key, of which a greater one is better, and 0 is none.
+//! Which venue's side comes first in a symbol: by its key, of which a greater one is better, and 0
+//! is none.
 
 pub const VENUES: usize = 16;
 
@@ -15,13 +16,18 @@ pub struct Keys {
 impl Keys {
     #[inline(always)]
     pub fn of(&self, venue: usize) -> u128 {
-        if self.counting >> (venue % VENUES) & 1 != 0 { self.all[venue % VENUES] } else { 0 }
+        if self.counting >> (venue % VENUES) & 1 != 0 {
+            self.all[venue % VENUES]
+        } else {
+            0
+        }
     }
 }
 
 /// How the first venue is found.
 pub trait Order: Clone + Default {
-    /// Puts a venue in its place after its key, which was this one, has changed. All venues with a key have been put so.
+    /// Puts a venue in its place after its key, which was this one, has changed. All venues with a
+    /// key have been put so.
     fn put(&mut self, venue: usize, was: u128, keys: &Keys);
 
     /// Returns the first venue, which may have the key 0 where all have.
@@ -52,7 +58,10 @@ impl Order for Ranks {
             self.set(rank, self.venues[rank - 1]);
             rank -= 1;
         }
-        while rank + 1 < VENUES && rank >= begun && keys.of(usize::from(self.venues[rank + 1])) > key {
+        while rank + 1 < VENUES
+            && rank >= begun
+            && keys.of(usize::from(self.venues[rank + 1])) > key
+        {
             self.set(rank, self.venues[rank + 1]);
             rank += 1;
         }
@@ -133,7 +142,8 @@ mod tests {
     #[test]
     fn all_ranks() {
         compare::<Ranks>(|order, keys| {
-            let ranked: Vec<u128> = order.venues.iter().map(|it| keys.of(usize::from(*it))).collect();
+            let ranked: Vec<u128> =
+                order.venues.iter().map(|it| keys.of(usize::from(*it))).collect();
             assert!(ranked.is_sorted_by(|one, other| one >= other));
             for (rank, venue) in order.venues.iter().enumerate() {
                 assert_eq!(usize::from(order.rank_of[usize::from(*venue)]), rank);

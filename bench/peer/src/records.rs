@@ -1,4 +1,5 @@
-//! The records of a capture in the project's own format: venue, kind, length (2 bytes), and that many bytes.
+//! The records of a capture in the project's own format: venue, kind, length (2 bytes), and that
+//! many bytes.
 
 use std::io::Read;
 
@@ -63,8 +64,10 @@ impl<R: Read> Records<R> {
             }
         }
         let head = &self.bytes[self.begin..self.begin + HEAD];
-        let (venue, length) = (usize::from(head[0]), usize::from(u16::from_be_bytes([head[2], head[3]])));
-        let what = what_of(head[1], length).filter(|_| venue < self.venues).ok_or(Fault::BadRecord)?;
+        let (venue, length) =
+            (usize::from(head[0]), usize::from(u16::from_be_bytes([head[2], head[3]])));
+        let what =
+            what_of(head[1], length).filter(|_| venue < self.venues).ok_or(Fault::BadRecord)?;
         if self.end - self.begin < HEAD + length {
             self.fill(HEAD + length)?;
             if self.end - self.begin < HEAD + length {

@@ -17,8 +17,14 @@ pub struct Replay<O, W> {
 }
 
 impl<O: Order, W: Write> Replay<O, W> {
-    /// Begins with a session for each venue; with `has_gaps` what is to be asked for is printed, too.
-    pub fn new(sessions: &[SessionName], window: u32, journal: Journal<O, W>, has_gaps: bool) -> Replay<O, W> {
+    /// Begins with a session for each venue; with `has_gaps` what is to be asked for is printed,
+    /// too.
+    pub fn new(
+        sessions: &[SessionName],
+        window: u32,
+        journal: Journal<O, W>,
+        has_gaps: bool,
+    ) -> Replay<O, W> {
         let venues = sessions.iter().map(|it| Arbiter::new(*it, window)).collect();
         Replay { venues, journal, has_gaps }
     }
@@ -77,7 +83,7 @@ impl<O: Order, W: Write> Replay<O, W> {
     fn renew(&mut self, venue: usize, held: &[u8]) -> Result<(), Fault> {
         let name = held.try_into().map_err(|_| Fault::BadRecord)?;
         let answer = self.venues[venue].renew(name).map(|ordinal| ordinal as u64);
-        self.journal.rows.wish("renew", venue, &answer)?;
+        self.journal.rows.wish(b"renew ", venue, &answer)?;
         Ok(())
     }
 
@@ -85,7 +91,7 @@ impl<O: Order, W: Write> Replay<O, W> {
         let number = u64::from_be_bytes(held.try_into().map_err(|_| Fault::BadRecord)?);
         let (journal, arbiter) = (&mut self.journal, &mut self.venues[venue]);
         let answer = arbiter.skip(number);
-        journal.rows.wish("skip", venue, &answer.map(|()| number))?;
+        journal.rows.wish(b"skip ", venue, &answer.map(|()| number))?;
         if answer.is_ok() {
             journal.record(venue, number - 1, &Item::Skipped)?;
             arbiter.deliver_held(|number, item| journal.record(venue, number, item))?;
@@ -108,7 +114,11 @@ mod tests {
     }
 
     /// Replays records, and returns what is printed and how it ended.
-    fn replayed<O: Order>(records: &[Vec<u8>], most: u32, is_best_only: bool) -> (String, Result<(), Fault>) {
+    fn replayed<O: Order>(
+        records: &[Vec<u8>],
+        most: u32,
+        is_best_only: bool,
+    ) -> (String, Result<(), Fault>) {
         let mut output = Vec::new();
         let rows = Rows::new(&mut output, is_best_only);
         let journal = Journal::<O, _>::new(&[symbol_of(b"ACME").unwrap()], most, rows).unwrap();
@@ -155,7 +165,10 @@ venue 0 sent 4 wins 1 1 0
 
     #[test]
     fn the_best_rows_alone() {
-        let bests = ROWS.lines().filter(|it| it.starts_with("best ")).fold(String::new(), |all, it| all + it + "\n");
+        let bests = ROWS
+            .lines()
+            .filter(|it| it.starts_with("best "))
+            .fold(String::new(), |all, it| all + it + "\n");
         assert_eq!(replayed::<Ranks>(&records(), 9, true), (bests, Ok(())));
     }
 

@@ -16,6 +16,8 @@ pub struct Prefix {
 }
 
 impl Prefix {
+    pub const NONE: Prefix = Prefix { bytes: [0; 16], length: 0 };
+
     /// Keeps a text of at most 16 bytes.
     pub fn new(text: &str) -> Prefix {
         let mut bytes = [0; 16];
@@ -118,7 +120,7 @@ mod tests {
     /// Returns what is added to a row.
     fn added(add: impl Fn(&mut Row<'_>)) -> String {
         let mut bytes = [0; LONGEST];
-        let mut row = Row::new(&mut bytes, &Prefix::new(""));
+        let mut row = Row::new(&mut bytes, &Prefix::NONE);
         add(&mut row);
         let length = row.length;
         String::from_utf8(bytes[..length].to_vec()).unwrap()

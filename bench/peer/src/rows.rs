@@ -24,7 +24,8 @@ pub struct Rows<W> {
 
 impl<W: Write> Rows<W> {
     pub fn new(output: W, is_best_only: bool) -> Rows<W> {
-        let line_of = |venue| ["A", "B", "R"].map(|line| Prefix::new(&format!("packet {venue} {line}")));
+        let line_of =
+            |venue| ["A", "B", "R"].map(|line| Prefix::new(&format!("packet {venue} {line}")));
         Rows {
             output,
             bytes: vec![0; SIZE + LONGEST].into(),
@@ -37,15 +38,22 @@ impl<W: Write> Rows<W> {
     }
 
     /// Begins a row of another kind for a venue.
-    fn row(&mut self, word: &str, venue: usize) -> Row<'_> {
-        Row::new(room(&mut self.bytes, self.length), &Prefix::new(&format!("{word} {venue}")))
+    #[inline(always)]
+    fn row<const N: usize>(&mut self, word: &[u8; N], venue: usize) -> Row<'_> {
+        let mut row = Row::new(room(&mut self.bytes, self.length), &Prefix::NONE);
+        row.text(word).number(venue as u64);
+        row
     }
 
     /// Ends a row of a length; the buffer is written where a next one may not fit.
     #[inline(always)]
     fn end(&mut self, length: usize) -> io::Result<()> {
         self.length += length;
-        if self.length < SIZE { Ok(()) } else { self.flush() }
+        if self.length < SIZE {
+            Ok(())
+        } else {
+            self.flush()
+        }
     }
 
     /// Writes what the buffer holds.
@@ -56,7 +64,12 @@ impl<W: Write> Rows<W> {
     }
 
     #[inline]
-    pub fn packet(&mut self, venue: usize, line: usize, answer: &Result<Outcome, Refusal>) -> io::Result<()> {
+    pub fn packet(
+        &mut self,
+        venue: usize,
+        line: usize,
+        answer: &Result<Outcome, Refusal>,
+    ) -> io::Result<()> {
         if self.is_best_only {
             return Ok(());
         }
@@ -94,7 +107,13 @@ impl<W: Write> Rows<W> {
     }
 
     #[inline]
-    pub fn best(&mut self, notice: u64, position: u32, symbol: Symbol, national: &National) -> io::Result<()> {
+    pub fn best(
+        &mut self,
+        notice: u64,
+        position: u32,
+        symbol: Symbol,
+        national: &National,
+    ) -> io::Result<()> {
         let mut row = Row::new(room(&mut self.bytes, self.length), &self.best);
         row.number(notice).text(b" ").number(u64::from(position)).text(b" ");
         row.symbol(symbol).text(b" ").side(&national.bid).text(b" ").side(&national.offer);
@@ -113,7 +132,7 @@ impl<W: Write> Rows<W> {
         if self.is_best_only {
             return Ok(());
         }
-        let mut row = self.row("gap", venue);
+        let mut row = self.row(b"gap ", venue);
         row.text(b" ").number(number).text(b" ").number(count);
         let length = row.end();
         self.end(length)
@@ -124,8 +143,12 @@ impl<W: Write> Rows<W> {
         if self.is_best_only {
             return Ok(());
         }
-        let mut row = self.row("declare", venue);
-        if is_on { row.text(b" on ") } else { row.text(b" off ") };
+        let mut row = self.row(b"declare ", venue);
+        if is_on {
+            row.text(b" on ")
+        } else {
+            row.text(b" off ")
+        };
         match position {
             Some(position) => row.number(u64::from(position)),
             None => row.text(b"already"),
@@ -135,7 +158,12 @@ impl<W: Write> Rows<W> {
     }
 
     /// Prints a renewal or a skip: its ordinal or number, or why it was refused.
-    pub fn wish(&mut self, word: &str, venue: usize, answer: &Result<u64, Refusal>) -> io::Result<()> {
+    pub fn wish<const N: usize>(
+        &mut self,
+        word: &[u8; N],
+        venue: usize,
+        answer: &Result<u64, Refusal>,
+    ) -> io::Result<()> {
         if self.is_best_only {
             return Ok(());
         }
@@ -152,7 +180,7 @@ impl<W: Write> Rows<W> {
         if self.is_best_only {
             return Ok(());
         }
-        let mut row = self.row("venue", venue);
+        let mut row = self.row(b"venue ", venue);
         row.text(b" sent ").number(sent).text(b" wins");
         for count in wins {
             row.text(b" ").number(*count);
@@ -208,13 +236,21 @@ mod tests {
             rows.gap(0, 2, 1).unwrap();
             rows.declare(0, true, Some(4)).unwrap();
             rows.declare(0, false, None).unwrap();
-            rows.wish("renew", 0, &Ok(2)).unwrap();
-            rows.wish("skip", 0, &Err(Refusal::HeldBelow)).unwrap();
+            rows.wish(b"renew ", 0, &Ok(2)).unwrap();
+            rows.wish(b"skip ", 0, &Err(Refusal::HeldBelow)).unwrap();
             rows.venue(2, 5, &[4, 1, 0]).unwrap();
         });
         let rows = [
-            "packet 0 A taken 1 20", "packet 15 R refused 11", "item 1 100 other", "gap 0 2 1", "declare 0 on 4",
-            "declare 0 off already", "renew 0 2", "skip 0 refused 63", "venue 2 sent 5 wins 4 1 0", "",
+            "packet 0 A taken 1 20",
+            "packet 15 R refused 11",
+            "item 1 100 other",
+            "gap 0 2 1",
+            "declare 0 on 4",
+            "declare 0 off already",
+            "renew 0 2",
+            "skip 0 refused 63",
+            "venue 2 sent 5 wins 4 1 0",
+            "",
         ];
         assert_eq!(text, rows.join("\n"));
     }

@@ -11,8 +11,9 @@ pub struct Best {
     pub size: u64,
 }
 
-/// What the venues show. A key has the price highest, then the size, then the age, so that the greatest one ranks first:
-/// offers have the complement of their price, and of ages the lowest counts most.
+/// What the venues show. A key has the price highest, then the size, then the age, so that the
+/// greatest one ranks first: offers have the complement of their price, and of ages the lowest
+/// counts most.
 #[derive(Clone)]
 pub struct Side<O> {
     keys: Keys,
@@ -38,7 +39,8 @@ fn with(venues: Venues, venue: usize, is_in: bool) -> Venues {
 }
 
 impl<O: Order> Side<O> {
-    /// Takes what a venue shows from a position on; `price` is complemented for an offer. What stays the same keeps its age.
+    /// Takes what a venue shows from a position on; `price` is complemented for an offer. What
+    /// stays the same keeps its age.
     #[inline]
     pub fn show(&mut self, venue: usize, price: u32, shown: &Shown, position: u32, is_open: bool) {
         let key = u128::from(price) << 96 | u128::from(shown.size) << 32 | u128::from(!position);
@@ -53,7 +55,8 @@ impl<O: Order> Side<O> {
         self.shown |= bit(venue);
         self.automated = with(self.automated, venue, shown.automated);
         let has_both = shown.price != 0 && shown.size != 0;
-        self.keys.counting = with(self.keys.counting, venue, shown.automated && has_both && is_open);
+        self.keys.counting =
+            with(self.keys.counting, venue, shown.automated && has_both && is_open);
         self.put(venue, was);
     }
 

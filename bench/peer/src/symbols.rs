@@ -2,7 +2,8 @@
 
 use crate::item::Symbol;
 
-/// A table that is at most half full. A symbol lies at its hash or in a slot after it; no symbol is 0.
+/// A table that is at most half full. A symbol lies at its hash or in a slot after it; no symbol is
+/// 0.
 pub struct SymbolTable {
     slots: Vec<(Symbol, u32)>,
     shift: u32,

@@ -4,8 +4,8 @@ use crate::item::Item;
 
 const BITS: u64 = 64;
 
-/// A ring of items by their numbers, with a bit for each that is held. Its length is a power of two, and all numbers that
-/// are held lie within it.
+/// A ring of items by their numbers, with a bit for each that is held. Its length is a power of
+/// two, and all numbers that are held lie within it.
 pub struct Window {
     items: Vec<Item>,
     bits: Vec<u64>,

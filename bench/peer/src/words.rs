@@ -5,7 +5,8 @@ use crate::order::VENUES;
 use crate::packet::SessionName;
 
 pub const USAGE: &str = "\
-usage: peer replay --sessions LIST [--window N] [--journal N] [--gaps] [--best-only] [--plain] [SYMBOL]... < CAPTURE
+usage: peer replay --sessions LIST [--window N] [--journal N] [--gaps] [--best-only] [--plain]
+           [SYMBOL]... < CAPTURE
 ";
 pub const MOST_SYMBOLS: usize = 4096;
 
@@ -58,7 +59,11 @@ impl Words {
                 _ => read.add_symbol(&word)?,
             }
         }
-        if read.sessions.is_empty() { Err("--sessions is missing") } else { Ok(read) }
+        if read.sessions.is_empty() {
+            Err("--sessions is missing")
+        } else {
+            Ok(read)
+        }
     }
 
     fn add_symbol(&mut self, word: &str) -> Result<(), &'static str> {
@@ -76,7 +81,13 @@ fn number_of(text: &str, least: u32, most: u32) -> Result<u32, &'static str> {
 
 fn sessions_of(text: &str) -> Result<Vec<SessionName>, &'static str> {
     let names: Option<Vec<SessionName>> = text.split(',').map(session_of).collect();
-    names.ok_or("bad session").and_then(|it| if it.len() > VENUES { Err("too many sessions") } else { Ok(it) })
+    names.ok_or("bad session").and_then(|it| {
+        if it.len() > VENUES {
+            Err("too many sessions")
+        } else {
+            Ok(it)
+        }
+    })
 }
 
 fn session_of(name: &str) -> Option<SessionName> {
@@ -96,9 +107,13 @@ mod tests {
 
     #[test]
     fn all_options() {
-        let words = read("replay --sessions A,B --window=7 --journal 0 --gaps --plain X -- -Y").unwrap();
+        let words =
+            read("replay --sessions A,B --window=7 --journal 0 --gaps --plain X -- -Y").unwrap();
         assert_eq!(words.sessions, [*b"A         ", *b"B         "]);
-        assert_eq!((words.window, words.journal, words.has_gaps, words.is_plain), (7, 0, true, true));
+        assert_eq!(
+            (words.window, words.journal, words.has_gaps, words.is_plain),
+            (7, 0, true, true)
+        );
         assert_eq!(words.symbols, [symbol_of(b"X").unwrap(), symbol_of(b"-Y").unwrap()]);
     }
 
