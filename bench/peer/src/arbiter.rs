@@ -58,7 +58,7 @@ impl Arbiter {
 
     /// Answers a packet that came on a line. What is new of one that was taken is then to be
     /// delivered.
-    #[inline]
+    #[inline(always)]
     pub fn answer(&mut self, line: usize, packet: &Packet<'_>) -> Result<Outcome, Refusal> {
         if self.session != *packet.session {
             return Err(Refusal::OtherSession);
@@ -70,7 +70,7 @@ impl Arbiter {
         }
     }
 
-    #[inline]
+    #[inline(always)]
     fn answer_messages(&mut self, line: usize, packet: &Packet<'_>) -> Result<Outcome, Refusal> {
         let last = packet.last();
         if self.end.is_some_and(|end| last >= end) {
@@ -130,7 +130,7 @@ impl Arbiter {
     }
 
     /// Delivers, in sequence, what is ready by a packet that was taken.
-    #[inline]
+    #[inline(always)]
     pub fn deliver<E>(
         &mut self,
         packet: &Packet<'_>,
@@ -161,7 +161,7 @@ impl Arbiter {
     }
 
     /// Delivers the items that are held next to the front, and the end where it comes next.
-    #[inline]
+    #[inline(always)]
     pub fn deliver_held<E>(
         &mut self,
         mut take: impl FnMut(u64, &Item) -> Result<(), E>,

@@ -59,7 +59,7 @@ impl Item {
 }
 
 /// Returns the quotation with these sizes, whose offer's price is at a place.
-#[inline]
+#[inline(always)]
 fn quote_of(rest: &[u8], bid_size: u64, offer_size: u64, offer: usize) -> Item {
     let Some(symbol) = read_symbol(&rest[..8]) else {
         return Item::Other;
@@ -85,7 +85,7 @@ fn wide_number_at(bytes: &[u8], place: usize) -> u64 {
 }
 
 /// Reads a field of eight bytes: one to eight of 21 to 7e, then spaces to the end.
-#[inline]
+#[inline(always)]
 fn read_symbol(field: &[u8]) -> Option<Symbol> {
     let symbol = u64::from_be_bytes(field.try_into().ok()?);
     let spaces = (symbol ^ SPACES).trailing_zeros() / 8;

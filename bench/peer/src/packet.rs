@@ -26,6 +26,7 @@ pub struct Packet<'a> {
 
 impl<'a> Packet<'a> {
     /// Reads the packet that the bytes spell, or returns the first fault that fits.
+    #[inline(always)]
     pub fn read(bytes: &'a [u8]) -> Result<Packet<'a>, Refusal> {
         let Some((header, blocks)) = bytes.split_first_chunk::<HEADER>() else {
             return Err(Refusal::ShortHeader);
@@ -61,13 +62,14 @@ impl<'a> Packet<'a> {
 }
 
 /// Reports whether the bytes begin with so many blocks.
+#[inline(always)]
 fn are_whole(bytes: &[u8], count: u16) -> bool {
     let mut place = 0;
     for _ in 0..count {
-        let Some(length) = bytes.get(place..place + 2) else {
+        if bytes.len() < place + 2 {
             return false;
-        };
-        place += 2 + usize::from(u16::from_be_bytes([length[0], length[1]]));
+        }
+        place += 2 + usize::from(u16::from_be_bytes([bytes[place], bytes[place + 1]]));
     }
     place <= bytes.len()
 }

@@ -53,7 +53,7 @@ impl<R: Read> Records<R> {
     }
 
     /// Returns the next record, or None where the capture ends before it.
-    #[inline]
+    #[inline(always)]
     pub fn next(&mut self) -> Result<Option<Record<'_>>, Fault> {
         if self.end - self.begin < HEAD {
             self.fill(HEAD)?;

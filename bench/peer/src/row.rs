@@ -80,6 +80,19 @@ impl<'a> Row<'a> {
     /// Adds a price, which is in ten-thousandths, as whole units and four places.
     #[inline(always)]
     fn price(&mut self, price: u32) -> &mut Self {
+        if u64::from(price) >= EIGHT_DIGITS {
+            return self.long_price(price);
+        }
+        let digits = digits_of(u64::from(price));
+        let zeros = (digits | 1 << 24).trailing_zeros() / 8;
+        let text = digits | ZEROS;
+        self.text(&((text as u32) >> (8 * zeros)).to_le_bytes());
+        self.length -= zeros as usize;
+        self.text(b".").text(&((text >> 32) as u32).to_le_bytes())
+    }
+
+    #[cold]
+    fn long_price(&mut self, price: u32) -> &mut Self {
         let places = (digits_of(u64::from(price % 10_000)) | ZEROS) >> 32;
         self.number(u64::from(price / 10_000)).text(b".").text(&(places as u32).to_le_bytes())
     }
@@ -140,7 +153,8 @@ mod tests {
 
     #[test]
     fn prices() {
-        for price in (0..30_000).chain([u32::MAX, u32::MAX - 7]) {
+        let beside = (4..10).map(|it| 10_u32.pow(it)).flat_map(|it| [it - 1, it, it + 1]);
+        for price in beside.chain(0..30_000).chain([u32::MAX, u32::MAX - 7]) {
             let text = added(|row| {
                 row.price(price);
             });

@@ -63,7 +63,7 @@ impl<W: Write> Rows<W> {
         self.output.flush()
     }
 
-    #[inline]
+    #[inline(always)]
     pub fn packet(
         &mut self,
         venue: usize,
@@ -87,7 +87,7 @@ impl<W: Write> Rows<W> {
         self.end(length)
     }
 
-    #[inline]
+    #[inline(always)]
     pub fn item(&mut self, venue: usize, number: u64, item: &Item) -> io::Result<()> {
         if self.is_best_only {
             return Ok(());
