@@ -24,7 +24,7 @@ use feed_text::{
 };
 use gap_rows::{GapMaker, new_gap_rows};
 use line_gaps::new_gaps;
-use period_rows::{BestMaker, BestTable, PeriodCounter, new_best_rows, new_count_rows};
+use period_rows::{BestMaker, PeriodCounter, new_best_rows, new_count_rows};
 use replay_reports::{BestRows, ReplayStats};
 use report_rows::{RowMaker, RowSink};
 use run_settings::{PeriodStyle, ReportFormat, RowFormat, RunOutput, RunSettings};
@@ -233,10 +233,9 @@ fn best_times_before<W>(
     ensures refused { IfErr result (λ back. back ≡ output) }
 {
     let venues = config.replay.sessions.len();
-    let Ok(table) = BestTable::new(alloc, config.replay.symbols) else {
+    let Ok(maker) = BestMaker::new(alloc, style, venues, config.replay.symbols) else {
         return Err(output);
     };
-    let maker = BestMaker::new(style, venues, table);
     match page_before(alloc, output) {
         Ok(page) => Ok(new_best_rows(page, maker)),
         Err(output) => Err(output),
