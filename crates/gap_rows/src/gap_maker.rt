@@ -89,7 +89,8 @@ pub fn new_gap_rows<W>(
     venues: Vec<VenueGaps>,
 ) -> RowSink<W, GapMaker>
     requires { page.text.items ≡ [] }
-    ensures { IsNewRowSink page.writer result.maker (header_text format gap_names) result }
+    ensures sink { IsNewRowSink page.writer result.maker (header_text format gap_names) result }
+    ensures format { result.maker.format ≡ format }
 {
     RowSink::new(page, GapMaker::new(format, venues), format, &gap_names())
 }
