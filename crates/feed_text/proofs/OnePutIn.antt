@@ -1,11 +1,10 @@
 -- Before a record one record is put in, or none.
-use Rattle.std.proofs.Common.{◌≡◌, ◌<◌, ◌*◌, ℕ, List, [], ◌∷◌, ◌++◌, map, Option, Some, None, refl, sym, ap, subst, ◌∙◌, arith, inl, inr}
+use Rattle.std.proofs.Common.{◌≡◌, ◌*◌, ℕ, List, [], ◌∷◌, map, Option, Some, None, refl, sym, ap, subst, ◌∙◌, arith, inl, inr}
 use Rattle.feed_text.proofs.RuleSteps.{first_unheld}
-use Rattle.std.specs.Prelude.{Ok, Err, Contains, slice_get}
+use Rattle.std.specs.Prelude.{Ok, Contains}
 use Rattle.std.proofs.lemmas.Bool.{cases_lt}
 use Rattle.std.proofs.lemmas.List.{map-append}
 use Rattle.std.proofs.lemmas.List.Elements.{Contains-append_right}
-use Rattle.mold_packet.specs.declared.request.Request.{Request}
 use Rattle.mold_packet.specs.Content.{Content, Spells}
 use Rattle.line_arbiter.specs.declared.outcome.Outcome.{Outcome}
 use Rattle.line_arbiter.specs.Histories.{Begun, History, names_of}
@@ -16,7 +15,7 @@ use Rattle.run_settings.specs.declared.skip_rule.SkipRule.TheVariants.{Never, Jo
 use Rattle.feed_text.specs.declared.replay.ReplayConfig.{ReplayConfig}
 use Rattle.feed_text.specs.Capture.{CaptureRecord, datagram_record, renewal_record, skip_record, self_help_record, record_venue}
 use Rattle.feed_text.specs.Formats.{TimedRecord}
-use Rattle.feed_text.specs.Rules.{GivesUp, IsLowest, IsOverdueAt, PutsAt, PutsBefore, PutsIn, ReplayPoint, RenewsBefore, SkipsBefore, first_come, next_come}
+use Rattle.feed_text.specs.Rules.{GivesUp, IsLowest, IsOverdueAt, PutsAt, PutsBefore, PutsIn, ReplayPoint, RenewsBefore, SkipsBefore, next_come}
 
 -- packets are read in one way
 abbrev pub OneReading : Type 0

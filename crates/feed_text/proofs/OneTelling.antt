@@ -243,8 +243,8 @@ pub one_of_all : (config : ReplayConfig) (records : List TimedRecord) (t u : Lis
 one_of_all config records t u one a b =
     let c = a.is in
     let d = b.is in
-    let x = one_all config records c.taken d.taken c.emitted d.emitted (point_told c) (point_told d) one
-    c.are_taken d.are_taken c.emits d.emits in
+    let x = one_all config records c.taken d.taken c.emitted d.emitted (point_told c) (point_told d)
+    one c.are_taken d.are_taken c.emits d.emits in
     let same = told_same config records [] [] a.first b.first one c d x.0 in
     a.told_is ∙ ap (λ (l : List TimedEvent). l ++ at_time None (lasts_told 0 c.histories)) same
     ∙ ap (λ (hs : List History). b.first ++ at_time None (lasts_told 0 hs)) x.1 ∙ sym b.told_is
@@ -252,8 +252,8 @@ one_of_all config records t u one a b =
 pub one_of : (config : ReplayConfig) (records : List TimedRecord) (t u : List TimedEvent) → Single
     → IsToldOf config records t → IsToldOf config records u → t ≡ u
 one_of config records t u one a b =
-    let x = one_all config records a.taken b.taken a.emitted b.emitted (point_told a) (point_told b) one
-    a.are_taken b.are_taken a.emits b.emits in
+    let x = one_all config records a.taken b.taken a.emitted b.emitted (point_told a) (point_told b)
+    one a.are_taken b.are_taken a.emits b.emits in
     told_same config records [] [] t u one a b x.0
 
 -- what had room up to the next event is the same prefix
@@ -313,7 +313,8 @@ record Filled (config : ReplayConfig) (old : List Entry) (rs ts : List TimedReco
   next : ReplayEvent
   others : List ReplayEvent
   after : List History
-  tells : EmitsRecord config.window config.gaps last.what mid.histories (first ++ next ∷ others) after
+  tells : EmitsRecord config.window config.gaps last.what mid.histories (first
+      ++ next ∷ others) after
   room : length (entries_of (entries_of old emitted) first) ≤ config.journal
   full : config.journal < length (entries_of (entries_of old emitted) (first ++ next ∷ []))
 
@@ -453,8 +454,8 @@ filled_once config old rs [] [] hs e f one x y =
     ++ y.next ∷ y.others) y.after =
     subst (λ (k : ReplayPoint). EmitsRecord config.window config.gaps y.last.what k.histories
     (y.first ++ y.next ∷ y.others) y.after) y.are.1 y.tells in
-    let same = one_record config.window config.gaps y.last.what hs.histories x.after y.after (x.first
-    ++ x.next ∷ x.others) (y.first ++ y.next ∷ y.others) one mine theirs in
+    let same = one_record config.window config.gaps y.last.what hs.histories x.after y.after
+    (x.first ++ x.next ∷ x.others) (y.first ++ y.next ∷ y.others) one mine theirs in
     let front : x.first ≡ y.first = one_front config.journal old x.first y.first x.next y.next
     x.others y.others same.0
     (subst (λ (l : List ReplayEvent). length (entries_of (entries_of old l)
@@ -480,8 +481,8 @@ filled_once config old rs (t ∷ ts) (u ∷ us) hs e f one x y =
     let (ends, said, between, here, says, most) = y.are in
     let (k, front, back, at, later, whole) = y.emits in
     let a = one_record config.window config.gaps t.what hs.histories mid m told head one tells is in
-    let b = one_record config.window config.gaps u.what hs.histories between k said front one says at
-    in
+    let b = one_record config.window config.gaps u.what hs.histories between k said front one says
+    at in
     let n = one_next config hs rs t u others ends one next here in
     let c = one_record config.window config.gaps u.what hs.histories m k head front one
     (subst (λ (r : TimedRecord). EmitsRecord config.window config.gaps r.what hs.histories head m)
@@ -547,8 +548,8 @@ all_or_full config old rs (t ∷ ts) (u ∷ us) hs new e f one (others, told, mi
     let (ends, said, between, here, says, most) = y.are in
     let (k, front, back, at, later, whole) = y.emits in
     let a = one_record config.window config.gaps t.what hs.histories mid m told head one tells is in
-    let b = one_record config.window config.gaps u.what hs.histories between k said front one says at
-    in
+    let b = one_record config.window config.gaps u.what hs.histories between k said front one says
+    at in
     let n = one_next config hs rs t u others ends one next here in
     let c = one_record config.window config.gaps u.what hs.histories m k head front one
     (subst (λ (r : TimedRecord). EmitsRecord config.window config.gaps r.what hs.histories head m)

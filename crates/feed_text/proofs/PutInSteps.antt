@@ -1,6 +1,6 @@
 -- What is put in is made, and less can be put in after it.
-use Rattle.std.proofs.Common.{◌≡◌, ℕ, zero, suc, ◌+◌, ◌-◌, ◌*◌, ◌^◌, ◌<◌, ◌≤◌, Bool, List, [], ◌∷◌, ◌++◌, length, map, length-append, get_or, refl, sym, ap, ◌∙◌, subst, arith, inl, inr, Some, None, Option}
-use Rattle.std.specs.Prelude.{Result, Ok, slice_get, sum_by}
+use Rattle.std.proofs.Common.{◌≡◌, ℕ, zero, suc, ◌+◌, ◌-◌, ◌*◌, ◌^◌, ◌<◌, ◌≤◌, Bool, List, [], ◌∷◌, ◌++◌, length, length-append, get_or, refl, sym, ap, ◌∙◌, subst, arith, inl, inr, Some, None, Option}
+use Rattle.std.specs.Prelude.{Ok, slice_get, sum_by}
 use Rattle.std.proofs.lemmas.List.{length-map}
 use Rattle.std.proofs.lemmas.List.Sums.{sum_by-cons, sum_by-set}
 use Rattle.std.proofs.lemmas.Option.{get_or_from_slice_get, slice_get_within}
@@ -31,7 +31,8 @@ use Rattle.feed_text.proofs.RuleSteps.{may_give_up, may_skip_before, most_number
 abbrev pub MayBe : History → CaptureRecord → Type 0
 MayBe h (skip_record venue n) = MaySkip h.present.packets n × (n < 2 ^ 64)
 MayBe h (renewal_record venue name) =
-    (ordinal : ℕ) × IsRenewal (names_of h) (end_of h.present.packets) (last_sent h) name (Ok ordinal)
+    (ordinal : ℕ)
+    × IsRenewal (names_of h) (end_of h.present.packets) (last_sent h) name (Ok ordinal)
 MayBe h _ = ⊥
 
 lowest_may : (window span time : ℕ) (at : ReplayPoint) (x : CaptureRecord) (h : History)

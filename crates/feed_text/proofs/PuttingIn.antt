@@ -3,7 +3,6 @@ use Rattle.std.proofs.Common.{◌≡◌, ℕ, zero, suc, ◌*◌, ◌<◌, ◌�
 use Rattle.std.specs.Prelude.{Result, Ok, Err, OnOk, MatchOption, slice_get}
 use Rattle.std.proofs.lemmas.Option.{slice_get_within}
 use Rattle.feed_types.specs.declared.line.LineId.TheVariants.{A}
-use Rattle.mold_packet.specs.declared.request.Request.{Request}
 use Rattle.mold_packet.specs.Content.{Spells}
 use Rattle.line_arbiter.specs.Histories.{History}
 use Rattle.line_arbiter.specs.LastSent.{last_gap}
@@ -17,16 +16,16 @@ use Rattle.feed_text.specs.declared.replay_sink.PublishStop.{PublishStop}
 use Rattle.feed_text.specs.declared.standing_gap.StandingGap.{StandingGap}
 use Rattle.feed_text.specs.declared.standing_gaps.StandingGaps.{StandingGaps}
 use Rattle.feed_text.specs.Capture.{CaptureRecord, datagram_record, renewal_record, self_help_record, skip_record, record_venue}
-use Rattle.feed_text.specs.Following.{ReplayVenue, VenueList, EmitsNext, FollowAll, TakesRecord}
+use Rattle.feed_text.specs.Following.{VenueList, EmitsNext, FollowAll}
 use Rattle.feed_text.specs.Formats.{TimedRecord, timed_record}
-use Rattle.feed_text.specs.PuttingIn.{GivesUpNone, KeepsFor, PutNone, PutOne, PutToStop, PutsNoSkip, PutsOne, StandsFor, clock_of, left_in}
+use Rattle.feed_text.specs.PuttingIn.{GivesUpNone, KeepsFor, PutsNoSkip, PutsOne, StandsFor, clock_of, left_in}
 use Rattle.feed_text.specs.RenewingVenues.{BeginsAtVenue, RenewsOne, StaysAtVenue}
 use Rattle.feed_text.specs.ReplayStates.{SinkTaking, ReplayState}
-use Rattle.feed_text.specs.Rules.{GivesUp, HasStood, IsLowest, IsOverdue, IsOverdueAt, PutsAt, PutsBefore, PutsIn, RenewsBefore, ReplayPoint, datagram_bytes, gap_at, gap_of_some, point_after, standing_after}
+use Rattle.feed_text.specs.Rules.{GivesUp, HasStood, IsLowest, IsOverdue, IsOverdueAt, PutsBefore, PutsIn, RenewsBefore, ReplayPoint, gap_at, gap_of_some, point_after}
 use Rattle.feed_text.specs.Skipping.{SkipsAtVenue}
-use Rattle.feed_text.specs.Standings.{AwaitsNext, Awaits, IsKept, Knows, kept_at}
+use Rattle.feed_text.specs.Standings.{Awaits, Knows, kept_at}
 use Rattle.feed_text.proofs.PutInSteps.{put_in_less}
-use Rattle.feed_text.proofs.Taking.{put_emits, standing_same}
+use Rattle.feed_text.proofs.Taking.{standing_same}
 
 -- ---- gaps
 

@@ -5,7 +5,6 @@ use Rattle.std.proofs.lemmas.Bool.{cases_lt}
 use Rattle.line_arbiter.specs.Histories.{History}
 use Rattle.feed_types.specs.declared.journal.Entry.{Entry}
 use Rattle.feed_text.specs.declared.replay.ReplayConfig.{ReplayConfig}
-use Rattle.feed_text.specs.declared.replay_stop.ReplayStop.TheVariants.{SinkFailed, JournalFull}
 use Rattle.feed_text.specs.declared.replay_sink.PublishStop.TheVariants as stops
 use Rattle.feed_text.specs.Emitted.{EmitsRecord}
 use Rattle.feed_text.specs.EventReplays.{IsToldPart}
@@ -200,7 +199,8 @@ module _ {K : Type 0} {taking : SinkTaking K} (sinks : SinkLaws taking)
           told = y.told ++ told (f.first ++ front);
           is = inr (inl (full_told r k.last k.left y k.is_last (f.first ++ front) next others
               (subst (λ (l : List ReplayEvent). EmitsRecord config.window config.gaps k.last.what
-              k.mid.histories l k.after) (f.emitted_is ∙ ap (λ (l : List ReplayEvent). f.first ++ l) is
+              k.mid.histories l k.after) (f.emitted_is
+              ∙ ap (λ (l : List ReplayEvent). f.first ++ l) is
               ∙ sym (append_assoc f.first front (next ∷ others))) k.last_tells)
               (rw (entries_more k.state.entries f.first front) fits)
               (rw (

@@ -1,5 +1,5 @@
 -- Renewals before a packet, of one of the venues.
-use Rattle.std.proofs.Common.{◌≡◌, ℕ, Bool, true, false, List, length, Option, Some, None, refl, sym, ap, subst, ◌∙◌}
+use Rattle.std.proofs.Common.{◌≡◌, ℕ, Bool, true, false, List, length, Option, Some, None, sym, ap, subst, ◌∙◌}
 use Rattle.std.specs.Prelude.{Result, Ok, Err, MatchOption, slice_get, slice_set}
 use Rattle.std.proofs.Math.ListN.{length-set}
 use Rattle.std.proofs.lemmas.Option.{none-some}
@@ -12,7 +12,7 @@ use Rattle.feed_text.specs.Following.{ReplayVenue, VenueList, EmitsNext, FollowA
 use Rattle.feed_text.specs.Renewing.{BeginsNext, BeginsNone, IsNextName, IsOver, RenewsOrStays}
 use Rattle.feed_text.specs.RenewingVenues.{BeginsAtVenue, RenewsAtVenue, RenewsOne}
 use Rattle.feed_text.specs.ReplayStates.{SinkTaking, ReplayState}
-use Rattle.feed_text.specs.Rules.{RenewsBefore, names_after}
+use Rattle.feed_text.specs.Rules.{names_after}
 use Rattle.feed_text.specs.laws.Lists.{same_set}
 use Rattle.feed_text.proofs.Telling.{emits_next, follow_set, history_at}
 

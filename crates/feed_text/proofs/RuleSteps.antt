@@ -1,5 +1,5 @@
 -- What is given up: nothing that has come, so the skip is made.
-use Rattle.std.proofs.Common.{◌≡◌, inl, inr, ℕ, zero, suc, ◌+◌, ◌-◌, ◌^◌, ◌<◌, ◌≤◌, Bool, true, false, cond, List, [], ◌∷◌, ◌++◌, length, get_or, refl, sym, ap, ◌∙◌, subst, arith, Some, None, Option}
+use Rattle.std.proofs.Common.{◌≡◌, inl, inr, ℕ, zero, suc, ◌+◌, ◌-◌, ◌^◌, ◌<◌, ◌≤◌, Bool, true, false, cond, List, length, get_or, refl, sym, ap, ◌∙◌, subst, arith, Some, None, Option}
 use Rattle.std.specs.Prelude.{Result, Ok, ◌==◌, min, is_some, is_none, count_by}
 use Rattle.std.specs.Option.{option_map_or}
 use Rattle.std.specs.List.{range_with_len}
@@ -13,7 +13,7 @@ use Rattle.mold_packet.specs.Content.{Content, IsContent, KindFits, last_number}
 use Rattle.line_arbiter.specs.declared.outcome.Outcome.{Outcome}
 use Rattle.line_arbiter.specs.declared.outcome.Outcome.TheVariants.{Ahead, Ended, Heartbeat, Taken}
 use Rattle.line_arbiter.specs.declared.faults.SkipFault.{SkipFault}
-use Rattle.line_arbiter.specs.Packets.{Input, Skip, carried, end_of, top_of, known_of}
+use Rattle.line_arbiter.specs.Packets.{Input, carried, end_of, top_of, known_of}
 use Rattle.mold_packet.specs.declared.request.Request.{Request}
 use Rattle.line_arbiter.specs.Streams.{end_at, front_of, gap_of, held_count, missing_count}
 use Rattle.line_arbiter.specs.Histories.{History}

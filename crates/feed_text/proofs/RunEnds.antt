@@ -1,7 +1,6 @@
 -- How a replay ends, and what follows from it.
 use Rattle.std.proofs.Common.{◌≡◌, inl, inr, ℕ, ◌+◌, ◌≤◌, List, [], ◌∷◌, ◌++◌, drop, append-nil, refl, sym, subst, None}
 use Rattle.std.specs.Prelude.{Result, Ok, Err, ◌⊎◌, ⊤}
-use Rattle.line_arbiter.specs.Histories.{History}
 use Rattle.feed_text.specs.declared.replay.ReplayConfig.{ReplayConfig}
 use Rattle.feed_text.specs.declared.replay_stop.ReplayStop.{ReplayStop}
 use Rattle.feed_text.specs.declared.replay_stop.ReplayStop.TheVariants.{SinkFailed, Bad, JournalFull, ReadFailed, Short, TooManyTurns, NoMemory}
@@ -29,7 +28,8 @@ module _ {R S F K : Type 0} {reading : Reading R} {parsing : Parsing S F} {takin
     (ins : InLaws reading parsing) (sinks : SinkLaws taking) (config : ReplayConfig) where
   -- the sink took all that the records tell, and shows it
   pub ran_by : {calls : ℕ} {from mid : R} {start format : S} {rest : List ℕ} {before : K}
-      {venues : VenueList} {gaps : StandingGaps} {t : ReplayState K} (is_shown : K → Type 0) (IsLeft : List ℕ → Type 0)
+      {venues : VenueList} {gaps : StandingGaps} {t : ReplayState K} (is_shown : K → Type 0)
+      (IsLeft : List ℕ → Type 0)
       (CameTo : ℕ → R → Type 0) (after : K)
       → IsLeft rest → CameTo calls mid → taking.takes t.sink [] after → is_shown after
       → Ran reading parsing taking config from calls mid start format rest before venues gaps t
@@ -52,7 +52,8 @@ module _ {R S F K : Type 0} {reading : Reading R} {parsing : Parsing S F} {takin
 
   -- the sink failed as it showed what it took
   ran_unshown : {calls : ℕ} {from to : R} {start format : S} {rest : List ℕ} {before : K}
-      {venues : VenueList} {gaps : StandingGaps} {t : ReplayState K} (after : K) → taking.fails t.sink [] after
+      {venues : VenueList} {gaps : StandingGaps} {t : ReplayState K} (after : K)
+      → taking.fails t.sink [] after
       → Ran reading parsing taking config from calls to start format rest before venues gaps t
       → ReadAndTold reading parsing (venues_in config) from start format (λ rest. ⊤)
       (λ calls mid. (mid ≡ to) ⊎ reading.ends mid to) (IsToldPart (told_facts config))
@@ -72,7 +73,8 @@ module _ {R S F K : Type 0} {reading : Reading R} {parsing : Parsing S F} {takin
   }
 
   pub answers_unshown : {calls : ℕ} {from to : R} {start format : S} {rest : List ℕ} {before : K}
-      {venues : VenueList} {gaps : StandingGaps} {t : ReplayState K} (is_shown : K → Type 0) (result : ReplayStop F)
+      {venues : VenueList} {gaps : StandingGaps} {t : ReplayState K} (is_shown : K → Type 0)
+      (result : ReplayStop F)
       (after : K) → result ≡ SinkFailed → taking.fails t.sink [] after
       → Ran reading parsing taking config from calls to start format rest before venues gaps t
       → AnswersRun reading parsing taking is_shown config (told_facts config) from to start format
@@ -85,7 +87,8 @@ module _ {R S F K : Type 0} {reading : Reading R} {parsing : Parsing S F} {takin
 
   -- no piece begins the rest
   pub answers_bad : {calls : ℕ} {from to : R} {start format : S} {rest : List ℕ} {before : K}
-      {venues : VenueList} {gaps : StandingGaps} {t : ReplayState K} (is_shown : K → Type 0) (fault : F)
+      {venues : VenueList} {gaps : StandingGaps} {t : ReplayState K} (is_shown : K → Type 0)
+      (fault : F)
       (result : ReplayStop F) (after : K)
       → ShowsBefore taking.takes taking.fails is_shown (Bad fault) t.sink after result
       → parsing.is_bad format rest fault
@@ -104,7 +107,8 @@ module _ {R S F K : Type 0} {reading : Reading R} {parsing : Parsing S F} {takin
   -- a stop within a record: the journal was full, and the sink showed what it took, or the sink
   -- failed
   pub answers_stopped : {calls len : ℕ} {from to : R} {start format next : S} {rest seen : List ℕ}
-      {before : K} {venues : VenueList} {gaps : StandingGaps} {t u : ReplayState K} (is_shown : K → Type 0)
+      {before : K} {venues : VenueList} {gaps : StandingGaps} {t u : ReplayState K}
+      (is_shown : K → Type 0)
       (r : TimedRecord) (stop : _) (result : ReplayStop F) (after : K)
       → IsRecord (venues_in config) r.what → seen ≡ rest
       → TakesPiece parsing.reads format seen (r ∷ []) len next
@@ -174,7 +178,8 @@ module _ {R S F K : Type 0} {reading : Reading R} {parsing : Parsing S F} {takin
 
   -- all was read
   pub ran_to_end : {calls : ℕ} {from mid to : R} {start format : S} {rest : List ℕ} {before : K}
-      {venues : VenueList} {gaps : StandingGaps} {t : ReplayState K} → rest ≡ [] → parsing.is_whole format
+      {venues : VenueList} {gaps : StandingGaps} {t : ReplayState K} → rest ≡ []
+      → parsing.is_whole format
       → calls + 1 ≤ config.turns → reading.ends mid to
       → Ran reading parsing taking config from calls mid start format rest before venues gaps t
       → RanToEnd reading parsing taking config from to start format before t.sink venues.items

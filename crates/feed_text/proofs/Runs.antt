@@ -2,7 +2,6 @@
 use Rattle.std.proofs.Common.{◌≡◌, ℕ, Option, ◌+◌, List, [], ◌∷◌, ◌++◌, drop, sym, subst}
 use Rattle.std.specs.Prelude.{Ok}
 use Rattle.std.proofs.lemmas.List.Elements.{All-nil}
-use Rattle.line_arbiter.specs.Histories.{History}
 use Rattle.journal_book.specs.NumberedBooks.{NumberedState}
 use Rattle.feed_text.specs.declared.replay.ReplayConfig.{ReplayConfig}
 use Rattle.feed_text.specs.Capture.{IsRecord}
@@ -90,7 +89,8 @@ module _ {R S F K : Type 0} {reading : Reading R} {parsing : Parsing S F} {takin
   }
 
   pub ran_shown : {calls : ℕ} {from to : R} {start format : S} {rest : List ℕ} {before : K}
-      {venues : VenueList} {gaps : StandingGaps} {t : ReplayState K} (sink : K) → taking.takes t.sink [] sink
+      {venues : VenueList} {gaps : StandingGaps} {t : ReplayState K} (sink : K)
+      → taking.takes t.sink [] sink
       → Ran reading parsing taking config from calls to start format rest before venues gaps t
       → Ran reading parsing taking config from calls to start format rest before
       venues gaps (tale_with t sink)

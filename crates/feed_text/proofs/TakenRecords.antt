@@ -2,7 +2,7 @@
 use Rattle.std.proofs.Common.{◌≡◌, ℕ, Option, List, [], ◌∷◌, ◌++◌, length, append-nil, refl, sym, ap, ◌∙◌, subst, arith}
 use Rattle.std.specs.Prelude.{Ok}
 use Rattle.std.proofs.lemmas.List.{length-map}
-use Rattle.line_arbiter.specs.Histories.{History, new_history}
+use Rattle.line_arbiter.specs.Histories.{new_history}
 use Rattle.journal_book.specs.NumberedBooks.{NumberedState}
 use Rattle.feed_types.specs.declared.journal.Entry.{Entry}
 use Rattle.feed_text.specs.declared.replay.ReplayConfig.{ReplayConfig}

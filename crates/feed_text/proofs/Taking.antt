@@ -11,11 +11,7 @@ use Rattle.run_settings.specs.declared.skip_rule.SkipRule.TheVariants.{Never, Af
 use Rattle.mold_packet.specs.Content.{Content}
 use Rattle.feed_text.specs.declared.standing_gap.StandingGap.{StandingGap}
 use Rattle.feed_text.specs.declared.standing_gaps.StandingGaps.{StandingGaps}
-use Rattle.std.specs.Borrow.{Bor}
-use Rattle.feed_types.specs.declared.line.LineId.{LineId}
-use Rattle.feed_text.specs.declared.capture.Record.{Record}
-use Rattle.feed_text.specs.declared.capture.Record.TheVariants.{Datagram, Renewal, SelfHelp, Skip}
-use Rattle.feed_text.specs.Capture.{record_of, CaptureRecord, datagram_record, renewal_record, skip_record, self_help_record, record_venue}
+use Rattle.feed_text.specs.Capture.{CaptureRecord, datagram_record, renewal_record, skip_record, self_help_record, record_venue}
 use Rattle.feed_text.specs.Formats.{TimedRecord, timed_record, what_of}
 use Rattle.feed_text.specs.ReplayEvents.{ReplayEvent}
 use Rattle.feed_text.specs.Emitted.{EmitsRecord, Emits}

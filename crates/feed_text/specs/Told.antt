@@ -58,8 +58,8 @@ pub record IsToldOfAll (config : ReplayConfig) (records : List TimedRecord)
   pub told_is : told ≡ first ++ at_time None (lasts_told 0 is.histories)
 
 -- What is told up to a full journal: all that is taken before the last one, which is the record
--- that was read last, or one that is put in before it; its first events have room, too, and the next one would
--- add an entry past the journal's end.
+-- that was read last, or one that is put in before it; its first events have room, too, and the
+-- next one would add an entry past the journal's end.
 pub record IsToldToFull (config : ReplayConfig) (records : List TimedRecord)
     (told : List TimedEvent) : Type 0 where
   pub read_last : TimedRecord

@@ -4,7 +4,7 @@ use Rattle.line_arbiter.specs.Fits.{cursors_of}
 use Rattle.line_arbiter.specs.Histories.{History}
 use Rattle.line_arbiter.specs.LastSent.{last_sent}
 use Rattle.feed_text.specs.Rules.{HasSentAll}
-use Rattle.feed_text.proofs.Joins.{joins, joined_not_past, joined_session}
+use Rattle.feed_text.proofs.Joins.{joins, joined_not_past}
 use Rattle.feed_text.proofs.VenueSteps.{cursors_shown}
 use Rattle.feed_text.proofs.joining.join_at.Goals as goal
 use Rattle.feed_text.proofs.joining.join_at.Goals.{After-status-cursors}

@@ -1,4 +1,4 @@
-use Rattle.std.proofs.Common.{◌≡◌, ◌∙◌, refl, sym, arith}
+use Rattle.std.proofs.Common.{arith}
 use Rattle.feed_text.specs.Capture.{record_of}
 use Rattle.feed_text.specs.Formats.{timed_record}
 use Rattle.feed_text.proofs.Taking.{plain_taken}

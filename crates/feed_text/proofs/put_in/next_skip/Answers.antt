@@ -1,4 +1,3 @@
-use Rattle.std.proofs.Common.{refl}
 use Rattle.feed_text.specs.Capture.{skip_record}
 use Rattle.feed_text.proofs.PuttingIn.{given_put, no_skip, skip_put}
 use Rattle.feed_text.proofs.put_in.next_skip.Goals as goal

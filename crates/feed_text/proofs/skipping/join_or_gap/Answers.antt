@@ -1,4 +1,4 @@
-use Rattle.std.proofs.Common.{◌≡◌, ◌⊎◌, ℕ, Option, None, Some, inl, inr, subst}
+use Rattle.std.proofs.Common.{◌⊎◌, ℕ, Option, None, Some, inl, inr, subst}
 use Rattle.std.specs.Prelude.{MatchOption}
 use Rattle.feed_text.specs.Rules.{IsJoinedAt, IsPastGap}
 use Rattle.feed_text.proofs.skipping.join_or_gap.Goals as goal

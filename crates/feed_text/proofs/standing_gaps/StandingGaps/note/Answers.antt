@@ -1,5 +1,4 @@
-use Rattle.std.proofs.Common.{rules, ◌≡◌, ◌<◌, ℕ, List, length, Some, Option, sym, ap, subst, ◌∙◌}
-use Rattle.line_arbiter.specs.Histories.{History}
+use Rattle.std.proofs.Common.{rules, ◌<◌, ℕ, length, Some, Option, sym, ap, ◌∙◌}
 use Rattle.feed_text.specs.Rules.{gap_at, standing_after}
 use Rattle.feed_text.specs.Standings.{kept_at}
 use Rattle.feed_text.proofs.Standing.{kept_set}

@@ -1,9 +1,8 @@
-use Rattle.std.proofs.Common.{◌≡◌, ℕ, ap, sym, ◌∙◌, subst, arith, Option, Some, None}
+use Rattle.std.proofs.Common.{◌≡◌, ℕ, ap, sym, ◌∙◌, subst, arith, Some}
 use Rattle.std.proofs.lemmas.Option.{none-some}
 use Rattle.mold_packet.specs.declared.request.Request.{Request}
-use Rattle.line_arbiter.specs.Fits.{cursors_of}
 use Rattle.line_arbiter.specs.Histories.{History}
-use Rattle.line_arbiter.specs.LastSent.{last_gap, last_sent}
+use Rattle.line_arbiter.specs.LastSent.{last_gap}
 use Rattle.feed_text.specs.Following.{ReplayVenue, Follows}
 use Rattle.feed_text.specs.Rules.{next_come}
 use Rattle.feed_text.proofs.VenueSteps.{all_sent, cursors_shown, gap_shown}

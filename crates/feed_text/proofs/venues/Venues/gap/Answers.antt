@@ -1,6 +1,5 @@
-use Rattle.std.proofs.Common.{◌≡◌, ◌<◌, ◌≤◌, ℕ, List, length, refl, sym, ap, subst, ◌∙◌, arith}
+use Rattle.std.proofs.Common.{◌<◌, ◌≤◌, ℕ, List, length, refl, sym, ap, subst, ◌∙◌, arith}
 use Rattle.std.proofs.lemmas.Option.{slice_get_read}
-use Rattle.line_arbiter.specs.Histories.{History}
 use Rattle.feed_text.specs.Following.{ReplayVenue, VenueList, FollowAll}
 use Rattle.feed_text.specs.Rules.{gap_at}
 use Rattle.feed_text.proofs.PuttingIn.{gap_here, gap_past}

@@ -5,8 +5,9 @@ use Rattle.feed_text.specs.Standings.{IsKept}
 use Rattle.feed_text.proofs.venues.Venues.overdue.Given as goal
 
 abbrev pub invariant-loop-place : goal.invariant-loop-place
-invariant-loop-place l = (window : ℕ) (at : ReplayPoint) → FollowAll window l.self.items at.histories
-    → IsKept l.kept at.standing → (lower number : ℕ) → lower < l.place
+invariant-loop-place l = (window : ℕ) (at : ReplayPoint)
+    → FollowAll window l.self.items at.histories → IsKept l.kept at.standing
+    → (lower number : ℕ) → lower < l.place
     → IsOverdueAt window l.clock.span l.clock.time at lower number → ⊥
 
 abbrev pub decreases-loop-place : goal.decreases-loop-place
