@@ -31,19 +31,19 @@ abbrev pub named_next : ℕ → List (List ℕ) → List NextSession
 named_next venue names = map (λ name. record { venue = venue; name = name }) names
 
 -- those after the first one
-abbrev pub next_of : ℕ → List (List ℕ) → List NextSession
-next_of venue sessions = named_next venue (drop 1 sessions)
+abbrev pub next_session_of : ℕ → List (List ℕ) → List NextSession
+next_session_of venue sessions = named_next venue (drop 1 sessions)
 
 -- the next sessions of venues, from this one on, by the texts of the venues
-abbrev pub next_from : ℕ → List (List ℕ) → Result (List NextSession) Refusal
-next_from venue [] = Ok []
-next_from venue (text ∷ texts) =
+abbrev pub next_sessions_from : ℕ → List (List ℕ) → Result (List NextSession) Refusal
+next_sessions_from venue [] = Ok []
+next_sessions_from venue (text ∷ texts) =
     and_then (chain_of (chain_in text))
-    (λ sessions. mapped (λ more. next_of venue sessions ++ more) (next_from (venue + 1) texts))
+    (λ sessions. mapped (λ more. next_session_of venue sessions ++ more) (next_sessions_from (venue + 1) texts))
 
 -- Where --lines is given, the next sessions of the first `venues` venues of the list; else none.
 abbrev pub ReadsNextSessions : (lines : Option (List ℕ)) → List ℕ → (venues : ℕ)
     → Result (List NextSession) Refusal → Type 0
 ReadsNextSessions None list venues = Gives (Ok [])
 ReadsNextSessions (Some lines) list venues =
-    OrNoMemory (Gives (next_from 0 (take venues (names_in list))))
+    OrNoMemory (Gives (next_sessions_from 0 (take venues (names_in list))))

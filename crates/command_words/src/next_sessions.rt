@@ -3,7 +3,7 @@ ghost use Rattle.std.specs.Prelude.{◌≡◌, ◌==◌, ◌≤◌, ◌++◌, If
 ghost use Rattle.std.specs.List.{slice_split};
 ghost use Rattle.std.specs.Str.{bytes_eq};
 ghost use Rattle.run_settings.specs.NextSessions.{FollowVenues};
-ghost use Rattle.command_words.specs.NextSessions.{ReadsNextSessions, are_once, chain_in, chain_of, named_next, next_from, next_of};
+ghost use Rattle.command_words.specs.NextSessions.{ReadsNextSessions, are_once, chain_in, chain_of, named_next, next_sessions_from, next_session_of};
 ghost use Rattle.command_words.specs.Readings.{Gives, OrNoMemory, mapped};
 
 use crate::refusal::Refusal;
@@ -79,7 +79,7 @@ fn push_next(
     venue: VenueId,
     sessions: &[[u8; 10]],
 ) -> Result<(), AllocError>
-    ensures { OnOk result (next.new.items ≡ next.old.items ++ next_of venue sessions.now) }
+    ensures { OnOk result (next.new.items ≡ next.old.items ++ next_session_of venue sessions.now) }
 {
     if sessions.is_empty() {
         return Ok(());
@@ -92,7 +92,7 @@ fn push_next(
 fn next_from(alloc: Global, texts: &[&str], venues: usize) -> Result<Vec<NextSession>, Refusal>
     requires { venues ≤ 16 }
     ensures reads { OrNoMemory
-        (Gives (next_from 0 (take venues (map (λ text. text.now) texts.now))))
+        (Gives (next_sessions_from 0 (take venues (map (λ text. text.now) texts.now))))
         (mapped (λ next. next.items) result) }
     ensures venues { IfOk result (λ next. FollowVenues venues next.items) }
 {

@@ -15,7 +15,7 @@ use Rattle.run_settings.specs.declared.skip_rule.SkipRule.TheVariants.{Never, Jo
 use Rattle.feed_text.specs.declared.replay.ReplayConfig.{ReplayConfig}
 use Rattle.feed_text.specs.Capture.{CaptureRecord, datagram_record, renewal_record, skip_record, self_help_record, record_venue}
 use Rattle.feed_text.specs.Formats.{TimedRecord}
-use Rattle.feed_text.specs.Rules.{GivesUp, IsLowest, IsOverdueAt, PutsAt, PutsBefore, PutsIn, ReplayPoint, RenewsBefore, SkipsBefore, next_come}
+use Rattle.feed_text.specs.Rules.{GivesUpOverdue, IsLowestOverdue, IsOverdueAt, PutsAt, PutsBefore, PutsIn, ReplayPoint, RenewsBefore, SkipsBefore, next_come}
 
 -- packets are read in one way
 abbrev pub OneReading : Type 0
@@ -111,7 +111,7 @@ one_overdue window span time at place m n x y =
     ∙ ap (next_come y.history) gap ∙ sym y.overdue.first
 
 one_lowest : (window span time : ℕ) (at : ReplayPoint) (x y : CaptureRecord)
-    → IsLowest window span time at x → IsLowest window span time at y → x ≡ y
+    → IsLowestOverdue window span time at x → IsLowestOverdue window span time at y → x ≡ y
 one_lowest window span time at x y a b = elim (cases_lt a.place b.place) [
   | inl less ↦ absurd (b.lowest a.place a.number less a.overdue)
   | inr least ↦ elim (cases_lt b.place a.place) [
@@ -126,7 +126,8 @@ one_lowest window span time at x y a b = elim (cases_lt a.place b.place) [
 ]
 
 one_given_up : (rule : SkipRule) (window : ℕ) (time : Option ℕ) (at : ReplayPoint)
-    (x y : CaptureRecord) → GivesUp rule window time at x → GivesUp rule window time at y → x ≡ y
+    (x y : CaptureRecord) → GivesUpOverdue rule window time at x
+    → GivesUpOverdue rule window time at y → x ≡ y
 one_given_up Never window time at x y a b = absurd a
 one_given_up Join window time at x y a b = absurd a
 one_given_up Gaps window time at x y a b = absurd a

@@ -21,10 +21,10 @@ use Rattle.feed_text.specs.Capture.{CaptureRecord, datagram_record, renewal_reco
 use Rattle.feed_text.specs.Emitted.{EmitsAt}
 use Rattle.feed_text.specs.Following.{ReplayVenue, EmitsNext, FollowAll}
 use Rattle.feed_text.specs.Formats.{TimedRecord}
-use Rattle.feed_text.specs.PuttingIn.{left_in, left_of}
+use Rattle.feed_text.specs.PuttingIn.{left_in, left_to_take}
 use Rattle.feed_text.specs.ReplayEvents.{ReplayEvent}
 use Rattle.feed_text.specs.ReplayStates.{SinkTaking, ReplayState}
-use Rattle.feed_text.specs.Rules.{GivesUp, IsLowest, IsMade, PutsAt, PutsBefore, PutsIn, ReplayPoint}
+use Rattle.feed_text.specs.Rules.{GivesUpOverdue, IsLowestOverdue, IsMade, PutsAt, PutsBefore, PutsIn, ReplayPoint}
 use Rattle.feed_text.proofs.RuleSteps.{may_give_up, may_skip_before, most_number, skip_answer}
 
 -- what is put in may be: a skip, or a renewal of fewer than 64 sessions
@@ -36,7 +36,7 @@ MayBe h (renewal_record venue name) =
 MayBe h _ = ⊥
 
 lowest_may : (window span time : ℕ) (at : ReplayPoint) (x : CaptureRecord) (h : History)
-    → IsLowest window span time at x → slice_get at.histories (record_venue x) ≡ Some h
+    → IsLowestOverdue window span time at x → slice_get at.histories (record_venue x) ≡ Some h
     → MayBe h x
 lowest_may window span time at x h a there =
     let some : Some a.overdue.history ≡ Some h = sym a.overdue.is
@@ -50,7 +50,7 @@ lowest_may window span time at x h a there =
     ))
 
 given_up_may : (rule : SkipRule) (window : ℕ) (time : Option ℕ) (at : ReplayPoint)
-    (x : CaptureRecord) (h : History) → GivesUp rule window time at x
+    (x : CaptureRecord) (h : History) → GivesUpOverdue rule window time at x
     → slice_get at.histories (record_venue x) ≡ Some h → MayBe h x
 given_up_may Never window time at x h a there = absurd a
 given_up_may Join window time at x h a there = absurd a
@@ -66,6 +66,7 @@ before_may config hs r x h a there = by_kind x a.puts there
     same : (venue : ℕ) → venue ≡ record_venue r → slice_get hs venue ≡ Some h → a.before ≡ h
     same venue is at =
         let some : Some a.before ≡ Some h = sym a.at ∙ ap (slice_get hs) (sym is) ∙ at in cc
+
     by_kind : (y : CaptureRecord) → PutsBefore config (record_venue r) a.before a.packet y
         → slice_get hs (record_venue y) ≡ Some h → MayBe h y
     by_kind (skip_record venue n) puts at =
@@ -161,7 +162,7 @@ sum_alike f g (x ∷ xs) (y ∷ ys) len same =
 left_follow : (window : ℕ) (vs : List ReplayVenue) (hs : List History) → FollowAll window vs hs
     → left_in vs ≡ sum_by left_by hs
 unfolding left_by
-left_follow window vs hs f = sum_alike left_of left_by vs hs f.count (λ i v h at here.
+left_follow window vs hs f = sum_alike left_to_take left_by vs hs f.count (λ i v h at here.
     let fits = (f.each i v h at here).history in
     rw (fits.names, fits.present.front) refl)
 

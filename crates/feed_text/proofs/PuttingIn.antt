@@ -21,7 +21,7 @@ use Rattle.feed_text.specs.Formats.{TimedRecord, timed_record}
 use Rattle.feed_text.specs.PuttingIn.{GivesUpNone, KeepsFor, PutsNoSkip, PutsOne, StandsFor, clock_of, left_in}
 use Rattle.feed_text.specs.RenewingVenues.{BeginsAtVenue, RenewsOne, StaysAtVenue}
 use Rattle.feed_text.specs.ReplayStates.{SinkTaking, ReplayState}
-use Rattle.feed_text.specs.Rules.{GivesUp, HasStood, IsLowest, IsOverdue, IsOverdueAt, PutsBefore, PutsIn, RenewsBefore, ReplayPoint, gap_at, gap_of_some, point_after}
+use Rattle.feed_text.specs.Rules.{GivesUpOverdue, HasStood, IsLowestOverdue, IsOverdue, IsOverdueAt, PutsBefore, PutsIn, RenewsBefore, ReplayPoint, gap_at, gap_of_some, point_after}
 use Rattle.feed_text.specs.Skipping.{SkipsAtVenue}
 use Rattle.feed_text.specs.Standings.{Awaits, Knows, kept_at}
 use Rattle.feed_text.proofs.PutInSteps.{put_in_less}
@@ -81,28 +81,28 @@ clock_rule (After ms) time clock e = (ms, refl)
 
 pub given_by : (rule : SkipRule) (window : ℕ) (time : Option ℕ) (at : ReplayPoint)
     (x : CaptureRecord) (clock : GapClock) → clock_of rule time ≡ Some clock
-    → GivesUp rule window time at x → IsLowest window clock.span clock.time at x
+    → GivesUpOverdue rule window time at x → IsLowestOverdue window clock.span clock.time at x
 given_by Never window time at x clock e y = absurd y
 given_by Join window time at x clock e y = absurd y
 given_by Gaps window time at x clock e y = absurd y
 given_by (After ms) window None at x clock e y = absurd y
 given_by (After ms) window (Some time) at x clock e y =
     let same : record { span = ms * 1000000; time = time } ≡ clock = cc in
-    subst (λ (c : GapClock). IsLowest window c.span c.time at x) same y
+    subst (λ (c : GapClock). IsLowestOverdue window c.span c.time at x) same y
 
 pub gives_by : (rule : SkipRule) (window : ℕ) (time : Option ℕ) (at : ReplayPoint)
     (x : CaptureRecord) (clock : GapClock) → clock_of rule time ≡ Some clock
-    → IsLowest window clock.span clock.time at x → GivesUp rule window time at x
+    → IsLowestOverdue window clock.span clock.time at x → GivesUpOverdue rule window time at x
 gives_by Never window time at x clock e y = absurd (cc)
 gives_by Join window time at x clock e y = absurd (cc)
 gives_by Gaps window time at x clock e y = absurd (cc)
 gives_by (After ms) window None at x clock e y = absurd (cc)
 gives_by (After ms) window (Some time) at x clock e y =
     let same : clock ≡ record { span = ms * 1000000; time = time } = cc in
-    subst (λ (c : GapClock). IsLowest window c.span c.time at x) same y
+    subst (λ (c : GapClock). IsLowestOverdue window c.span c.time at x) same y
 
 pub given_none : (rule : SkipRule) (window : ℕ) (time : Option ℕ) (at : ReplayPoint)
-    (x : CaptureRecord) → clock_of rule time ≡ None → GivesUp rule window time at x → ⊥
+    (x : CaptureRecord) → clock_of rule time ≡ None → GivesUpOverdue rule window time at x → ⊥
 given_none Never window time at x e y = y
 given_none Join window time at x e y = y
 given_none Gaps window time at x e y = y
@@ -113,10 +113,10 @@ given_none (After ms) window (Some time) at x e y = absurd (cc)
 pub overdue_given : (config : ReplayConfig) (time : Option ℕ) (at : ReplayPoint) (clock : GapClock)
     (o : Option GapSkip) → clock_of config.skips time ≡ Some clock
     → MatchOption o ((place number : ℕ) → IsOverdueAt config.window clock.span clock.time at place
-    number → ⊥) (λ s. IsLowest config.window clock.span clock.time at
+    number → ⊥) (λ s. IsLowestOverdue config.window clock.span clock.time at
     (skip_record s.venue s.number))
     → MatchOption o (GivesUpNone config time at)
-    (λ s. GivesUp config.skips config.window time at (skip_record s.venue s.number))
+    (λ s. GivesUpOverdue config.skips config.window time at (skip_record s.venue s.number))
 overdue_given config time at clock None is none = λ x y.
     let l = given_by config.skips config.window time at x clock is y in
     none l.place l.number l.overdue
@@ -131,7 +131,8 @@ pub skip_put : (config : ReplayConfig) (coming : Coming) (r : TimedRecord) (at :
     → SkipsAtVenue config at.histories coming.venue coming.bytes.now number
     → PutsIn config at r (skip_record coming.venue number)
 skip_put config coming r at number is none x = inr (
-  λ other y. none other (subst (λ (t : Option ℕ). GivesUp config.skips config.window t at other)
+  λ other y. none other (subst (λ
+      (t : Option ℕ). GivesUpOverdue config.skips config.window t at other)
       (sym is.time) y),
   record {
     before = x.before;
@@ -145,16 +146,17 @@ skip_put config coming r at number is none x = inr (
 
 pub given_put : (config : ReplayConfig) (coming : Coming) (r : TimedRecord) (at : ReplayPoint)
     (x : CaptureRecord) → StandsFor coming r
-    → GivesUp config.skips config.window coming.time at x → PutsIn config at r x
+    → GivesUpOverdue config.skips config.window coming.time at x → PutsIn config at r x
 given_put config coming r at x is y =
-    inl (subst (λ (t : Option ℕ). GivesUp config.skips config.window t at x) is.time y)
+    inl (subst (λ (t : Option ℕ). GivesUpOverdue config.skips config.window t at x) is.time y)
 
 pub no_skip : (config : ReplayConfig) (coming : Coming) (r : TimedRecord) (at : ReplayPoint)
     → StandsFor coming r → GivesUpNone config coming.time at
     → ((number : ℕ) → SkipsAtVenue config at.histories coming.venue coming.bytes.now number → ⊥)
     → PutsNoSkip config r at
 no_skip config coming r at is none other = record {
-  none_due = λ x y. none x (subst (λ (t : Option ℕ). GivesUp config.skips config.window t at x)
+  none_due = λ x y. none x (subst (λ
+      (t : Option ℕ). GivesUpOverdue config.skips config.window t at x)
       (sym is.time) y);
   none_missing = λ number x. other number
       (subst (λ (v : ℕ). SkipsAtVenue config at.histories v coming.bytes.now number) (sym is.venue)
@@ -168,7 +170,8 @@ pub put_within : (config : ReplayConfig) (at : ReplayPoint) (r : TimedRecord) (x
 put_within config at r x (inl y) = given_within config.skips config.window r.time at x y
   where
     given_within : (rule : SkipRule) (window : ℕ) (time : Option ℕ) (p : ReplayPoint)
-        (x : CaptureRecord) → GivesUp rule window time p x → record_venue x < length p.histories
+        (x : CaptureRecord) → GivesUpOverdue rule window time p x
+        → record_venue x < length p.histories
     given_within Never window time p x y = absurd y
     given_within Join window time p x y = absurd y
     given_within Gaps window time p x y = absurd y
@@ -220,18 +223,21 @@ pub renewal_put : {K : Type 0} (taking : SinkTaking K) (config : ReplayConfig) (
     → (b : BeginsAtVenue taking config.window config.next_sessions.now coming.venue
     coming.bytes.now at.histories from to old new done)
     → PutsIn config at r (renewal_record coming.venue b.name)
-renewal_put taking config coming r at from to old new done is none b = inr (none.none_due, record {
-  before = b.before;
-  at = ap (slice_get at.histories) (sym is.venue) ∙ b.at;
-  packet = b.packet;
-  rest = b.rest;
-  spells = subst (λ (bs : List ℕ). Spells bs b.packet b.rest) is.bytes b.spells;
-  puts = (
-    is.venue,
-    subst (λ (v : ℕ). RenewsBefore config.next_sessions.now v b.before b.packet b.name) is.venue
-        b.renews,
-  );
-})
+renewal_put taking config coming r at from to old new done is none b = inr (
+  none.none_due,
+  record {
+    before = b.before;
+    at = ap (slice_get at.histories) (sym is.venue) ∙ b.at;
+    packet = b.packet;
+    rest = b.rest;
+    spells = subst (λ (bs : List ℕ). Spells bs b.packet b.rest) is.bytes b.spells;
+    puts = (
+      is.venue,
+      subst (λ (v : ℕ). RenewsBefore config.next_sessions.now v b.before b.packet b.name) is.venue
+          b.renews,
+    );
+  },
+)
 
 -- nothing is put in, where no skip and no renewal is
 pub nothing_put : {K : Type 0} (config : ReplayConfig) (coming : Coming) (r : TimedRecord)

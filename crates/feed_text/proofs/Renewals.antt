@@ -9,7 +9,7 @@ use Rattle.run_settings.specs.declared.next_session.NextSession.{NextSession}
 use Rattle.feed_text.specs.declared.replay_sink.PublishStop.{PublishStop}
 use Rattle.feed_text.specs.Capture.{renewal_record}
 use Rattle.feed_text.specs.Following.{ReplayVenue, VenueList, EmitsNext, FollowAll, Follows}
-use Rattle.feed_text.specs.Renewing.{BeginsNext, BeginsNone, IsNextName, IsOver, RenewsOrStays}
+use Rattle.feed_text.specs.Renewing.{BeginsNextSession, BeginsNone, IsNextName, IsPresentOver, RenewsOrStays}
 use Rattle.feed_text.specs.RenewingVenues.{BeginsAtVenue, RenewsAtVenue, RenewsOne}
 use Rattle.feed_text.specs.ReplayStates.{SinkTaking, ReplayState}
 use Rattle.feed_text.specs.Rules.{names_after}
@@ -17,7 +17,8 @@ use Rattle.feed_text.specs.laws.Lists.{same_set}
 use Rattle.feed_text.proofs.Telling.{emits_next, follow_set, history_at}
 
 -- the name that is found is the next one
-pub name_by : (next : List NextSession) (venue : ℕ) (h : History) (o : Option (List ℕ)) → IsOver h
+pub name_by : (next : List NextSession) (venue : ℕ) (h : History) (o : Option (List ℕ))
+    → IsPresentOver h
     → o ≡ slice_get (names_after venue next) (length h.earlier)
     → MatchOption o ((name : List ℕ) → IsNextName next venue h name → ⊥)
     (λ name. IsNextName next venue h name)
@@ -42,7 +43,7 @@ module _ {K : Type 0} (taking : SinkTaking K) (next : List NextSession) (venue :
     (set : to.items ≡ slice_set from.items venue w) (f : FollowAll window from.items hs)
     (at : slice_get hs venue ≡ Some h) where
   begins_at : (done : Result (Unit {0}) PublishStop)
-      → BeginsNext taking window from.gaps next venue bytes h old new w done
+      → BeginsNextSession taking window from.gaps next venue bytes h old new w done
       → BeginsAtVenue taking window next venue bytes hs from to old new done
   begins_at done b = record {
     before = h;

@@ -11,7 +11,7 @@ use Rattle.feed_text.specs.Following.{VenueList, FollowAll}
 use Rattle.feed_text.specs.Formats.{TimedRecord}
 use Rattle.feed_text.specs.ReplayEvents.{ReplayEvent, entries_of}
 use Rattle.feed_text.specs.ReplayStates.{SinkTaking, ReplayState, IsWithinJournal, GoesOn}
-use Rattle.feed_text.specs.Rules.{AreTakenOf, ReplayPoint, new_point, standing_after}
+use Rattle.feed_text.specs.Rules.{AreTakenOf, ReplayPoint, new_point, gap_standing_after}
 use Rattle.feed_text.specs.Standings.{KeepsNone, Knows, kept_at}
 use Rattle.feed_text.specs.declared.standing_gaps.StandingGaps.{StandingGaps}
 use Rattle.feed_text.specs.Running.{IsReplayStart, KeepsVenues, TakesNext, TookSome}
@@ -88,7 +88,7 @@ module _ {K : Type 0} {taking : SinkTaking K} (sinks : SinkLaws taking)
     };
     follow = s.follow;
     knows = λ ms is place. empty.none place
-        ∙ ap (λ (o : Option ℕ). standing_after config.window kept.venue o (new_histories config)
+        ∙ ap (λ (o : Option ℕ). gap_standing_after config.window kept.venue o (new_histories config)
         (kept_at kept.gaps) place) (sym empty.time);
     gaps = s.gaps;
     count = s.follow.count ∙ length-map config.sessions.now new_history;

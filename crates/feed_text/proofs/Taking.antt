@@ -15,7 +15,7 @@ use Rattle.feed_text.specs.Capture.{CaptureRecord, datagram_record, renewal_reco
 use Rattle.feed_text.specs.Formats.{TimedRecord, timed_record, what_of}
 use Rattle.feed_text.specs.ReplayEvents.{ReplayEvent}
 use Rattle.feed_text.specs.Emitted.{EmitsRecord, Emits}
-use Rattle.feed_text.specs.Rules.{AreTakenOf, GivesUp, IsTakenNext, PutsBefore, PutsIn, SkipsBefore, names_after, ReplayPoint, gap_at, point_after, standing_after, stands_then}
+use Rattle.feed_text.specs.Rules.{AreTakenOf, GivesUpOverdue, IsTakenNext, PutsBefore, PutsIn, SkipsBefore, names_after, ReplayPoint, gap_at, point_after, gap_standing_after, stands_then}
 use Rattle.feed_text.specs.PuttingIn.{IsPlain, PutNone, PutOne, PutToStop}
 use Rattle.feed_text.specs.Standings.{Awaits, Knows, kept_at}
 use Rattle.feed_text.specs.ReplayStates.{SinkTaking, ReplayState}
@@ -55,14 +55,14 @@ never_after ms e = absurd (cc)
 pub standing_same : (window venue : ℕ) (time : Option ℕ) (place : ℕ) (now : Option ℕ)
     (hs : List History) (f g : ℕ → Option StandingGap) → venue ≡ place → time ≡ now
     → ((at : ℕ) → f at ≡ g at) → (at : ℕ)
-    → standing_after window venue time hs f at ≡ standing_after window place now hs g at
+    → gap_standing_after window venue time hs f at ≡ gap_standing_after window place now hs g at
 standing_same window venue None place now hs f g here at_time same at =
-    same at ∙ ap (λ (o : Option ℕ). standing_after window place o hs g at) at_time
+    same at ∙ ap (λ (o : Option ℕ). gap_standing_after window place o hs g at) at_time
 standing_same window venue (Some time) place now hs f g here at_time same at =
     ap (λ (o : Option StandingGap). if venue == at then stands_then o time (gap_at window hs at)
     else o) (same at)
-    ∙ ap (λ (v : ℕ). standing_after window v (Some time) hs g at) here
-    ∙ ap (λ (o : Option ℕ). standing_after window place o hs g at) at_time
+    ∙ ap (λ (v : ℕ). gap_standing_after window v (Some time) hs g at) here
+    ∙ ap (λ (o : Option ℕ). gap_standing_after window place o hs g at) at_time
 
 module _ (config : ReplayConfig) where
   -- more records at the end
@@ -119,7 +119,7 @@ module _ (config : ReplayConfig) where
   pub never_put : IsPlain config → (at : ReplayPoint) (r : TimedRecord) (put_in : CaptureRecord)
       → PutsIn config at r put_in → ⊥
   never_put plain at r put_in (inl x) =
-      subst (λ (rule : SkipRule). GivesUp rule config.window r.time at put_in) plain.rule x
+      subst (λ (rule : SkipRule). GivesUpOverdue rule config.window r.time at put_in) plain.rule x
   never_put plain at r put_in (inr x) =
       never_before plain (record_venue r.what) x.1.before x.1.packet put_in x.1.puts
 
@@ -337,6 +337,7 @@ module _ {K : Type 0} {taking : SinkTaking K} (laws : SinkLaws taking) (config :
     awaits = λ ms is. absurd (never_after ms (sym plain.rule ∙ is));
     none = never_put config plain at r;
   }
+
 -- what a record that is put in emits
 pub put_emits : {K : Type 0} (taking : SinkTaking K) (config : ReplayConfig) (r : CaptureRecord)
     (at : ReplayPoint) (from to : VenueList) (old new : ReplayState K)

@@ -11,9 +11,9 @@ use Rattle.feed_text.specs.Capture.{CaptureRecord, record_venue}
 use Rattle.feed_text.specs.Following.{ReplayVenue, EmitsNext, FollowAll}
 use Rattle.feed_text.specs.Formats.{TimedRecord, timed_record}
 use Rattle.feed_text.specs.ReplayStates.{SinkTaking, ReplayState}
-use Rattle.feed_text.specs.Rules.{GivesUp, PutsIn, ReplayPoint, datagram_bytes, point_after}
+use Rattle.feed_text.specs.Rules.{GivesUpOverdue, PutsIn, ReplayPoint, datagram_bytes, point_after}
 use Rattle.feed_text.specs.Skipping.{SkipsAtVenue}
-use Rattle.feed_text.specs.Standings.{Awaits, IsKept, Knows}
+use Rattle.feed_text.specs.Standings.{Awaits, IsStandingKept, Knows}
 
 -- what is looked at of a record
 pub record StandsFor (coming : Coming) (r : TimedRecord) : Type 0 where
@@ -33,12 +33,12 @@ clock_of rule time = None
 
 -- the gaps that stand at a point are kept, where the rule asks for it
 abbrev pub KeepsFor : ReplayConfig → StandingGaps → ReplayPoint → Type 0
-KeepsFor config s at = (ms : ℕ) → config.skips ≡ After ms → IsKept s at.standing
+KeepsFor config s at = (ms : ℕ) → config.skips ≡ After ms → IsStandingKept s at.standing
 
 -- no gap is given up before a record with this time
 abbrev pub GivesUpNone : ReplayConfig → Option ℕ → ReplayPoint → Type 0
 GivesUpNone config time at =
-    (put_in : CaptureRecord) → GivesUp config.skips config.window time at put_in → ⊥
+    (put_in : CaptureRecord) → GivesUpOverdue config.skips config.window time at put_in → ⊥
 
 -- no skip is put in before a record
 pub record PutsNoSkip (config : ReplayConfig) (r : TimedRecord) (at : ReplayPoint) : Type 0 where
@@ -47,11 +47,11 @@ pub record PutsNoSkip (config : ReplayConfig) (r : TimedRecord) (at : ReplayPoin
       → SkipsAtVenue config at.histories (record_venue r.what) (datagram_bytes r.what) number → ⊥
 
 -- how much can be given up and renewed yet: more than the records that are put in
-abbrev pub left_of : ReplayVenue → ℕ
-left_of v = (64 - length v.arbiter.sessions) * 2 ^ 65 + (2 ^ 64 - v.arbiter.front)
+abbrev pub left_to_take : ReplayVenue → ℕ
+left_to_take v = (64 - length v.arbiter.sessions) * 2 ^ 65 + (2 ^ 64 - v.arbiter.front)
 
 abbrev pub left_in : List ReplayVenue → ℕ
-left_in vs = sum_by left_of vs
+left_in vs = sum_by left_to_take vs
 
 -- A record was put in, and the gaps that stand after it are known.
 pub record PutOne {K : Type 0} (taking : SinkTaking K) (config : ReplayConfig) (r : TimedRecord)

@@ -13,17 +13,17 @@ use Rattle.feed_text.specs.ReplayStates.{SinkTaking, ReplayState}
 use Rattle.feed_text.specs.Rules.{RenewsBefore, names_after}
 
 -- the present session is over, and all of it was sent
-abbrev pub IsOver : History → Type 0
-IsOver h = HasEnded (end_of h.present.packets) (last_sent h)
+abbrev pub IsPresentOver : History → Type 0
+IsPresentOver h = HasEnded (end_of h.present.packets) (last_sent h)
 
 -- it is, and a session of this name was named to follow it
 abbrev pub IsNextName : List NextSession → ℕ → History → List ℕ → Type 0
 IsNextName next venue h name =
-    IsOver h × (slice_get (names_after venue next) (length h.earlier) ≡ Some name)
+    IsPresentOver h × (slice_get (names_after venue next) (length h.earlier) ≡ Some name)
 
 -- A session begins before these bytes, which are a packet of it, and the events of that were
 -- emitted.
-pub record BeginsNext {K : Type 0} (taking : SinkTaking K) (width : ℕ) (gaps : Bool)
+pub record BeginsNextSession {K : Type 0} (taking : SinkTaking K) (width : ℕ) (gaps : Bool)
     (next : List NextSession) (venue : ℕ) (bytes : List ℕ) (h : History)
     (old new : ReplayState K) (v : ReplayVenue) (done : Result (Unit {0}) PublishStop) : Type 0
   where
@@ -40,7 +40,7 @@ BeginsNone next venue bytes h =
     (p : Content) (rest name : List ℕ) → Spells bytes p rest → RenewsBefore next venue h p name → ⊥
 
 -- None does, and nothing changes.
-pub record Stays {K : Type 0} (width : ℕ) (next : List NextSession) (venue : ℕ)
+pub record SessionStays {K : Type 0} (width : ℕ) (next : List NextSession) (venue : ℕ)
     (bytes : List ℕ) (h : History) (old new : ReplayState K) (v : ReplayVenue) : Type 0 where
   pub none : BeginsNone next venue bytes h
   pub same : new ≡ old
@@ -50,8 +50,8 @@ abbrev pub RenewsOrStays : {K : Type 0} → SinkTaking K → ℕ → Bool → Li
     → List ℕ → History → ReplayState K → ReplayState K → ReplayVenue → Result Bool PublishStop
     → Type 0
 RenewsOrStays taking width gaps next venue bytes h old new v (Ok true) =
-    BeginsNext taking width gaps next venue bytes h old new v (Ok tt)
+    BeginsNextSession taking width gaps next venue bytes h old new v (Ok tt)
 RenewsOrStays taking width gaps next venue bytes h old new v (Ok false) =
-    Stays width next venue bytes h old new v
+    SessionStays width next venue bytes h old new v
 RenewsOrStays taking width gaps next venue bytes h old new v (Err stop) =
-    BeginsNext taking width gaps next venue bytes h old new v (Err stop)
+    BeginsNextSession taking width gaps next venue bytes h old new v (Err stop)

@@ -70,17 +70,17 @@ gap_at window histories place = gap_of_some window (slice_get histories place)
 
 -- The gaps that stand after a record of a venue, which leads to these histories: those of the
 -- others stay, and a record without a time begins none and ends none.
-abbrev pub standing_after : ℕ → ℕ → Option ℕ → List History → (ℕ → Option StandingGap) → ℕ
+abbrev pub gap_standing_after : ℕ → ℕ → Option ℕ → List History → (ℕ → Option StandingGap) → ℕ
     → Option StandingGap
-standing_after window venue None histories before place = before place
-standing_after window venue (Some time) histories before place =
+gap_standing_after window venue None histories before place = before place
+gap_standing_after window venue (Some time) histories before place =
     if venue == place then stands_then (before place) time (gap_at window histories place)
     else before place
 
 abbrev pub point_after : ReplayConfig → ReplayPoint → TimedRecord → List History → ReplayPoint
 point_after config old r histories = record {
   histories = histories;
-  standing = standing_after config.window (record_venue r.what) r.time histories old.standing;
+  standing = gap_standing_after config.window (record_venue r.what) r.time histories old.standing;
 }
 
 -- a gap that begins with this number has stood for this span of nanoseconds
@@ -111,7 +111,8 @@ pub record IsOverdueAt (window span time : ℕ) (at : ReplayPoint) (place number
   pub overdue : IsOverdue window span time history (at.standing place) number
 
 -- the skip of the lowest venue's gap that has stood for the span
-pub record IsLowest (window span time : ℕ) (at : ReplayPoint) (put_in : CaptureRecord) : Type 0
+pub record IsLowestOverdue (window span time : ℕ) (at : ReplayPoint)
+    (put_in : CaptureRecord) : Type 0
   where
     pub place : ℕ
     pub number : ℕ
@@ -121,10 +122,10 @@ pub record IsLowest (window span time : ℕ) (at : ReplayPoint) (put_in : Captur
     pub skip : put_in ≡ skip_record place number
 
 -- before a record with this time: by rule After alone, and where the time is known
-abbrev pub GivesUp : SkipRule → ℕ → Option ℕ → ReplayPoint → CaptureRecord → Type 0
-GivesUp (After ms) window (Some time) at put_in =
-    IsLowest window (ms * 1000000) time at put_in
-GivesUp rule window time at put_in = ⊥
+abbrev pub GivesUpOverdue : SkipRule → ℕ → Option ℕ → ReplayPoint → CaptureRecord → Type 0
+GivesUpOverdue (After ms) window (Some time) at put_in =
+    IsLowestOverdue window (ms * 1000000) time at put_in
+GivesUpOverdue rule window time at put_in = ⊥
 
 -- ---- before a packet
 
@@ -211,8 +212,8 @@ pub record PutsAt (config : ReplayConfig) (histories : List History) (r put_in :
 -- enough.
 abbrev pub PutsIn : ReplayConfig → ReplayPoint → TimedRecord → CaptureRecord → Type 0
 PutsIn config at r put_in =
-    GivesUp config.skips config.window r.time at put_in
-    ⊎ (((other : CaptureRecord) → GivesUp config.skips config.window r.time at other → ⊥)
+    GivesUpOverdue config.skips config.window r.time at put_in
+    ⊎ (((other : CaptureRecord) → GivesUpOverdue config.skips config.window r.time at other → ⊥)
     × PutsAt config at.histories r.what put_in)
 
 -- a skip was made, and a session has begun

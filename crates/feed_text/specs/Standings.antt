@@ -7,35 +7,35 @@ use Rattle.feed_text.specs.declared.standing_gap.StandingGap.{StandingGap}
 use Rattle.feed_text.specs.declared.standing_gaps.StandingGaps.{StandingGaps}
 use Rattle.feed_text.specs.Capture.{record_venue}
 use Rattle.feed_text.specs.Formats.{TimedRecord}
-use Rattle.feed_text.specs.Rules.{ReplayPoint, standing_after}
+use Rattle.feed_text.specs.Rules.{ReplayPoint, gap_standing_after}
 
 -- the gap that is kept of the venue at a place
 abbrev pub kept_at : List (Option StandingGap) → ℕ → Option StandingGap
 kept_at gaps place = slice_index_or gaps place None
 
 -- these gaps are kept
-abbrev pub IsKept : StandingGaps → (ℕ → Option StandingGap) → Type 0
-IsKept s standing = (place : ℕ) → standing place ≡ kept_at s.gaps place
+abbrev pub IsStandingKept : StandingGaps → (ℕ → Option StandingGap) → Type 0
+IsStandingKept s standing = (place : ℕ) → standing place ≡ kept_at s.gaps place
 
 -- none is, and no record was taken
 pub record KeepsNone (s : StandingGaps) : Type 0 where
-  pub none : IsKept s (λ place. None)
+  pub none : IsStandingKept s (λ place. None)
   pub time : s.time ≡ None
 
 -- the gaps that stand once the record that is waited for has led to these histories
-abbrev pub standing_by : ℕ → StandingGaps → List History → ℕ → Option StandingGap
-standing_by window s histories =
-    standing_after window s.venue s.time histories (kept_at s.gaps)
+abbrev pub standing_noted : ℕ → StandingGaps → List History → ℕ → Option StandingGap
+standing_noted window s histories =
+    gap_standing_after window s.venue s.time histories (kept_at s.gaps)
 
 -- The gaps that stand are those of a point, where the rule asks for them.
 abbrev pub Knows : ReplayConfig → StandingGaps → ReplayPoint → Type 0
 Knows config s at =
     (ms : ℕ) → config.skips ≡ After ms
-    → (place : ℕ) → at.standing place ≡ standing_by config.window s at.histories place
+    → (place : ℕ) → at.standing place ≡ standing_noted config.window s at.histories place
 
 -- Those of a point are kept, and this record is waited for.
 pub record AwaitsNext (s : StandingGaps) (r : TimedRecord) (at : ReplayPoint) : Type 0 where
-  pub kept : IsKept s at.standing
+  pub kept : IsStandingKept s at.standing
   pub venue : s.venue ≡ record_venue r.what
   pub time : s.time ≡ r.time
 

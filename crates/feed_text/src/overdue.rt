@@ -4,9 +4,9 @@ ghost use Rattle.line_arbiter.specs.Fits.{cursors_of};
 ghost use Rattle.line_arbiter.specs.Histories.{History};
 ghost use Rattle.line_arbiter.specs.LastSent.{last_sent};
 ghost use Rattle.feed_text.specs.Following.{FollowAll, Follows};
-ghost use Rattle.feed_text.specs.Rules.{HasStood, IsLowest, IsOverdue, IsOverdueAt, ReplayPoint, next_come};
+ghost use Rattle.feed_text.specs.Rules.{HasStood, IsLowestOverdue, IsOverdue, IsOverdueAt, ReplayPoint, next_come};
 ghost use Rattle.feed_text.specs.Capture.{skip_record};
-ghost use Rattle.feed_text.specs.Standings.{IsKept};
+ghost use Rattle.feed_text.specs.Standings.{IsStandingKept};
 
 use crate::standing_gap::StandingGap;
 use crate::standing_gaps::StandingGaps;
@@ -81,7 +81,7 @@ impl Venues {
     fn overdue_at(&self, clock: &GapClock, kept: &StandingGaps, place: usize) -> Option<u64>
         requires { place < 16 }
         ensures { (window : ℕ) (at : ReplayPoint) → FollowAll window self.now.items at.histories
-            → IsKept kept.now at.standing → MatchOption result
+            → IsStandingKept kept.now at.standing → MatchOption result
             ((number : ℕ) → IsOverdueAt window clock.now.span clock.now.time at place number → ⊥)
             (λ number. IsOverdueAt window clock.now.span clock.now.time at place number) }
     {
@@ -99,10 +99,10 @@ impl Venues {
     /// one.
     pub fn overdue(&self, clock: &GapClock, kept: &StandingGaps) -> Option<GapSkip>
         ensures { (window : ℕ) (at : ReplayPoint) → FollowAll window self.now.items at.histories
-            → IsKept kept.now at.standing → MatchOption result
+            → IsStandingKept kept.now at.standing → MatchOption result
             ((place number : ℕ) → IsOverdueAt window clock.now.span clock.now.time at place number
             → ⊥)
-            (λ skip. IsLowest window clock.now.span clock.now.time at
+            (λ skip. IsLowestOverdue window clock.now.span clock.now.time at
             (skip_record skip.venue skip.number)) }
     {
         let mut place = 0;

@@ -4,7 +4,7 @@ ghost use Rattle.feed_text.specs.Capture.{IsRecord, record_of, skip_record};
 ghost use Rattle.feed_text.specs.Following.{FollowAll};
 ghost use Rattle.feed_text.specs.Formats.{TimedRecord, timed_record};
 ghost use Rattle.feed_text.specs.ReplayStates.{state_of_replay};
-ghost use Rattle.feed_text.specs.Rules.{GivesUp, PutsIn, ReplayPoint};
+ghost use Rattle.feed_text.specs.Rules.{GivesUpOverdue, PutsIn, ReplayPoint};
 ghost use Rattle.feed_text.specs.PuttingIn.{GivesUpNone, IsPlain, KeepsFor, PutsNoSkip, PutsOne, StandsFor, clock_of, left_in};
 ghost use Rattle.feed_text.specs.Running.{FollowSome, KeepsVenues, TakesPutIn};
 ghost use Rattle.feed_text.specs.Standings.{Knows};
@@ -91,7 +91,7 @@ fn overdue_skip(
     ensures { (at : ReplayPoint) → FollowAll config.now.window venues.now.items at.histories
         → KeepsFor config.now kept.now at
         → MatchOption result (GivesUpNone config.now time at)
-        (λ skip. GivesUp config.now.skips config.now.window time at
+        (λ skip. GivesUpOverdue config.now.skips config.now.window time at
         (skip_record skip.venue skip.number)) }
 {
     match clock_of(config.skips, time) {

@@ -3,7 +3,7 @@ ghost use Rattle.std.specs.Prelude.{◌≡◌, ℕ, Bool, List, MatchBool, Match
 ghost use Rattle.line_arbiter.specs.Histories.{History};
 ghost use Rattle.feed_text.specs.Following.{Follows};
 ghost use Rattle.feed_text.specs.ReplayStates.{state_of_replay};
-ghost use Rattle.feed_text.specs.Renewing.{IsNextName, IsOver, RenewsOrStays};
+ghost use Rattle.feed_text.specs.Renewing.{IsNextName, IsPresentOver, RenewsOrStays};
 ghost use Rattle.feed_text.specs.Rules.{names_after};
 
 use crate::event::Event;
@@ -35,7 +35,7 @@ impl VenueReplay {
     /// Whether the present session is over, and all of it was sent.
     fn is_over(&self) -> bool
         ensures { (width place : ℕ) (h : History) → Follows width place self.now h
-            → MatchBool result (IsOver h) (IsOver h → ⊥) }
+            → MatchBool result (IsPresentOver h) (IsPresentOver h → ⊥) }
     {
         let cursors = self.arbiter.status();
         match cursors.end {

@@ -2,7 +2,7 @@
 ghost use Rattle.std.specs.Prelude.{◌≡◌, ℕ, List};
 ghost use Rattle.line_arbiter.specs.Histories.{History};
 ghost use Rattle.feed_text.specs.Following.{FollowAll};
-ghost use Rattle.feed_text.specs.Standings.{IsKept, KeepsNone, standing_by};
+ghost use Rattle.feed_text.specs.Standings.{IsStandingKept, KeepsNone, standing_noted};
 
 use crate::standing_gap::{StandingGap, stands_then};
 use crate::venues::Venues;
@@ -36,7 +36,7 @@ impl StandingGaps {
     /// Notes which gap of its venue stands after the record that was taken last.
     pub fn note(&mut self, venues: &Venues)
         ensures { (window : ℕ) (hs : List History) → FollowAll window venues.now.items hs
-            → IsKept self.new (standing_by window self.old hs) }
+            → IsStandingKept self.new (standing_noted window self.old hs) }
     {
         let Some(time) = self.time else {
             return;

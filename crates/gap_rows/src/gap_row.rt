@@ -3,7 +3,7 @@ ghost use Rattle.std.specs.Prelude.{◌≡◌, ◌≤◌, ◌++◌, OnErr, OnOk,
 ghost use Rattle.std.specs.List.{AllByRecursion};
 ghost use Rattle.feed_text.specs.Pages.{memory_of};
 ghost use Rattle.feed_text.specs.TextPages.{FailsPage, TakesPage};
-ghost use Rattle.report_rows.specs.RowTexts.{IsShort, all_shown, row_room, texts_of};
+ghost use Rattle.report_rows.specs.RowTexts.{IsShortCell, all_shown, row_room, texts_of};
 ghost use Rattle.gap_rows.specs.GapCells.{gap_end_word, gap_line_word, gap_names, gap_row, gap_rows_text, gap_values, no_gap};
 
 use feed_text::{LineBuffer, SinkStop, TextOut, TextPage};
@@ -52,7 +52,7 @@ fn end_word(by: GapEnd) -> &'static str
 /// Returns the cells of a gap of the venue.
 fn gap_cells(venue: VenueId, gap: &EndedGap) -> [Cell<'static>; 9]
     ensures values { all_shown result ≡ gap_values venue gap.now }
-    ensures short { AllByRecursion IsShort result }
+    ensures short { AllByRecursion IsShortCell result }
 {
     [
         Cell::Count(venue.index() as u64),

@@ -44,10 +44,12 @@ module _ {W : Type 0} (writing : Writing W) (format : RowFormat) (writer : W)
       let shown = took.takes.shown in
       let all : header ++ text ≡ shown =
       ap (λ (h : List ℕ). h ++ text) (sym is.is.waits) ∙ took.takes.all
-      ∙ ap (λ (l : List ℕ). shown ++ l) none ∙ append-nil shown in
-      (header ++ text, gap_text told text (record { new = new.maker; makes = took.made }),
-      subst (λ (l : List ℕ). writing.adds writer l new.page.writer) (sym all)
-      (subst (λ (w : W). writing.adds w shown new.page.writer) is.is.writer_is took.takes.wrote))
+      ∙ ap (λ (l : List ℕ). shown ++ l) none ∙ append-nil shown in (
+        header ++ text,
+        gap_text told text (record { new = new.maker; makes = took.made }),
+        subst (λ (l : List ℕ). writing.adds writer l new.page.writer) (sym all)
+            (subst (λ (w : W). writing.adds w shown new.page.writer) is.is.writer_is took.takes.wrote),
+      )
 
   stopped : (told : List TimedEvent)
       → FailsRows TellsGaps writing.adds writing.failures old told new

@@ -14,7 +14,7 @@ use Rattle.feed_text.specs.Told.{ToldFacts}
 use Rattle.best_rows.specs.declared.style.RowStyle.{RowStyle}
 use Rattle.replay_reports.specs.declared.row_sink.BestRows.{BestRows}
 use Rattle.replay_reports.specs.rows.RowLaws.{rows_are_written, rows_failed}
-use Rattle.replay_reports.specs.rows.RowSinks.{FailsRows, IsNewRows, TakesRows, text_of_rows}
+use Rattle.replay_reports.specs.rows.RowSinks.{FailsBestRows, IsNewRows, TakesBestRows, text_of_rows}
 use Rattle.report_rows.specs.RowHistories.{MakesHistory, TellsHistory, rows_told}
 use Rattle.report_rows.specs.RowHistoryLaws.{rows_are_written as history_is_written, rows_failed as history_failed}
 use Rattle.report_rows.specs.RowSinks as sinks
@@ -67,8 +67,8 @@ module _ {W : Type 0} (writing : Writing W) where
 
   abbrev pub rows_taking : SinkTaking (BestRows W)
   rows_taking = record {
-    takes = TakesRows writing.adds writing.failures;
-    fails = FailsRows writing.adds writing.failures;
+    takes = TakesBestRows writing.adds writing.failures;
+    fails = FailsBestRows writing.adds writing.failures;
   }
 
   pub rows_write : (writer : W) (style : RowStyle) (old new : BestRows W)

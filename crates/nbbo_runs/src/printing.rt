@@ -6,7 +6,7 @@ ghost use Rattle.feed_text.specs.Replays.{CanReplay};
 ghost use Rattle.feed_text.specs.SinkEvents.{TimedEvent};
 ghost use Rattle.period_rows.specs.BestMakers.{AreBests};
 ghost use Rattle.period_rows.specs.BestRows.{best_names};
-ghost use Rattle.period_rows.specs.CountRows.{AreCounts, count_names};
+ghost use Rattle.period_rows.specs.CountRows.{ArePeriodCounts, count_names};
 ghost use Rattle.replay_reports.specs.rows.RowSinks.{IsNewRows};
 ghost use Rattle.report_rows.specs.RowTexts.{header_text};
 ghost use Rattle.run_notes.specs.AbsentSymbols.{symbols_with};
@@ -204,7 +204,7 @@ fn counts_before<W>(
     output: W,
 ) -> Result<RowSink<W, PeriodCounter>, W>
     requires { venues_in config.now.replay ≤ 16 }
-    ensures rows { IfOk result (IsSinkBefore AreCounts
+    ensures rows { IfOk result (IsSinkBefore ArePeriodCounts
         (header_text style.format (count_names style.format))
         (record { style = style; lines = 2 * venues_in config.now.replay }) output) }
     ensures refused { IfErr result (λ back. back ≡ output) }

@@ -14,11 +14,11 @@ use Rattle.run_settings.specs.declared.period_style.PeriodStyle.{PeriodStyle}
 use Rattle.report_rows.specs.FirstTexts.{first_texts}
 use Rattle.report_rows.specs.RowSinks.{FailsMaking, Makes}
 use Rattle.report_rows.specs.SpanEvents.{ends_all}
-use Rattle.period_rows.specs.BestHolding.{AreBegun, AreBegunIf, AreChanged, AreTaken, IsChanged, IsSymbolHeld, IsTable, is_another}
+use Rattle.period_rows.specs.BestHolding.{AreBegun, AreBegunIf, AreChanged, AreBestsTaken, IsChanged, IsSymbolHeld, IsBestTable, is_another}
 use Rattle.period_rows.specs.BestMakers.{AreBests, AreLive, IsLiveStep, IsPassed, IsStepped, MakesBests, TellsBests, begin_with, best_made_text, clock_with, live_text, over_at, period_to}
-use Rattle.period_rows.specs.BestRows.{BestSetting, best_period, best_rows_with, ended_by, rows_at, symbol_rows}
+use Rattle.period_rows.specs.BestRows.{BestSetting, best_period, best_rows_with, period_ended_by, rows_at, symbol_rows}
 use Rattle.period_rows.specs.BestTimes.{no_symbol, over_rows, settled_at}
-use Rattle.period_rows.specs.Bests.{begin_after, begin_told, best_in, clock_after, clock_told, overlap, stood, time_in}
+use Rattle.period_rows.specs.Bests.{begin_after, begin_told, best_in, clock_after, clock_told, overlap, stood, time_of_event}
 use Rattle.period_rows.specs.Periods.{period_begin}
 use Rattle.period_rows.specs.declared.best_maker.BestMaker.{BestMaker}
 use Rattle.period_rows.specs.declared.best_times.PeriodOver.{PeriodOver}
@@ -54,7 +54,7 @@ module _ (keys : List ℕ) (key at : ℕ) (mid new : List SymbolTimes) (place : 
       changed.others place none within (λ is. let same : of ≡ key = sym is ∙ own in
       grind (arith, nat_tests, e, same))
 
-  taken_by : (event : SinkEvent) → AreTaken keys at event mid new
+  taken_by : (event : SinkEvent) → AreBestsTaken keys at event mid new
       → IsTakenBy (best_in key event) at before after
   taken_by (told_best notice) changed =
       by_key (nat_eq (key_of notice.symbol) key) (key_of notice.symbol) notice.national refl
@@ -142,7 +142,7 @@ module _ (setting : BestSetting) (e : TimedEvent) (earlier : List TimedEvent)
         → AreBegun (begin_told len earlier) new old mid
         → IsMidHeld len (symbol_at place) e earlier (slice_index_or mid place none)
     begun_to None is same =
-        let was = begin_none len (time_in e.event e.time) (clock_told earlier)
+        let was = begin_none len (time_of_event e.event e.time) (clock_told earlier)
         (begin_told len earlier) is in
         subst (λ (ts : List SymbolTimes). IsMidHeld len (symbol_at place) e earlier
         (slice_index_or ts place none)) (sym same)
@@ -165,7 +165,7 @@ mid_count before (Some begin) old mid begun =
     begun_count (is_another before begin) begin old mid begun
 
 taken_count : (keys : List ℕ) (at : ℕ) (event : SinkEvent) (mid new : List SymbolTimes)
-    → AreTaken keys at event mid new → length new ≡ length mid
+    → AreBestsTaken keys at event mid new → length new ≡ length mid
 taken_count keys at (told_best notice) mid new changed = changed.count
 taken_count keys at (told_before event) mid new taken = taken_count keys at event mid new taken
 taken_count keys at (told_packet venue line number count bytes answer) mid new is = ap length is
@@ -183,11 +183,11 @@ module _ (setting : BestSetting) (earlier : List TimedEvent) (m : BestMaker)
   live = are.live goes
 
   clock_same : clock_with m e ≡ clock_told (e ∷ earlier)
-  clock_same = ap (clock_after (time_in e.event e.time)) live.clock
+  clock_same = ap (clock_after (time_of_event e.event e.time)) live.clock
 
   begin_same : begin_with m e ≡ begin_told setting.style.length (e ∷ earlier)
   begin_same =
-      let o = time_in e.event e.time in
+      let o = time_of_event e.event e.time in
       ap (λ (style : PeriodStyle). begin_after style.length o m.clock m.begin) are.style
       ∙ ap (λ (clock : ℕ). begin_after setting.style.length o clock m.begin) live.clock
       ∙ ap (begin_after setting.style.length o (clock_told earlier)) live.begin
@@ -198,7 +198,7 @@ module _ (setting : BestSetting) (earlier : List TimedEvent) (m : BestMaker)
       (e ∷ earlier)) m.table.times.items step.mid) live.begin
       (subst (λ (o : Option ℕ). AreBegun m.begin o m.table.times.items step.mid) begin_same
       step.begun) in
-      let taken = subst (λ (at : ℕ). AreTaken m.table.keys.keys at e.event step.mid
+      let taken = subst (λ (at : ℕ). AreBestsTaken m.table.keys.keys at e.event step.mid
       new.table.times.items) clock_same step.taken in
       let mids = mid_count (begin_told setting.style.length earlier)
       (begin_told setting.style.length (e ∷ earlier)) m.table.times.items step.mid begun in
@@ -230,7 +230,7 @@ module _ (setting : BestSetting) (earlier : List TimedEvent) (m : BestMaker)
         };
       }
 
-  table_after : (new : BestMaker) → IsLiveStep m e new → IsTable setting.symbols new.table
+  table_after : (new : BestMaker) → IsLiveStep m e new → IsBestTable setting.symbols new.table
   table_after new step = record {
     keys = ap (λ keys. length keys.keys) step.keys ∙ are.table.keys;
     each = λ place few. ap (λ keys. slice_index_or keys.keys place 0) step.keys
@@ -287,7 +287,8 @@ texts_within f g (suc n) same =
     (texts_within f g n (λ k less. same k (omega (arith, less))))
     ∙ ap (λ (l : List ℕ). first_texts g n ++ l) (same n (omega arith))
 
-ended_is : (ends : Bool) (old new : Option ℕ) (begin : ℕ) → ended_by ends old new ≡ Some begin
+ended_is : (ends : Bool) (old new : Option ℕ) (begin : ℕ)
+    → period_ended_by ends old new ≡ Some begin
     → old ≡ Some begin
 ended_is ends None new begin is = absurd (none-some begin is)
 ended_is true (Some old) None begin is = is
@@ -352,13 +353,13 @@ module _ (setting : BestSetting) (earlier : List TimedEvent) (m : BestMaker)
       let ends = ends_all e.event in
       let was : list_any (λ one. ends_all one.event) earlier ≡ false = sym are.over ∙ goes in
       let l = setting.style.length in
-      let o = ended_by ends (begin_told l earlier) (begin_told l (e ∷ earlier)) in
+      let o = period_ended_by ends (begin_told l earlier) (begin_told l (e ∷ earlier)) in
       let same : over_at m ends (begin_with m e) (clock_with m e)
       ≡ option_map (period_to m (clock_told (e ∷ earlier))) o =
       ap (λ (old : Option ℕ). option_map (period_to m (clock_with m e))
-      (ended_by ends old (begin_with m e))) kept.begin
+      (period_ended_by ends old (begin_with m e))) kept.begin
       ∙ ap (λ (new : Option ℕ). option_map (period_to m (clock_with m e))
-      (ended_by ends (begin_told l earlier) new)) (begin_same setting earlier m are goes e)
+      (period_ended_by ends (begin_told l earlier) new)) (begin_same setting earlier m are goes e)
       ∙ ap (λ (clock : ℕ). option_map (period_to m clock) o)
       (clock_same setting earlier m are goes e) in
       ap (λ (over : Option PeriodOver). over_rows over m.table.times.items) same
@@ -371,7 +372,8 @@ text_over : (setting : BestSetting) (earlier : List TimedEvent) (e : TimedEvent)
     → [] ≡ best_rows_with setting e earlier
 text_over setting earlier e ends =
     let l = setting.style.length in
-    let o = ended_by (ends_all e.event) (begin_told l earlier) (begin_told l (e ∷ earlier)) in
+    let o = period_ended_by (ends_all e.event) (begin_told l earlier) (begin_told l
+    (e ∷ earlier)) in
     ap (λ (b : Bool). best_period setting (cond b None o) (e ∷ earlier)) (sym ends)
 
 -- the text of the event
@@ -429,7 +431,7 @@ begun_same None ts = refl
 begun_same (Some begin) ts =
     subst (λ (b : Bool). AreBegunIf b begin ts ts) (sym (another_begin begin)) refl
 
-ended_same : (o : Option ℕ) → ended_by false o o ≡ None
+ended_same : (o : Option ℕ) → period_ended_by false o o ≡ None
 ended_same None = refl
 ended_same (Some begin) =
     let same : nat_eq begin begin ≡ true = grind (arith, nat_tests) in

@@ -8,7 +8,7 @@ use Rattle.feed_types.specs.Symbols.{key_of}
 use Rattle.feed_types.specs.declared.national.National.{National}
 use Rattle.feed_text.specs.SinkEvents.{TimedEvent}
 use Rattle.period_rows.specs.BestHolding.{AreBestsHeld, IsChanged, IsRestarted, IsSymbolHeld}
-use Rattle.period_rows.specs.Bests.{begin_after, begin_told, best_in, best_told, clock_after, clock_told, overlap, stood, time_in}
+use Rattle.period_rows.specs.Bests.{begin_after, begin_told, best_in, best_told, clock_after, clock_told, overlap, stood, time_of_event}
 use Rattle.period_rows.specs.Periods.{period_begin}
 use Rattle.period_rows.specs.declared.symbol_times.SymbolTimes.{SymbolTimes}
 use Rattle.period_rows.proofs.HeldFigures.{all_as, all_none, all_pass, all_settled}
@@ -21,7 +21,7 @@ later (Some time) clock = omega arith
 
 pub clock_later : (e : TimedEvent) (earlier : List TimedEvent)
     → clock_told earlier ≤ clock_told (e ∷ earlier)
-clock_later e earlier = later (time_in e.event e.time) (clock_told earlier)
+clock_later e earlier = later (time_of_event e.event e.time) (clock_told earlier)
 
 begin_by : (length_ns : ℕ) (o : Option ℕ) (clock : ℕ) (old : Option ℕ) (begin : ℕ)
     → ((b : ℕ) → old ≡ Some b → b ≡ period_begin length_ns clock)
@@ -37,7 +37,7 @@ pub begin_is : (length_ns : ℕ) (events : List TimedEvent) (begin : ℕ)
     → begin ≡ period_begin length_ns (clock_told events)
 begin_is length_ns [] begin is = absurd (none-some begin is)
 begin_is length_ns (e ∷ earlier) begin is =
-    begin_by length_ns (time_in e.event e.time) (clock_told earlier)
+    begin_by length_ns (time_of_event e.event e.time) (clock_told earlier)
     (begin_told length_ns earlier) begin (λ b was. begin_is length_ns earlier b was) is
 
 begin_some : (length_ns : ℕ) (o : Option ℕ) (clock : ℕ) (old : Option ℕ)
@@ -52,7 +52,7 @@ pub no_begin : (length_ns : ℕ) (events : List TimedEvent) → begin_told lengt
     → clock_told events ≡ 0
 no_begin length_ns [] is = refl
 no_begin length_ns (e ∷ earlier) is =
-    begin_some length_ns (time_in e.event e.time) (clock_told earlier)
+    begin_some length_ns (time_of_event e.event e.time) (clock_told earlier)
     (begin_told length_ns earlier) is (λ was. no_begin length_ns earlier was)
 
 -- a time lies in its period

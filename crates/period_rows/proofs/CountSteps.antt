@@ -8,15 +8,15 @@ use Rattle.feed_text.specs.SinkEvents.{SinkEvent, TimedEvent}
 use Rattle.feed_text.specs.TextPages.{FailsPage, TakesPage}
 use Rattle.feed_text.specs.declared.text_page.TextPage.{TextPage}
 use Rattle.run_settings.specs.declared.period_style.PeriodStyle.{PeriodStyle}
-use Rattle.report_rows.specs.PeriodLists.{entered, place_of}
+use Rattle.report_rows.specs.PeriodLists.{entered, period_place_of}
 use Rattle.report_rows.specs.RowSinks.{FailsMaking, Makes}
-use Rattle.period_rows.specs.CountRows.{AreCounts, CountSetting, IsCounted, MakesCounts, TellsCounts, count_rows_with, made_text, state_of, text_by}
+use Rattle.period_rows.specs.CountRows.{ArePeriodCounts, CountSetting, IsCounted, MakesCounts, TellsCounts, count_rows_with, made_text, count_state_of, text_by}
 use Rattle.period_rows.specs.CountStates.{CountPeriod, CountState, counted_begin, counted_period, no_lines, state_after, state_told}
 use Rattle.period_rows.specs.declared.count_maker.PeriodCounter.{PeriodCounter}
 use Rattle.period_rows.specs.declared.line_sequence.LineSequence.{LineSequence}
 
 state_is : (setting : CountSetting) (events : List TimedEvent) (m : PeriodCounter)
-    → AreCounts setting events m → state_of m ≡ state_told setting.style.length events
+    → ArePeriodCounts setting events m → count_state_of m ≡ state_told setting.style.length events
 state_is setting events m are =
     ap (λ (ss : List LineSequence). record { sequences = ss; periods = m.periods.kept.items })
     are.sequences
@@ -26,7 +26,7 @@ state_is setting events m are =
     }) are.periods
 
 text_is : (setting : CountSetting) (events : List TimedEvent) (m : PeriodCounter)
-    (e : TimedEvent) → AreCounts setting events m
+    (e : TimedEvent) → ArePeriodCounts setting events m
     → made_text m e ≡ count_rows_with setting e events
 text_is setting events m e are =
     ap (λ (style : PeriodStyle). text_by style m.lines m.periods.kept.items e) are.style
@@ -45,9 +45,9 @@ pub makes_counts : (old new : PeriodCounter) (e : TimedEvent) → IsCounted old 
 makes_counts old new e is = record {
   told = tells_counts old e;
   are = λ setting events are.
-      let next : state_after old.style.length (state_of old) e
+      let next : state_after old.style.length (count_state_of old) e
       ≡ state_told setting.style.length (e ∷ events) =
-      ap (λ (style : PeriodStyle). state_after style.length (state_of old) e) are.style
+      ap (λ (style : PeriodStyle). state_after style.length (count_state_of old) e) are.style
       ∙ ap (λ (s : CountState). state_after setting.style.length s e)
       (state_is setting events old are) in
       record {
@@ -97,7 +97,7 @@ refill_whole {X} xs ws same =
 
 -- a datagram counts in its period
 pub counts_begin : (begin place : ℕ) (ss : List LineSequence) (ps kept lent now : List CountPeriod)
-    (event : SinkEvent) → kept ≡ entered begin no_lines ps → place ≡ place_of begin kept
+    (event : SinkEvent) → kept ≡ entered begin no_lines ps → place ≡ period_place_of begin kept
     → lent ≡ kept → now ≡ counted_period lent place ss event
     → refill (length kept) kept now ≡ counted_begin begin ss ps event
 counts_begin begin place ss ps kept lent now event is at same counts =
@@ -106,4 +106,4 @@ counts_begin begin place ss ps kept lent now event is at same counts =
     let size : length now ≡ length kept = ap length all ∙ length-set kept place _ in
     refill_whole kept now size ∙ all
     ∙ ap (λ (n : ℕ). counted_period kept n ss event) at
-    ∙ ap (λ (l : List CountPeriod). counted_period l (place_of begin l) ss event) is
+    ∙ ap (λ (l : List CountPeriod). counted_period l (period_place_of begin l) ss event) is

@@ -4,10 +4,10 @@ use Rattle.std.specs.List.{list_any}
 use Rattle.feed_text.specs.SinkEvents.{SinkEvent, TimedEvent}
 use Rattle.report_rows.specs.RowHistories.{MakesHistory, TellsHistory}
 use Rattle.report_rows.specs.SpanEvents.{ends_all}
-use Rattle.period_rows.specs.BestHolding.{AreAllHeld, AreBegun, AreTaken, IsTable}
-use Rattle.period_rows.specs.BestRows.{BestSetting, best_rows_with, ended_by}
+use Rattle.period_rows.specs.BestHolding.{AreAllHeld, AreBegun, AreBestsTaken, IsBestTable}
+use Rattle.period_rows.specs.BestRows.{BestSetting, best_rows_with, period_ended_by}
 use Rattle.period_rows.specs.BestTimes.{over_rows}
-use Rattle.period_rows.specs.Bests.{begin_after, begin_told, clock_after, clock_told, time_in}
+use Rattle.period_rows.specs.Bests.{begin_after, begin_told, clock_after, clock_told, time_of_event}
 use Rattle.period_rows.specs.declared.best_maker.BestMaker.{BestMaker}
 use Rattle.period_rows.specs.declared.best_times.PeriodOver.{PeriodOver}
 use Rattle.period_rows.specs.declared.symbol_times.SymbolTimes.{SymbolTimes}
@@ -26,7 +26,7 @@ pub record AreBests (setting : BestSetting) (events : List TimedEvent) (m : Best
     pub style : m.style ≡ setting.style
     pub venues : m.venues ≡ setting.venues
     pub over : m.over ≡ list_any (λ one. ends_all one.event) events
-    pub table : IsTable setting.symbols m.table
+    pub table : IsBestTable setting.symbols m.table
     pub live : m.over ≡ false → AreLive setting events m
 
 abbrev pub MakesBests : BestMaker → List TimedEvent → List ℕ → BestMaker → Type 0
@@ -46,13 +46,13 @@ period_to m clock begin = record {
 }
 
 abbrev pub over_at : BestMaker → Bool → Option ℕ → ℕ → Option PeriodOver
-over_at m ends begin clock = option_map (period_to m clock) (ended_by ends m.begin begin)
+over_at m ends begin clock = option_map (period_to m clock) (period_ended_by ends m.begin begin)
 
 abbrev pub clock_with : BestMaker → TimedEvent → ℕ
-clock_with m e = clock_after (time_in e.event e.time) m.clock
+clock_with m e = clock_after (time_of_event e.event e.time) m.clock
 
 abbrev pub begin_with : BestMaker → TimedEvent → Option ℕ
-begin_with m e = begin_after m.style.length (time_in e.event e.time) m.clock m.begin
+begin_with m e = begin_after m.style.length (time_of_event e.event e.time) m.clock m.begin
 
 abbrev pub live_text : BestMaker → TimedEvent → List ℕ
 live_text m e =
@@ -70,7 +70,7 @@ pub record IsLiveStep (old : BestMaker) (e : TimedEvent) (new : BestMaker) : Typ
   pub keys : new.table.keys ≡ old.table.keys
   pub mid : List SymbolTimes
   pub begun : AreBegun old.begin (begin_with old e) old.table.times.items mid
-  pub taken : AreTaken old.table.keys.keys (clock_with old e) e.event mid new.table.times.items
+  pub taken : AreBestsTaken old.table.keys.keys (clock_with old e) e.event mid new.table.times.items
 
 abbrev pub IsStepped : BestMaker → TimedEvent → BestMaker → Type 0
 IsStepped old e new = (old.over ≡ true → new ≡ old) × (old.over ≡ false → IsLiveStep old e new)
@@ -82,5 +82,5 @@ pub record IsPassed (old : BestMaker) (event : SinkEvent) (new : BestMaker) : Ty
   pub clock : new.clock ≡ old.clock
   pub begin : new.begin ≡ old.begin
   pub keys : new.table.keys ≡ old.table.keys
-  pub taken : AreTaken old.table.keys.keys old.clock event old.table.times.items
+  pub taken : AreBestsTaken old.table.keys.keys old.clock event old.table.times.items
       new.table.times.items

@@ -12,7 +12,7 @@ use Rattle.report_rows.specs.RowHistories.{rows_told}
 use Rattle.report_rows.specs.RowTexts.{CellValue, count, header_text, name, nothing, row_text, seconds, time}
 use Rattle.report_rows.specs.SpanEvents.{ends_all}
 use Rattle.period_rows.specs.declared.best_shares.BestShares.{BestShares}
-use Rattle.period_rows.specs.Bests.{begin_told, bids, in_state, is_crossed, is_locked, is_normal, offers, spread_of, stood}
+use Rattle.period_rows.specs.Bests.{begin_told, bids, in_state, is_crossed_best, is_locked_best, is_normal_best, offers, spread_of, stood}
 
 -- ---- the figures of a row
 
@@ -39,11 +39,11 @@ shares_by length venue sum =
     record {
       bid = share (bids venue);
       offer = share (offers venue);
-      normal = share (in_state is_normal);
-      locked = share (in_state is_locked);
-      crossed = share (in_state is_crossed);
+      normal = share (in_state is_normal_best);
+      locked = share (in_state is_locked_best);
+      crossed = share (in_state is_crossed_best);
       spread = mean_by (min (sum spread_of) most_spread)
-          (min (sum (in_state is_normal)) most_time);
+          (min (sum (in_state is_normal_best)) most_time);
     }
 
 -- none stood
@@ -86,14 +86,14 @@ pub record BestSetting : Type 0 where
   pub venues : ℕ
   pub symbols : List (List ℕ)
 
-abbrev pub venue_row : PeriodStyle → ℕ → List ℕ → ((National → ℕ) → ℕ) → ℕ → List ℕ
-venue_row style begin symbol sum venue =
+abbrev pub best_venue_row : PeriodStyle → ℕ → List ℕ → ((National → ℕ) → ℕ) → ℕ → List ℕ
+best_venue_row style begin symbol sum venue =
     best_row style.format begin symbol venue (shares_by style.length venue sum)
 
 -- those of a symbol, by how long its bests stood
 abbrev pub symbol_rows : PeriodStyle → ℕ → ℕ → List ℕ → ((National → ℕ) → ℕ) → List ℕ
 symbol_rows style venues begin symbol sum =
-    first_texts (venue_row style begin symbol sum) venues
+    first_texts (best_venue_row style begin symbol sum) venues
 
 abbrev pub rows_at : BestSetting → ℕ → List TimedEvent → ℕ → List ℕ
 rows_at setting begin events place =
@@ -110,10 +110,10 @@ best_period setting (Some begin) events =
 -- ---- the rows of events
 
 -- a period is over where another one is at hand, or the capture is over
-abbrev pub ended_by : Bool → Option ℕ → Option ℕ → Option ℕ
-ended_by ends None new = None
-ended_by ends (Some old) None = if ends then Some old else None
-ended_by ends (Some old) (Some new) = if ends then Some old
+abbrev pub period_ended_by : Bool → Option ℕ → Option ℕ → Option ℕ
+period_ended_by ends None new = None
+period_ended_by ends (Some old) None = if ends then Some old else None
+period_ended_by ends (Some old) (Some new) = if ends then Some old
     else (if old == new then None else Some old)
 
 -- the begin of the period that is over with an event after these, if one is; once the capture was
@@ -121,7 +121,8 @@ ended_by ends (Some old) (Some new) = if ends then Some old
 abbrev pub period_over : ℕ → TimedEvent → List TimedEvent → Option ℕ
 period_over length e earlier =
     if list_any (λ one. ends_all one.event) earlier then None
-    else ended_by (ends_all e.event) (begin_told length earlier) (begin_told length (e ∷ earlier))
+    else period_ended_by (ends_all e.event) (begin_told length earlier) (begin_told length
+    (e ∷ earlier))
 
 abbrev pub best_rows_with : BestSetting → TimedEvent → List TimedEvent → List ℕ
 best_rows_with setting e earlier =

@@ -3,7 +3,7 @@ use Rattle.std.specs.Prelude.{ℕ, ◌+◌, ◌-◌, ◌*◌, List, [], length, 
 use Rattle.feed_types.specs.FullCounts.{count_after}
 use Rattle.report_rows.specs.FirstTexts.{first_texts}
 use Rattle.period_rows.specs.BestRows.{best_row, mean_by, most_spread, share_of}
-use Rattle.period_rows.specs.Bests.{bids, in_state, is_crossed, is_locked, is_normal, no_best, offers, spread_of}
+use Rattle.period_rows.specs.Bests.{bids, in_state, is_crossed_best, is_locked_best, is_normal_best, no_best, offers, spread_of}
 use Rattle.period_rows.specs.declared.best_figures.BestFigures.{BestFigures}
 use Rattle.period_rows.specs.declared.best_shares.BestShares.{BestShares}
 use Rattle.period_rows.specs.declared.best_times.PeriodOver.{PeriodOver}
@@ -30,16 +30,17 @@ figures_text over symbol f = first_texts (figures_row over symbol f) over.venues
 abbrev pub settled_shares : ℕ → ℕ → ℕ → SymbolTimes → BestShares
 settled_shares length end venue t =
     let took = end - t.since in
-    let normal = count_after t.figures.normal (in_state is_normal t.best * took) in
+    let normal = count_after t.figures.normal (in_state is_normal_best t.best * took) in
     record {
       bid = share_of length (count_after (slice_index_or t.figures.bids venue 0)
           (bids venue t.best * took));
       offer = share_of length (count_after (slice_index_or t.figures.offers venue 0)
           (offers venue t.best * took));
       normal = share_of length normal;
-      locked = share_of length (count_after t.figures.locked (in_state is_locked t.best * took));
+      locked = share_of length (count_after t.figures.locked
+          (in_state is_locked_best t.best * took));
       crossed = share_of length
-          (count_after t.figures.crossed (in_state is_crossed t.best * took));
+          (count_after t.figures.crossed (in_state is_crossed_best t.best * took));
       spread = mean_by (min (t.figures.spread + spread_of t.best * took) most_spread) normal;
     }
 
@@ -51,11 +52,11 @@ settled_row over t venue =
 abbrev pub settled_text : PeriodOver → SymbolTimes → List ℕ
 settled_text over t = first_texts (settled_row over t) over.venues
 
-abbrev pub no_figures : BestFigures
-no_figures = record { normal = 0; locked = 0; crossed = 0; spread = 0; bids = []; offers = [] }
+abbrev pub no_best_figures : BestFigures
+no_best_figures = record { normal = 0; locked = 0; crossed = 0; spread = 0; bids = []; offers = [] }
 
 abbrev pub no_symbol : SymbolTimes
-no_symbol = record { symbol = []; best = no_best; since = 0; figures = no_figures }
+no_symbol = record { symbol = []; best = no_best; since = 0; figures = no_best_figures }
 
 abbrev pub settled_at : PeriodOver → List SymbolTimes → ℕ → List ℕ
 settled_at over ts place = settled_text over (slice_index_or ts place no_symbol)

@@ -45,17 +45,17 @@ bids venue best = one_if (is_of venue best.bid)
 abbrev pub offers : ℕ → National → ℕ
 offers venue best = one_if (is_of venue best.offer)
 
-abbrev pub is_normal : NationalState → Bool
-is_normal Normal = true
-is_normal _ = false
+abbrev pub is_normal_best : NationalState → Bool
+is_normal_best Normal = true
+is_normal_best _ = false
 
-abbrev pub is_locked : NationalState → Bool
-is_locked Locked = true
-is_locked _ = false
+abbrev pub is_locked_best : NationalState → Bool
+is_locked_best Locked = true
+is_locked_best _ = false
 
-abbrev pub is_crossed : NationalState → Bool
-is_crossed Crossed = true
-is_crossed _ = false
+abbrev pub is_crossed_best : NationalState → Bool
+is_crossed_best Crossed = true
+is_crossed_best _ = false
 
 abbrev pub in_state : (NationalState → Bool) → National → ℕ
 in_state is best = one_if (is (state_of best))
@@ -71,10 +71,10 @@ spread_of best = spread_by best.bid best.offer
 -- ---- a clock that never goes back
 
 -- what comes before all that is told, and the end of the capture, have no time
-abbrev pub time_in : SinkEvent → Option ℕ → Option ℕ
-time_in (told_before event) time = None
-time_in (told_last venue sent a b recovery) time = None
-time_in _ time = time
+abbrev pub time_of_event : SinkEvent → Option ℕ → Option ℕ
+time_of_event (told_before event) time = None
+time_of_event (told_last venue sent a b recovery) time = None
+time_of_event _ time = time
 
 -- the latest time so far, 0 before any
 abbrev pub clock_after : Option ℕ → ℕ → ℕ
@@ -83,7 +83,7 @@ clock_after (Some time) clock = max clock time
 
 abbrev pub clock_told : List TimedEvent → ℕ
 clock_told [] = 0
-clock_told (last ∷ earlier) = clock_after (time_in last.event last.time) (clock_told earlier)
+clock_told (last ∷ earlier) = clock_after (time_of_event last.event last.time) (clock_told earlier)
 
 -- when the period at hand began, if a time is known: that of the clock
 abbrev pub begin_after : ℕ → Option ℕ → ℕ → Option ℕ → Option ℕ
@@ -93,7 +93,7 @@ begin_after length (Some time) clock begin = Some (period_begin length (max cloc
 abbrev pub begin_told : ℕ → List TimedEvent → Option ℕ
 begin_told length [] = None
 begin_told length (last ∷ earlier) =
-    begin_after length (time_in last.event last.time) (clock_told earlier)
+    begin_after length (time_of_event last.event last.time) (clock_told earlier)
     (begin_told length earlier)
 
 -- ---- how long something stood

@@ -39,15 +39,15 @@ count_values (Json style) begin place f =
     count (place / 2) ∷ word (line_word place) ∷ count f.packets ∷ count f.bytes
     ∷ count f.messages ∷ count f.first ∷ count f.missing ∷ time (Some begin) ∷ []
 
-abbrev pub line_row : RowFormat → ℕ → ℕ → LineFigures → List ℕ
-line_row format begin place f =
+abbrev pub count_line_row : RowFormat → ℕ → ℕ → LineFigures → List ℕ
+count_line_row format begin place f =
     row_text format (count_names format) (count_values format begin place f)
 
 -- ---- the rows of periods, of this many lines each
 
 abbrev pub row_in : RowFormat → CountPeriod → ℕ → List ℕ
 row_in format period place =
-    line_row format period.begin place (slice_index_or period.figures place no_figures)
+    count_line_row format period.begin place (slice_index_or period.figures place no_figures)
 
 abbrev pub period_text : RowFormat → ℕ → CountPeriod → List ℕ
 period_text format lines period = first_texts (row_in format period) lines
@@ -93,7 +93,7 @@ text_of_counts setting events =
 -- ---- what makes them
 
 -- it writes as the setting says, and what it keeps is of events
-pub record AreCounts (setting : CountSetting) (events : List TimedEvent) (m : PeriodCounter)
+pub record ArePeriodCounts (setting : CountSetting) (events : List TimedEvent) (m : PeriodCounter)
     : Type 0 where
   pub style : m.style ≡ setting.style
   pub lines : m.lines ≡ setting.lines
@@ -101,15 +101,15 @@ pub record AreCounts (setting : CountSetting) (events : List TimedEvent) (m : Pe
   pub periods : m.periods.kept.items ≡ (state_told setting.style.length events).periods
 
 abbrev pub MakesCounts : PeriodCounter → List TimedEvent → List ℕ → PeriodCounter → Type 0
-MakesCounts = MakesHistory AreCounts count_rows_with
+MakesCounts = MakesHistory ArePeriodCounts count_rows_with
 
 abbrev pub TellsCounts : PeriodCounter → List TimedEvent → List ℕ → Type 0
-TellsCounts = TellsHistory AreCounts count_rows_with
+TellsCounts = TellsHistory ArePeriodCounts count_rows_with
 
 -- ---- only private clauses cite these
 
-abbrev pub state_of : PeriodCounter → CountState
-state_of m = record { sequences = m.sequences; periods = m.periods.kept.items }
+abbrev pub count_state_of : PeriodCounter → CountState
+count_state_of m = record { sequences = m.sequences; periods = m.periods.kept.items }
 
 abbrev pub made_text : PeriodCounter → TimedEvent → List ℕ
 made_text m e = text_by m.style m.lines m.periods.kept.items e
@@ -117,6 +117,6 @@ made_text m e = text_by m.style m.lines m.periods.kept.items e
 pub record IsCounted (old : PeriodCounter) (e : TimedEvent) (new : PeriodCounter) : Type 0 where
   pub style : new.style ≡ old.style
   pub lines : new.lines ≡ old.lines
-  pub sequences : new.sequences ≡ (state_after old.style.length (state_of old) e).sequences
+  pub sequences : new.sequences ≡ (state_after old.style.length (count_state_of old) e).sequences
   pub periods : new.periods.kept.items
-      ≡ (state_after old.style.length (state_of old) e).periods
+      ≡ (state_after old.style.length (count_state_of old) e).periods

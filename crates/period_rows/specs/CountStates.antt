@@ -2,7 +2,7 @@
 -- first.
 use Rattle.std.specs.Prelude.{ℕ, Bool, true, false, List, [], ◌∷◌, Option, None, Some, option_map, replicate, slice_index_or, slice_set, if◌then◌else◌}
 use Rattle.feed_text.specs.SinkEvents.{SinkEvent, TimedEvent, told_packet, told_refusal}
-use Rattle.report_rows.specs.PeriodLists.{begun, entered, place_of}
+use Rattle.report_rows.specs.PeriodLists.{begun, entered, period_place_of}
 use Rattle.report_rows.specs.SpanEvents.{ends_all}
 use Rattle.report_rows.specs.declared.kept_periods.KeptPeriod.{KeptPeriod}
 use Rattle.period_rows.specs.LineFigures.{figures_after, no_figures}
@@ -67,7 +67,7 @@ pub record CountState : Type 0 where
 abbrev pub counted_begin : ℕ → List LineSequence → List CountPeriod → SinkEvent
     → List CountPeriod
 counted_begin begin ss ps event =
-    let now = entered begin no_lines ps in counted_period now (place_of begin now) ss event
+    let now = entered begin no_lines ps in counted_period now (period_place_of begin now) ss event
 
 abbrev pub periods_by : Option ℕ → CountState → SinkEvent → List CountPeriod
 periods_by None s event = s.periods

@@ -1,8 +1,8 @@
 //! A clock that never goes back, and the period at hand.
 ghost use Rattle.std.specs.Prelude.{◌≡◌};
 ghost use Rattle.feed_text.specs.SinkEvents.{told_by};
-ghost use Rattle.period_rows.specs.BestRows.{ended_by};
-ghost use Rattle.period_rows.specs.Bests.{begin_after, clock_after, time_in};
+ghost use Rattle.period_rows.specs.BestRows.{period_ended_by};
+ghost use Rattle.period_rows.specs.Bests.{begin_after, clock_after, time_of_event};
 
 use crate::times::period_begin;
 use feed_text::Event;
@@ -11,7 +11,7 @@ use run_settings::PeriodLength;
 
 /// Returns the time of an event: the end of the capture has none.
 pub(crate) fn time_in(time: Option<u64>, event: &Event<'_>) -> Option<u64>
-    ensures { result ≡ time_in (told_by event.now) time }
+    ensures { result ≡ time_of_event (told_by event.now) time }
 {
     if ends_all(event) {
         return None;
@@ -46,7 +46,7 @@ pub(crate) fn begin_after(
 
 /// Returns the begin of the period that is over, if one is.
 pub(crate) fn ended_by(ends: bool, old: Option<u64>, new: Option<u64>) -> Option<u64>
-    ensures { result ≡ ended_by ends old new }
+    ensures { result ≡ period_ended_by ends old new }
 {
     match (old, new) {
         (None, _) => None,

@@ -2,7 +2,7 @@
 ghost use Rattle.std.specs.Prelude.{◌≡◌, ◌<◌, ℕ, [], IfOk, length, nat_eq, position, slice_index_or, true};
 ghost use Rattle.feed_types.specs.Symbols.{key_of};
 ghost use Rattle.feed_text.specs.SinkEvents.{told_by};
-ghost use Rattle.period_rows.specs.BestHolding.{AreBegun, AreBegunIf, AreChanged, AreNewTimes, AreRestarted, AreTaken, IsNewTable, IsTakenAt, is_another};
+ghost use Rattle.period_rows.specs.BestHolding.{AreBegun, AreBegunIf, AreChanged, AreNewTimes, AreRestarted, AreBestsTaken, IsNewTable, IsTakenAt, is_another};
 
 use crate::symbol_times::SymbolTimes;
 use feed_text::Event;
@@ -161,7 +161,7 @@ impl BestTable {
     /// Takes an event at a time.
     pub(crate) fn take(&mut self, at: u64, event: &Event<'_>)
         ensures keys { self.new.keys ≡ self.old.keys }
-        ensures taken { AreTaken self.old.keys.keys at (told_by event.now) self.old.times.items
+        ensures taken { AreBestsTaken self.old.keys.keys at (told_by event.now) self.old.times.items
             self.new.times.items }
     {
         match event {

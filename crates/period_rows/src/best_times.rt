@@ -3,7 +3,7 @@ ghost use Rattle.std.specs.Prelude.{◌≡◌, ◌<◌, ◌≤◌, ◌++◌, OnE
 ghost use Rattle.std.specs.List.{AllByRecursion};
 ghost use Rattle.feed_text.specs.Pages.{memory_of};
 ghost use Rattle.feed_text.specs.TextPages.{FailsPage, TakesPage};
-ghost use Rattle.report_rows.specs.RowTexts.{IsShort, all_shown, row_room, shown, texts_of};
+ghost use Rattle.report_rows.specs.RowTexts.{IsShortCell, all_shown, row_room, cells_shown, texts_of};
 ghost use Rattle.period_rows.specs.BestRows.{best_names, best_row, best_values, spread_cell};
 ghost use Rattle.period_rows.specs.BestTimes.{figures_text, over_rows, settled_text, times_text};
 
@@ -43,8 +43,8 @@ pub(crate) fn best_names(format: RowFormat) -> [&'static str; 9]
 
 /// Returns the cell of a mean spread.
 fn spread_cell(spread: Option<u64>) -> Cell<'static>
-    ensures value { shown result ≡ spread_cell spread }
-    ensures short { IsShort result }
+    ensures value { cells_shown result ≡ spread_cell spread }
+    ensures short { IsShortCell result }
 {
     match spread {
         Some(spread) => Cell::Seconds(spread),
@@ -61,7 +61,7 @@ fn best_cells(
     shares: &BestShares,
 ) -> [Cell<'static>; 9]
     ensures values { all_shown result ≡ best_values format begin symbol venue shares.now }
-    ensures short { AllByRecursion IsShort result }
+    ensures short { AllByRecursion IsShortCell result }
 {
     let time = Cell::Time(Some(begin));
     let name = Cell::Name(symbol);

@@ -5,7 +5,7 @@ ghost use Rattle.feed_text.specs.TextPages.{FailsPage, TakesPage};
 ghost use Rattle.report_rows.specs.PeriodLists.{over_with};
 ghost use Rattle.report_rows.specs.RowSinks.{IsNewRowSink};
 ghost use Rattle.report_rows.specs.RowTexts.{header_text};
-ghost use Rattle.period_rows.specs.CountRows.{AreCounts, IsCounted, count_names, left_text, made_text, over_text, periods_text, state_of};
+ghost use Rattle.period_rows.specs.CountRows.{ArePeriodCounts, IsCounted, count_names, left_text, made_text, over_text, periods_text, count_state_of};
 ghost use Rattle.period_rows.specs.CountStates.{counted_begin, own_begin, periods_by};
 
 use crate::count_figures::{CountFigures, count_in_period};
@@ -45,7 +45,7 @@ impl PeriodCounter {
     /// Counts nothing yet, of this many venues.
     pub fn new(style: PeriodStyle, venues: usize) -> PeriodCounter
         requires { venues ≤ 16 }
-        ensures { AreCounts (record { style = style; lines = 2 * venues }) [] result }
+        ensures { ArePeriodCounts (record { style = style; lines = 2 * venues }) [] result }
     {
         PeriodCounter {
             style,
@@ -122,7 +122,7 @@ impl PeriodCounter {
             self.old.periods.kept.items) page.new) }
         ensures same { self.new ≡ record self.old { periods = self.new.periods } }
         ensures counts { OnOk result (self.new.periods.kept.items
-            ≡ periods_by begin (state_of self.old) (told_by event.now)) }
+            ≡ periods_by begin (count_state_of self.old) (told_by event.now)) }
     {
         match begin {
             Some(begin) => self.count(page, begin, event),
@@ -164,7 +164,8 @@ pub fn new_count_rows<W>(
     requires few { venues ≤ 16 }
     ensures sink { IsNewRowSink page.writer result.maker
         (header_text style.format (count_names style.format)) result }
-    ensures counts { AreCounts (record { style = style; lines = 2 * venues }) [] result.maker }
+    ensures counts { ArePeriodCounts
+        (record { style = style; lines = 2 * venues }) [] result.maker }
 {
     let format = style.format;
     RowSink::new(
@@ -176,7 +177,7 @@ pub fn new_count_rows<W>(
 }
 
 impl RowMaker for PeriodCounter {
-    ghost use Rattle.period_rows.specs.CountRows.{AreCounts, MakesCounts, TellsCounts, count_rows_with};
+    ghost use Rattle.period_rows.specs.CountRows.{ArePeriodCounts, MakesCounts, TellsCounts, count_rows_with};
     ghost use Rattle.report_rows.specs.RowHistoryLaws.{makes_more_history, makes_no_history, tells_after_history, tells_no_history};
 
     ghost tells = { TellsCounts };
@@ -196,11 +197,11 @@ impl RowMaker for PeriodCounter {
         take_sequences(&mut self.sequences, event);
     }
 
-    ghost makes_none = { makes_no_history AreCounts count_rows_with };
+    ghost makes_none = { makes_no_history ArePeriodCounts count_rows_with };
 
-    ghost makes_more = { makes_more_history AreCounts count_rows_with };
+    ghost makes_more = { makes_more_history ArePeriodCounts count_rows_with };
 
-    ghost tells_none = { tells_no_history AreCounts count_rows_with };
+    ghost tells_none = { tells_no_history ArePeriodCounts count_rows_with };
 
-    ghost tells_after = { tells_after_history AreCounts count_rows_with };
+    ghost tells_after = { tells_after_history ArePeriodCounts count_rows_with };
 }

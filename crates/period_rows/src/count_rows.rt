@@ -3,8 +3,8 @@ ghost use Rattle.std.specs.Prelude.{◌≡◌, ◌<◌, ◌≤◌, ◌++◌, OnE
 ghost use Rattle.std.specs.List.{AllByRecursion};
 ghost use Rattle.feed_text.specs.Pages.{memory_of};
 ghost use Rattle.feed_text.specs.TextPages.{FailsPage, TakesPage};
-ghost use Rattle.report_rows.specs.RowTexts.{IsShort, all_shown, row_room, texts_of};
-ghost use Rattle.period_rows.specs.CountRows.{count_names, count_values, line_row, line_word, over_text, period_text, periods_text};
+ghost use Rattle.report_rows.specs.RowTexts.{IsShortCell, all_shown, row_room, texts_of};
+ghost use Rattle.period_rows.specs.CountRows.{count_names, count_values, count_line_row, line_word, over_text, period_text, periods_text};
 ghost use Rattle.period_rows.specs.LineFigures.{no_figures};
 
 use crate::count_figures::CountFigures;
@@ -44,7 +44,7 @@ fn line_cells(
     figures: &LineFigures,
 ) -> [Cell<'static>; 8]
     ensures values { all_shown result ≡ count_values format begin place figures.now }
-    ensures short { AllByRecursion IsShort result }
+    ensures short { AllByRecursion IsShortCell result }
 {
     let time = Cell::Time(Some(begin));
     let venue = Cell::Count(place as u64 / 2);
@@ -69,7 +69,7 @@ fn put_line(
     figures: &LineFigures,
 )
     requires { 1024 ≤ text.old.room }
-    ensures row { text.new.items ≡ text.old.items ++ line_row format begin place figures.now }
+    ensures row { text.new.items ≡ text.old.items ++ count_line_row format begin place figures.now }
     ensures size { memory_of text.old ≤ memory_of text.new }
 {
     let names = count_names(format);

@@ -70,9 +70,7 @@ impl LineSequence {
         ensures { result ≡ passed_over self.now (told_by event.now) }
     {
         match self.counts_now(event) {
-            Some(packet) => packet
-                .number
-                .saturating_sub(self.highest.saturating_add(1)),
+            Some(packet) => packet.number.saturating_sub(self.highest.saturating_add(1)),
             None => 0,
         }
     }

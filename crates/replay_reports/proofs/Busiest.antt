@@ -2,7 +2,7 @@
 use Rattle.std.proofs.Common.{◌≡◌, ℕ, List, [], ◌∷◌, Option, length, refl, ap, ◌∙◌, arith}
 use Rattle.std.specs.Prelude.{max, slice_index_or, slice_set}
 use Rattle.std.specs.List.{refill}
-use Rattle.report_rows.specs.PeriodLists.{begun, entered, place_of}
+use Rattle.report_rows.specs.PeriodLists.{begun, entered, period_place_of}
 use Rattle.report_rows.specs.declared.kept_periods.KeptPeriod.{KeptPeriod}
 use Rattle.replay_reports.specs.declared.times.busiest_period.BusiestPeriod.{BusiestPeriod}
 use Rattle.replay_reports.specs.times.Busiest.{HoldsBusiest, MessagesAt, began_with, begin_of, busiest_began, counts_in, entered_by, messages_at, most_messages, periods_of, place_in, with_messages}
@@ -19,7 +19,7 @@ refill_whole (x ∷ xs) (w ∷ ws) same =
 pub busier : (length time messages begin place : ℕ) (came : List MessagesAt)
     (old new : BusiestPeriod) (now : List (KeptPeriod ℕ)) (period : KeptPeriod ℕ)
     → HoldsBusiest length came old → begin ≡ begin_of old.length time
-    → now ≡ entered begin 0 old.kept.kept.items → place ≡ place_of begin now
+    → now ≡ entered begin 0 old.kept.kept.items → place ≡ period_place_of begin now
     → period ≡ with_messages messages (slice_index_or now place (begun 0 0))
     → new.length ≡ old.length → new.kept.kept.items ≡ slice_set now place period
     → new.began ≡ began_with old.messages period old.began
@@ -35,8 +35,8 @@ busier length time messages begin place came old new now period holds begins ent
     enters ∙ ap (λ (x : ℕ). entered x 0 old.kept.kept.items) b
     ∙ ap (λ (xs : List (KeptPeriod ℕ)). entered (begin_of length time) 0 xs) holds.kept in
     let p : place ≡ place_in length last ps =
-    at ∙ ap (λ (x : ℕ). place_of x now) b
-    ∙ ap (λ (xs : List (KeptPeriod ℕ)). place_of (begin_of length time) xs) e in
+    at ∙ ap (λ (x : ℕ). period_place_of x now) b
+    ∙ ap (λ (xs : List (KeptPeriod ℕ)). period_place_of (begin_of length time) xs) e in
     let c : period ≡ counts_in length last ps =
     more ∙ ap (λ (xs : List (KeptPeriod ℕ)). with_messages messages
     (slice_index_or xs place (begun 0 0))) e

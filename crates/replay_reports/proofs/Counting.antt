@@ -269,14 +269,17 @@ module _ (old : VenueCounts) (venue number count bytes : ℕ) (answer : Result O
       }) (more (filter (is_on_line B) before) (ap (λ (o : VenueCounts). o.lines.b) is)))
 
   pub heard_recovery : old ≡ venue_counts before → (line : LineId) → line ≡ Recovery
-      → OnPacket (λ x. record old { lines = record old.lines { recovery = x } }) old.lines.recovery line
+      → OnPacket
+      (λ x. record old { lines = record old.lines { recovery = x } }) old.lines.recovery line
   heard_recovery is line at =
-      subst (OnPacket (λ x. record old { lines = record old.lines { recovery = x } }) old.lines.recovery)
+      subst (OnPacket
+      (λ x. record old { lines = record old.lines { recovery = x } }) old.lines.recovery)
       (sym at)
       (λ more. ap (λ (o : VenueCounts). record o { lines = record o.lines { recovery = l } }) is
       ∙ ap (λ (x : LineCounts). record (venue_counts before) {
         lines = record (venue_counts before).lines { recovery = x };
-      }) (more (filter (is_on_line Recovery) before) (ap (λ (o : VenueCounts). o.lines.recovery) is)))
+      }) (more (filter (is_on_line Recovery) before) (ap (λ
+      (o : VenueCounts). o.lines.recovery) is)))
 
 -- a datagram on a line that is no packet
 module _ (old : VenueCounts) (venue : ℕ) (fault : PacketFault)
@@ -311,14 +314,17 @@ module _ (old : VenueCounts) (venue : ℕ) (fault : PacketFault)
       }) (more (filter (is_on_line B) before) (ap (λ (o : VenueCounts). o.lines.b) is)))
 
   pub refused_recovery : old ≡ venue_counts before → (line : LineId) → line ≡ Recovery
-      → OnRefusal (λ x. record old { lines = record old.lines { recovery = x } }) old.lines.recovery line
+      → OnRefusal
+      (λ x. record old { lines = record old.lines { recovery = x } }) old.lines.recovery line
   refused_recovery is line at =
-      subst (OnRefusal (λ x. record old { lines = record old.lines { recovery = x } }) old.lines.recovery)
+      subst (OnRefusal
+      (λ x. record old { lines = record old.lines { recovery = x } }) old.lines.recovery)
       (sym at)
       (λ more. ap (λ (o : VenueCounts). record o { lines = record o.lines { recovery = l } }) is
       ∙ ap (λ (x : LineCounts). record (venue_counts before) {
         lines = record (venue_counts before).lines { recovery = x };
-      }) (more (filter (is_on_line Recovery) before) (ap (λ (o : VenueCounts). o.lines.recovery) is)))
+      }) (more (filter (is_on_line Recovery) before) (ap (λ
+      (o : VenueCounts). o.lines.recovery) is)))
 
 -- an item
 pub items_counted : (old : VenueCounts) (items : ItemCounts) (venue : ℕ) (numbered : Numbered)

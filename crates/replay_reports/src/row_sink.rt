@@ -37,12 +37,12 @@ impl<W> BestRows<W> {
 }
 
 impl<W: TextOut> EventSink for BestRows<W> {
-    ghost use Rattle.replay_reports.specs.rows.RowSinks.{FailsRows, TakesRows};
+    ghost use Rattle.replay_reports.specs.rows.RowSinks.{FailsBestRows, TakesBestRows};
     ghost use Rattle.replay_reports.specs.rows.RowLaws.{takes_no_rows, takes_more_rows, fails_after_rows, fails_longer_rows};
 
-    ghost takes = { TakesRows W.adds W.failures };
+    ghost takes = { TakesBestRows W.adds W.failures };
 
-    ghost fails = { FailsRows W.adds W.failures };
+    ghost fails = { FailsBestRows W.adds W.failures };
 
     ghost is_shown = { λ s. s.page.text.items ≡ [] };
 

@@ -3,7 +3,7 @@ use Rattle.std.proofs.Common.{◌≡◌, ℕ, zero, suc, ◌+◌, ◌*◌, ◌<�
 use Rattle.std.specs.List.{AllByRecursion}
 use Rattle.std.proofs.lemmas.Bool.{cases_eq}
 use Rattle.feed_text.specs.Pages.{Appends, BufferedText, memory_of}
-use Rattle.report_rows.specs.RowTexts.{IsShort, room_of}
+use Rattle.report_rows.specs.RowTexts.{IsShortCell, room_of}
 use Rattle.report_rows.specs.declared.cell.Cell.{Cell}
 use Rattle.report_rows.specs.declared.cell.Cell.TheVariants.{Nothing}
 
@@ -38,8 +38,8 @@ pub room_next : (names : List (List ℕ)) (n most : ℕ) → n < most
 room_next names n most less = room_more names (suc n) most (omega (arith, less))
 
 -- each cell of short ones is short
-pub short_at : (cells : List Cell) (n : ℕ) → AllByRecursion IsShort cells
-    → IsShort (slice_index_or cells n Nothing)
+pub short_at : (cells : List Cell) (n : ℕ) → AllByRecursion IsShortCell cells
+    → IsShortCell (slice_index_or cells n Nothing)
 short_at [] n all = tt
 short_at (c ∷ cs) zero (short, all) = short
 short_at (c ∷ cs) (suc n) (short, all) = short_at cs n all

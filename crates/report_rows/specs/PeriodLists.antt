@@ -7,8 +7,8 @@ use Rattle.report_rows.specs.declared.kept_periods.KeptPeriod.{KeptPeriod}
 use Rattle.report_rows.specs.declared.kept_periods.KeptPeriods.{KeptPeriods}
 
 -- how many of the first periods begin before this time
-abbrev pub place_of : {T : Type 0} → ℕ → List (KeptPeriod T) → ℕ
-place_of begin ps = prefix_len (λ p. not (nat_le begin p.begin)) ps
+abbrev pub period_place_of : {T : Type 0} → ℕ → List (KeptPeriod T) → ℕ
+period_place_of begin ps = prefix_len (λ p. not (nat_le begin p.begin)) ps
 
 abbrev pub is_begun_at : {T : Type 0} → ℕ → Option (KeptPeriod T) → Bool
 is_begun_at begin None = false
@@ -16,7 +16,7 @@ is_begun_at begin (Some p) = p.begin == begin
 
 -- there is a period that began at this time
 abbrev pub is_kept : {T : Type 0} → ℕ → List (KeptPeriod T) → Bool
-is_kept begin ps = is_begun_at begin (slice_get ps (place_of begin ps))
+is_kept begin ps = is_begun_at begin (slice_get ps (period_place_of begin ps))
 
 -- a period without figures
 abbrev pub begun : {T : Type 0} → ℕ → T → KeptPeriod T
@@ -24,28 +24,29 @@ begun begin none = record { begin = begin; figures = none }
 
 -- the periods with a further one, in order
 abbrev pub with_period : {T : Type 0} → ℕ → T → List (KeptPeriod T) → List (KeptPeriod T)
-with_period begin none ps = insert ps (place_of begin ps) (begun begin none)
+with_period begin none ps = insert ps (period_place_of begin ps) (begun begin none)
 
 -- the 16 latest, and the ones before them
-abbrev pub latest_of : {T : Type 0} → List (KeptPeriod T) → List (KeptPeriod T)
-latest_of ps = drop (length ps - 16) ps
+abbrev pub latest_periods_of : {T : Type 0} → List (KeptPeriod T) → List (KeptPeriod T)
+latest_periods_of ps = drop (length ps - 16) ps
 
 -- something is late: it is earlier than each of 16 periods
 abbrev pub is_late : {T : Type 0} → ℕ → List (KeptPeriod T) → Bool
 is_late begin ps =
     if is_kept begin ps then false
-    else (if nat_lt (length ps) 16 then false else place_of begin ps == 0)
+    else (if nat_lt (length ps) 16 then false else period_place_of begin ps == 0)
 
 -- the periods once something came in the one that began at this time
 abbrev pub entered : {T : Type 0} → ℕ → T → List (KeptPeriod T) → List (KeptPeriod T)
-entered begin none ps = if is_kept begin ps then ps else latest_of (with_period begin none ps)
+entered begin none ps = if is_kept begin ps then ps else latest_periods_of
+    (with_period begin none ps)
 
 -- the period that is over with it: the earliest one of 16, where a later one is new
 abbrev pub over_with : {T : Type 0} → ℕ → List (KeptPeriod T) → Option (KeptPeriod T)
 over_with begin ps =
     if is_kept begin ps then None
     else (if nat_lt (length ps) 16 then None
-    else (if place_of begin ps == 0 then None else slice_get ps 0))
+    else (if period_place_of begin ps == 0 then None else slice_get ps 0))
 
 -- Something came in a period: it counts at a place, where its own period is, or the earliest one
 -- where it is late.
@@ -53,7 +54,7 @@ pub record Enters {T : Type 0} (begin : ℕ) (none : T) (old new : KeptPeriods T
     (entered_at : Entered T) : Type 0 where
   pub kept : new.kept.items ≡ entered begin none old.kept.items
   pub over : entered_at.over ≡ over_with begin old.kept.items
-  pub place : entered_at.place ≡ place_of begin new.kept.items
+  pub place : entered_at.place ≡ period_place_of begin new.kept.items
   pub within : entered_at.place < length new.kept.items
   pub late : new.late ≡ count_after old.late (if is_late begin old.kept.items then 1 else 0)
 

@@ -19,16 +19,16 @@ pub data CellValue : Type 0 where
   word : (text : List ℕ) → CellValue
   name : (symbol : List ℕ) → CellValue
 
-abbrev pub shown : Cell → CellValue
-shown cells.Nothing = nothing
-shown (cells.Count n) = count n
-shown (cells.Seconds nanoseconds) = seconds nanoseconds
-shown (cells.Time at) = time at
-shown (cells.Word text) = word text.now
-shown (cells.Name symbol) = name symbol
+abbrev pub cells_shown : Cell → CellValue
+cells_shown cells.Nothing = nothing
+cells_shown (cells.Count n) = count n
+cells_shown (cells.Seconds nanoseconds) = seconds nanoseconds
+cells_shown (cells.Time at) = time at
+cells_shown (cells.Word text) = word text.now
+cells_shown (cells.Name symbol) = name symbol
 
 abbrev pub all_shown : List Cell → List CellValue
-all_shown row = map shown row
+all_shown row = map cells_shown row
 
 -- ---- a cell of comma-separated values: empty where nothing is known
 
@@ -56,8 +56,8 @@ nanoseconds_member label at =
     codes ",\"" ++ (label ++ (codes "_ns\":" ++ json_count at))
 
 -- a time: in the style, and in nanoseconds in one more member
-abbrev pub json_time : TimeStyle → List ℕ → Option ℕ → List ℕ
-json_time style label at = json_styled style at ++ nanoseconds_member label at
+abbrev pub json_time_cell : TimeStyle → List ℕ → Option ℕ → List ℕ
+json_time_cell style label at = json_styled style at ++ nanoseconds_member label at
 
 abbrev pub json_word : List ℕ → List ℕ
 json_word text = codes "\"" ++ (text ++ codes "\"")
@@ -66,7 +66,7 @@ abbrev pub json_value : TimeStyle → List ℕ → CellValue → List ℕ
 json_value style label nothing = codes "null"
 json_value style label (count n) = decimal n
 json_value style label (seconds nanoseconds) = seconds_text nanoseconds
-json_value style label (time at) = json_time style label at
+json_value style label (time at) = json_time_cell style label at
 json_value style label (word text) = json_word text
 json_value style label (name symbol) = quoted 92 (name_of symbol)
 
@@ -83,9 +83,9 @@ abbrev pub texts_of : List (Bor (List ℕ)) → List (List ℕ)
 texts_of names = map (λ text. text.now) names
 
 -- a cell of the column of this name
-abbrev pub cell_text : RowFormat → List ℕ → CellValue → List ℕ
-cell_text (Csv style) label value = csv_cell style value
-cell_text (Json style) label value = json_member style label value
+abbrev pub row_cell_text : RowFormat → List ℕ → CellValue → List ℕ
+row_cell_text (Csv style) label value = csv_cell style value
+row_cell_text (Json style) label value = json_member style label value
 
 -- what stands before the text at a place: a comma, but for the first one
 abbrev pub comma_at : ℕ → List ℕ
@@ -96,7 +96,7 @@ abbrev pub first_cells : RowFormat → List (List ℕ) → List CellValue → �
 first_cells format names values zero = []
 first_cells format names values (suc n) =
     first_cells format names values n
-    ++ (comma_at n ++ cell_text format (slice_index_or names n [])
+    ++ (comma_at n ++ row_cell_text format (slice_index_or names n [])
     (slice_index_or values n nothing))
 
 abbrev pub row_begin : RowFormat → List ℕ
@@ -127,9 +127,9 @@ header_text (Json style) names = []
 -- ---- how long rows are
 
 -- its word has 40 bytes at most
-abbrev pub IsShort : Cell → Type 0
-IsShort (cells.Word text) = length text.now ≤ 40
-IsShort _ = Unit {0}
+abbrev pub IsShortCell : Cell → Type 0
+IsShortCell (cells.Word text) = length text.now ≤ 40
+IsShortCell _ = Unit {0}
 
 -- the bytes of the first columns of a row, this many, at most
 abbrev pub room_of : List (List ℕ) → ℕ → ℕ

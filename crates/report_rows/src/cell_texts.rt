@@ -1,7 +1,7 @@
 //! The text of a cell, in each format.
 ghost use Rattle.std.specs.Prelude.{◌≤◌, ◌+◌, ◌*◌, length};
 ghost use Rattle.feed_text.specs.Pages.{Appends};
-ghost use Rattle.report_rows.specs.RowTexts.{IsShort, cell_text, csv_cell, json_count, json_label, json_member, json_styled, json_time, json_value, json_word, nanoseconds_member, shown};
+ghost use Rattle.report_rows.specs.RowTexts.{IsShortCell, row_cell_text, csv_cell, json_count, json_label, json_member, json_styled, json_time_cell, json_value, json_word, nanoseconds_member, cells_shown};
 
 use crate::cell::Cell;
 use best_rows::{put_csv_name, put_quoted, put_seconds, put_time, put_time_value};
@@ -28,9 +28,9 @@ pub(crate) fn put_text(text: &mut LineBuffer, part: &str)
 
 /// Appends a cell as one of comma-separated values.
 fn put_csv_cell(text: &mut LineBuffer, style: TimeStyle, cell: &Cell<'_>)
-    requires short { IsShort cell.now }
+    requires short { IsShortCell cell.now }
     requires room { 40 ≤ text.old.room }
-    ensures { Appends text.old (csv_cell style (shown cell.now)) 40 text.new }
+    ensures { Appends text.old (csv_cell style (cells_shown cell.now)) 40 text.new }
 {
     match cell {
         Cell::Nothing => {}
@@ -90,7 +90,8 @@ fn put_nanoseconds(text: &mut LineBuffer, name: &str, time: Option<u64>)
 /// Appends a time as the value of a member, and in nanoseconds as one more member.
 fn put_json_time(text: &mut LineBuffer, style: TimeStyle, name: &str, time: Option<u64>)
     requires { 59 + length name.now ≤ text.old.room }
-    ensures { Appends text.old (json_time style name.now time) (59 + length name.now) text.new }
+    ensures { Appends text.old (json_time_cell style name.now time)
+        (59 + length name.now) text.new }
 {
     put_json_styled(text, style, time);
     put_nanoseconds(text, name, time);
@@ -98,9 +99,10 @@ fn put_json_time(text: &mut LineBuffer, style: TimeStyle, name: &str, time: Opti
 
 /// Appends a cell as the value of a member of this name.
 fn put_json_value(text: &mut LineBuffer, style: TimeStyle, name: &str, cell: &Cell<'_>)
-    requires short { IsShort cell.now }
+    requires short { IsShortCell cell.now }
     requires room { 59 + length name.now ≤ text.old.room }
-    ensures { Appends text.old (json_value style name.now (shown cell.now)) (59 + length name.now)
+    ensures { Appends text.old (json_value style name.now (cells_shown cell.now))
+        (59 + length name.now)
         text.new }
 {
     match cell {
@@ -125,9 +127,9 @@ fn put_json_label(text: &mut LineBuffer, name: &str)
 
 /// Appends a cell as a member of this name.
 fn put_json_member(text: &mut LineBuffer, style: TimeStyle, name: &str, cell: &Cell<'_>)
-    requires short { IsShort cell.now }
+    requires short { IsShortCell cell.now }
     requires room { 62 + 2 * length name.now ≤ text.old.room }
-    ensures { Appends text.old (json_member style name.now (shown cell.now))
+    ensures { Appends text.old (json_member style name.now (cells_shown cell.now))
         (62 + 2 * length name.now) text.new }
 {
     put_json_label(text, name);
@@ -136,9 +138,9 @@ fn put_json_member(text: &mut LineBuffer, style: TimeStyle, name: &str, cell: &C
 
 /// Appends a cell of the column of this name in the format.
 pub(crate) fn put_cell(text: &mut LineBuffer, format: RowFormat, name: &str, cell: &Cell<'_>)
-    requires short { IsShort cell.now }
+    requires short { IsShortCell cell.now }
     requires room { 62 + 2 * length name.now ≤ text.old.room }
-    ensures { Appends text.old (cell_text format name.now (shown cell.now))
+    ensures { Appends text.old (row_cell_text format name.now (cells_shown cell.now))
         (62 + 2 * length name.now) text.new }
 {
     match format {

@@ -1,6 +1,6 @@
 //! Figures of the latest periods.
 ghost use Rattle.std.specs.Prelude.{◌≡◌, ◌≤◌, [], length, slice_get};
-ghost use Rattle.report_rows.specs.PeriodLists.{AreNoPeriods, Enters, is_begun_at, place_of};
+ghost use Rattle.report_rows.specs.PeriodLists.{AreNoPeriods, Enters, is_begun_at, period_place_of};
 
 use arrayvec::ArrayVec;
 
@@ -32,7 +32,7 @@ pub struct Entered<T> {
 
 /// Returns how many of the first periods begin before this time.
 fn place_of<T>(periods: &[KeptPeriod<T>], begin: u64) -> usize
-    ensures place { result ≡ place_of begin periods.now }
+    ensures place { result ≡ period_place_of begin periods.now }
     ensures within { result ≤ length periods.now }
 {
     periods

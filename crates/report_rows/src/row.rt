@@ -2,7 +2,7 @@
 ghost use Rattle.std.specs.Prelude.{◌≡◌, ◌+◌, ◌*◌, ◌++◌, ◌<◌, ◌≤◌, [], length, slice_index_or};
 ghost use Rattle.std.specs.List.{AllByRecursion};
 ghost use Rattle.feed_text.specs.Pages.{Appends};
-ghost use Rattle.report_rows.specs.RowTexts.{IsShort, all_shown, comma_at, cell_text, first_cells, first_names, header_text, nothing, room_of, row_begin, row_end, row_room, row_text, texts_of};
+ghost use Rattle.report_rows.specs.RowTexts.{IsShortCell, all_shown, comma_at, row_cell_text, first_cells, first_names, header_text, nothing, room_of, row_begin, row_end, row_room, row_text, texts_of};
 ghost use Rattle.report_rows.specs.declared.cell.Cell.TheVariants.{Nothing};
 
 use crate::cell::Cell;
@@ -30,11 +30,11 @@ fn put_cell_at(
 )
     requires named { place < length names.now }
     requires there { place < length cells.now }
-    requires short { IsShort (slice_index_or cells.now place Nothing) }
+    requires short { IsShortCell (slice_index_or cells.now place Nothing) }
     requires room { 63 + 2 * length (slice_index_or (texts_of names.now) place [])
         ≤ text.old.room }
     ensures { Appends text.old (comma_at place
-        ++ cell_text format (slice_index_or (texts_of names.now) place [])
+        ++ row_cell_text format (slice_index_or (texts_of names.now) place [])
         (slice_index_or (all_shown cells.now) place nothing))
         (63 + 2 * length (slice_index_or (texts_of names.now) place [])) text.new }
 {
@@ -45,7 +45,7 @@ fn put_cell_at(
 /// Appends all cells, with commas between them.
 fn put_cells(text: &mut LineBuffer, format: RowFormat, names: &[&str], cells: &[Cell<'_>])
     requires named { length cells.now ≡ length names.now }
-    requires short { AllByRecursion IsShort cells.now }
+    requires short { AllByRecursion IsShortCell cells.now }
     requires room { room_of (texts_of names.now) (length names.now) ≤ text.old.room }
     ensures { Appends text.old (first_cells format (texts_of names.now) (all_shown cells.now)
         (length names.now)) (room_of (texts_of names.now) (length names.now)) text.new }
@@ -80,7 +80,7 @@ fn put_row_end(text: &mut LineBuffer, format: RowFormat)
 /// Appends the row of these cells, one for each column, in the format.
 pub fn put_row(text: &mut LineBuffer, format: RowFormat, names: &[&str], cells: &[Cell<'_>])
     requires named { length cells.now ≡ length names.now }
-    requires short { AllByRecursion IsShort cells.now }
+    requires short { AllByRecursion IsShortCell cells.now }
     requires room { row_room (texts_of names.now) ≤ text.old.room }
     ensures { Appends text.old (row_text format (texts_of names.now) (all_shown cells.now))
         (row_room (texts_of names.now)) text.new }

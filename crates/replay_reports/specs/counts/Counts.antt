@@ -117,10 +117,10 @@ is_item of_kind (told_item venue numbered) = of_kind numbered.item
 is_item of_kind _ = false
 
 -- the number of the last item, 0 where there is none
-abbrev pub last_number : List SinkEvent → ℕ
-last_number [] = 0
-last_number (told_item venue numbered ∷ earlier) = numbered.number
-last_number (last ∷ earlier) = last_number earlier
+abbrev pub last_number_counted : List SinkEvent → ℕ
+last_number_counted [] = 0
+last_number_counted (told_item venue numbered ∷ earlier) = numbered.number
+last_number_counted (last ∷ earlier) = last_number_counted earlier
 
 abbrev pub item_counts : List SinkEvent → ItemCounts
 item_counts events = record {
@@ -129,7 +129,7 @@ item_counts events = record {
   resumptions = capped (count_by (is_item is_trading_item) events);
   others = capped (count_by (is_item is_other_item) events);
   ends = capped (count_by (is_item is_end_item) events);
-  last = last_number events;
+  last = last_number_counted events;
 }
 
 -- ---- a venue: all of it

@@ -16,8 +16,8 @@ use Rattle.replay_reports.specs.declared.times.duration_stats.DurationStats.{Dur
 abbrev pub values_of : List Figure → List FigureValue
 values_of figures = map (λ f. f.value) figures
 
-abbrev pub counts_of : List ℕ → List FigureValue
-counts_of counts = map (λ n. Count n) counts
+abbrev pub figure_counts_of : List ℕ → List FigureValue
+figure_counts_of counts = map (λ n. Count n) counts
 
 -- a number, where there is one
 abbrev pub count_if : Bool → ℕ → FigureValue
@@ -30,7 +30,7 @@ time_if None = Nothing
 
 abbrev pub line_values : LineCounts → List FigureValue
 line_values s =
-    counts_of (s.packets ∷ s.bytes ∷ s.taken ∷ s.first ∷ s.repeated ∷ s.heartbeats ∷ s.ends
+    figure_counts_of (s.packets ∷ s.bytes ∷ s.taken ∷ s.first ∷ s.repeated ∷ s.heartbeats ∷ s.ends
     ∷ s.ahead ∷ [])
 
 -- at 1 to 4 a packet's faults, at 7 to 11 a line's
@@ -41,11 +41,11 @@ refusal_values s =
 
 abbrev pub item_values : ItemCounts → List FigureValue
 item_values s =
-    counts_of (s.quotes ∷ s.halts ∷ s.resumptions ∷ s.others ∷ s.ends ∷ s.last ∷ [])
+    figure_counts_of (s.quotes ∷ s.halts ∷ s.resumptions ∷ s.others ∷ s.ends ∷ s.last ∷ [])
 
 abbrev pub venue_values : VenueCounts → List FigureValue
 venue_values s =
-    counts_of (s.renewals ∷ s.renewals_refused ∷ s.skips ∷ s.skips_refused ∷ s.declared
+    figure_counts_of (s.renewals ∷ s.renewals_refused ∷ s.skips ∷ s.skips_refused ∷ s.declared
     ∷ s.withdrawn ∷ s.already ∷ [])
 
 -- of no duration there is no mean
@@ -56,21 +56,22 @@ duration_values s =
 
 abbrev pub state_values : StateCounts → List FigureValue
 state_values s =
-    counts_of (s.empty ∷ s.one_sided ∷ s.normal ∷ s.locked ∷ s.crossed ∷ [])
+    figure_counts_of (s.empty ∷ s.one_sided ∷ s.normal ∷ s.locked ∷ s.crossed ∷ [])
 
-abbrev pub gap_values : GapSums → List FigureValue
-gap_values s =
-    counts_of (s.found ∷ s.left_out ∷ s.late ∷ s.given_up ∷ s.again ∷ s.longest ∷ s.ended_by.a
+abbrev pub gap_sum_values : GapSums → List FigureValue
+gap_sum_values s =
+    figure_counts_of
+    (s.found ∷ s.left_out ∷ s.late ∷ s.given_up ∷ s.again ∷ s.longest ∷ s.ended_by.a
     ∷ s.ended_by.b ∷ s.ended_by.recovery ∷ s.ended_by.skip ∷ s.ended_by.before ∷ s.ended_by.open
     ∷ s.merged ∷ [])
 
 -- lost is what was left out and didn't come late
 abbrev pub line_loss_values : GapSums → List FigureValue
-line_loss_values s = counts_of ((s.left_out - s.late) ∷ s.late ∷ [])
+line_loss_values s = figure_counts_of ((s.left_out - s.late) ∷ s.late ∷ [])
 
 abbrev pub loss_values : GapReport → List FigureValue
 loss_values s =
-    counts_of (s.known ∷ s.missing ∷ s.lost_by_both ∷ s.given_up ∷ s.before_join ∷ [])
+    figure_counts_of (s.known ∷ s.missing ∷ s.lost_by_both ∷ s.given_up ∷ s.before_join ∷ [])
 
 abbrev pub packet_values : PerLine (Option ℕ) → List FigureValue
 packet_values s = time_if s.a ∷ time_if s.b ∷ time_if s.recovery ∷ []

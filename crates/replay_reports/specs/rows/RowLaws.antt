@@ -6,12 +6,12 @@ use Rattle.feed_text.specs.TextPages.{FailsPage, FailsText, TakesText}
 use Rattle.feed_text.specs.SinkEvents.{TimedEvent}
 use Rattle.replay_reports.specs.declared.row_sink.BestRows.{BestRows}
 use Rattle.best_rows.specs.declared.style.RowStyle.{RowStyle}
-use Rattle.replay_reports.specs.rows.RowSinks.{FailsRows, IsNewRows, TakesRows, text_of_rows}
+use Rattle.replay_reports.specs.rows.RowSinks.{FailsBestRows, IsNewRows, TakesBestRows, text_of_rows}
 use Rattle.best_rows.specs.RowTexts.{event_row, header_of}
 
 module _ {W : Type 0} (adds : W → List ℕ → W → Type 0) (failures : W → ℕ) where
   pub takes_no_rows : ((s : W) → adds s [] s) → (s : BestRows W)
-      → TakesRows adds failures s [] s
+      → TakesBestRows adds failures s [] s
   takes_no_rows none s = record {
     same_style = refl;
     takes = takes_no_text (event_row s.style) adds failures none s.page;
@@ -20,8 +20,8 @@ module _ {W : Type 0} (adds : W → List ℕ → W → Type 0) (failures : W →
   module _ (more : (s t u : W) (xs ys : List ℕ) → adds s xs t → adds t ys u → adds s (xs ++ ys) u)
     where
       pub takes_more_rows : (s t u : BestRows W) (xs ys : List TimedEvent)
-          → TakesRows adds failures s xs t → TakesRows adds failures t ys u
-          → TakesRows adds failures s (xs ++ ys) u
+          → TakesBestRows adds failures s xs t → TakesBestRows adds failures t ys u
+          → TakesBestRows adds failures s (xs ++ ys) u
       takes_more_rows s t u xs ys a b =
           let Rest : RowStyle → Type 0 =
           λ (style : RowStyle). TakesText (event_row style) adds failures t.page ys u.page in
@@ -33,8 +33,8 @@ module _ {W : Type 0} (adds : W → List ℕ → W → Type 0) (failures : W →
           }
 
       pub fails_after_rows : (s t u : BestRows W) (xs ys : List TimedEvent)
-          → TakesRows adds failures s xs t → FailsRows adds failures t ys u
-          → FailsRows adds failures s (xs ++ ys) u
+          → TakesBestRows adds failures s xs t → FailsBestRows adds failures t ys u
+          → FailsBestRows adds failures s (xs ++ ys) u
       fails_after_rows s t u xs ys a b =
           let Rest : RowStyle → Type 0 =
           λ (style : RowStyle). FailsText (event_row style) adds failures t.page ys u.page in
@@ -43,14 +43,14 @@ module _ {W : Type 0} (adds : W → List ℕ → W → Type 0) (failures : W →
           a.takes rest
 
   pub fails_longer_rows : (s t : BestRows W) (xs ys : List TimedEvent)
-      → FailsRows adds failures s xs t → FailsRows adds failures s (xs ++ ys) t
+      → FailsBestRows adds failures s xs t → FailsBestRows adds failures s (xs ++ ys) t
   fails_longer_rows s t xs ys a =
       fails_longer_text (event_row s.style) adds failures s.page t.page xs ys a
 
   -- Where nothing waits, the writer took the header and the rows of all events since the sink was
   -- new.
   pub rows_are_written : (writer : W) (style : RowStyle) (s t : BestRows W)
-      (events : List TimedEvent) → IsNewRows writer style s → TakesRows adds failures s events t
+      (events : List TimedEvent) → IsNewRows writer style s → TakesBestRows adds failures s events t
       → t.page.text.items ≡ [] → adds writer (text_of_rows style events) t.page.writer
   rows_are_written writer style s t events is took none =
       let rows : RowStyle → List ℕ = λ (st : RowStyle). flat_map (event_row st) events in
@@ -65,7 +65,7 @@ module _ {W : Type 0} (adds : W → List ℕ → W → Type 0) (failures : W →
 
   -- Where it failed since then, it took a front of them.
   pub rows_failed : (writer : W) (style : RowStyle) (s t : BestRows W) (events : List TimedEvent)
-      → IsNewRows writer style s → FailsRows adds failures s events t
+      → IsNewRows writer style s → FailsBestRows adds failures s events t
       → FailsPage adds failures s.page (text_of_rows style events) t.page
   rows_failed writer style s t events is failed =
       subst (λ (st : RowStyle). FailsPage adds failures s.page

@@ -13,15 +13,15 @@ pub record IsNewRows {W : Type 0} (writer : W) (style : RowStyle) (sink : BestRo
   pub header : sink.page.text.items ≡ header_of style.format style.timed
 
 -- What the writer took, then what waits, is what waited, then the rows of the events.
-pub record TakesRows {W : Type 0} (adds : W → List ℕ → W → Type 0) (failures : W → ℕ)
+pub record TakesBestRows {W : Type 0} (adds : W → List ℕ → W → Type 0) (failures : W → ℕ)
     (before : BestRows W) (events : List TimedEvent) (after : BestRows W) : Type 0 where
   pub same_style : after.style ≡ before.style
   pub takes : TakesText (event_row before.style) adds failures before.page events after.page
 
 -- The writer took a front of what waited and the rows of the events, and failed.
-abbrev pub FailsRows : {W : Type 0} → (W → List ℕ → W → Type 0) → (W → ℕ)
+abbrev pub FailsBestRows : {W : Type 0} → (W → List ℕ → W → Type 0) → (W → ℕ)
     → BestRows W → List TimedEvent → BestRows W → Type 0
-FailsRows adds failures before events after =
+FailsBestRows adds failures before events after =
     FailsText (event_row before.style) adds failures before.page events after.page
 
 -- a header, and then the rows of events

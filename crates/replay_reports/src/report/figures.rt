@@ -1,6 +1,6 @@
 //! The figures of each part of a report, in the order in which they are printed.
 ghost use Rattle.std.specs.Prelude.{◌≡◌, ◌∷◌, []};
-ghost use Rattle.replay_reports.specs.report.Figures.{busiest_values, counts_of, duration_values, gap_values, item_values, line_loss_values, line_values, loss_values, packet_values, refusal_values, state_values, values_of, venue_values};
+ghost use Rattle.replay_reports.specs.report.Figures.{busiest_values, figure_counts_of, duration_values, gap_sum_values, item_values, line_loss_values, line_values, loss_values, packet_values, refusal_values, state_values, values_of, venue_values};
 
 use crate::counts::best_counts::StateCounts;
 use crate::counts::item_counts::ItemCounts;
@@ -111,7 +111,7 @@ pub fn state_figures(s: &StateCounts) -> [Figure; 5]
 
 /// Returns the figures of the gaps of a line, or of all lines.
 pub fn gap_figures(s: &GapSums) -> [Figure; 13]
-    ensures { values_of result ≡ gap_values s.now }
+    ensures { values_of result ≡ gap_sum_values s.now }
 {
     let by = &s.ended_by;
     [
@@ -156,7 +156,7 @@ pub fn loss_figures(s: &GapReport) -> [Figure; 5]
 
 /// Returns the figures of the changes of national bests whose side is a venue's.
 pub fn leading_figures(bids: u64, offers: u64) -> [Figure; 2]
-    ensures { values_of result ≡ counts_of (bids ∷ offers ∷ []) }
+    ensures { values_of result ≡ figure_counts_of (bids ∷ offers ∷ []) }
 {
     [
         count("best bids led", "best_bids", bids),

@@ -2,7 +2,7 @@ use Rattle.std.proofs.Common.{◌≡◌, ◌++◌, List, Ok, rules, ap, arith, d
 use Rattle.std.proofs.lemmas.Result.{err_from_is_err_and}
 use Rattle.run_settings.specs.NextSessions.{FollowVenues}
 use Rattle.run_settings.specs.declared.next_session.NextSession.{NextSession}
-use Rattle.command_words.specs.NextSessions.{next_of}
+use Rattle.command_words.specs.NextSessions.{next_session_of}
 use Rattle.command_words.proofs.Following.{both_follow, named_follow, read_more, refused_at}
 use Rattle.command_words.proofs.next_sessions.next_from.Goals as goal
 
@@ -17,7 +17,7 @@ returns-in_err-sessions-clause-reads c =
 pub loop-place-preserved : goal.loop-place-preserved
 loop-place-preserved c =
     let pushed : c.push_next.new.next.items ≡ c.loop-place.next.items
-    ++ next_of c.loop-place.place c.in_ok-sessions.sessions.items = search rules in
+    ++ next_session_of c.loop-place.place c.in_ok-sessions.sessions.items = search rules in
     record {
       within = omega (arith, c.if-place-texts.true);
       few = omega (arith, c.loop-place-test.true);
@@ -27,7 +27,7 @@ loop-place-preserved c =
           ∙ ap (λ (l : List NextSession). Ok l) (sym pushed);
       follow = subst (FollowVenues c.args.venues) (sym pushed)
           (both_follow c.args.venues c.loop-place.next.items
-          (next_of c.loop-place.place c.in_ok-sessions.sessions.items)
+          (next_session_of c.loop-place.place c.in_ok-sessions.sessions.items)
           c.loop-place.invariant.follow
           (named_follow c.args.venues c.loop-place.place (drop 1 c.in_ok-sessions.sessions.items)
           c.loop-place-test.true));

@@ -2,7 +2,7 @@ use Rattle.std.proofs.Common.{◌∙◌, ap, lit<, map, subst, take, ℕ, List, 
 use Rattle.std.specs.declared.alloc.AllocError.{AllocError}
 use Rattle.std.proofs.lemmas.Iterator.Consumers.{map_from_collect}
 use Rattle.std.proofs.lemmas.Iterator.Splits.{YieldsList-from_str_split}
-use Rattle.command_words.specs.NextSessions.{next_from}
+use Rattle.command_words.specs.NextSessions.{next_sessions_from}
 use Rattle.command_words.specs.Readings.{Gives, OrNoMemory, mapped}
 use Rattle.command_words.proofs.next_sessions.read_next_sessions.Goals as goal
 
@@ -14,5 +14,5 @@ returns-in_ok-texts-in-Some-clause-reads c =
     (YieldsList-from_str_split 44 c.args.list.now (lit< tt) c.split.ensures.text
     c.split.ensures.has_more c.split.ensures.pattern) in
     rw c.in-Some.is (subst (λ (ts : List (List ℕ)).
-    OrNoMemory (Gives (next_from 0 (take c.args.venues ts)))
+    OrNoMemory (Gives (next_sessions_from 0 (take c.args.venues ts)))
     (mapped (λ next. next.items) c.next_from.result)) cut c.next_from.ensures.reads)

@@ -4,7 +4,7 @@ use Rattle.feed_text.specs.EventReplays.{venues_in}
 use Rattle.report_rows.specs.RowTexts.{header_text}
 use Rattle.period_rows.specs.BestMakers.{AreBests}
 use Rattle.period_rows.specs.BestRows.{BestSetting, best_names, best_rows_with, text_of_bests}
-use Rattle.period_rows.specs.CountRows.{AreCounts, CountSetting, count_names, count_rows_with, text_of_counts}
+use Rattle.period_rows.specs.CountRows.{ArePeriodCounts, CountSetting, count_names, count_rows_with, text_of_counts}
 use Rattle.nbbo_runs.proofs.SinkPrints.{made_writes}
 use Rattle.nbbo_runs.proofs.printing.print.Goals as goal
 
@@ -51,7 +51,7 @@ returns-in-Periods g c =
     let setting : CountSetting = record { style = style; lines = 2 * venues_in config } in
     let output = c.args.output in
     let printed = c.print_rows-in-Periods.ensures (text_of_counts setting) output
-    (made_writes writing AreCounts count_rows_with
+    (made_writes writing ArePeriodCounts count_rows_with
     (header_text style.format (count_names style.format)) setting output
     c.counts_before-made.result c.counts_before-made.ensures.rows)
     c.counts_before-made.ensures.refused in

@@ -2,7 +2,7 @@ use Rattle.std.proofs.Common.{◌++◌, arith, refl, ap, ◌∙◌}
 use Rattle.std.proofs.lemmas.Result.{err_from_is_err_and}
 use Rattle.feed_text.specs.TextPageLaws.{takes_no_page}
 use Rattle.report_rows.specs.FirstTextLaws.{fails_after_texts, takes_next_row}
-use Rattle.period_rows.specs.CountRows.{line_row, row_in}
+use Rattle.period_rows.specs.CountRows.{count_line_row, row_in}
 use Rattle.period_rows.specs.declared.line_figures.LineFigures.{LineFigures}
 use Rattle.period_rows.proofs.count_rows.write_period.Goals as goal
 
@@ -16,7 +16,7 @@ loop-place-preserved g c =
     let period = c.args.period.now in
     let put = c.put_line.ensures.row
     ∙ ap (λ (f : LineFigures). c.write_full.new.self.text.items
-    ++ line_row c.args.format period.begin n f) c.figures_at-figures.ensures in
+    ++ count_line_row c.args.format period.begin n f) c.figures_at-figures.ensures in
     takes_next_row g.W.TextOut.adds g.W.TextOut.failures g.met.W.TextOut.adds_more
     (row_in c.args.format period) n c.args.page.now c.loop-place.page c.write_full.new.self _
     c.loop-place.invariant c.in_ok-write_full.ensures.written c.in_ok-write_full.ensures.kept refl

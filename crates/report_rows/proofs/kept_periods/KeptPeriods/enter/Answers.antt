@@ -1,5 +1,5 @@
 use Rattle.std.proofs.Common.{◌≡◌, ◌<◌, false, ap, ◌∙◌, refl, arith, length}
-use Rattle.report_rows.specs.PeriodLists.{is_kept, place_of}
+use Rattle.report_rows.specs.PeriodLists.{is_kept, period_place_of}
 use Rattle.report_rows.proofs.Entering.{absent_at, enters_few, enters_full}
 use Rattle.report_rows.proofs.kept_periods.KeptPeriods.enter.Goals as goal
 
@@ -8,8 +8,8 @@ returns-then-len-lt-KEPT g c =
     let ps = c.args.self.now.kept.items in
     let begin = c.args.begin in
     let n = c.place_of-place.result in
-    let place : n ≡ place_of begin ps =
-    c.place_of-place.ensures.place ∙ ap (place_of begin) c.as_slice.ensures.value in
+    let place : n ≡ period_place_of begin ps =
+    c.place_of-place.ensures.place ∙ ap (period_place_of begin) c.as_slice.ensures.value in
     let absent : is_kept begin ps ≡ false =
     absent_at begin ps c.as_slice-2.result.now n c.is_at.result place c.as_slice-2.ensures.value
     c.is_at.ensures c.if-is_at.false in
@@ -23,8 +23,8 @@ returns g c =
     let ps = c.args.self.now.kept.items in
     let begin = c.args.begin in
     let n = c.place_of-place.result in
-    let place : n ≡ place_of begin ps =
-    c.place_of-place.ensures.place ∙ ap (place_of begin) c.as_slice.ensures.value in
+    let place : n ≡ period_place_of begin ps =
+    c.place_of-place.ensures.place ∙ ap (period_place_of begin) c.as_slice.ensures.value in
     let absent : is_kept begin ps ≡ false =
     absent_at begin ps c.as_slice-2.result.now n c.is_at.result place c.as_slice-2.ensures.value
     c.is_at.ensures c.if-is_at.false in

@@ -1,5 +1,5 @@
 use Rattle.std.proofs.Common.{ap, length, refl, sym, ◌∙◌}
-use Rattle.report_rows.specs.PeriodLists.{place_of}
+use Rattle.report_rows.specs.PeriodLists.{period_place_of}
 use Rattle.replay_reports.proofs.Busiest.{busier, refill_whole}
 use Rattle.replay_reports.proofs.times.busiest_period.BusiestPeriod.add_at.Goals as goal
 
@@ -9,7 +9,7 @@ returns c = λ size came holds.
     busier size c.args.time c.args.messages c.begin_of.result c.enter-place.result.place came
     c.args.self.now _ c.as_mut_slice.result.now c.raise-period.result holds c.begin_of.ensures
     (value ∙ c.enter-place.ensures.kept)
-    (c.enter-place.ensures.place ∙ ap (λ ps. place_of c.begin_of.result ps) (sym value))
+    (c.enter-place.ensures.place ∙ ap (λ ps. period_place_of c.begin_of.result ps) (sym value))
     c.raise-period.ensures.more refl
     (refill_whole c.enter-place.new.self.kept.items c.raise-period.new.periods
     (c.raise-period.auto.periods ∙ ap length value) ∙ c.raise-period.ensures.put)
