@@ -1,5 +1,5 @@
 -- Runs of numbers, as the set of the numbers in them.
-use Rattle.std.specs.Prelude.{◌≡◌, ℕ, ◌+◌, ◌-◌, Bool, ◌&&◌, List, nat_le, max, min}
+use Rattle.std.specs.Prelude.{◌≡◌, ℕ, ◌+◌, ◌-◌, Bool, ◌&&◌, List, nat_eq, nat_le, max, min}
 use Rattle.std.specs.List.{fold, list_any}
 use Rattle.line_gaps.specs.declared.number_run.NumberRun.{NumberRun}
 use Rattle.line_gaps.specs.declared.number_runs.NumberRuns.{NumberRuns}
@@ -15,6 +15,10 @@ is_in_runs n runs = list_any (is_in_run n) runs
 -- As long as no run was dropped, the runs have just these numbers.
 abbrev pub HaveJust : NumberRuns → (ℕ → Bool) → Type 0
 HaveJust runs has = runs.dropped ≡ 0 → (n : ℕ) → is_in_runs n runs.runs.items ≡ has n
+
+-- the numbers of another run begin right after its own, which may be none
+abbrev pub is_before : NumberRun → NumberRun → Bool
+is_before run other = nat_le run.first other.first && nat_eq (run.last + 1) other.first
 
 -- how many numbers a run has, of all 2^64 one less
 abbrev pub len_of : NumberRun → ℕ

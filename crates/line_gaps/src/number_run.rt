@@ -1,6 +1,6 @@
 //! A run of numbers.
 ghost use Rattle.std.specs.Prelude.{◌≡◌, max, min};
-ghost use Rattle.line_gaps.specs.Runs.{len_of, meets_run};
+ghost use Rattle.line_gaps.specs.Runs.{is_before, len_of, meets_run};
 
 /// The numbers from the first to the last one; none where the last is below the first.
 #[derive(Clone, Copy, Debug, Default, PartialEq, Eq)]
@@ -16,6 +16,14 @@ impl NumberRun {
         ensures { result ≡ meets_run self other }
     {
         self.first.max(other.first) <= self.last.min(other.last)
+    }
+
+    /// Returns whether the other numbers begin right after these.
+    #[inline(always)]
+    pub fn is_before(self, other: NumberRun) -> bool
+        ensures { result ≡ is_before self other }
+    {
+        self.first <= other.first && self.last < other.first && other.first - self.last == 1
     }
 
     /// Returns how many numbers there are, of all 2^64 one less.

@@ -44,7 +44,7 @@ impl NumberRuns {
     }
 
     /// Adds a run at the end, and drops the first one where there are 64.
-    pub fn add(&mut self, run: NumberRun)
+    fn push(&mut self, run: NumberRun)
         ensures dropped { self.old.dropped ≤ self.new.dropped }
         ensures runs { self.new.dropped ≡ 0
             → self.new.runs.items ≡ self.old.runs.items ++ run ∷ [] }
@@ -54,6 +54,41 @@ impl NumberRuns {
             self.dropped = self.dropped.saturating_add(1);
         }
         self.runs.push(run);
+    }
+
+    /// Adds a run after the last one, which was taken out: the two become one where they are
+    /// neighbours.
+    fn push_both(&mut self, last: NumberRun, run: NumberRun)
+        ensures dropped { self.old.dropped ≤ self.new.dropped }
+        ensures has { run.first ≤ run.last → self.new.dropped ≡ 0 → (n : ℕ)
+            → is_in_runs n self.new.runs.items
+            ≡ (is_in_runs n (self.old.runs.items ++ last ∷ []) || is_in_run n run) }
+    {
+        if last.is_before(run) {
+            self.push(NumberRun {
+                first: last.first,
+                last: run.last,
+            });
+            return;
+        }
+        self.push(last);
+        self.push(run);
+    }
+
+    /// Adds the numbers of a run. Where they go on from the last run, that becomes longer; else a
+    /// run more is kept, and the first one dropped where there are 64.
+    pub fn add(&mut self, run: NumberRun)
+        ensures dropped { self.old.dropped ≤ self.new.dropped }
+        ensures has { self.new.dropped ≡ 0 → (n : ℕ) → is_in_runs n self.new.runs.items
+            ≡ (is_in_runs n self.old.runs.items || is_in_run n run) }
+    {
+        if run.last < run.first {
+            return;
+        }
+        match self.runs.pop() {
+            Some(last) => self.push_both(last, run),
+            None => self.push(run),
+        }
     }
 
     /// Adds the numbers of a run that are below this one.

@@ -1,10 +1,9 @@
-use Rattle.std.proofs.Common.{◌≡◌, ℕ, Bool, false, List, [], ◌∷◌, ap, sym, ◌∙◌, arith}
+use Rattle.std.proofs.Common.{◌≡◌, ℕ, Bool, false, ap, sym, ◌∙◌, arith}
 use Rattle.std.specs.Prelude.{◌||◌, ◌&&◌, not, nat_le, nat_lt}
-use Rattle.std.proofs.lemmas.List.Folds.{list_any-append}
-use Rattle.line_gaps.specs.declared.number_run.NumberRun.{NumberRun}
 use Rattle.line_gaps.specs.Gaps.{has_come, is_given_up, is_missing, known_of, was_passed}
 use Rattle.line_gaps.specs.Runs.{is_in_run, is_in_runs}
 use Rattle.line_gaps.proofs.MissingLemmas.{floor_skipped, given_skipped, missing_skipped}
+use Rattle.line_gaps.proofs.RunLemmas.{or_none}
 use Rattle.line_gaps.proofs.lost_numbers.LostNumbers.give_up.Goals as goal
 
 pub returns : goal.returns
@@ -27,14 +26,15 @@ returns c = λ events time venue fits.
           let added = c.add.ensures.dropped in
           let whole : old.missing.dropped ≡ 0 = omega (arith, none, cut) in
           let first : mid.dropped ≡ 0 = omega (arith, few, added) in
-          ap (λ (rs : List NumberRun). is_in_runs n rs) (c.add.ensures.runs few)
-          ∙ list_any-append (is_in_run n) mid.runs.items (unknown ∷ [])
-          ∙ ap (λ (b : Bool). b || (is_in_run n unknown || false))
+          c.add.ensures.has few n
+          ∙ ap (λ (b : Bool). b || is_in_run n unknown)
           (c.add_those_below.ensures.has (is_given_up events) (is_missing events)
           (fits.given_up whole) fits.missing whole first n)
-          ∙ ap (λ (b : Bool). (given || low) || (b || false)) (c.unknown_below-unknown.ensures n)
+          ∙ ap (λ (b : Bool). (given || low) || b) (c.unknown_below-unknown.ensures n)
           ∙ ap (λ (h : ℕ). (given || low) || ((nat_lt h n
-          && (nat_le old.floor n && nat_lt n number)) || false)) fits.highest
+          && (nat_le old.floor n && nat_lt n number)))) fits.highest
+          ∙ ap (λ (b : Bool). (given || low) || b)
+          (sym (or_none (nat_lt known n && (nat_le old.floor n && nat_lt n number))))
           ∙ given_skipped n known number old.floor (has_come events n) (was_passed events n) given
           (fits.floor n) (fits.come n);
       highest = fits.highest;
