@@ -1,8 +1,10 @@
 //! What makes the rows of gaps.
-ghost use Rattle.std.specs.Prelude.{◌≡◌, []};
+ghost use Rattle.std.specs.Prelude.{◌≡◌, ℕ, [], length, Some};
+ghost use Rattle.feed_text.specs.SinkEvents.{told_before, told_by};
 ghost use Rattle.report_rows.specs.RowSinks.{IsNewRowSink};
 ghost use Rattle.report_rows.specs.RowTexts.{header_text};
 ghost use Rattle.gap_rows.specs.GapCells.{gap_names};
+ghost use Rattle.gap_rows.specs.GapMakers.{EndsIn, one_of, shown_in, venue_in};
 
 use crate::gap_row::{gap_names, write_gaps};
 use feed_text::{Event, SinkStop, TextOut, TextPage};
@@ -22,7 +24,11 @@ pub struct GapMaker {
 }
 
 /// Returns the venue that an event is of, if gaps have a part in it.
-fn venue_of(event: &Event<'_>) -> Option<VenueId> {
+fn venue_of(event: &Event<'_>) -> Option<VenueId>
+    ensures venue { venue_in (told_by event.now) ≡ result }
+    ensures shown { shown_in (told_by event.now) ≡ result }
+    ensures before { venue_in (told_before (told_by event.now)) ≡ result }
+{
     match event {
         Event::Packet { venue, .. } => Some(*venue),
         Event::Renewal { venue, .. } => Some(*venue),
@@ -46,6 +52,8 @@ fn take_at(
     ended: &mut EndedGaps,
 )
     requires { ended.old.gaps.items ≡ [] }
+    ensures { EndsIn (one_of (length venues.old.items) (Some venue)) venues.old.items
+        venues.new.items ended.new.gaps.items }
 {
     let place = venue.index();
     if place < venues.len() {
@@ -69,7 +77,11 @@ impl GapMaker {
     /// Takes an event, and returns its venue, if it has one. What it ends are the gaps that ended.
     #[inline(always)]
     fn take_event(&mut self, time: Option<u64>, event: &Event<'_>) -> VenueId
-        ensures { self.new.format ≡ self.old.format }
+        ensures format { self.new.format ≡ self.old.format }
+        ensures ends { EndsIn (one_of (length self.old.venues.items) (venue_in (told_by event.now)))
+            self.old.venues.items self.new.venues.items self.new.ended.gaps.items }
+        ensures venue { (n : ℕ) → venue_in (told_by event.now) ≡ Some n → result ≡ n }
+        ensures shown { shown_in (told_by event.now) ≡ venue_in (told_by event.now) }
     {
         self.ended.clear();
         match venue_of(event) {

@@ -1,6 +1,7 @@
 -- The sums over the gaps of a line. A sum stays at 2^64 - 1 once it is there.
 use Rattle.std.specs.Prelude.{◌≡◌, ℕ, ◌-◌, Bool, true, false, List, length, max, min, Option, Some}
 use Rattle.std.specs.List.{count_by, fold, sum_by}
+use Rattle.feed_types.specs.FullCounts.{count_after}
 use Rattle.line_gaps.specs.declared.gap_sums.GapEnds.{GapEnds}
 use Rattle.line_gaps.specs.declared.gap_sums.GapSums.{GapSums}
 use Rattle.line_gaps.specs.declared.open_gap.EndedGap.{EndedGap}
@@ -46,3 +47,7 @@ pub record AreSumsOf (gaps : List EndedGap) (sums : GapSums) : Type 0 where
   pub longest : sums.longest ≡ fold (λ most g. max most (time_taken g)) 0 gaps
   pub ended_by : AreEndsOf gaps sums.ended_by
   pub given_up : sums.given_up ≡ full (sum_by (λ g. g.given_up) gaps)
+
+-- what a line never brought: left out and not late, and past its highest number
+abbrev pub lost_of : GapSums → ℕ
+lost_of sums = count_after (sums.left_out - sums.late) sums.tail

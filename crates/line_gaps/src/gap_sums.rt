@@ -1,8 +1,8 @@
 //! Sums over the gaps of a line.
-ghost use Rattle.std.specs.Prelude.{◌≡◌, ◌-◌, ℕ, List, [], ◌∷◌, ◌++◌};
+ghost use Rattle.std.specs.Prelude.{◌≡◌, ℕ, List, [], ◌∷◌, ◌++◌};
 ghost use Rattle.feed_types.specs.FullCounts.{count_after};
 ghost use Rattle.line_gaps.specs.declared.open_gap.EndedGap.{EndedGap};
-ghost use Rattle.line_gaps.specs.Sums.{AreEndsOf, AreSumsOf, time_taken};
+ghost use Rattle.line_gaps.specs.Sums.{AreEndsOf, AreSumsOf, lost_of, time_taken};
 
 use crate::open_gap::{EndedGap, GapEnd};
 
@@ -36,6 +36,9 @@ pub struct GapSums {
     pub late: u64,
     /// The messages that the line brought once more.
     pub again: u64,
+    /// The messages past the line's highest number that packets of the venue told of, when its
+    /// sessions or the capture ended.
+    pub tail: u64,
 }
 
 /// Returns a count after this many more.
@@ -92,6 +95,7 @@ impl GapSums {
     pub fn new() -> GapSums
         ensures sums { AreSumsOf [] result }
         ensures merged { result.merged ≡ 0 }
+        ensures tail { result.tail ≡ 0 }
     {
         GapSums {
             found: 0,
@@ -102,6 +106,7 @@ impl GapSums {
             merged: 0,
             late: 0,
             again: 0,
+            tail: 0,
         }
     }
 
@@ -112,6 +117,7 @@ impl GapSums {
         ensures merged { self.new.merged ≡ self.old.merged }
         ensures late { self.new.late ≡ self.old.late }
         ensures again { self.new.again ≡ self.old.again }
+        ensures tail { self.new.tail ≡ self.old.tail }
     {
         self.found = raised(self.found, 1);
         self.left_out = raised(self.left_out, gap.gap.messages);
@@ -120,10 +126,11 @@ impl GapSums {
         self.ended_by.add(gap);
     }
 
-    /// Returns how many messages the line never brought, of those that it passed over.
+    /// Returns how many messages the line never brought: of those that it passed over, and past its
+    /// highest number.
     pub fn lost(&self) -> u64
-        ensures { result ≡ self.now.left_out - self.now.late }
+        ensures { result ≡ lost_of self.now }
     {
-        self.left_out.saturating_sub(self.late)
+        raised(self.left_out.saturating_sub(self.late), self.tail)
     }
 }

@@ -1,6 +1,7 @@
 //! The gaps of one line, or of all lines together.
-ghost use Rattle.std.specs.Prelude.{◌≡◌, ◌≤◌, ◌+◌, ℕ, List, length, map, not, [], ◌∷◌, ◌++◌, None};
+ghost use Rattle.std.specs.Prelude.{◌≡◌, ◌≤◌, ◌+◌, ◌-◌, ℕ, List, length, map, not, [], ◌∷◌, ◌++◌, None};
 ghost use Rattle.std.specs.List.{filter};
+ghost use Rattle.feed_types.specs.FullCounts.{count_after};
 ghost use Rattle.line_gaps.specs.Runs.{meets_runs};
 ghost use Rattle.line_gaps.specs.declared.open_gap.GapEnd.TheVariants.{Open};
 ghost use Rattle.line_gaps.specs.declared.open_gap.EndedGap.{EndedGap};
@@ -362,6 +363,23 @@ impl LineGaps {
         }
     }
 
+    /// Counts what the line didn't reach of the numbers up to this one, which packets of the venue
+    /// told of.
+    fn count_tail(&mut self, known: u64)
+        ensures tail { self.new ≡ record self.old {
+          sums = record self.old.sums {
+            tail = count_after self.old.sums.tail (known - self.old.highest);
+          };
+        } }
+        ensures sums { (rows : List EndedGap) → AreSumsOf rows self.old.sums
+            → AreSumsOf rows self.new.sums }
+        ensures open { self.new.open ≡ self.old.open }
+        ensures kept { KeepsLine self.old self.new }
+    {
+        let tail = known.saturating_sub(self.highest);
+        self.sums.tail = raised(self.sums.tail, tail);
+    }
+
     /// Ends all gaps with the session or the capture.
     pub(crate) fn close(&mut self, lost: &LostNumbers, ended: &mut EndedGaps)
         requires { length ended.old.gaps.items + 17 ≤ 51 }
@@ -381,6 +399,7 @@ impl LineGaps {
         };
         let open = self.open.take();
         self.end_each(open.as_slice(), lost, pass, ended);
+        self.count_tail(lost.highest);
     }
 
     /// Begins anew with a next session.

@@ -1,5 +1,5 @@
 -- The figures of a report, part by part.
-use Rattle.std.specs.Prelude.{ℕ, ◌-◌, Bool, true, false, List, [], ◌∷◌, map, nat_lt, slice_index, Option, None, Some}
+use Rattle.std.specs.Prelude.{ℕ, Bool, true, false, List, [], ◌∷◌, map, nat_lt, slice_index, Option, None, Some}
 use Rattle.feed_types.specs.declared.per_line.PerLine.{PerLine}
 use Rattle.replay_reports.specs.declared.counts.best_counts.StateCounts.{StateCounts}
 use Rattle.replay_reports.specs.declared.counts.item_counts.ItemCounts.{ItemCounts}
@@ -9,6 +9,7 @@ use Rattle.replay_reports.specs.declared.report.figure.Figure.{Figure}
 use Rattle.replay_reports.specs.declared.report.figure.FigureValue.{FigureValue}
 use Rattle.replay_reports.specs.declared.report.figure.FigureValue.TheVariants.{Nothing, Count, Time}
 use Rattle.line_gaps.specs.declared.gap_sums.GapSums.{GapSums}
+use Rattle.line_gaps.specs.Sums.{lost_of}
 use Rattle.replay_reports.specs.declared.report.venue_report.GapReport.{GapReport}
 use Rattle.replay_reports.specs.declared.times.busiest_period.Peak.{Peak}
 use Rattle.replay_reports.specs.declared.times.duration_stats.DurationStats.{DurationStats}
@@ -65,9 +66,9 @@ gap_sum_values s =
     ∷ s.ended_by.b ∷ s.ended_by.recovery ∷ s.ended_by.skip ∷ s.ended_by.before ∷ s.ended_by.open
     ∷ s.merged ∷ [])
 
--- lost is what was left out and didn't come late
+-- lost is what was left out and didn't come late, and what came on other lines past its highest
 abbrev pub line_loss_values : GapSums → List FigureValue
-line_loss_values s = figure_counts_of ((s.left_out - s.late) ∷ s.late ∷ [])
+line_loss_values s = figure_counts_of (lost_of s ∷ s.late ∷ [])
 
 abbrev pub loss_values : GapReport → List FigureValue
 loss_values s =

@@ -131,12 +131,12 @@ pub fn gap_figures(s: &GapSums) -> [Figure; 13]
     ]
 }
 
-/// Returns what a line lost of the messages that it passed over, and what of them it brought late.
+/// Returns what a line lost, and what of the messages that it passed over it brought late.
 pub fn line_loss_figures(s: &GapSums) -> [Figure; 2]
     ensures { values_of result ≡ line_loss_values s.now }
 {
     [
-        count("lost", "lost", s.left_out.saturating_sub(s.late)),
+        count("lost", "lost", s.lost()),
         count("late", "late", s.late),
     ]
 }

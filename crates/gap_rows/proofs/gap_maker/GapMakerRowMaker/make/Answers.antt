@@ -1,17 +1,44 @@
-use Rattle.feed_text.specs.SinkEvents.{timed_event, told_by}
-use Rattle.gap_rows.proofs.GapSteps.{failed, made}
+use Rattle.std.proofs.Common.{◌≡◌, ◌∙◌, Option, ℕ, [], ◌∷◌, length, ap, sym}
+use Rattle.feed_text.specs.SinkEvents.{TimedEvent, timed_event, told_by}
+use Rattle.gap_rows.specs.GapCells.{gap_rows_text}
+use Rattle.gap_rows.specs.GapMakers.{TakesEach, rows_in, shown_in, venue_in}
+use Rattle.gap_rows.proofs.GapSteps.{failed, made, rows_are, takes_one}
 use Rattle.gap_rows.proofs.gap_maker.GapMakerRowMaker.make.Goals as goal
 
 pub returns-clause-made : goal.returns-clause-made
 returns-clause-made g c =
-    made g.W.TextOut.adds g.W.TextOut.failures c.write_gaps.result c.args.self.now
-    c.take_event-venue.new.self (timed_event c.args.time (told_by c.args.event.now))
-    c.args.page.now c.write_gaps.new.page c.take_event-venue.result c.as_slice.result.now
-    c.take_event-venue.ensures c.write_gaps.ensures.took
+    let old = c.args.self.now in
+    let said = c.take_event-venue.ensures in
+    let e : TimedEvent = timed_event c.args.time (told_by c.args.event.now) in
+    let gaps = c.as_slice.result.now in
+    let each : TakesEach old.format (e ∷ []) old.venues.items
+    (gap_rows_text old.format c.take_event-venue.result gaps)
+    c.take_event-venue.new.self.venues.items =
+    takes_one old.format e old.venues.items c.take_event-venue.new.self.venues.items gaps _
+    (rw c.as_slice.ensures said.ends)
+    (rows_are old.format (venue_in e.event) (length old.venues.items) c.take_event-venue.result
+    old.venues.items c.take_event-venue.new.self.venues.items gaps said.venue
+    (rw c.as_slice.ensures said.ends)
+    ∙ ap (λ (o : Option ℕ). rows_in old.format o gaps) (sym said.shown)) in
+    made g.W.TextOut.adds g.W.TextOut.failures c.write_gaps.result old
+    c.take_event-venue.new.self e c.args.page.now c.write_gaps.new.page c.take_event-venue.result
+    gaps said.format each c.write_gaps.ensures.took
 
 pub returns-clause-failed : goal.returns-clause-failed
 returns-clause-failed g c =
-    failed g.W.TextOut.adds g.W.TextOut.failures c.write_gaps.result c.args.self.now
-    c.take_event-venue.new.self (timed_event c.args.time (told_by c.args.event.now))
-    c.args.page.now c.write_gaps.new.page c.take_event-venue.result c.as_slice.result.now
-    c.take_event-venue.ensures c.write_gaps.ensures.failed
+    let old = c.args.self.now in
+    let said = c.take_event-venue.ensures in
+    let e : TimedEvent = timed_event c.args.time (told_by c.args.event.now) in
+    let gaps = c.as_slice.result.now in
+    let each : TakesEach old.format (e ∷ []) old.venues.items
+    (gap_rows_text old.format c.take_event-venue.result gaps)
+    c.take_event-venue.new.self.venues.items =
+    takes_one old.format e old.venues.items c.take_event-venue.new.self.venues.items gaps _
+    (rw c.as_slice.ensures said.ends)
+    (rows_are old.format (venue_in e.event) (length old.venues.items) c.take_event-venue.result
+    old.venues.items c.take_event-venue.new.self.venues.items gaps said.venue
+    (rw c.as_slice.ensures said.ends)
+    ∙ ap (λ (o : Option ℕ). rows_in old.format o gaps) (sym said.shown)) in
+    failed g.W.TextOut.adds g.W.TextOut.failures c.write_gaps.result old
+    c.take_event-venue.new.self e c.args.page.now c.write_gaps.new.page c.take_event-venue.result
+    gaps said.format each c.write_gaps.ensures.failed

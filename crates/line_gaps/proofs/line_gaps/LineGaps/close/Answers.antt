@@ -1,4 +1,4 @@
-use Rattle.std.proofs.Common.{None, map}
+use Rattle.std.proofs.Common.{None, map, ◌∙◌}
 use Rattle.line_gaps.specs.declared.open_gap.GapEnd.TheVariants.{Open}
 use Rattle.line_gaps.specs.Ends.{gap_over}
 use Rattle.line_gaps.proofs.EndLemmas.{closed_few}
@@ -10,6 +10,6 @@ returns-clause-ends c = record {
       c.as_slice.result.now;
   ended = c.end_each.ensures.ended;
   few = closed_few _ c.as_slice.result.now c.as_slice.ensures.fits;
-  sums = λ rows are. c.end_each.ensures.sums rows are;
-  line = c.end_each.ensures.kept.line;
+  sums = λ rows are. c.count_tail.ensures.sums _ (c.end_each.ensures.sums rows are);
+  line = c.count_tail.ensures.kept.line ∙ c.end_each.ensures.kept.line;
 }
