@@ -40,7 +40,7 @@ takes_one format e old new gaps text ends is = record {
   first = text;
   rest = [];
   takes = record { gaps = gaps; ends = ends; text_is = is };
-  then = record { none = refl; same = refl };
+  follow = record { none = refl; same = refl };
   text_is = sym (append-nil text);
 }
 

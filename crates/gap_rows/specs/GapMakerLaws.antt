@@ -17,7 +17,7 @@ takes_more format (x ∷ xs) ys s t u a b first next = record {
   first = first.first;
   rest = first.rest ++ b;
   takes = first.takes;
-  then = takes_more format xs ys first.mid t u first.rest b first.then next;
+  follow = takes_more format xs ys first.mid t u first.rest b first.follow next;
   text_is = ap (λ (l : List ℕ). l ++ b) first.text_is ∙ append_assoc first.first first.rest b;
 }
 

@@ -62,13 +62,13 @@ pub record TakesGaps (format : RowFormat) (event : SinkEvent) (old : List VenueG
   pub text_is : text ≡ rows_in format (shown_in event) gaps
 
 -- One event is taken, then others.
-pub record ThenTakes (one more : List VenueGaps → List ℕ → List VenueGaps → Type 0)
+pub record ThenTakes (one next : List VenueGaps → List ℕ → List VenueGaps → Type 0)
     (old : List VenueGaps) (text : List ℕ) (new : List VenueGaps) : Type 0 where
   pub mid : List VenueGaps
   pub first : List ℕ
   pub rest : List ℕ
   pub takes : one old first mid
-  pub then : more mid rest new
+  pub follow : next mid rest new
   pub text_is : text ≡ first ++ rest
 
 pub record TakesNone (old : List VenueGaps) (text : List ℕ) (new : List VenueGaps) : Type 0 where

@@ -1,4 +1,5 @@
-use Rattle.std.proofs.Common.{◌<◌, ◌≡◌, ◌≤◌, ℕ, Option, Some, arith, length, refl, subst, sym}
+use Rattle.std.proofs.Common.{◌<◌, ◌≡◌, ◌≤◌, ℕ, Option, Some, ap, arith, length, refl, subst, sym}
+use Rattle.std.specs.Prelude.{slice_get, slice_set}
 use Rattle.std.proofs.lemmas.Option.{slice_get_read}
 use Rattle.gap_rows.specs.GapMakers.{EndsIn, one_of}
 use Rattle.gap_rows.proofs.GapSteps.{is_none, is_one}
@@ -10,14 +11,17 @@ returns-then-place-len c =
     let place = c.index-place.result in
     let within : place < length vs = omega (arith, c.if-place-len.true, c.len.ensures) in
     let found : c.args.venue < length vs = omega (arith, within, c.index-place.ensures.value) in
-    subst (λ (o : Option ℕ). EndsIn o vs _ c.take.new.ended.gaps.items)
+    let is = c.index-place.ensures.value in
+    let old = c.index_mut.result.now in
+    let new = c.take.new.self in
+    subst (λ (o : Option ℕ). EndsIn o vs (slice_set vs place new) c.take.new.ended.gaps.items)
     (sym (is_one (length vs) c.args.venue found))
     (record {
-      before = c.index_mut.result.now;
-      after = c.take.new.self;
-      was = rw (sym c.index-place.ensures.value) (slice_get_read vs (length vs) place
-          c.index_mut.result.now refl within c.index_mut.ensures.value);
-      is = rw (sym c.index-place.ensures.value) refl;
+      before = old;
+      after = new;
+      was = subst (λ (k : ℕ). slice_get vs k ≡ Some old) is
+          (slice_get_read vs (length vs) place old refl within c.index_mut.ensures.value);
+      is = ap (λ (k : ℕ). slice_set vs k new) is;
       none = c.args.ended.now;
       ended = c.take.new.ended;
       none_are = c.requires;
