@@ -1,9 +1,9 @@
 -- What a maker of rows of gaps makes of one event.
-use Rattle.std.proofs.Common.{◌≡◌, ◌<◌, ◌≤◌, ℕ, List, [], ◌∷◌, ◌++◌, length, arith, append-nil, ap, refl, sym, subst, ◌∙◌, Result, Ok, Err, Option, None, Some}
-use Rattle.std.specs.Prelude.{OnErr, OnOk, slice_get, slice_set}
+use Rattle.std.proofs.Common.{◌≡◌, ◌<◌, ◌≤◌, ℕ, List, [], ◌∷◌, ◌++◌, length, arith, append-nil, ap, refl, sym, subst, Result, Ok, Err, Option, None, Some}
+use Rattle.std.specs.Prelude.{OnErr, OnOk}
 use Rattle.std.proofs.lemmas.Bool.Decides.{nat_tests}
 use Rattle.run_settings.specs.declared.formats.RowFormat.{RowFormat}
-use Rattle.feed_text.specs.SinkEvents.{SinkEvent, TimedEvent}
+use Rattle.feed_text.specs.SinkEvents.{TimedEvent}
 use Rattle.feed_text.specs.TextPages.{FailsPage, TakesPage}
 use Rattle.feed_text.specs.declared.text_page.TextPage.{TextPage}
 use Rattle.line_gaps.specs.declared.open_gap.EndedGap.{EndedGap}
@@ -11,7 +11,7 @@ use Rattle.line_gaps.specs.declared.venue_gaps.VenueGaps.{VenueGaps}
 use Rattle.report_rows.specs.RowSinks.{FailsMaking, Makes}
 use Rattle.gap_rows.specs.declared.gap_maker.GapMaker.{GapMaker}
 use Rattle.gap_rows.specs.GapCells.{gap_rows_text}
-use Rattle.gap_rows.specs.GapMakers.{EndsAt, EndsIn, MakesGaps, StaysAt, TakesEach, TakesGaps, TellsGaps, one_of, rows_in, shown_in, venue_in}
+use Rattle.gap_rows.specs.GapMakers.{EndsIn, MakesGaps, TakesEach, TellsGaps, one_of, rows_in, shown_in, venue_in}
 
 pub is_one : (count venue : ℕ) → venue < count → one_of count (Some venue) ≡ Some venue
 is_one count venue within = grind (arith, nat_tests, within)

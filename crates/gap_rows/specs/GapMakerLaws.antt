@@ -1,5 +1,5 @@
 -- Laws of a maker of rows of gaps.
-use Rattle.std.proofs.Common.{◌≡◌, List, [], ◌∷◌, ◌++◌, ℕ, append_assoc, refl, sym, subst, ap, ◌∙◌}
+use Rattle.std.proofs.Common.{List, [], ◌∷◌, ◌++◌, ℕ, append_assoc, refl, sym, subst, ap, ◌∙◌}
 use Rattle.run_settings.specs.declared.formats.RowFormat.{RowFormat}
 use Rattle.feed_text.specs.SinkEvents.{TimedEvent}
 use Rattle.line_gaps.specs.declared.venue_gaps.VenueGaps.{VenueGaps}

@@ -1,7 +1,7 @@
 use Rattle.std.proofs.Common.{◌<◌, ◌≡◌, ◌≤◌, ℕ, Option, Some, ap, arith, length, refl, subst, sym}
 use Rattle.std.specs.Prelude.{slice_get, slice_set}
 use Rattle.std.proofs.lemmas.Option.{slice_get_read}
-use Rattle.gap_rows.specs.GapMakers.{EndsIn, one_of}
+use Rattle.gap_rows.specs.GapMakers.{EndsIn}
 use Rattle.gap_rows.proofs.GapSteps.{is_none, is_one}
 use Rattle.gap_rows.proofs.gap_maker.take_at.Goals as goal
 

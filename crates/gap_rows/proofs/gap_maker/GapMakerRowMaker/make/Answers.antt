@@ -1,7 +1,7 @@
-use Rattle.std.proofs.Common.{◌≡◌, ◌∙◌, Option, ℕ, [], ◌∷◌, length, ap, sym}
+use Rattle.std.proofs.Common.{◌∙◌, Option, ℕ, [], ◌∷◌, length, ap, sym}
 use Rattle.feed_text.specs.SinkEvents.{TimedEvent, timed_event, told_by}
 use Rattle.gap_rows.specs.GapCells.{gap_rows_text}
-use Rattle.gap_rows.specs.GapMakers.{TakesEach, rows_in, shown_in, venue_in}
+use Rattle.gap_rows.specs.GapMakers.{TakesEach, rows_in, venue_in}
 use Rattle.gap_rows.proofs.GapSteps.{failed, made, rows_are, takes_one}
 use Rattle.gap_rows.proofs.gap_maker.GapMakerRowMaker.make.Goals as goal
 
