@@ -1,7 +1,7 @@
-use Rattle.std.proofs.Common.{◌≡◌, ℕ, Bool, false, ap, sym, ◌∙◌, arith}
+use Rattle.std.proofs.Common.{◌≡◌, ℕ, Bool, ap, sym, ◌∙◌, arith}
 use Rattle.std.specs.Prelude.{◌||◌, ◌&&◌, not, nat_le, nat_lt}
 use Rattle.line_gaps.specs.Gaps.{has_come, is_given_up, is_missing, known_of, was_passed}
-use Rattle.line_gaps.specs.Runs.{is_in_run, is_in_runs}
+use Rattle.line_gaps.specs.Runs.{is_in_run}
 use Rattle.line_gaps.proofs.MissingLemmas.{floor_skipped, given_skipped, missing_skipped}
 use Rattle.line_gaps.proofs.RunLemmas.{or_none}
 use Rattle.line_gaps.proofs.lost_numbers.LostNumbers.give_up.Goals as goal
