@@ -46,7 +46,7 @@ module _ {W : Type 0} (writing : Writing W) (format : RowFormat) (writer : W)
       ap (λ (h : List ℕ). h ++ text) (sym is.is.waits) ∙ took.takes.all
       ∙ ap (λ (l : List ℕ). shown ++ l) none ∙ append-nil shown in (
         header ++ text,
-        gap_text told text (record { new = new.maker; makes = took.made }),
+        gap_text told text took.made.told,
         subst (λ (l : List ℕ). writing.adds writer l new.page.writer) (sym all)
             (subst (λ (w : W). writing.adds w shown new.page.writer) is.is.writer_is took.takes.wrote),
       )
@@ -61,7 +61,7 @@ module _ {W : Type 0} (writing : Writing W) (format : RowFormat) (writer : W)
       let failed = page_failed writing writer (header ++ text) old.page new.page is.is.writer_is
       (subst (λ (h : List ℕ). FailsPage writing.adds writing.failures old.page (h ++ text) new.page)
       is.is.waits fails.fails) in
-      (header ++ text, gap_text told text fails.told, failed)
+      (header ++ text, gap_text told text fails.told, failed.0, failed.1)
 
   pub gaps_printed : {R S F : Type 0} (reading : Reading R) (parsing : Parsing S F)
       (config : ReplayConfig) (span : TimeSpan) (from to : R) (start finish : S)

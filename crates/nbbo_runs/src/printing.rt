@@ -209,8 +209,9 @@ fn counts_before<W>(
         (record { style = style; lines = 2 * venues_in config.now.replay }) output) }
     ensures refused { IfErr result (λ back. back ≡ output) }
 {
+    let venues = config.replay.sessions.len();
     match page_before(alloc, output) {
-        Ok(page) => Ok(new_count_rows(page, style, config.replay.sessions.len())),
+        Ok(page) => Ok(new_count_rows(page, style, venues)),
         Err(output) => Err(output),
     }
 }

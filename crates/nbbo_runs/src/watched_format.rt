@@ -87,12 +87,19 @@ fn note_seen(seen: &mut SessionTable, venue: VenueId, name: &[u8; 10], is_renewa
     });
 }
 
+/// Notes that a session is named.
+fn note_named(seen: &mut SessionTable, session: &NextSession)
+    ensures { seen.new ≡ seen.old ++ named_sightings (session.now ∷ []) }
+{
+    note_seen(seen, session.venue, &session.name, true);
+}
+
 /// Notes that these sessions are named.
 fn name_sessions(seen: &mut SessionTable, next: &[NextSession])
     ensures { seen.new ≡ seen.old ++ named_sightings next.now }
 {
     for session in next {
-        note_seen(seen, session.venue, &session.name, true);
+        note_named(seen, session);
     }
 }
 

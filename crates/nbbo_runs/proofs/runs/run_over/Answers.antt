@@ -71,7 +71,7 @@ returns g c =
         waited,
         subst (λ (text : List ℕ). Says telling text errors_before waited) c.input_hint.ensures
             c.write_stderr.ensures,
-        hinted,
+        (hinted,
         subst (λ (text : List ℕ). Says telling text waited hinted) c.symbol_hint.ensures
             c.write_stderr-2.ensures,
         says_each telling (told_lacks outcome due lacks)
@@ -84,7 +84,7 @@ returns g c =
             (says_each telling texts (timeless ∷ []) said told end c.tell_end.ensures
             (says_one telling timeless told end
             (subst (λ (text : List ℕ). Says telling text told end) hint
-            c.write_stderr-3.ensures)))),
+            c.write_stderr-3.ensures))))),
       );
       ends = c.status_of.ensures;
     }
