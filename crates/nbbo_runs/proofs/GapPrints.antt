@@ -17,7 +17,7 @@ use Rattle.report_rows.specs.RowSinks.{FailsRows, TakesRows}
 use Rattle.report_rows.specs.RowTexts.{header_text}
 use Rattle.report_rows.specs.declared.row_sink.RowSink.{RowSink}
 use Rattle.replay_run.specs.Printed.{facts_of_run}
-use Rattle.nbbo_runs.specs.Printing.{IsGapSink, IsGapText, PrintsGapRows, printing_gaps, span_events, taking_in}
+use Rattle.nbbo_runs.specs.Printing.{FailsGaps, IsGapSink, IsGapText, PrintsGapRows, printing_gaps, span_events, taking_in}
 use Rattle.nbbo_runs.proofs.SinkPrints.{page_failed, sink_taking}
 use Rattle.nbbo_runs.proofs.SinkRuns.{run_as}
 
@@ -46,22 +46,29 @@ module _ {W : Type 0} (writing : Writing W) (format : RowFormat) (writer : W)
       ap (λ (h : List ℕ). h ++ text) (sym is.is.waits) ∙ took.takes.all
       ∙ ap (λ (l : List ℕ). shown ++ l) none ∙ append-nil shown in (
         header ++ text,
-        gap_text told text took.made.told,
+        gap_text told text (record { venues = new.maker.venues.items; takes = took.made.takes }),
         subst (λ (l : List ℕ). writing.adds writer l new.page.writer) (sym all)
-            (subst (λ (w : W). writing.adds w shown new.page.writer) is.is.writer_is took.takes.wrote),
+            (subst (λ (w : W). writing.adds w shown new.page.writer) is.is.writer_is
+            took.takes.wrote),
       )
 
   stopped : (told : List TimedEvent)
       → FailsRows TellsGaps writing.adds writing.failures old told new
-      → (text : List ℕ) × IsGapText format told text
-      × Wrote writing.adds writer text new.page.writer
-      × (writing.failures new.page.writer ≡ writing.failures writer + 1)
+      → FailsGaps writing format told writer new.page.writer
   stopped told fails =
       let text = fails.text in
       let failed = page_failed writing writer (header ++ text) old.page new.page is.is.writer_is
       (subst (λ (h : List ℕ). FailsPage writing.adds writing.failures old.page (h ++ text) new.page)
       is.is.waits fails.fails) in
-      (header ++ text, gap_text told text fails.told, failed.0, failed.1)
+      record {
+        first = fails.first;
+        rest = fails.rest;
+        all = fails.all;
+        text = header ++ text;
+        is = gap_text fails.first text fails.told;
+        wrote = failed.0;
+        failed = failed.1;
+      }
 
   pub gaps_printed : {R S F : Type 0} (reading : Reading R) (parsing : Parsing S F)
       (config : ReplayConfig) (span : TimeSpan) (from to : R) (start finish : S)

@@ -193,14 +193,23 @@ pub record IsGapText (format : RowFormat) (told : List TimedEvent) (text : List 
   pub tells : TellsGaps maker told rows
   pub is : text ≡ header_text format gap_names ++ rows
 
--- A writer takes the text of the gaps of events; or it takes a front of it, and fails.
+-- A writer took a front of the text of the gaps of the first events, and then failed.
+pub record FailsGaps {W : Type 0} (writing : Writing W) (format : RowFormat)
+    (told : List TimedEvent) (before after : W) : Type 0 where
+  pub first : List TimedEvent
+  pub rest : List TimedEvent
+  pub all : told ≡ first ++ rest
+  pub text : List ℕ
+  pub is : IsGapText format first text
+  pub wrote : Wrote writing.adds before text after
+  pub failed : writing.failures after ≡ writing.failures before + 1
+
+-- A writer takes the text of the gaps of events; or it fails.
 abbrev pub printing_gaps : {W : Type 0} → Writing W → RowFormat → SinkTaking W
 printing_gaps writing format = record {
   takes = λ before told after.
       (text : List ℕ) × IsGapText format told text × writing.adds before text after;
-  fails = λ before told after. (text : List ℕ) × IsGapText format told text
-      × Wrote writing.adds before text after
-      × (writing.failures after ≡ writing.failures before + 1);
+  fails = λ before told after. FailsGaps writing format told before after;
 }
 
 -- the rows of the gaps of the events in a span
