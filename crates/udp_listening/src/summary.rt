@@ -108,7 +108,7 @@ fn put_ending(
 {
     match format {
         BestFormat::Text => put_ends(text, settlement),
-        BestFormat::Csv(_) | BestFormat::Json => Ok(()),
+        BestFormat::Csv(_) | BestFormat::Json(_) => Ok(()),
     }
 }
 
