@@ -65,7 +65,7 @@ end_lines entries venue (v ∷ vs) = end_line entries venue v ++ end_lines entri
 abbrev pub ending_text : BestFormat → SettlementState → List ℕ
 ending_text Text s = end_lines s.journal.entries 0 (take 16 s.venues)
 ending_text (Csv times) s = []
-ending_text Json s = []
+ending_text (Json times) s = []
 
 -- what is left to print of it: the rows of its first subscriber that aren't printed yet, and then
 -- its ending
