@@ -34,7 +34,8 @@ lift venue (Ok sessions) (Err refusal) all tail found is more =
 lift venue (Ok sessions) (Ok others) all tail found is more =
     let same : next_session_of venue sessions ++ others ≡ found = ap (value_of []) is in
     ap (λ (s : Sessions). mapped (λ m. next_session_of venue sessions ++ m) s) (more others refl)
-    ∙ ap (λ (l : List NextSession). Ok l) (sym (append_assoc (next_session_of venue sessions) others tail)
+    ∙ ap (λ (l : List NextSession). Ok l) (sym (append_assoc
+    (next_session_of venue sessions) others tail)
     ∙ ap (λ (l : List NextSession). l ++ tail) same)
 
 lift_refusal : (venue : ℕ) (chain : Result (List (List ℕ)) Refusal) (some all : Sessions)
@@ -66,7 +67,8 @@ next_then venue n (y ∷ ys) x sessions found e is chain =
 
 next_refused : (venue : ℕ) (xs : List (List ℕ)) (x : List ℕ) (others : List (List ℕ))
     (found : List NextSession) (refusal : Refusal) → next_sessions_from venue xs ≡ Ok found
-    → chain_of (chain_in x) ≡ Err refusal → next_sessions_from venue (xs ++ x ∷ others) ≡ Err refusal
+    → chain_of (chain_in x) ≡ Err refusal
+    → next_sessions_from venue (xs ++ x ∷ others) ≡ Err refusal
 next_refused venue [] x others found refusal is chain =
     ap (λ (c : Result (List (List ℕ)) Refusal).
     before_all venue c (next_sessions_from (venue + 1) others)) chain
@@ -104,7 +106,8 @@ pub read_more : (texts : List (Bor (List ℕ))) (n : ℕ) (d : Bor (List ℕ))
     (sessions : List (List ℕ)) (found : List NextSession) → n < length texts
     → next_sessions_from 0 (take n (texts_of texts)) ≡ Ok found
     → chain_of (chain_in (slice_index_or texts n d).now) ≡ Ok sessions
-    → next_sessions_from 0 (take (n + 1) (texts_of texts)) ≡ Ok (found ++ next_session_of n sessions)
+    → next_sessions_from 0 (take (n + 1) (texts_of texts)) ≡ Ok
+    (found ++ next_session_of n sessions)
 read_more texts n d sessions found within is chain =
     let on : n + 1 ≡ suc n = omega arith in
     let len : length (texts_of texts) ≡ length texts =

@@ -39,7 +39,8 @@ abbrev pub next_sessions_from : ℕ → List (List ℕ) → Result (List NextSes
 next_sessions_from venue [] = Ok []
 next_sessions_from venue (text ∷ texts) =
     and_then (chain_of (chain_in text))
-    (λ sessions. mapped (λ more. next_session_of venue sessions ++ more) (next_sessions_from (venue + 1) texts))
+    (λ sessions. mapped (λ more. next_session_of venue sessions ++ more) (next_sessions_from
+    (venue + 1) texts))
 
 -- Where --lines is given, the next sessions of the first `venues` venues of the list; else none.
 abbrev pub ReadsNextSessions : (lines : Option (List ℕ)) → List ℕ → (venues : ℕ)

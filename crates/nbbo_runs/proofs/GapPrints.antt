@@ -81,7 +81,8 @@ module _ {W : Type 0} (writing : Writing W) (format : RowFormat) (writer : W)
   gaps_printed reading parsing config span from to start finish outcome run =
       run_as reading parsing config (facts_of_run config)
       (taking_in span (sink_taking writing MakesGaps TellsGaps)) (λ s. s.page.text.items ≡ [])
-      (taking_in span (printing_gaps writing format)) (λ output. ⊤) old new writer new.page.writer (record {
+      (taking_in span (printing_gaps writing format)) (λ output. ⊤) old new writer new.page.writer
+      (record {
         took = λ told took. (written (span_events span told) took.0 took.1, tt);
         failed = λ told failed. stopped (span_events span told) failed;
         same = λ kept. ap (λ (s : RowSink W GapMaker). s.page.writer) kept ∙ is.is.writer_is;

@@ -17,5 +17,6 @@ loop-row-preserved c =
       times = None;
     } in
     row_put (json_line c.args.style (rows_of c.args.others.now)) c.args.rows.now
-    c.loop-row.row-index none c.args.text.now.items c.loop-row.text.items c.put_row.new.text.items c.loop-row-test.true
+    c.loop-row.row-index none c.args.text.now.items c.loop-row.text.items c.put_row.new.text.items
+    c.loop-row-test.true
     c.loop-row.invariant c.in_ok-put_row.ensures

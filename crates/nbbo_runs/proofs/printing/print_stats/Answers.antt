@@ -75,7 +75,8 @@ returns g c =
         run = kept.run;
         printed = c.write_text-printed.result;
         prints = text_as writing
-            (λ text. IsOkAnd c.stats_text-text.result (λ bytes. bytes.items ≡ text)) Is _ _ c.write_text-printed.result
+            (λ text. IsOkAnd c.stats_text-text.result
+            (λ bytes. bytes.items ≡ text)) Is _ _ c.write_text-printed.result
             (λ text made. record {
               stats = stats;
               are = kept.took.stats config.replay.window [] (c.in-Ok.ensures.stats some);

@@ -71,20 +71,22 @@ returns g c =
         waited,
         subst (λ (text : List ℕ). Says telling text errors_before waited) c.input_hint.ensures
             c.write_stderr.ensures,
-        (hinted,
-        subst (λ (text : List ℕ). Says telling text waited hinted) c.symbol_hint.ensures
-            c.write_stderr-2.ensures,
-        says_each telling (told_lacks outcome due lacks)
-            (told_absent outcome due absent ++ end_texts) hinted lacking end
-            (tells_items telling outcome _ due _ lacks hinted lacking
-            c.tells_lacks-is_told.ensures c.as_slice.ensures.value c.tell_lacks.ensures)
-            (says_each telling (told_absent outcome due absent) end_texts lacking said end
-            (tells_absent telling outcome _ due _ symbols missing.absent lacking said
-            c.tells_lacks-is_told.ensures c.as_slice-symbols.ensures.value c.tell_absent.ensures)
-            (says_each telling texts (timeless ∷ []) said told end c.tell_end.ensures
-            (says_one telling timeless told end
-            (subst (λ (text : List ℕ). Says telling text told end) hint
-            c.write_stderr-3.ensures))))),
+        (
+          hinted,
+          subst (λ (text : List ℕ). Says telling text waited hinted) c.symbol_hint.ensures
+              c.write_stderr-2.ensures,
+          says_each telling (told_lacks outcome due lacks)
+              (told_absent outcome due absent ++ end_texts) hinted lacking end
+              (tells_items telling outcome _ due _ lacks hinted lacking
+              c.tells_lacks-is_told.ensures c.as_slice.ensures.value c.tell_lacks.ensures)
+              (says_each telling (told_absent outcome due absent) end_texts lacking said end
+              (tells_absent telling outcome _ due _ symbols missing.absent lacking said
+              c.tells_lacks-is_told.ensures c.as_slice-symbols.ensures.value c.tell_absent.ensures)
+              (says_each telling texts (timeless ∷ []) said told end c.tell_end.ensures
+              (says_one telling timeless told end
+              (subst (λ (text : List ℕ). Says telling text told end) hint
+              c.write_stderr-3.ensures)))),
+        ),
       );
       ends = c.status_of.ensures;
     }
