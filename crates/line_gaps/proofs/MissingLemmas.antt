@@ -8,7 +8,7 @@ use Rattle.feed_text.specs.SinkEvents.{TimedEvent}
 use Rattle.line_gaps.specs.declared.heard_packet.HeardPacket.{HeardPacket}
 use Rattle.line_gaps.specs.declared.lost_numbers.LostNumbers.{LostNumbers}
 use Rattle.line_gaps.specs.declared.number_runs.NumberRuns.{NumberRuns}
-use Rattle.line_gaps.specs.Gaps.{brings, counts_with, has_come, highest_with, is_given_up, is_missing, is_missing_by, known_of, last_told, passes, was_passed}
+use Rattle.line_gaps.specs.Gaps.{brings_number, counts_with, number_has_come, highest_with, is_given_up, is_missing, is_missing_by, known_number, last_number_told, passes, was_passed}
 use Rattle.line_gaps.specs.Missing.{FitsLost, is_learnt}
 use Rattle.line_gaps.specs.Runs.{is_in_runs}
 
@@ -65,7 +65,7 @@ known_max n known last is = grind (arith, nat_tests, is)
 unknown_max : (n known last : ℕ) → known < n → nat_le n (max known last) ≡ nat_le n last
 unknown_max n known last is = grind (arith, nat_tests, is)
 
--- A packet tells of the numbers up to its last, and brings those where b is true.
+-- A packet tells of the numbers up to its last, and brings_number those where b is true.
 pub missing_with : (n known last below_it floor : ℕ) (b come passed : Bool)
     → passed ≡ nat_lt n floor → (known < n → come ≡ false)
     → (known < n → nat_le n below_it ≡ (nat_le n last && not b))
@@ -100,41 +100,42 @@ either_false : (a b : Bool) → a ≡ false → b ≡ false → (a || b) ≡ fal
 either_false false b e f = f
 either_false true b e f = cc e
 
--- The numbers fit the events with one more, with which a packet counts that brings b.
+-- The numbers fit the events with one more, with which a packet counts that brings_number b.
 pub fits_packet : (events : List TimedEvent) (last : TimedEvent) (packet : HeardPacket)
     (old new : LostNumbers) (below_it : ℕ) (b : ℕ → Bool)
     → counts_with events last.time last.event ≡ Some packet
     → ((n : ℕ) → passes n last.event ≡ false)
-    → ((n : ℕ) → brings n last.event ≡ b n)
-    → ((n : ℕ) → last_told packet.number packet.count < n → b n ≡ false)
+    → ((n : ℕ) → brings_number n last.event ≡ b n)
+    → ((n : ℕ) → last_number_told packet.number packet.count < n → b n ≡ false)
     → ((n : ℕ) → 0 < n → nat_le n below_it
-    ≡ (nat_le n (last_told packet.number packet.count) && not (b n)))
+    ≡ (nat_le n (last_number_told packet.number packet.count) && not (b n)))
     → FitsLost events old → old.missing.dropped ≤ new.missing.dropped
     → (new.missing.dropped ≡ 0 → (n : ℕ) → is_in_runs n new.missing.runs.items
     ≡ ((is_missing events n && not (b n)) || is_learnt old.highest old.floor below_it n))
-    → new.highest ≡ max old.highest (last_told packet.number packet.count)
+    → new.highest ≡ max old.highest (last_number_told packet.number packet.count)
     → new.floor ≡ old.floor → new.given_up ≡ old.given_up
     → FitsLost (last ∷ events) new
 fits_packet events last packet old new below_it b counts passes_none brings_b past told fits more
     missing highest floor given =
-    let end = last_told packet.number packet.count in
-    let known = known_of events in
-    let reach : known_of (last ∷ events) ≡ max known end =
+    let end = last_number_told packet.number packet.count in
+    let known = known_number events in
+    let reach : known_number (last ∷ events) ≡ max known end =
     ap (λ (p : Option HeardPacket). highest_with known p) counts in
     record {
       missing = λ none n.
           missing none n
           ∙ ap (λ (h : ℕ). (is_missing events n && not (b n)) || is_learnt h old.floor below_it n)
           fits.highest
-          ∙ missing_with n known end below_it old.floor (b n) (has_come events n)
+          ∙ missing_with n known end below_it old.floor (b n) (number_has_come events n)
           (was_passed events n) (fits.floor n) (fits.come n)
           (λ over. told n (omega (arith, over)))
-          ∙ ap (λ (k : ℕ). is_missing_by k (b n || has_come events n)
+          ∙ ap (λ (k : ℕ). is_missing_by k (b n || number_has_come events n)
           (false || was_passed events n) n) (sym reach)
-          ∙ ap (λ (c : Bool). is_missing_by (known_of (last ∷ events)) (c || has_come events n)
+          ∙ ap (λ (c : Bool). is_missing_by (known_number (last ∷ events))
+          (c || number_has_come events n)
           (false || was_passed events n) n) (sym (brings_b n))
-          ∙ ap (λ (c : Bool). is_missing_by (known_of (last ∷ events))
-          (brings n last.event || has_come events n) (c || was_passed events n) n)
+          ∙ ap (λ (c : Bool). is_missing_by (known_number (last ∷ events))
+          (brings_number n last.event || number_has_come events n) (c || was_passed events n) n)
           (sym (passes_none n));
       given_up = λ none few n.
           ap (λ (g : NumberRuns). is_in_runs n g.runs.items) given
@@ -147,7 +148,7 @@ fits_packet events last packet old new below_it b counts passes_none brings_b pa
           ∙ ap (λ (f : ℕ). nat_lt n f) (sym floor);
       come = λ n over.
           let far : max known end < n = omega (arith, over, reach) in
-          either_false (brings n last.event) (has_come events n)
+          either_false (brings_number n last.event) (number_has_come events n)
           (brings_b n ∙ past n (omega (arith, far))) (fits.come n (omega (arith, far)));
     }
 
@@ -158,16 +159,18 @@ below_first : (first last n : ℕ) → 0 < n → first - 1 ≤ last → nat_le n
     ≡ (nat_le n last && not (nat_le first n && nat_le n last))
 below_first first last n over from = grind (arith, nat_tests, over, from)
 
-told_from : (first count : ℕ) → first - 1 < 18446744073709551616 → first - 1 ≤ last_told first count
+told_from : (first count : ℕ) → first - 1 < 18446744073709551616
+    → first - 1 ≤ last_number_told first count
 told_from first zero fits = omega arith
 told_from first (suc count) fits = omega (arith, fits)
 
 -- what is told of and not brought is below the first
 pub brought_below : (first count n : ℕ) → first - 1 < 18446744073709551616 → 0 < n
     → nat_le n (first - 1)
-    ≡ (nat_le n (last_told first count) && not (nat_le first n && nat_le n (last_told first count)))
+    ≡ (nat_le n (last_number_told first count) && not (nat_le first n && nat_le n
+    (last_number_told first count)))
 brought_below first count n fits over =
-    below_first first (last_told first count) n over (told_from first count fits)
+    below_first first (last_number_told first count) n over (told_from first count fits)
 
 -- ---- a skip
 

@@ -42,8 +42,8 @@ abbrev pub is_open_gap : LostNumbers → OpenGap → Bool
 is_open_gap lost gap = meets_runs lost.missing.runs.items gap.run
 
 -- the gap of the numbers that a packet passes over
-abbrev pub gap_of : NumberRun → Option ℕ → OpenGap
-gap_of run time = record { run = run; messages = len_of run; began = time }
+abbrev pub open_gap_of : NumberRun → Option ℕ → OpenGap
+open_gap_of run time = record { run = run; messages = len_of run; began = time }
 
 -- what ends it where none of its numbers is missing
 abbrev pub end_at_once : LostNumbers → NumberRun → GapEnd
@@ -53,13 +53,13 @@ end_at_once lost run =
 -- it is open, or over at once
 abbrev pub opened : LostNumbers → NumberRun → Option ℕ → List OpenGap
 opened lost run time =
-    if is_open_gap lost (gap_of run time) then gap_of run time ∷ [] else []
+    if is_open_gap lost (open_gap_of run time) then open_gap_of run time ∷ [] else []
 
 abbrev pub over_at_once : GapLine → LostNumbers → NumberRun → Option ℕ → List EndedGap
 over_at_once line lost run time =
-    if is_open_gap lost (gap_of run time) then []
+    if is_open_gap lost (open_gap_of run time) then []
     else gap_over line lost (record { by = end_at_once lost run; time = time })
-    (gap_of run time) ∷ []
+    (open_gap_of run time) ∷ []
 
 -- All else of a line's gaps stays.
 pub record KeepsLine (old new : LineGaps) : Type 0 where

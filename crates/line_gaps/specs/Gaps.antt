@@ -15,22 +15,22 @@ use Rattle.line_gaps.specs.declared.heard_packet.HeardPacket.{HeardPacket}
 -- ---- numbers that came, were given up, or are missing
 
 -- the last number that a packet tells of: of its last message, or the one below its own
-abbrev pub last_told : ℕ → ℕ → ℕ
-last_told number count = count_after (number - 1) count
+abbrev pub last_number_told : ℕ → ℕ → ℕ
+last_number_told number count = count_after (number - 1) count
 
--- a packet that was taken brings a number
-abbrev pub brings : ℕ → SinkEvent → Bool
-brings n (told_packet venue line number count bytes (Ok (Taken new repeated))) =
-    nat_le number n && nat_le n (last_told number count)
-brings n _ = false
+-- a packet that was taken brings_number a number
+abbrev pub brings_number : ℕ → SinkEvent → Bool
+brings_number n (told_packet venue line number count bytes (Ok (Taken new repeated))) =
+    nat_le number n && nat_le n (last_number_told number count)
+brings_number n _ = false
 
 -- a skip that was granted passes it
 abbrev pub passes : ℕ → SinkEvent → Bool
 passes n (told_skip venue number (Ok done)) = nat_lt n number
 passes n _ = false
 
-abbrev pub has_come : List TimedEvent → ℕ → Bool
-has_come events n = list_any (λ e. brings n e.event) events
+abbrev pub number_has_come : List TimedEvent → ℕ → Bool
+number_has_come events n = list_any (λ e. brings_number n e.event) events
 
 abbrev pub was_passed : List TimedEvent → ℕ → Bool
 was_passed events n = list_any (λ e. passes n e.event) events
@@ -39,13 +39,13 @@ was_passed events n = list_any (λ e. passes n e.event) events
 abbrev pub is_given_up : List TimedEvent → ℕ → Bool
 is_given_up [] n = false
 is_given_up (last ∷ earlier) n =
-    (passes n last.event && (nat_lt 0 n && not (has_come earlier n || was_passed earlier n)))
+    (passes n last.event && (nat_lt 0 n && not (number_has_come earlier n || was_passed earlier n)))
     || is_given_up earlier n
 
 -- ---- packets that count
 
-abbrev pub heard : LineId → ℕ → ℕ → Option ℕ → HeardPacket
-heard line number count time = record {
+abbrev pub packet_heard : LineId → ℕ → ℕ → Option ℕ → HeardPacket
+packet_heard line number count time = record {
   line = line;
   number = number;
   count = count;
@@ -55,7 +55,7 @@ heard line number count time = record {
 -- a packet of the line past the window
 abbrev pub far_with : LineId → Option ℕ → SinkEvent → Option HeardPacket
 far_with line time (told_packet venue on number count bytes (Ok Ahead)) =
-    if is_same_line on line then Some (heard on number count time) else None
+    if is_same_line on line then Some (packet_heard on number count time) else None
 far_with line time _ = None
 
 abbrev pub latest : Option HeardPacket → Option HeardPacket → Option HeardPacket
@@ -73,7 +73,7 @@ far_on line (last ∷ earlier) =
 abbrev pub goes_on : HeardPacket → ℕ → Bool
 goes_on earlier number =
     nat_le earlier.number number
-    && nat_le number (count_after (last_told earlier.number earlier.count) 65535)
+    && nat_le number (count_after (last_number_told earlier.number earlier.count) 65535)
 
 abbrev pub far_that : ℕ → Option HeardPacket → Option HeardPacket
 far_that number None = None
@@ -85,18 +85,18 @@ abbrev pub counts_with : List TimedEvent → Option ℕ → SinkEvent → Option
 counts_with earlier time (told_packet venue line number count bytes (Ok Ahead)) =
     far_that number (far_on line earlier)
 counts_with earlier time (told_packet venue line number count bytes (Ok outcome)) =
-    Some (heard line number count time)
+    Some (packet_heard line number count time)
 counts_with earlier time _ = None
 
 -- a packet is of a line, or of all lines
-abbrev pub is_of : GapLine → HeardPacket → Bool
-is_of lines.A packet = is_same_line packet.line on.A
-is_of lines.B packet = is_same_line packet.line on.B
-is_of lines.All packet = true
+abbrev pub is_packet_of : GapLine → HeardPacket → Bool
+is_packet_of lines.A packet = is_same_line packet.line on.A
+is_packet_of lines.B packet = is_same_line packet.line on.B
+is_packet_of lines.All packet = true
 
 abbrev pub of_line : GapLine → Option HeardPacket → Option HeardPacket
 of_line line None = None
-of_line line (Some packet) = if is_of line packet then Some packet else None
+of_line line (Some packet) = if is_packet_of line packet then Some packet else None
 
 -- the packet of a line that counts with an event
 abbrev pub counts_on : GapLine → List TimedEvent → TimedEvent → Option HeardPacket
@@ -111,7 +111,7 @@ has_begun line (last ∷ earlier) =
 -- the highest number after a packet
 abbrev pub highest_with : ℕ → Option HeardPacket → ℕ
 highest_with highest None = highest
-highest_with highest (Some packet) = max highest (last_told packet.number packet.count)
+highest_with highest (Some packet) = max highest (last_number_told packet.number packet.count)
 
 -- and after a skip: a line of which nothing counted begins there
 abbrev pub highest_skipped : Bool → ℕ → SinkEvent → ℕ
@@ -127,10 +127,10 @@ highest_on line (last ∷ earlier) =
     (counts_on line earlier last)
 
 -- the highest number that a packet tells of
-abbrev pub known_of : List TimedEvent → ℕ
-known_of [] = 0
-known_of (last ∷ earlier) =
-    highest_with (known_of earlier) (counts_with earlier last.time last.event)
+abbrev pub known_number : List TimedEvent → ℕ
+known_number [] = 0
+known_number (last ∷ earlier) =
+    highest_with (known_number earlier) (counts_with earlier last.time last.event)
 
 -- It is missing: a packet that counts tells of it, and it neither came nor was given up.
 abbrev pub is_missing_by : ℕ → Bool → Bool → ℕ → Bool
@@ -138,4 +138,5 @@ is_missing_by known come passed n =
     nat_lt 0 n && (nat_le n known && not (come || passed))
 
 abbrev pub is_missing : List TimedEvent → ℕ → Bool
-is_missing events n = is_missing_by (known_of events) (has_come events n) (was_passed events n) n
+is_missing events n = is_missing_by (known_number events) (number_has_come events n)
+    (was_passed events n) n

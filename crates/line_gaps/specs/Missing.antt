@@ -3,7 +3,7 @@ use Rattle.std.specs.Prelude.{◌≡◌, ℕ, ◌<◌, Bool, false, ◌&&◌, na
 use Rattle.feed_text.specs.SinkEvents.{TimedEvent}
 use Rattle.line_gaps.specs.declared.heard_packet.HeardPacket.{HeardPacket}
 use Rattle.line_gaps.specs.declared.lost_numbers.LostNumbers.{LostNumbers}
-use Rattle.line_gaps.specs.Gaps.{brings, counts_with, has_come, is_given_up, is_missing, known_of, passes, was_passed}
+use Rattle.line_gaps.specs.Gaps.{brings_number, counts_with, number_has_come, is_given_up, is_missing, known_number, passes, was_passed}
 use Rattle.line_gaps.specs.Runs.{HaveJust}
 
 -- Just the numbers that are missing after these events are kept, as long as no run was dropped, and
@@ -11,15 +11,15 @@ use Rattle.line_gaps.specs.Runs.{HaveJust}
 pub record FitsLost (events : List TimedEvent) (lost : LostNumbers) : Type 0 where
   pub missing : HaveJust lost.missing (is_missing events)
   pub given_up : lost.missing.dropped ≡ 0 → HaveJust lost.given_up (is_given_up events)
-  pub highest : lost.highest ≡ known_of events
+  pub highest : lost.highest ≡ known_number events
   pub floor : (n : ℕ) → was_passed events n ≡ nat_lt n lost.floor
-  pub come : (n : ℕ) → known_of events < n → has_come events n ≡ false
+  pub come : (n : ℕ) → known_number events < n → number_has_come events n ≡ false
 
 -- a packet counts with an event, and none of its numbers came
 pub record CountsNumbers (events : List TimedEvent) (last : TimedEvent) (packet : HeardPacket)
     : Type 0 where
   pub counts : counts_with events last.time last.event ≡ Some packet
-  pub brings_none : (n : ℕ) → brings n last.event ≡ false
+  pub brings_none : (n : ℕ) → brings_number n last.event ≡ false
   pub passes_none : (n : ℕ) → passes n last.event ≡ false
 
 -- all but what is missing stays

@@ -1,7 +1,7 @@
 //! Packets that lines bring.
 
 ghost use Rattle.std.specs.Prelude.{◌≡◌};
-ghost use Rattle.line_gaps.specs.Gaps.{goes_on, last_told};
+ghost use Rattle.line_gaps.specs.Gaps.{goes_on, last_number_told};
 
 use crate::number_run::NumberRun;
 use feed_types::{LineId, MAX_WINDOW};
@@ -20,7 +20,7 @@ impl HeardPacket {
     /// own where it has none.
     #[inline(always)]
     pub fn last(&self) -> u64
-        ensures { result ≡ last_told self.now.number self.now.count }
+        ensures { result ≡ last_number_told self.now.number self.now.count }
     {
         self.number
             .saturating_sub(1)
@@ -32,7 +32,7 @@ impl HeardPacket {
     pub fn run(&self) -> NumberRun
         ensures { result ≡ record {
           first = self.now.number;
-          last = last_told self.now.number self.now.count;
+          last = last_number_told self.now.number self.now.count;
         } }
     {
         NumberRun {

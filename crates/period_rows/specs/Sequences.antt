@@ -4,7 +4,7 @@ use Rattle.feed_types.specs.declared.line.LineId.{LineId}
 use Rattle.feed_types.specs.declared.line.LineId.TheVariants.{A, B, Recovery}
 use Rattle.line_arbiter.specs.declared.outcome.Outcome.TheVariants.{Ahead}
 use Rattle.feed_text.specs.SinkEvents.{SinkEvent, told_before, told_packet, told_renewal, told_skip}
-use Rattle.line_gaps.specs.Gaps.{far_that, heard, highest_with}
+use Rattle.line_gaps.specs.Gaps.{far_that, packet_heard, highest_with}
 use Rattle.line_gaps.specs.declared.heard_packet.HeardPacket.{HeardPacket}
 use Rattle.period_rows.specs.declared.line_sequence.LineSequence.{LineSequence}
 
@@ -19,13 +19,13 @@ no_sequence = record { begun = false; highest = 0; far = None }
 abbrev pub counts_now : Option HeardPacket → SinkEvent → Option HeardPacket
 counts_now far (told_packet venue line number count bytes (Ok Ahead)) = far_that number far
 counts_now far (told_packet venue line number count bytes (Ok outcome)) =
-    Some (heard line number count None)
+    Some (packet_heard line number count None)
 counts_now far _ = None
 
 -- the line's latest packet past the window
 abbrev pub far_after : Option HeardPacket → SinkEvent → Option HeardPacket
 far_after far (told_packet venue line number count bytes (Ok Ahead)) =
-    Some (heard line number count None)
+    Some (packet_heard line number count None)
 far_after far _ = far
 
 -- the line's numbers after the packet that counts

@@ -1,7 +1,7 @@
 //! The numbers of a line's packets.
 ghost use Rattle.std.specs.Prelude.{◌≡◌, ◌<◌, ℕ, IfSome, None, Ok, length};
 ghost use Rattle.feed_text.specs.SinkEvents.{told_by, told_packet};
-ghost use Rattle.line_gaps.specs.Gaps.{heard};
+ghost use Rattle.line_gaps.specs.Gaps.{packet_heard};
 ghost use Rattle.period_rows.specs.Sequences.{both_sequences, counts_now, line_place, own_sequence, passed_over, sequence_after, sequence_at, sequence_counted, sequences_after};
 
 use feed_text::Event;
@@ -23,7 +23,7 @@ pub struct LineSequence {
 
 /// Returns a packet of a line, without its time.
 fn heard(line: LineId, number: u64, count: u16) -> HeardPacket
-    ensures { result ≡ heard line number count None }
+    ensures { result ≡ packet_heard line number count None }
 {
     HeardPacket {
         line,

@@ -1,6 +1,6 @@
 use Rattle.std.proofs.Common.{◌≡◌, ℕ, Bool, ap, sym, ◌∙◌, arith}
 use Rattle.std.specs.Prelude.{◌||◌, ◌&&◌, not, nat_le, nat_lt}
-use Rattle.line_gaps.specs.Gaps.{has_come, is_given_up, is_missing, known_of, was_passed}
+use Rattle.line_gaps.specs.Gaps.{number_has_come, is_given_up, is_missing, known_number, was_passed}
 use Rattle.line_gaps.specs.Runs.{is_in_run}
 use Rattle.line_gaps.proofs.MissingLemmas.{floor_skipped, given_skipped, missing_skipped}
 use Rattle.line_gaps.proofs.RunLemmas.{or_none}
@@ -10,7 +10,7 @@ pub returns : goal.returns
 returns c = λ events time venue fits.
     let old = c.args.self.now in
     let number = c.args.number in
-    let known = known_of events in
+    let known = known_number events in
     let mid = c.add_those_below.new.self in
     let unknown = c.unknown_below-unknown.result in
     record {
@@ -18,7 +18,7 @@ returns c = λ events time venue fits.
           c.cut.ensures.has (is_missing events) fits.missing none n
           ∙ ap (λ (l : ℕ). is_missing events n && not (nat_le 0 n && nat_le n l))
           c.saturating_sub.ensures
-          ∙ missing_skipped n known number (has_come events n) (was_passed events n);
+          ∙ missing_skipped n known number (number_has_come events n) (was_passed events n);
       given_up = λ none few n.
           let given = is_given_up events n in
           let low = is_missing events n && nat_lt n number in
@@ -35,7 +35,8 @@ returns c = λ events time venue fits.
           && (nat_le old.floor n && nat_lt n number)))) fits.highest
           ∙ ap (λ (b : Bool). (given || low) || b)
           (sym (or_none (nat_lt known n && (nat_le old.floor n && nat_lt n number))))
-          ∙ given_skipped n known number old.floor (has_come events n) (was_passed events n) given
+          ∙ given_skipped n known number old.floor (number_has_come events n)
+          (was_passed events n) given
           (fits.floor n) (fits.come n);
       highest = fits.highest;
       floor = λ n.

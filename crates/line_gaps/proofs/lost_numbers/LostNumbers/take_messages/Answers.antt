@@ -1,7 +1,7 @@
 use Rattle.std.proofs.Common.{◌<◌, ℕ, Bool, ap, ◌∙◌, arith, max, refl}
 use Rattle.std.specs.Prelude.{◌||◌, ◌&&◌, not, ◌-◌}
 use Rattle.line_gaps.specs.declared.number_run.NumberRun.{NumberRun}
-use Rattle.line_gaps.specs.Gaps.{is_missing, last_told}
+use Rattle.line_gaps.specs.Gaps.{is_missing, last_number_told}
 use Rattle.line_gaps.specs.Missing.{is_learnt}
 use Rattle.line_gaps.specs.Runs.{is_in_run}
 use Rattle.line_gaps.proofs.MissingLemmas.{brought_past, brought_below, fits_packet}
@@ -14,7 +14,7 @@ returns c = λ events venue bytes new repeated fits.
     let mid = c.bring-found.new.self in
     let found = c.bring-found.ensures in
     let said = c.learn.ensures in
-    let end = last_told packet.number packet.count in
+    let end = last_number_told packet.number packet.count in
     let run : NumberRun = record { first = packet.number; last = end } in
     let few = found.dropped in
     let more = said.dropped in

@@ -1,6 +1,6 @@
 use Rattle.std.proofs.Common.{ℕ, Bool, true, false, ap, sym, ◌∙◌, arith, max, refl}
 use Rattle.std.specs.Prelude.{◌||◌, ◌&&◌, nat_le}
-use Rattle.line_gaps.specs.Gaps.{is_missing, last_told}
+use Rattle.line_gaps.specs.Gaps.{is_missing, last_number_told}
 use Rattle.line_gaps.specs.Missing.{is_learnt}
 use Rattle.line_gaps.proofs.MissingLemmas.{and_true, fits_packet}
 use Rattle.line_gaps.proofs.lost_numbers.LostNumbers.take_numbers.Goals as goal
@@ -10,7 +10,7 @@ returns c = λ events last counts fits.
     let packet = c.args.packet.now in
     let old = c.args.self.now in
     let said = c.learn.ensures in
-    let end = last_told packet.number packet.count in
+    let end = last_number_told packet.number packet.count in
     let few = said.dropped in
     fits_packet events last packet old c.learn.new.self end (λ n. false) counts.counts
     counts.passes_none counts.brings_none (λ n over. refl)
