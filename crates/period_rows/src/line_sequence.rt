@@ -1,6 +1,6 @@
 //! The numbers of a line's packets.
-ghost use Rattle.std.specs.Prelude.{◌≡◌, ◌<◌, ℕ, IfSome, None, Ok, length};
-ghost use Rattle.feed_text.specs.SinkEvents.{told_by, told_packet};
+ghost use Rattle.std.specs.Prelude.{◌≡◌, ◌<◌, IfSome, None, length};
+ghost use Rattle.feed_text.specs.SinkEvents.{told_by};
 ghost use Rattle.line_gaps.specs.Gaps.{packet_heard};
 ghost use Rattle.period_rows.specs.Sequences.{both_sequences, counts_now, line_place, own_sequence, passed_over, sequence_after, sequence_at, sequence_counted, sequences_after};
 
@@ -44,24 +44,20 @@ impl LineSequence {
                 line,
                 number,
                 count,
-                answer: Ok(outcome),
+                answer: Ok(Outcome::Ahead),
                 ..
-            } => self.counted(heard(*line, *number, *count), outcome),
-            _ => None,
-        }
-    }
-
-    /// Returns the packet that counts with one that was answered so.
-    fn counted(&self, packet: HeardPacket, outcome: &Outcome) -> Option<HeardPacket>
-        ensures { (venue bytes : ℕ) → packet.time ≡ None → result ≡ counts_now self.now.far
-            (told_packet venue packet.line packet.number packet.count bytes (Ok outcome.now)) }
-    {
-        match outcome {
-            Outcome::Ahead => match self.far {
-                Some(earlier) if packet.goes_on(&earlier) => Some(earlier),
+            } => match self.far {
+                Some(earlier) if heard(*line, *number, *count).goes_on(&earlier) => Some(earlier),
                 _ => None,
             },
-            Outcome::Taken { .. } | Outcome::Heartbeat | Outcome::Ended => Some(packet),
+            Event::Packet {
+                line,
+                number,
+                count,
+                answer: Ok(Outcome::Taken { .. } | Outcome::Heartbeat | Outcome::Ended),
+                ..
+            } => Some(heard(*line, *number, *count)),
+            _ => None,
         }
     }
 
