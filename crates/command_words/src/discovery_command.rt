@@ -54,8 +54,10 @@ is to 'nbbo replay' and 'nbbo stats' the names of sessions that follow one anoth
 A datagram is a packet where its bytes spell one of MoldUDP64 and the session's name is printable
 ASCII (bytes 20 to 7e). Datagrams of another kind may look like one, as a heartbeat of no session.
 
-In JSON there is an object for each row, on a line of its own, and then one of the rest; null stands
-where nothing is known.
+In JSON there is an object for each row, on a line of its own: address session packets messages
+first last bytes other_datagrams first_time_ns last_time_ns, and with --times utc also first_time
+and last_time; and then one of the rest: other_datagrams other_addresses frames_without_datagram,
+and past the first 4096 rows unlisted_packets unlisted_others. null stands where nothing is known.
 
 Examples:
   nbbo lines < day.pcap
@@ -66,7 +68,7 @@ Status:
   0  the packet capture was read to its end and its lines were printed, or help was shown
   1  the input or the run was refused; the lines of the frames before were printed, unless it is
      'write failed' or 'no memory'. Standard error says why: 'bad capture at byte N', 'short
-     record', 'read failed', 'write failed', 'too many turns' and 'no memory' as of
+     record at byte N', 'read failed', 'write failed', 'too many turns' and 'no memory' as of
      'nbbo replay --lines'
   2  the command line was refused: 'bad format' where the format is none of those, 'bad time style'
      where that of --times is none

@@ -5,6 +5,7 @@
 use crate::command_line::parsed;
 use crate::option_values::{flag_of, given_text, text_of};
 use crate::refusal::Refusal;
+use crate::sessions::first_name;
 use crate::time_words::read_time;
 use clap::ArgMatches;
 use feed_types::SymbolName;
@@ -98,12 +99,14 @@ fn bad_address_in(alloc: Global, list: &str) -> Option<&str> {
     None
 }
 
-/// Returns the first text of a list that is no session.
-fn bad_session_in(alloc: Global, list: &str) -> Option<&str> {
+/// Returns the first name of a list that is no session's, where others may follow each after
+/// slashes, or may not.
+fn bad_session_in(alloc: Global, list: &str, chained: bool) -> Option<&str> {
     let texts: Vec<&str> = list.split(',').collect(alloc).ok()?;
     for text in texts.as_slice() {
-        if is_no_session(*text) {
-            return Some(*text);
+        let name = first_name(*text, chained);
+        if is_no_session(name) {
+            return Some(name);
         }
     }
     None
@@ -152,8 +155,9 @@ fn lines_explained(alloc: Global, options: &ArgMatches<'_>) -> Option<String> {
 }
 
 /// Returns what is wrong with a list of sessions.
-fn sessions_explained(alloc: Global, options: &ArgMatches<'_>) -> Option<String> {
-    let text = bad_session_in(alloc, text_of(options, "sessions"))?;
+fn sessions_explained(alloc: Global, command: &str, options: &ArgMatches<'_>) -> Option<String> {
+    let chained = command != "listen" && given_text(options, "lines").is_some();
+    let text = bad_session_in(alloc, text_of(options, "sessions"), chained)?;
     let right = "is no session: 1 to 10 characters of printable ASCII";
     quoted(alloc, "--sessions: ", text, right).ok()
 }
@@ -242,7 +246,7 @@ fn explained(
     let period = "is no period: as 100ms or 1s, from 1ms to 3600s";
     let senders = "isn't IP addresses, with or without a port";
     match refusal {
-        Refusal::BadSession => sessions_explained(alloc, options),
+        Refusal::BadSession => sessions_explained(alloc, command, options),
         Refusal::BadLines => lines_explained(alloc, options),
         Refusal::BadSymbol => symbols_explained(alloc, options),
         Refusal::DuplicateSymbol => double_explained(alloc, options),

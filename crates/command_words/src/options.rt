@@ -130,7 +130,7 @@ The rows or statistics are of what came at this time or later, in UTC as
 2026-11-28T14:30:00Z, or with up to nine decimals of a second, or as rows have it, in seconds
 from 1970 on with nine decimals: 1795876200.000000000. All of the capture is replayed; only
 with --lines, by the times of the frames. Messages that a packet told of before are neither
-missing nor left out; a best stands from its first change on",
+missing nor left out; with --bests the best from before this time stands at first",
 };
 
 /// `--to TIME`.

@@ -81,7 +81,9 @@ With --lines standard error says at the end, where the count isn't 0:
                                  program doesn't know
   frames out of time order       earlier than one before them. Figures and rows that go by time
                                  need frames in order, which mergecap or reordercap makes
-  frames that the capture says were dropped before packets, by its interfaces, by its system
+  frames that the capture says were dropped before packets
+  frames that the capture says its interfaces dropped
+  frames that the capture says its system dropped
 and 'no datagram goes to a line', 'venue V line L had no datagram', 'venue V refused N datagrams of
 session NAME, which isn't named', 'a second capture seems to begin at byte N', as after 'cat' of
 two files.
@@ -139,8 +141,10 @@ Status:
        bad record      a record's venue isn't below the number of sessions, its kind isn't A, B, R,
                        N, K, H or W, a record N hasn't ten bytes, a record K hasn't eight, or a
                        record H or W has any
-       short record    the capture ends within a record; with --lines, within a header, a packet
-                       or a block, or before the first: 'at byte N', and all before is good
+       short record    the capture ends within a record
+       short record at byte N
+                       with --lines: the capture ends within a header, a packet or a block, which
+                       begins at that byte, or before the first one; all before it is good
        bad capture at byte N
                        with --lines: from that byte on it is no packet capture; how so follows
        read failed     standard input can't be read

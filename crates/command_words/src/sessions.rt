@@ -74,7 +74,7 @@ fn sessions_by(alloc: Global, names: &[&str]) -> Result<Vec<[u8; 10]>, Refusal>
 
 /// Returns the name of a venue's first session, where others may follow it after slashes, or may
 /// not.
-fn first_name(text: &str, chained: bool) -> &str
+pub fn first_name(text: &str, chained: bool) -> &str
     ensures { result.now ≡ first_name chained text.now }
 {
     if !chained {

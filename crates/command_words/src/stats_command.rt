@@ -52,8 +52,8 @@ Printed for each venue, from 0; rows of zeros alone are left out:
                              another one, as a line has 16 open gaps at most. Each is a sum over the
                              rows of --gaps
   messages                   the highest number known; how many are missing still; lost by both
-                             lines; given up by records of kind K, --skip-gaps or --skip-after; and
-                             of these before a session was joined
+                             lines; given up by records of kind K, --join, --skip-gaps or
+                             --skip-after; and of these before a session was joined
   items in sequence          of all lines together, by kind, with an end for each session that was
                              taken to its end, and the number of the last item
   sessions and skips         next sessions begun, by records of kind N or by --sessions, and how
@@ -66,7 +66,7 @@ Printed for each venue, from 0; rows of zeros alone are left out:
 and then the changes of national bests, by the state after.
 
 A number far ahead, as of a packet past the window, counts as known once a second packet goes on
-from it. What a line lost is left out and never late.
+from it. A line lost the numbers that it passed over and never brought, and those past its last one.
 
 With --lines there follows, by the times of the frames, of each venue, of the messages that both
 lines brought, how long the second line took where the other one was first in time: the mean; half
@@ -80,7 +80,8 @@ packets; the messages in these that were taken, or had come before; those that t
 first; and how many messages the numbers of its packets passed over. A period without a frame has no
 row, and none comes twice: the last 16 periods are kept, a late frame counts in its own, and in the
 oldest of them where it is later still. A frame without a time counts with those before it. The rows
-of the last periods are printed at the end of a whole capture alone.
+of the last periods are printed at the end of a whole capture alone. In csv the columns are time,
+venue, line, packets, bytes, messages, first and missing; JSON has also time_ns.
 
 With --every and --bests a row has the time at which the period began, the symbol and the venue; in
 which share of the period's time the best bid was the venue's, and in which the best offer; in which
@@ -89,7 +90,8 @@ which the bid was above ('crossed'); and the mean spread in dollars over the tim
 normal, empty or null where there was none. Rows of zeros are left out. The best that stands when a
 period begins stands in it from then on. The time is the latest of the frames so far: a late frame
 changes a best at that time. The last period's time ends with the capture's last frame, its share is
-of a whole period all the same.
+of a whole period all the same. In csv the columns are time, symbol, venue, bid, offer, normal,
+locked, crossed and spread; JSON has also time_ns.
 
 With --gaps a row has the venue; the line, A, B or 'all' for what all lines together left out; the
 first and the last number; how many messages were left out, and how many of these were given up;
@@ -97,12 +99,33 @@ when the gap began and when it ended, as --times says, in JSON also in nanosecon
 where the frame has no time or there are no frames; and what ended it: the line A, B or 'recovery'
 whose packet brought the last of its messages, 'skip' where some were given up, 'before' where
 another line had brought them when it was shown, or 'open' where nothing did, to the end of its
-session or of the capture.
+session or of the capture. In csv the columns are venue, line, first, last, messages, given_up,
+began, ended and ended_by; JSON has also began_ns and ended_ns.
 
-In JSON each venue has the same figures by name: 'lines' and 'gaps' by line, 'messages', 'items',
-'sessions', 'self_help', 'bests', and with --lines 'leads' and 'last_packets'; null stands where
-nothing is known. With --format csv each figure has a row: the venue, the line, the figure and its
-value. The words and numbers of refusals are those of 'nbbo replay --help'.
+In JSON the counts are one object; null stands where nothing is known:
+  venues           a list with an object for each venue: its number as 'venue'; and
+    lines          of A, B and recovery: packets bytes taken first repeated heartbeats ends ahead;
+                   and in 'refused' by the fault: short_header truncated_block zero_sequence
+                   sequence_overflow other_session past_end end_moved end_too_early conflict
+    items          quotes halts resumptions others ends last
+    gaps           of all lines together, and in A and in B of each: found left_out late given_up
+                   again longest_ns ended_by_a ended_by_b ended_by_recovery ended_by_skip before
+                   open merged
+    beside these   renewals renewals_refused skips skips_refused self_help_declared
+                   self_help_withdrawn self_help_already best_bids best_offers
+  states           of the changes of national bests: empty one_sided normal locked crossed
+  losses           of each venue: known missing lost_by_both given_up before_join; and in A and in B
+                   of each line: lost late
+  in_time          with --lines, the most messages in a second and in a millisecond, and when these
+                   began: busiest_second busiest_millisecond busiest_second_ns
+                   busiest_millisecond_ns; and in 'venues' of each venue
+    a_first        and b_first, by the line that was first in time: messages mean_ns p50_ns p90_ns
+                   p99_ns p999_ns longest_ns
+    last_heard_ns  of A, B and recovery
+With --format csv each figure has a row: the venue, the line, the figure and its value. The figure
+has the name that JSON has, after a word of its part where it has one: refused_, gaps_, items_,
+lead_ of the line that was first in time, last_packet_, or changes_ by the state after. The words
+and numbers of refusals are those of 'nbbo replay --help'.
 
 Examples:
   nbbo stats --sessions NORTH,SOUTH ACME < capture
