@@ -18,7 +18,7 @@ returns-in-Ok-page_before-clause-rows g c =
       style = style;
       venues = venues_in c.args.config.now.replay;
       symbols = c.args.config.now.replay.symbols.now;
-    }) [] made = rw (← c.len-venues.ensures) c.in-Ok.ensures in
+    }) [] made = c.in-Ok.ensures in
     record {
       is = subst (λ (m : BestMaker). IsNewRowSink c.args.output m
           (header_text style.format (best_names style.format)) sink) (sym new.maker_is)

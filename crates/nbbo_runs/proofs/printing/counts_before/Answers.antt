@@ -12,5 +12,5 @@ returns-in-Ok-clause-rows g c =
       is = subst (λ (writer : g.row.W.Denot). IsNewRowSink writer sink.maker
           (header_text style.format (count_names style.format)) sink) c.in-Ok.ensures.writer
           c.new_count_rows.ensures.sink;
-      are = rw c.len-venues.ensures at c.new_count_rows.ensures.counts;
+      are = c.new_count_rows.ensures.counts;
     }

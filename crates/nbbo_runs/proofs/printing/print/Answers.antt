@@ -72,7 +72,7 @@ returns-in-BestTimes g c =
     let setting : BestSetting =
     record { style = style; venues = venues_in config; symbols = config.symbols.now } in
     let output = c.args.output in
-    let printed = c.print_rows.ensures (text_of_bests setting) output
+    let printed = c.print_rows-in-BestTimes.ensures (text_of_bests setting) output
     (made_writes writing AreBests best_rows_with
     (header_text style.format (best_names style.format)) setting output
     c.best_times_before-made.result c.best_times_before-made.ensures.rows)
