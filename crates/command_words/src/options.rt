@@ -79,10 +79,9 @@ pub const JOIN: CommandOption<'static> = CommandOption {
     form: OptionForm::Flag,
     help: "Begins with a session's first packet, also where that lies past the window",
     long_help: "\
-Joins a session that is under way: where the first packet of it that comes lies past the
-window, the messages before that packet are given up, as by a record of kind K, and the
-sequence begins with it. Without this option such packets are 'ahead': nothing of them is
-taken",
+Joins a session that is under way: the messages before the first packet of it that comes are
+given up, as by a record of kind K, and the sequence begins with it. Without this option the
+venue waits for message 1; a packet past the window is 'ahead': nothing of it is taken",
 };
 
 /// `--skip-gaps`.

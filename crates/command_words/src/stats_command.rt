@@ -79,8 +79,8 @@ multiple of its length from 1970 on (UTC); the line's datagrams; the bytes of th
 packets; the messages in these that were taken, or had come before; those that the line brought
 first; and how many messages the numbers of its packets passed over. A period without a frame has no
 row, and none comes twice: the last 16 periods are kept, a late frame counts in its own, and in the
-oldest of them where it is later still. A frame without a time counts with those before it. The rows
-of the last periods are printed at the end of a whole capture alone. In csv the columns are time,
+oldest of them where it is later still. A frame without a time counts in no period. The rows of the
+last periods are printed at the end of a whole capture alone. In csv the columns are time,
 venue, line, packets, bytes, messages, first and missing; JSON has also time_ns.
 
 With --every and --bests a row has the time at which the period began, the symbol and the venue; in
