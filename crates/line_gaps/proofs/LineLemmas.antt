@@ -18,10 +18,10 @@ use Rattle.line_gaps.specs.declared.open_gap.GapEnd.TheVariants as ends
 use Rattle.line_gaps.specs.declared.open_gap.OpenGap.{OpenGap}
 use Rattle.line_gaps.specs.Ends.{KeepsLine, end_on, gap_over, is_open_gap, joined_gap, open_gap_of, opened, over_at_once, over_first, over_new, over_now}
 use Rattle.line_gaps.specs.Gaps.{counts_on, counts_with, has_begun, highest_on, known_number, last_number_told, highest_skipped, highest_with, is_given_up, is_missing, is_packet_of, of_line}
-use Rattle.line_gaps.specs.LineSteps.{PassesLine, Reaches, TakesLine, kept_open, over_if, over_with, pass_of, still_open}
-use Rattle.line_gaps.specs.Missing.{FitsLost, IsWhole}
-use Rattle.line_gaps.specs.OpenGaps.{add_gap, closes_gaps, given_up_of, end_with, ended_gap, ended_on, gaps_with, is_open_after, join_newest, open_on, over_before, passed_over}
-use Rattle.line_gaps.specs.Runs.{count_of, is_in_run, meets_runs, sum_in}
+use Rattle.line_gaps.specs.LineSteps.{PassesLine, Reaches, TakesLine, kept_open, over_if, gaps_over_with, pass_of, still_open}
+use Rattle.line_gaps.specs.Missing.{FitsLost, KeptAll}
+use Rattle.line_gaps.specs.OpenGaps.{add_gap, closes_gaps, given_up_of, end_with, ended_gap, ended_on, gaps_with, is_open_after, join_newest, open_on, over_before, gap_passed}
+use Rattle.line_gaps.specs.Runs.{count_in_run, is_in_run, meets_runs, sum_in}
 use Rattle.line_gaps.specs.Sums.{AreSumsOf}
 use Rattle.line_gaps.specs.VenueFits.{AreStanding, FitsLine, IsStanding}
 use Rattle.line_gaps.proofs.RunCounts.{count_agrees, count_of_agrees, meets_is_some, sum_is_count}
@@ -59,12 +59,12 @@ add_full gaps init newest gap full are =
 -- ---- the gap that a packet begins
 
 pub passed_none : (highest : ℕ) (packet : HeardPacket) → packet.number ≤ highest + 1
-    → passed_over highest (Some packet) ≡ []
+    → gap_passed highest (Some packet) ≡ []
 passed_none highest packet within =
     if_not (nat_lt (highest + 1) packet.number) _ [] (grind (arith, nat_tests, within))
 
 pub passed_some : (highest : ℕ) (packet : HeardPacket) → highest + 1 < packet.number
-    → passed_over highest (Some packet)
+    → gap_passed highest (Some packet)
     ≡ open_gap_of (record { first = highest + 1; last = packet.number - 1 }) packet.time ∷ []
 passed_some highest packet past =
     if_yes (nat_lt (highest + 1) packet.number) _ [] (grind (arith, nat_tests, past))
@@ -81,14 +81,14 @@ over_begun line lost run time =
 
 pub open_none : (lost : LostNumbers) (gaps : List OpenGap) (highest : ℕ) (packet : HeardPacket)
     → packet.number ≤ highest + 1
-    → gaps ≡ fold add_gap gaps (still_open lost (passed_over highest (Some packet)))
+    → gaps ≡ fold add_gap gaps (still_open lost (gap_passed highest (Some packet)))
 open_none lost gaps highest packet within =
     ap (λ (gs : List OpenGap). fold add_gap gaps (still_open lost gs))
     (sym (passed_none highest packet within))
 
 pub ended_none : (line : GapLine) (lost : LostNumbers) (highest : ℕ) (packet : HeardPacket)
     (before : List EndedGap) → packet.number ≤ highest + 1
-    → before ≡ before ++ over_new line lost (passed_over highest (Some packet))
+    → before ≡ before ++ over_new line lost (gap_passed highest (Some packet))
 ended_none line lost highest packet before within =
     sym (append-nil before)
     ∙ ap (λ (gs : List OpenGap). before ++ over_new line lost gs)
@@ -98,7 +98,7 @@ pub open_some : (lost : LostNumbers) (gaps : List OpenGap) (highest : ℕ) (pack
     → highest + 1 < packet.number
     → fold add_gap gaps (opened lost (record { first = highest + 1; last = packet.number - 1 })
     packet.time)
-    ≡ fold add_gap gaps (still_open lost (passed_over highest (Some packet)))
+    ≡ fold add_gap gaps (still_open lost (gap_passed highest (Some packet)))
 open_some lost gaps highest packet past =
     ap (λ (gs : List OpenGap). fold add_gap gaps (still_open lost gs))
     (sym (passed_some highest packet past))
@@ -107,7 +107,7 @@ pub ended_some : (line : GapLine) (lost : LostNumbers) (highest : ℕ) (packet :
     (before : List EndedGap) → highest + 1 < packet.number
     → before ++ over_at_once line lost (record { first = highest + 1; last = packet.number - 1 })
     packet.time
-    ≡ before ++ over_new line lost (passed_over highest (Some packet))
+    ≡ before ++ over_new line lost (gap_passed highest (Some packet))
 ended_some line lost highest packet before past =
     ap (λ (l : List EndedGap). before ++ l) (over_begun line lost _ packet.time)
     ∙ ap (λ (gs : List OpenGap). before ++ over_new line lost gs)
@@ -130,11 +130,11 @@ all_over a b c d x y z first next last =
 pub record Agrees (events : List TimedEvent) (lost : LostNumbers) : Type 0 where
   pub opens : (gap : OpenGap) → is_open_gap lost gap ≡ is_open_after events gap
   pub given : (run : NumberRun) → sum_in lost.given_up.runs.items run
-      ≡ min (count_of (is_given_up events) run) 18446744073709551615
+      ≡ min (count_in_run (is_given_up events) run) 18446744073709551615
   pub meets : (run : NumberRun) → meets_runs lost.given_up.runs.items run
-      ≡ nat_lt 0 (count_of (is_given_up events) run)
+      ≡ nat_lt 0 (count_in_run (is_given_up events) run)
 
-pub agrees : (events : List TimedEvent) (lost : LostNumbers) → FitsLost events lost → IsWhole lost
+pub agrees : (events : List TimedEvent) (lost : LostNumbers) → FitsLost events lost → KeptAll lost
     → Agrees events lost
 agrees events lost fits whole = record {
   opens = λ gap.
@@ -218,7 +218,8 @@ none_over line earlier last [] stays stand = refl
 none_over line earlier last (gap ∷ gaps) stays stand =
     drop_yes (is_open_after (last ∷ earlier)) gap
     (filter (λ g. not (is_open_after (last ∷ earlier) g)) gaps)
-    (stays_open line earlier last gap stays stand.0) (none_over line earlier last gaps stays stand.1)
+    (stays_open line earlier last gap stays stand.0)
+    (none_over line earlier last gaps stays stand.1)
 
 -- ---- after one more event
 
@@ -272,12 +273,14 @@ filter_stands line earlier last (gap ∷ gaps) stand =
           let was_known = stand.0.known in
           let was_passed = stand.0.passed in
           subst (λ (gs : List OpenGap). AreStanding line (last ∷ earlier) gs)
-          (sym (if_yes (is_open_after (last ∷ earlier) gap) _ _ is))
-          (record {
-            is_open = is;
-            known = omega (arith, known, was_known);
-            passed = omega (arith, highest, was_passed);
-          }, rest)
+          (sym (if_yes (is_open_after (last ∷ earlier) gap) _ _ is)) (
+            record {
+              is_open = is;
+              known = omega (arith, known, was_known);
+              passed = omega (arith, highest, was_passed);
+            },
+            rest,
+          )
       | inr is ↦
           subst (λ (gs : List OpenGap). AreStanding line (last ∷ earlier) gs)
           (sym (if_not (is_open_after (last ∷ earlier) gap) _ _ is))
@@ -308,7 +311,7 @@ pub takes_line : (packet : HeardPacket) (filled : Bool) (lost : LostNumbers)
     → mid.«open».items ≡ kept_open filled lost old.«open».items
     → PassesLine (of_line mid.line (Some packet)) lost mid new
     → ((rows : List EndedGap) → AreSumsOf rows old.sums
-    → AreSumsOf (rows ++ over_with packet filled lost old) new.sums)
+    → AreSumsOf (rows ++ gaps_over_with packet filled lost old) new.sums)
     → TakesLine packet filled lost old new
 takes_line packet filled lost old mid new kept gaps passes sums =
     let own : of_line mid.line (Some packet) ≡ of_line old.line (Some packet) =
@@ -321,11 +324,11 @@ takes_line packet filled lost old mid new kept gaps passes sums =
           ∙ ap (λ (h : ℕ). highest_with h (of_line old.line (Some packet))) kept.highest;
       «open» = passes.«open»
           ∙ ap (λ (gs : List OpenGap). fold add_gap gs
-          (still_open lost (passed_over mid.highest (of_line mid.line (Some packet))))) gaps
+          (still_open lost (gap_passed mid.highest (of_line mid.line (Some packet))))) gaps
           ∙ ap (λ (o : Option HeardPacket). fold add_gap (kept_open filled lost old.«open».items)
-          (still_open lost (passed_over mid.highest o))) own
+          (still_open lost (gap_passed mid.highest o))) own
           ∙ ap (λ (h : ℕ). fold add_gap (kept_open filled lost old.«open».items)
-          (still_open lost (passed_over h (of_line old.line (Some packet))))) kept.highest;
+          (still_open lost (gap_passed h (of_line old.line (Some packet))))) kept.highest;
       reaches = subst Reaches own passes.reaches;
       sums = sums;
     }
@@ -334,16 +337,16 @@ pub over_both : (packet : HeardPacket) (filled : Bool) (lost : LostNumbers)
     (old mid : LineGaps) (before between after : List EndedGap) → KeepsLine old mid
     → between ≡ before ++ over_if filled old.line lost (pass_of packet) old.«open».items
     → after ≡ between
-    ++ over_new mid.line lost (passed_over mid.highest (of_line mid.line (Some packet)))
-    → after ≡ before ++ over_with packet filled lost old
+    ++ over_new mid.line lost (gap_passed mid.highest (of_line mid.line (Some packet)))
+    → after ≡ before ++ gaps_over_with packet filled lost old
 over_both packet filled lost old mid before between after kept first next =
     let own : of_line mid.line (Some packet) ≡ of_line old.line (Some packet) =
     ap (λ (l : GapLine). of_line l (Some packet)) kept.line in
     both_over before between after _ _ first
     (next
     ∙ ap (λ (l : GapLine). between
-    ++ over_new l lost (passed_over mid.highest (of_line mid.line (Some packet)))) kept.line
+    ++ over_new l lost (gap_passed mid.highest (of_line mid.line (Some packet)))) kept.line
     ∙ ap (λ (o : Option HeardPacket). between
-    ++ over_new old.line lost (passed_over mid.highest o)) own
+    ++ over_new old.line lost (gap_passed mid.highest o)) own
     ∙ ap (λ (h : ℕ). between
-    ++ over_new old.line lost (passed_over h (of_line old.line (Some packet)))) kept.highest)
+    ++ over_new old.line lost (gap_passed h (of_line old.line (Some packet)))) kept.highest)

@@ -10,7 +10,7 @@ use Rattle.line_gaps.specs.declared.lost_numbers.LostNumbers.{LostNumbers}
 use Rattle.line_gaps.specs.declared.number_runs.NumberRuns.{NumberRuns}
 use Rattle.line_gaps.specs.Gaps.{brings_number, counts_with, number_has_come, highest_with, is_given_up, is_missing, is_missing_by, known_number, last_number_told, passes, was_passed}
 use Rattle.line_gaps.specs.Missing.{FitsLost, is_learnt}
-use Rattle.line_gaps.specs.Runs.{AreInOrder, HaveJust, is_in_runs}
+use Rattle.line_gaps.specs.Runs.{AreAscending, HaveJust, is_in_runs}
 
 -- a number that was known
 known_all : (z b c p : Bool) → (((z && (true && not (c || p))) && not b) || false)
@@ -112,7 +112,7 @@ pub fits_packet : (events : List TimedEvent) (last : TimedEvent) (packet : Heard
     → FitsLost events old → old.missing.dropped ≤ new.missing.dropped
     → (new.missing.dropped ≡ 0 → (n : ℕ) → is_in_runs n new.missing.runs.items
     ≡ ((is_missing events n && not (b n)) || is_learnt old.highest old.floor below_it n))
-    → (new.missing.dropped ≡ 0 → AreInOrder new.missing.runs.items)
+    → (new.missing.dropped ≡ 0 → AreAscending new.missing.runs.items)
     → new.highest ≡ max old.highest (last_number_told packet.number packet.count)
     → new.floor ≡ old.floor → new.given_up ≡ old.given_up
     → FitsLost (last ∷ events) new
@@ -145,7 +145,7 @@ fits_packet events last packet old new below_it b counts passes_none brings_b pa
           ∙ sym (none_given (is_given_up events n) (passes n last.event) _ (passes_none n));
       order = order;
       given_order = λ none few.
-          subst (λ (g : NumberRuns). AreInOrder g.runs.items) (sym given)
+          subst (λ (g : NumberRuns). AreAscending g.runs.items) (sym given)
           (fits.given_order (omega (arith, none, more))
           (sym (ap (λ (g : NumberRuns). g.dropped) given) ∙ few));
       highest = highest ∙ ap (λ (h : ℕ). max h end) fits.highest ∙ sym reach;
@@ -328,6 +328,7 @@ missing_from events floor n by e =
     second_false : (a b : Bool) → (a || b) ≡ false → b ≡ false
     second_false false b f = f
     second_false true b f = cc f
+
     not_below_from : (n floor : ℕ) → nat_lt n floor ≡ false → floor ≤ n
     not_below_from n floor f = grind (arith, nat_tests, f)
 
@@ -365,8 +366,8 @@ pub fits_first : (lost : LostNumbers) → HaveJust lost.missing (λ n. false)
 fits_first lost missing given no_missing no_given highest floor = record {
   missing = λ none n. missing none n ∙ sym (none_below n 0 true refl);
   given_up = λ none few n. given few n;
-  order = λ none. subst AreInOrder (sym no_missing) tt;
-  given_order = λ none few. subst AreInOrder (sym no_given) tt;
+  order = λ none. subst AreAscending (sym no_missing) tt;
+  given_order = λ none few. subst AreAscending (sym no_given) tt;
   highest = highest;
   floor = λ n. sym (not_below n lost.floor (omega (arith, floor)));
   come = λ n over. refl;

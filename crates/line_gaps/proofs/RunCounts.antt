@@ -5,7 +5,7 @@ use Rattle.std.specs.List.{fold}
 use Rattle.std.proofs.lemmas.Bool.{cases_Bool, cases_lt}
 use Rattle.std.proofs.lemmas.Bool.Decides.{nat_tests}
 use Rattle.line_gaps.specs.declared.number_run.NumberRun.{NumberRun}
-use Rattle.line_gaps.specs.Runs.{AreInOrder, IsLeast, count_below, count_of, is_in_run, is_in_runs, len_of, len_of_both, meets_run, meets_runs, sum_in}
+use Rattle.line_gaps.specs.Runs.{AreAscending, IsLeast, count_below, count_in_run, is_in_run, is_in_runs, len_of, len_of_both, meets_run, meets_runs, sum_in}
 use Rattle.line_gaps.proofs.RunOrders.{from_first, in_span, to_last}
 
 abbrev one_if : Bool → ℕ
@@ -90,11 +90,11 @@ in_both : (m a b c d : ℕ) → ((nat_le c m && nat_le m d) && (nat_le a m && na
     ≡ (nat_le (max a c) m && nat_le m (min b d))
 in_both m a b c d = grind (arith, nat_tests)
 
-pub count_of_run : (run other : NumberRun) → count_of (λ m. is_in_run m run) other
+pub count_of_run : (run other : NumberRun) → count_in_run (λ m. is_in_run m run) other
     ≡ min run.last other.last + 1 - max run.first other.first
 count_of_run run other =
     let at = λ (m : ℕ). in_both m run.first run.last other.first other.last in
-    let same : count_of (λ m. is_in_run m run) other
+    let same : count_in_run (λ m. is_in_run m run) other
     ≡ count_below (λ m. nat_le (max run.first other.first) m && nat_le m (min run.last other.last))
     (other.last + 1) = count_agrees _ _ (other.last + 1) (λ m below. at m) in
     let span : count_below (λ m. nat_le (max run.first other.first) m
@@ -112,7 +112,7 @@ and_apart true x xs apart e = apart e
 and_apart false x xs apart e = refl
 
 -- the numbers of a run aren't in those after it
-pub apart_from_rest : (x : NumberRun) (xs : List NumberRun) (m : ℕ) → AreInOrder (x ∷ xs)
+pub apart_from_rest : (x : NumberRun) (xs : List NumberRun) (m : ℕ) → AreAscending (x ∷ xs)
     → is_in_run m x ≡ true → is_in_runs m xs ≡ false
 apart_from_rest x xs m a e = elim (cases_Bool (is_in_runs m xs)) [
   | inl in_rest ↦
@@ -123,8 +123,8 @@ apart_from_rest x xs m a e = elim (cases_Bool (is_in_runs m xs)) [
 ]
 
 pub count_of_more : (x : NumberRun) (xs : List NumberRun) (other : NumberRun)
-    → AreInOrder (x ∷ xs) → count_of (λ m. is_in_runs m (x ∷ xs)) other
-    ≡ count_of (λ m. is_in_run m x) other + count_of (λ m. is_in_runs m xs) other
+    → AreAscending (x ∷ xs) → count_in_run (λ m. is_in_runs m (x ∷ xs)) other
+    ≡ count_in_run (λ m. is_in_run m x) other + count_in_run (λ m. is_in_runs m xs) other
 count_of_more x xs other a =
     count_agrees _ (λ m. (is_in_run m other && is_in_run m x)
     || (is_in_run m other && is_in_runs m xs)) (other.last + 1)
@@ -139,18 +139,18 @@ and_none true = refl
 and_none false = refl
 
 pub count_of_none : (has : ℕ → Bool) (other : NumberRun) → ((m : ℕ) → has m ≡ false)
-    → count_of has other ≡ 0
+    → count_in_run has other ≡ 0
 count_of_none has other none =
     count_none _ (other.last + 1)
     (λ m. ap (λ (b : Bool). is_in_run m other && b) (none m) ∙ and_none (is_in_run m other))
 
 -- Counted one run after the other, it is how many numbers are in them.
-pub sum_from : (c : ℕ) (runs : List NumberRun) (other : NumberRun) → AreInOrder runs
+pub sum_from : (c : ℕ) (runs : List NumberRun) (other : NumberRun) → AreAscending runs
     → c ≤ 18446744073709551615
     → fold (λ count run. min (count + len_of_both run other) 18446744073709551615) c runs
-    ≡ min (c + count_of (λ m. is_in_runs m runs) other) 18446744073709551615
+    ≡ min (c + count_in_run (λ m. is_in_runs m runs) other) 18446744073709551615
 sum_from c [] other a within =
-    let none : count_of (λ m. is_in_runs m []) other ≡ 0 = count_of_none _ other (λ m. refl) in
+    let none : count_in_run (λ m. is_in_runs m []) other ≡ 0 = count_of_none _ other (λ m. refl) in
     omega (arith, within, none)
 sum_from c (x ∷ xs) other a within =
     let rest = sum_from (min (c + len_of_both x other) 18446744073709551615) xs other a.1
@@ -162,8 +162,8 @@ sum_from c (x ∷ xs) other a within =
 from_zero : (n : ℕ) → 0 + n ≡ n
 from_zero n = omega arith
 
-pub sum_is_count : (runs : List NumberRun) (other : NumberRun) → AreInOrder runs
-    → sum_in runs other ≡ min (count_of (λ m. is_in_runs m runs) other) 18446744073709551615
+pub sum_is_count : (runs : List NumberRun) (other : NumberRun) → AreAscending runs
+    → sum_in runs other ≡ min (count_in_run (λ m. is_in_runs m runs) other) 18446744073709551615
 sum_is_count runs other a =
     sum_from 0 runs other a (omega arith)
     ∙ ap (λ (n : ℕ). min n 18446744073709551615) (from_zero _)
@@ -175,15 +175,15 @@ met_if_some : (a b c d n : ℕ) → n ≡ min b d + 1 - max a c → nat_le (max 
 met_if_some a b c d n is = grind (arith, nat_tests, is)
 
 -- Runs meet another where one of its numbers is in them.
-pub meets_is_some : (runs : List NumberRun) (other : NumberRun) → AreInOrder runs
-    → meets_runs runs other ≡ nat_lt 0 (count_of (λ m. is_in_runs m runs) other)
+pub meets_is_some : (runs : List NumberRun) (other : NumberRun) → AreAscending runs
+    → meets_runs runs other ≡ nat_lt 0 (count_in_run (λ m. is_in_runs m runs) other)
 meets_is_some [] other a =
-    let none : count_of (λ m. is_in_runs m []) other ≡ 0 = count_of_none _ other (λ m. refl) in
+    let none : count_in_run (λ m. is_in_runs m []) other ≡ 0 = count_of_none _ other (λ m. refl) in
     ap (λ (n : ℕ). nat_lt 0 n) (sym none)
 meets_is_some (x ∷ xs) other a =
     ap (λ (b : Bool). b || meets_runs xs other)
     (met_if_some x.first x.last other.first other.last _ (count_of_run x other))
-    ∙ ap (λ (b : Bool). nat_lt 0 (count_of (λ m. is_in_run m x) other) || b)
+    ∙ ap (λ (b : Bool). nat_lt 0 (count_in_run (λ m. is_in_run m x) other) || b)
     (meets_is_some xs other a.1)
     ∙ more_than_none _ _
     ∙ ap (λ (n : ℕ). nat_lt 0 n) (sym (count_of_more x xs other a))
@@ -192,14 +192,14 @@ none_if : (n : ℕ) → min n 18446744073709551615 ≡ 0 → nat_lt 0 n ≡ fals
 none_if n is = grind (arith, nat_tests, is)
 
 -- Runs that have no number of another don't meet it.
-pub none_met : (runs : List NumberRun) (other : NumberRun) → AreInOrder runs
+pub none_met : (runs : List NumberRun) (other : NumberRun) → AreAscending runs
     → sum_in runs other ≡ 0 → meets_runs runs other ≡ false
 none_met runs other a is =
     meets_is_some runs other a ∙ none_if _ (sym (sum_is_count runs other a) ∙ is)
 
 -- of the same set
 pub count_of_agrees : (p q : ℕ → Bool) (run : NumberRun) → ((m : ℕ) → p m ≡ q m)
-    → count_of p run ≡ count_of q run
+    → count_in_run p run ≡ count_in_run q run
 count_of_agrees p q run same =
     count_agrees _ _ (run.last + 1) (λ m below. ap (λ (b : Bool). is_in_run m run && b) (same m))
 
@@ -209,7 +209,7 @@ up_to : (has : ℕ → Bool) (n m : ℕ) → m < n + 1
 up_to has n m below =
     ap (λ (b : Bool). b && has m) (in_span m 0 n (omega arith) (omega (arith, below)))
 
-pub count_up_to : (has : ℕ → Bool) (n : ℕ) → count_of has (record { first = 0; last = n })
+pub count_up_to : (has : ℕ → Bool) (n : ℕ) → count_in_run has (record { first = 0; last = n })
     ≡ count_below has (n + 1)
 count_up_to has n = count_agrees _ _ (n + 1) (λ m below. up_to has n m below)
 

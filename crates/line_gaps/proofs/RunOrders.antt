@@ -4,7 +4,7 @@ use Rattle.std.specs.Prelude.{◌&&◌, ◌||◌, not, nat_eq, nat_le, nat_lt}
 use Rattle.std.proofs.lemmas.Bool.Decides.{nat_tests}
 use Rattle.std.proofs.lemmas.List.Folds.{list_any-append, list_any_more}
 use Rattle.line_gaps.specs.declared.number_run.NumberRun.{NumberRun}
-use Rattle.line_gaps.specs.Runs.{AreInOrder, is_in_run, is_in_runs}
+use Rattle.line_gaps.specs.Runs.{AreAscending, is_in_run, is_in_runs}
 
 pub or_cases : {P : Type 0} (a b : Bool) → (a ≡ true → P) → (b ≡ true → P) → (a || b) ≡ true → P
 or_cases true b f g e = f refl
@@ -43,26 +43,28 @@ pub in_lone : (n : ℕ) (run : NumberRun) → is_in_runs n (run ∷ []) ≡ true
 in_lone n run e = or_cases (is_in_run n run) false (λ y. y) (λ y. cc y) e
 
 -- the runs of two lists, the first below the others
-pub order_append : (xs ys : List NumberRun) → AreInOrder xs → AreInOrder ys
+pub order_append : (xs ys : List NumberRun) → AreAscending xs → AreAscending ys
     → ((m n : ℕ) → is_in_runs m xs ≡ true → is_in_runs n ys ≡ true → m < n)
-    → AreInOrder (xs ++ ys)
+    → AreAscending (xs ++ ys)
 order_append [] ys a b below = b
-order_append (x ∷ xs) ys a b below =
-    (record {
-      some = a.0.some;
-      below = λ n e.
-          or_cases (is_in_runs n xs) (is_in_runs n ys) (a.0.below n)
-          (below x.last n (or_first (is_in_run x.last x) (is_in_runs x.last xs)
-          (in_span x.last x.first x.last a.0.some (omega arith))))
-          (sym (list_any-append (is_in_run n) xs ys) ∙ e);
-    }, order_append xs ys a.1 b (λ m n e. below m n (or_second (is_in_run m x) (is_in_runs m xs) e)))
+order_append (x ∷ xs) ys a b below = (
+  record {
+    some = a.0.some;
+    below = λ n e.
+        or_cases (is_in_runs n xs) (is_in_runs n ys) (a.0.below n)
+        (below x.last n (or_first (is_in_run x.last x) (is_in_runs x.last xs)
+        (in_span x.last x.first x.last a.0.some (omega arith))))
+        (sym (list_any-append (is_in_run n) xs ys) ∙ e);
+  },
+  order_append xs ys a.1 b (λ m n e. below m n (or_second (is_in_run m x) (is_in_runs m xs) e)),
+)
 
-pub lone_order : (run : NumberRun) → run.first ≤ run.last → AreInOrder (run ∷ [])
+pub lone_order : (run : NumberRun) → run.first ≤ run.last → AreAscending (run ∷ [])
 lone_order run some = (record { some = some; below = λ n e. cc e }, tt)
 
 -- a run more
-pub order_more : (xs : List NumberRun) (run : NumberRun) → AreInOrder xs → run.first ≤ run.last
-    → ((m : ℕ) → is_in_runs m xs ≡ true → m < run.first) → AreInOrder (xs ++ run ∷ [])
+pub order_more : (xs : List NumberRun) (run : NumberRun) → AreAscending xs → run.first ≤ run.last
+    → ((m : ℕ) → is_in_runs m xs ≡ true → m < run.first) → AreAscending (xs ++ run ∷ [])
 order_more xs run a some below =
     order_append xs (run ∷ []) a (lone_order run some) (λ m n e f.
     let over : m < run.first = below m e in
@@ -80,17 +82,18 @@ in_back n xs ys e =
     list_any-append (is_in_run n) xs ys ∙ or_second (is_in_runs n xs) (is_in_runs n ys) e
 
 -- those before others
-pub order_front : (xs ys : List NumberRun) → AreInOrder (xs ++ ys) → AreInOrder xs
+pub order_front : (xs ys : List NumberRun) → AreAscending (xs ++ ys) → AreAscending xs
 order_front [] ys a = tt
-order_front (x ∷ xs) ys a =
-    (record { some = a.0.some; below = λ n e. a.0.below n (in_front n xs ys e) },
-    order_front xs ys a.1)
+order_front (x ∷ xs) ys a = (
+  record { some = a.0.some; below = λ n e. a.0.below n (in_front n xs ys e) },
+  order_front xs ys a.1,
+)
 
-pub order_back : (xs ys : List NumberRun) → AreInOrder (xs ++ ys) → AreInOrder ys
+pub order_back : (xs ys : List NumberRun) → AreAscending (xs ++ ys) → AreAscending ys
 order_back [] ys a = a
 order_back (x ∷ xs) ys a = order_back xs ys a.1
 
-pub front_below : (xs ys : List NumberRun) (m n : ℕ) → AreInOrder (xs ++ ys)
+pub front_below : (xs ys : List NumberRun) (m n : ℕ) → AreAscending (xs ++ ys)
     → is_in_runs m xs ≡ true → is_in_runs n ys ≡ true → m < n
 front_below [] ys m n a e f = cc e
 front_below (x ∷ xs) ys m n a e f =
@@ -102,8 +105,9 @@ front_below (x ∷ xs) ys m n a e f =
     (λ g. front_below xs ys m n a.1 g f) e
 
 -- the last run becomes longer
-pub order_joined : (xs : List NumberRun) (last run : NumberRun) → AreInOrder (xs ++ last ∷ [])
-    → last.first ≤ run.last → AreInOrder (xs ++ record { first = last.first; last = run.last } ∷ [])
+pub order_joined : (xs : List NumberRun) (last run : NumberRun) → AreAscending (xs ++ last ∷ [])
+    → last.first ≤ run.last
+    → AreAscending (xs ++ record { first = last.first; last = run.last } ∷ [])
 order_joined xs last run a some =
     let lone = order_back xs (last ∷ []) a in
     order_more xs _ (order_front xs (last ∷ []) a) some (λ m e.
@@ -111,7 +115,7 @@ order_joined xs last run a some =
     (in_span last.first last.first last.last (omega arith) lone.0.some)))
 
 -- a run is among its runs
-pub first_is_in : (runs : List NumberRun) (i : ℕ) (d : NumberRun) → AreInOrder runs
+pub first_is_in : (runs : List NumberRun) (i : ℕ) (d : NumberRun) → AreAscending runs
     → i < length runs → is_in_runs (get_or runs i d).first runs ≡ true
 first_is_in [] i d a within = grind (arith, within)
 first_is_in (x ∷ xs) zero d a within =
@@ -122,7 +126,7 @@ first_is_in (x ∷ xs) (suc i) d a within =
     (first_is_in xs i d a.1 (omega (arith, within)))
 
 -- the runs before one are below it
-pub taken_below : (runs : List NumberRun) (i : ℕ) (d : NumberRun) (n : ℕ) → AreInOrder runs
+pub taken_below : (runs : List NumberRun) (i : ℕ) (d : NumberRun) (n : ℕ) → AreAscending runs
     → i < length runs → is_in_runs n (take i runs) ≡ true → n < (get_or runs i d).first
 taken_below [] i d n a within e = omega (arith, within)
 taken_below (x ∷ xs) zero d n a within e = cc e
@@ -135,7 +139,7 @@ taken_below (x ∷ xs) (suc i) d n a within e =
     omega (arith, to, over))
     (λ f. taken_below xs i d n a.1 (omega (arith, within)) f) e
 
-pub run_has : (runs : List NumberRun) (i : ℕ) (d : NumberRun) → AreInOrder runs
+pub run_has : (runs : List NumberRun) (i : ℕ) (d : NumberRun) → AreAscending runs
     → i < length runs → (get_or runs i d).first ≤ (get_or runs i d).last
 run_has [] i d a within = omega (arith, within)
 run_has (x ∷ xs) zero d a within = a.0.some
@@ -148,7 +152,8 @@ absent n first [] is e = cc e
 absent n first (x ∷ xs) is e = cc is
 
 -- What was added of the runs before one is below it.
-pub added_below : (n : ℕ) (now : Bool) (old taken out : Bool) (first : ℕ) → now ≡ (old || (taken && out))
+pub added_below : (n : ℕ) (now : Bool) (old taken out : Bool) (first : ℕ)
+    → now ≡ (old || (taken && out))
     → (old ≡ true → n < first) → (taken ≡ true → n < first) → now ≡ true → n < first
 added_below n now old taken out first is below_old below_taken e =
     or_cases old (taken && out) below_old (λ f. below_taken (and_first taken out f)) (sym is ∙ e)

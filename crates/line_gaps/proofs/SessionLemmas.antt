@@ -21,9 +21,9 @@ use Rattle.line_gaps.specs.declared.open_gap.GapEnd.TheVariants as ends
 use Rattle.line_gaps.specs.declared.open_gap.OpenGap.{OpenGap}
 use Rattle.line_gaps.specs.Ends.{end_on, gap_over, is_open_gap, over_first, over_new, over_now}
 use Rattle.line_gaps.specs.Gaps.{brings_number, counts_on, counts_with, has_begun, highest_on, highest_skipped, highest_with, is_missing, is_missing_by, is_packet_of, known_number, last_number_told, number_has_come, of_line, passes, was_passed}
-use Rattle.line_gaps.specs.LineSteps.{ClosesLine, Reaches, SkipsLine, TakesLine, kept_open, over_closed, over_if, over_skipped, over_with, pass_of, still_open}
+use Rattle.line_gaps.specs.LineSteps.{ClosesLine, Reaches, SkipsLine, TakesLine, kept_open, over_closed, over_if, over_skipped, gaps_over_with, pass_of, still_open}
 use Rattle.line_gaps.specs.Missing.{FitsLost, is_learnt}
-use Rattle.line_gaps.specs.OpenGaps.{add_gap, closes_gaps, end_with, ended_gap, ended_on, gaps_with, is_open_after, open_on, over_before, passed_over}
+use Rattle.line_gaps.specs.OpenGaps.{add_gap, closes_gaps, end_with, ended_gap, ended_on, gaps_with, is_open_after, open_on, over_before, gap_passed}
 use Rattle.line_gaps.specs.Runs.{is_in_run, meets_runs}
 use Rattle.line_gaps.specs.VenueFits.{AreStanding, FitsLine, IsHeard, SaysNothing, packet_event}
 use Rattle.line_gaps.proofs.LineLemmas.{Agrees, Stays, all_stay, filter_stands, first_agrees, if_not, if_yes, map_agrees, none_over, over_agrees}
@@ -105,17 +105,17 @@ line_after line earlier last packet filled lost old new heard agree stays fits t
     let o = counts_on line earlier last in
     let kept = kept_after line earlier last lost filled old.«open».items agree stays fits.stand in
     let gaps : new.«open».items ≡ fold add_gap (filter p old.«open».items)
-    (filter p (passed_over (highest_on line earlier) o)) =
+    (filter p (gap_passed (highest_on line earlier) o)) =
     takes.«open»
     ∙ ap (λ (gs : List OpenGap). fold add_gap gs
-    (still_open lost (passed_over old.highest (of_line old.line (Some packet))))) kept
+    (still_open lost (gap_passed old.highest (of_line old.line (Some packet))))) kept
     ∙ ap (λ (gs : List OpenGap). fold add_gap (filter p old.«open».items) gs)
     (filter_agree (is_open_gap lost) p agree.opens
-    (passed_over old.highest (of_line old.line (Some packet))))
+    (gap_passed old.highest (of_line old.line (Some packet))))
     ∙ ap (λ (h : ℕ). fold add_gap (filter p old.«open».items)
-    (filter p (passed_over h (of_line old.line (Some packet))))) fits.highest
+    (filter p (gap_passed h (of_line old.line (Some packet))))) fits.highest
     ∙ ap (λ (q : Option HeardPacket). fold add_gap (filter p old.«open».items)
-    (filter p (passed_over (highest_on line earlier) q))) own in
+    (filter p (gap_passed (highest_on line earlier) q))) own in
     record {
       line_is = takes.line ∙ fits.line_is;
       begun = takes.begun
@@ -127,7 +127,7 @@ line_after line earlier last packet filled lost old new heard agree stays fits t
           ∙ sym (heard.skips_none (has_begun line earlier) (highest_on line earlier)));
       «open» = gaps
           ∙ ap (λ (gs : List OpenGap). fold add_gap (filter p gs)
-          (filter p (passed_over (highest_on line earlier) o))) fits.«open»
+          (filter p (gap_passed (highest_on line earlier) o))) fits.«open»
           ∙ sym (if_not (closes_gaps last.event) [] _ heard.goes_on);
       stand = subst (λ (gs : List OpenGap). AreStanding line (last ∷ earlier) gs) (sym gaps)
           (passed_stands line earlier last packet o (filter p old.«open».items) heard.counts refl
@@ -182,7 +182,7 @@ pub over_after : (line : GapLine) (earlier : List TimedEvent) (last : TimedEvent
     → IsHeard earlier last packet → Agrees (last ∷ earlier) lost
     → (filled ≡ false → Stays earlier last) → (filled ≡ true → EndsBy last packet)
     → FitsLine line earlier old
-    → over_with packet filled lost old ≡ ended_on line earlier last
+    → gaps_over_with packet filled lost old ≡ ended_on line earlier last
 over_after line earlier last packet filled lost old heard agree stays ends_by fits =
     let own = own_counts line earlier last packet old heard fits.line_is in
     let events = last ∷ earlier in
@@ -191,18 +191,18 @@ over_after line earlier last packet filled lost old heard agree stays ends_by fi
     let fresh = λ (gs : List OpenGap). map (over_before line events)
     (filter (λ g. not (is_open_after events g)) gs) in
     ap (λ (l : GapLine). over_if filled l lost (pass_of packet) old.«open».items
-    ++ over_new l lost (passed_over old.highest (of_line old.line (Some packet)))) fits.line_is
-    ∙ ap (λ (l : List EndedGap). l ++ over_new line lost (passed_over old.highest
+    ++ over_new l lost (gap_passed old.highest (of_line old.line (Some packet)))) fits.line_is
+    ∙ ap (λ (l : List EndedGap). l ++ over_new line lost (gap_passed old.highest
     (of_line old.line (Some packet))))
     (over_kept line earlier last packet lost filled old.«open».items agree stays ends_by fits.stand)
     ∙ ap (λ (l : List EndedGap). over old.«open».items ++ l)
     (over_begins line events lost _ agree)
     ∙ ap (λ (h : ℕ). over old.«open».items
-    ++ fresh (passed_over h (of_line old.line (Some packet)))) fits.highest
+    ++ fresh (gap_passed h (of_line old.line (Some packet)))) fits.highest
     ∙ ap (λ (q : Option HeardPacket). over old.«open».items
-    ++ fresh (passed_over (highest_on line earlier) q)) own
+    ++ fresh (gap_passed (highest_on line earlier) q)) own
     ∙ ap (λ (gs : List OpenGap). over gs
-    ++ fresh (passed_over (highest_on line earlier) (counts_on line earlier last))) fits.«open»
+    ++ fresh (gap_passed (highest_on line earlier) (counts_on line earlier last))) fits.«open»
     ∙ sym (if_not (closes_gaps last.event)
     (map (ended_gap line earlier ends.Open None) (open_on line earlier)) _ heard.goes_on)
 
@@ -322,7 +322,7 @@ line_idle line earlier last gaps says goes_on fits =
       highest = idle_base line earlier last gaps says fits.highest;
       «open» = sym stay ∙ ap (λ (gs : List OpenGap). filter p gs) fits.«open»
           ∙ ap (λ (o : Option HeardPacket). fold add_gap (filter p (open_on line earlier))
-          (filter p (passed_over (highest_on line earlier) o)))
+          (filter p (gap_passed (highest_on line earlier) o)))
           (sym (no_counts line earlier last says))
           ∙ sym (if_not (closes_gaps last.event) [] _ goes_on);
       stand = subst (λ (gs : List OpenGap). AreStanding line (last ∷ earlier) gs) stay
@@ -337,7 +337,7 @@ idle_after line earlier last gaps says goes_on fits =
     let over = λ (gs : List OpenGap). map (ended_gap line events (end_with last.event) last.time)
     (filter (λ g. not (is_open_after events g)) gs) in
     let fresh = λ (o : Option HeardPacket). map (over_before line events)
-    (filter (λ g. not (is_open_after events g)) (passed_over (highest_on line earlier) o)) in
+    (filter (λ g. not (is_open_after events g)) (gap_passed (highest_on line earlier) o)) in
     ap (λ (gs : List OpenGap). map (ended_gap line events (end_with last.event) last.time) gs)
     (sym (none_over line earlier last gaps.«open».items (idle_stays earlier last says) fits.stand))
     ∙ ap over fits.«open»

@@ -12,8 +12,8 @@ use Rattle.line_gaps.specs.declared.open_gap.OpenGap.{OpenGap}
 use Rattle.line_gaps.specs.Ends.{joined_gap, open_gap_of}
 use Rattle.line_gaps.specs.Gaps.{counts_on, counts_with, highest_on, highest_with, is_missing, known_number, last_number_told}
 use Rattle.line_gaps.specs.LineSteps.{Reaches}
-use Rattle.line_gaps.specs.OpenGaps.{add_gap, gaps_with, is_open_after, join_newest, passed_over}
-use Rattle.line_gaps.specs.Runs.{count_below, count_of, is_in_run}
+use Rattle.line_gaps.specs.OpenGaps.{add_gap, gaps_with, is_open_after, join_newest, gap_passed}
+use Rattle.line_gaps.specs.Runs.{count_below, count_in_run, is_in_run}
 use Rattle.line_gaps.specs.VenueFits.{AreStanding, IsStanding}
 use Rattle.line_gaps.proofs.LineLemmas.{filter_stands, if_not, if_yes, passed_none, passed_some}
 
@@ -53,7 +53,8 @@ and_more false b has f e = cc e
 
 -- a run that is longer
 run_grows : (has : ℕ → Bool) (a b c : ℕ) → b ≤ c
-    → count_of has (record { first = a; last = b }) ≤ count_of has (record { first = a; last = c })
+    → count_in_run has (record { first = a; last = b })
+    ≤ count_in_run has (record { first = a; last = c })
 run_grows has a b c more =
     let short = λ (m : ℕ). (nat_le a m && nat_le m b) && has m in
     let long = λ (m : ℕ). (nat_le a m && nat_le m c) && has m in
@@ -164,7 +165,7 @@ begun_stands : (line : GapLine) (earlier : List TimedEvent) (last : TimedEvent)
     → Reaches (Some packet)
     → AreStanding line (last ∷ earlier) gaps → AreBelow (highest_on line earlier) gaps
     → AreStanding line (last ∷ earlier) (fold add_gap gaps (filter (is_open_after (last ∷ earlier))
-    (passed_over (highest_on line earlier) (Some packet))))
+    (gap_passed (highest_on line earlier) (Some packet))))
 begun_stands line earlier last packet gaps counts own reaches stand below =
     let highest = highest_on line earlier in
     let p = is_open_after (last ∷ earlier) in
@@ -211,7 +212,7 @@ pub passed_stands : (line : GapLine) (earlier : List TimedEvent) (last : TimedEv
     → Reaches o
     → AreStanding line (last ∷ earlier) gaps → AreBelow (highest_on line earlier) gaps
     → AreStanding line (last ∷ earlier) (fold add_gap gaps (filter (is_open_after (last ∷ earlier))
-    (passed_over (highest_on line earlier) o)))
+    (gap_passed (highest_on line earlier) o)))
 passed_stands line earlier last packet None gaps counts own one reaches stand below = stand
 passed_stands line earlier last packet (Some p) gaps counts own one reaches stand below =
     begun_stands line earlier last p gaps (counts ∙ ap Some (sym one)) own reaches stand below

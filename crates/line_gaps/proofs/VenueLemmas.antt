@@ -23,11 +23,11 @@ use Rattle.line_gaps.specs.declared.venue_gaps.VenueGaps.{VenueGaps}
 use Rattle.line_gaps.specs.declared.venue_gaps.VenueSums.{VenueSums}
 use Rattle.line_gaps.specs.Ends.{EndsGaps, KeepsLine}
 use Rattle.line_gaps.specs.Gaps.{brings_number, counts_with, far_on, far_that, goes_on, highest_skipped, highest_with, is_given_up, is_missing, known_number, number_has_come, packet_heard, passes, was_passed}
-use Rattle.line_gaps.specs.LineSteps.{ClosesLine, SkipsLine, TakesLine, over_closed, over_skipped, over_with}
-use Rattle.line_gaps.specs.Missing.{FitsLost, IsWhole, KeepsDropped}
-use Rattle.line_gaps.specs.OpenGaps.{begins_next, closes_gaps, ended_on, gaps_ended, in_session}
+use Rattle.line_gaps.specs.LineSteps.{ClosesLine, SkipsLine, TakesLine, over_closed, over_skipped, gaps_over_with}
+use Rattle.line_gaps.specs.Missing.{FitsLost, KeptAll, KeepsDropped}
+use Rattle.line_gaps.specs.OpenGaps.{starts_session, closes_gaps, ended_on, gaps_ended, in_session}
 use Rattle.line_gaps.specs.Sums.{AreSumsOf}
-use Rattle.line_gaps.specs.VenueFits.{AreStanding, EndsJust, FitsBut, FitsGaps, FitsLine, FitsSession, IsHeard, SaysNothing, TakesInSession, TakesTimed, packet_event}
+use Rattle.line_gaps.specs.VenueFits.{AreStanding, EndsJust, FitsBut, FitsGaps, FitsLine, FitsSession, IsHeard, SaysNothing, StepsOn, TakesTimed, packet_event}
 use Rattle.line_gaps.proofs.LineLemmas.{Agrees, Stays, agrees, if_not, if_yes}
 use Rattle.line_gaps.proofs.MissingLemmas.{either_false, none_given}
 use Rattle.line_gaps.proofs.SessionLemmas.{EndsBy, close_after, idle_after, idle_missing, line_after, line_closed, line_idle, line_skipped, over_after, skip_after, skipped_at}
@@ -42,7 +42,7 @@ sums_of_ended most old new before after over rows ends is are =
     (append_cancel_left before.gaps.items ends.more over (sym ends.ended ∙ is))
     (ends.sums rows are)
 
-pub was_whole : (old new : LostNumbers) → KeepsDropped old new → IsWhole new → IsWhole old
+pub was_whole : (old new : LostNumbers) → KeepsDropped old new → KeptAll new → KeptAll old
 was_whole old new kept whole =
     let missing = kept.missing in
     let given_up = kept.given_up in
@@ -53,12 +53,13 @@ was_whole old new kept whole =
       given_up = omega (arith, given_up, no_given);
     }
 
-pub whole_back : (old mid new : LostNumbers) → mid ≡ old → KeepsDropped mid new → IsWhole new
-    → IsWhole old
-whole_back old mid new same kept whole = subst IsWhole same (was_whole mid new kept whole)
+pub whole_back : (old mid new : LostNumbers) → mid ≡ old → KeepsDropped mid new → KeptAll new
+    → KeptAll old
+whole_back old mid new same kept whole = subst KeptAll same (was_whole mid new kept whole)
 
 pub fits_but : (earlier : List TimedEvent) (last : TimedEvent) (gaps : VenueGaps)
-    → FitsSession earlier gaps → ((line : LineId) → far_on line (last ∷ earlier) ≡ far_on line earlier)
+    → FitsSession earlier gaps
+    → ((line : LineId) → far_on line (last ∷ earlier) ≡ far_on line earlier)
     → FitsBut earlier last gaps
 fits_but earlier last gaps fits far = record {
   lost = fits.lost;
@@ -88,23 +89,23 @@ pub venue_heard : (earlier : List TimedEvent) (last : TimedEvent) (packet : Hear
     → IsHeard earlier last packet → FitsBut earlier last old
     → FitsLost (last ∷ earlier) lost → KeepsDropped old.lost lost → new.lost ≡ lost
     → new.far ≡ old.far
-    → (IsWhole old.lost → filled ≡ false → Stays earlier last)
+    → (KeptAll old.lost → filled ≡ false → Stays earlier last)
     → (filled ≡ true → EndsBy last packet)
     → TakesLine packet filled lost old.a new.a → TakesLine packet filled lost old.b new.b
     → TakesLine packet filled lost old.all new.all
-    → after ≡ before ++ three (over_with packet filled lost old.a)
-    (over_with packet filled lost old.b) (over_with packet filled lost old.all)
-    → TakesInSession earlier last old new before after
+    → after ≡ before ++ three (gaps_over_with packet filled lost old.a)
+    (gaps_over_with packet filled lost old.b) (gaps_over_with packet filled lost old.all)
+    → StepsOn earlier last old new before after
 venue_heard earlier last packet filled lost old new before after heard fits lost_fits kept same far
     stays ends_by a b all are =
-    let whole_now = λ (w : IsWhole new.lost). subst IsWhole same w in
-    let was = λ (w : IsWhole new.lost). was_whole old.lost lost kept (whole_now w) in
-    let agree = λ (w : IsWhole new.lost). agrees (last ∷ earlier) lost lost_fits (whole_now w) in
-    let over_a = λ (w : IsWhole new.lost). over_after lines.A earlier last packet filled lost old.a
+    let whole_now = λ (w : KeptAll new.lost). subst KeptAll same w in
+    let was = λ (w : KeptAll new.lost). was_whole old.lost lost kept (whole_now w) in
+    let agree = λ (w : KeptAll new.lost). agrees (last ∷ earlier) lost lost_fits (whole_now w) in
+    let over_a = λ (w : KeptAll new.lost). over_after lines.A earlier last packet filled lost old.a
     heard (agree w) (stays (was w)) ends_by (fits.a (was w)) in
-    let over_b = λ (w : IsWhole new.lost). over_after lines.B earlier last packet filled lost old.b
+    let over_b = λ (w : KeptAll new.lost). over_after lines.B earlier last packet filled lost old.b
     heard (agree w) (stays (was w)) ends_by (fits.b (was w)) in
-    let over_all = λ (w : IsWhole new.lost). over_after lines.All earlier last packet filled lost
+    let over_all = λ (w : KeptAll new.lost). over_after lines.All earlier last packet filled lost
     old.all heard (agree w) (stays (was w)) ends_by (fits.all (was w)) in
     record {
       fits = record {
@@ -135,18 +136,18 @@ pub venue_skipped : (earlier : List TimedEvent) (time : Option ℕ) (venue numbe
     → SkipsLine number time lost old.all new.all
     → after ≡ before ++ three (over_skipped time lost old.a)
     (over_skipped time lost old.b) (over_skipped time lost old.all)
-    → TakesInSession earlier (skipped_at time venue number) old new before after
+    → StepsOn earlier (skipped_at time venue number) old new before after
 venue_skipped earlier time venue number lost old new before after fits lost_fits kept same far
     a b all are =
     let last = skipped_at time venue number in
-    let whole_now = λ (w : IsWhole new.lost). subst IsWhole same w in
-    let was = λ (w : IsWhole new.lost). was_whole old.lost lost kept (whole_now w) in
-    let agree = λ (w : IsWhole new.lost). agrees (last ∷ earlier) lost lost_fits (whole_now w) in
-    let over_a = λ (w : IsWhole new.lost). skip_after lines.A earlier time venue number lost old.a
+    let whole_now = λ (w : KeptAll new.lost). subst KeptAll same w in
+    let was = λ (w : KeptAll new.lost). was_whole old.lost lost kept (whole_now w) in
+    let agree = λ (w : KeptAll new.lost). agrees (last ∷ earlier) lost lost_fits (whole_now w) in
+    let over_a = λ (w : KeptAll new.lost). skip_after lines.A earlier time venue number lost old.a
     (agree w) (fits.a (was w)) in
-    let over_b = λ (w : IsWhole new.lost). skip_after lines.B earlier time venue number lost old.b
+    let over_b = λ (w : KeptAll new.lost). skip_after lines.B earlier time venue number lost old.b
     (agree w) (fits.b (was w)) in
-    let over_all = λ (w : IsWhole new.lost). skip_after lines.All earlier time venue number lost
+    let over_all = λ (w : KeptAll new.lost). skip_after lines.All earlier time venue number lost
     old.all (agree w) (fits.all (was w)) in
     record {
       fits = record {
@@ -202,14 +203,14 @@ stay_sums rows over old new same none are =
 pub venue_idle : (earlier : List TimedEvent) (last : TimedEvent) (old new : VenueGaps)
     (before : List EndedGap) → SaysNothing earlier last → closes_gaps last.event ≡ false
     → FitsBut earlier last old → new.lost ≡ old.lost → new.far ≡ old.far → new.a ≡ old.a
-    → new.b ≡ old.b → new.all ≡ old.all → TakesInSession earlier last old new before before
+    → new.b ≡ old.b → new.all ≡ old.all → StepsOn earlier last old new before before
 venue_idle earlier last old new before says goes_on fits lost far a b all =
-    let was = λ (w : IsWhole new.lost). subst IsWhole lost w in
-    let over_a = λ (w : IsWhole new.lost). idle_after lines.A earlier last old.a says goes_on
+    let was = λ (w : KeptAll new.lost). subst KeptAll lost w in
+    let over_a = λ (w : KeptAll new.lost). idle_after lines.A earlier last old.a says goes_on
     (fits.a (was w)) in
-    let over_b = λ (w : IsWhole new.lost). idle_after lines.B earlier last old.b says goes_on
+    let over_b = λ (w : KeptAll new.lost). idle_after lines.B earlier last old.b says goes_on
     (fits.b (was w)) in
-    let over_all = λ (w : IsWhole new.lost). idle_after lines.All earlier last old.all says goes_on
+    let over_all = λ (w : KeptAll new.lost). idle_after lines.All earlier last old.all says goes_on
     (fits.all (was w)) in
     record {
       fits = record {
@@ -250,7 +251,7 @@ closes_line lost old new kept none tail sums = record {
 
 pub closed_just : (earlier : List TimedEvent) (last : TimedEvent) (old mid new : VenueGaps)
     (before after : List EndedGap) → closes_gaps last.event ≡ true → FitsSession earlier old
-    → IsWhole old.lost
+    → KeptAll old.lost
     → ClosesLine old.lost old.a mid.a → ClosesLine old.lost old.b mid.b
     → ClosesLine old.lost old.all mid.all
     → new.a.sums ≡ mid.a.sums → new.b.sums ≡ mid.b.sums → new.all.sums ≡ mid.all.sums
@@ -282,9 +283,9 @@ pub venue_closed : (earlier : List TimedEvent) (last : TimedEvent) (old new : Ve
     → ClosesLine old.lost old.all new.all
     → after ≡ before ++ three (over_closed old.lost old.a) (over_closed old.lost old.b)
     (over_closed old.lost old.all)
-    → TakesInSession earlier last old new before after
+    → StepsOn earlier last old new before after
 venue_closed earlier last old new before after says closes but fits lost far a b all are =
-    let was = λ (w : IsWhole new.lost). subst IsWhole lost w in
+    let was = λ (w : KeptAll new.lost). subst KeptAll lost w in
     record {
       fits = record {
         lost = subst (λ (l : LostNumbers). FitsLost (last ∷ earlier) l) (sym lost)
@@ -318,8 +319,8 @@ fresh_line line gaps is fresh = record {
 
 -- The next session begins.
 pub fits_none : (gaps : VenueGaps) → FitsLost [] gaps.lost
-    → (IsWhole gaps.lost → gaps.a.line ≡ lines.A) → (IsWhole gaps.lost → gaps.b.line ≡ lines.B)
-    → (IsWhole gaps.lost → gaps.all.line ≡ lines.All) → IsFresh gaps.a → IsFresh gaps.b
+    → (KeptAll gaps.lost → gaps.a.line ≡ lines.A) → (KeptAll gaps.lost → gaps.b.line ≡ lines.B)
+    → (KeptAll gaps.lost → gaps.all.line ≡ lines.All) → IsFresh gaps.a → IsFresh gaps.b
     → IsFresh gaps.all → ((line : LineId) → on_line line gaps.far ≡ None)
     → FitsSession [] gaps
 fits_none gaps lost line_a line_b line_all a b all far = record {
@@ -371,12 +372,12 @@ far_first number o is = ap (far_that number) is
 -- ---- over all sessions
 
 pub steps_timed : (earlier : List TimedEvent) (last : TimedEvent) (old new : VenueGaps)
-    (before after : List EndedGap) → begins_next last.event ≡ false → before ≡ []
-    → TakesInSession (in_session earlier) last old new before after
+    (before after : List EndedGap) → starts_session last.event ≡ false → before ≡ []
+    → StepsOn (in_session earlier) last old new before after
     → TakesTimed earlier last old new after
 steps_timed earlier last old new before after goes_on none steps = record {
   fits = subst (λ (events : List TimedEvent). FitsSession events new)
-      (sym (if_not (begins_next last.event) [] (last ∷ in_session earlier) goes_on)) steps.fits;
+      (sym (if_not (starts_session last.event) [] (last ∷ in_session earlier) goes_on)) steps.fits;
   ends = λ w.
       subst (λ (l : List EndedGap). EndsJust (in_session earlier) last old new l after) none
       (steps.ends w);
@@ -412,7 +413,7 @@ fits_restarted events gaps a b all sums fits = record {
 -- the event before which all gaps ended
 pub renewed_timed : (earlier : List TimedEvent) (time : Option ℕ) (venue ordinal : ℕ)
     (old new : VenueGaps) (before after : List EndedGap) → before ≡ [] → FitsSession [] new
-    → (IsWhole new.lost → EndsJust (in_session earlier)
+    → (KeptAll new.lost → EndsJust (in_session earlier)
     (timed_event time (told_renewal venue (Ok ordinal))) old new before after)
     → TakesTimed earlier (timed_event time (told_renewal venue (Ok ordinal))) old new after
 renewed_timed earlier time venue ordinal old new before after none fits ends = record {
@@ -425,8 +426,8 @@ renewed_timed earlier time venue ordinal old new before after none fits ends = r
 -- which packets are past the window has no part in gaps that end
 pub other_far : (earlier : List TimedEvent) (last : TimedEvent) (old new : VenueGaps)
     (far : PerLine (Option HeardPacket)) (before after : List EndedGap)
-    → TakesInSession earlier last (record old { far = far }) new before after
-    → TakesInSession earlier last old new before after
+    → StepsOn earlier last (record old { far = far }) new before after
+    → StepsOn earlier last old new before after
 other_far earlier last old new far before after steps = record {
   fits = steps.fits;
   ends = λ w.
@@ -489,7 +490,7 @@ says_nothing earlier last counts brings passed skip = record {
 -- an event that changes nothing
 pub nothing_timed : (earlier : List TimedEvent) (last : TimedEvent) (gaps : VenueGaps)
     (before : List EndedGap) → SaysNothing (in_session earlier) last
-    → closes_gaps last.event ≡ false → begins_next last.event ≡ false
+    → closes_gaps last.event ≡ false → starts_session last.event ≡ false
     → ((line : LineId) → far_on line (last ∷ in_session earlier) ≡ far_on line (in_session earlier))
     → before ≡ [] → FitsGaps earlier gaps → TakesTimed earlier last gaps gaps before
 nothing_timed earlier last gaps before says goes_on same far none fits =

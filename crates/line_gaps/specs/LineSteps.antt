@@ -12,7 +12,7 @@ use Rattle.line_gaps.specs.declared.open_gap.GapEnd.TheVariants as ends
 use Rattle.line_gaps.specs.declared.open_gap.OpenGap.{OpenGap}
 use Rattle.line_gaps.specs.Ends.{end_on, gap_over, is_open_gap, over_new, over_now}
 use Rattle.line_gaps.specs.Gaps.{highest_with, last_number_told, of_line}
-use Rattle.line_gaps.specs.OpenGaps.{add_gap, passed_over}
+use Rattle.line_gaps.specs.OpenGaps.{add_gap, gap_passed}
 use Rattle.line_gaps.specs.Sums.{AreSumsOf}
 
 -- gaps of which a number is missing
@@ -31,7 +31,7 @@ pub record PassesLine (own : Option HeardPacket) (lost : LostNumbers) (old new :
   pub begun : new.begun ≡ (is_some own || old.begun)
   pub highest : new.highest ≡ highest_with old.highest own
   pub «open» : new.«open».items
-      ≡ fold add_gap old.«open».items (still_open lost (passed_over old.highest own))
+      ≡ fold add_gap old.«open».items (still_open lost (gap_passed old.highest own))
   pub reaches : Reaches own
 
 -- what ends of the gaps that are open, where a number that was missing came
@@ -45,10 +45,10 @@ abbrev pub over_if : Bool → GapLine → LostNumbers → GapPass → List OpenG
 over_if filled line lost pass gaps = if filled then over_now line lost pass gaps else []
 
 -- the gaps that a packet of the venue ends, which filled what was missing or didn't
-abbrev pub over_with : HeardPacket → Bool → LostNumbers → LineGaps → List EndedGap
-over_with packet filled lost old =
+abbrev pub gaps_over_with : HeardPacket → Bool → LostNumbers → LineGaps → List EndedGap
+gaps_over_with packet filled lost old =
     over_if filled old.line lost (pass_of packet) old.«open».items
-    ++ over_new old.line lost (passed_over old.highest (of_line old.line (Some packet)))
+    ++ over_new old.line lost (gap_passed old.highest (of_line old.line (Some packet)))
 
 -- A packet of the venue ends gaps of the line, and then passes it.
 pub record TakesLine (packet : HeardPacket) (filled : Bool) (lost : LostNumbers)
@@ -58,10 +58,10 @@ pub record TakesLine (packet : HeardPacket) (filled : Bool) (lost : LostNumbers)
   pub highest : new.highest ≡ highest_with old.highest (of_line old.line (Some packet))
   pub «open» : new.«open».items
       ≡ fold add_gap (kept_open filled lost old.«open».items)
-      (still_open lost (passed_over old.highest (of_line old.line (Some packet))))
+      (still_open lost (gap_passed old.highest (of_line old.line (Some packet))))
   pub reaches : Reaches (of_line old.line (Some packet))
   pub sums : (rows : List EndedGap) → AreSumsOf rows old.sums
-      → AreSumsOf (rows ++ over_with packet filled lost old) new.sums
+      → AreSumsOf (rows ++ gaps_over_with packet filled lost old) new.sums
 
 -- the gaps that a skip ends
 abbrev pub over_skipped : Option ℕ → LostNumbers → LineGaps → List EndedGap

@@ -15,43 +15,43 @@ use Rattle.line_gaps.specs.declared.open_gap.GapEnd.TheVariants as ends
 use Rattle.line_gaps.specs.declared.open_gap.OpenGap.{OpenGap}
 use Rattle.line_gaps.specs.Ends.{end_on, joined_gap, open_gap_of}
 use Rattle.line_gaps.specs.Gaps.{counts_on, highest_on, is_given_up, is_missing}
-use Rattle.line_gaps.specs.Runs.{count_of}
+use Rattle.line_gaps.specs.Runs.{count_in_run}
 
 -- a next session begins
-abbrev pub begins_next : SinkEvent → Bool
-begins_next (told_renewal venue (Ok ordinal)) = true
-begins_next _ = false
+abbrev pub starts_session : SinkEvent → Bool
+starts_session (told_renewal venue (Ok ordinal)) = true
+starts_session _ = false
 
 -- the events of the present session, of those of all sessions
 abbrev pub in_session : List TimedEvent → List TimedEvent
 in_session [] = []
 in_session (last ∷ earlier) =
-    if begins_next last.event then [] else last ∷ in_session earlier
+    if starts_session last.event then [] else last ∷ in_session earlier
 
 -- the session ends, or the capture
 abbrev pub closes_gaps : SinkEvent → Bool
 closes_gaps (told_last venue sent a b recovery) = true
-closes_gaps event = begins_next event
+closes_gaps event = starts_session event
 
 -- a number of the gap is missing
 abbrev pub is_open_after : List TimedEvent → OpenGap → Bool
-is_open_after events gap = nat_lt 0 (count_of (is_missing events) gap.run)
+is_open_after events gap = nat_lt 0 (count_in_run (is_missing events) gap.run)
 
 -- how many numbers of the gap were given up
 abbrev pub given_up_of : List TimedEvent → OpenGap → ℕ
-given_up_of events gap = min (count_of (is_given_up events) gap.run) 18446744073709551615
+given_up_of events gap = min (count_in_run (is_given_up events) gap.run) 18446744073709551615
 
 -- the gap of the numbers that a packet passes over, where the highest before is this
-abbrev pub passed_over : ℕ → Option HeardPacket → List OpenGap
-passed_over highest None = []
-passed_over highest (Some packet) =
+abbrev pub gap_passed : ℕ → Option HeardPacket → List OpenGap
+gap_passed highest None = []
+gap_passed highest (Some packet) =
     if nat_lt (highest + 1) packet.number
     then open_gap_of (record { first = highest + 1; last = packet.number - 1 }) packet.time ∷ []
     else []
 
 -- the gap that begins with an event
 abbrev pub gaps_with : GapLine → List TimedEvent → TimedEvent → List OpenGap
-gaps_with line earlier last = passed_over (highest_on line earlier) (counts_on line earlier last)
+gaps_with line earlier last = gap_passed (highest_on line earlier) (counts_on line earlier last)
 
 -- the newest gap becomes one with the next
 abbrev pub join_newest : List OpenGap → OpenGap → List OpenGap
@@ -91,14 +91,15 @@ end_with event = ends.Skip
 abbrev pub over_before : GapLine → List TimedEvent → OpenGap → EndedGap
 over_before line events gap =
     ended_gap line events
-    (if nat_lt 0 (count_of (is_given_up events) gap.run) then ends.Skip else ends.Before)
+    (if nat_lt 0 (count_in_run (is_given_up events) gap.run) then ends.Skip else ends.Before)
     gap.began gap
 
 -- The gaps of a line that an event ends: all that are open with the session or the capture, else
 -- those of which no number is missing any more, and of the one that begins with it.
 abbrev pub ended_on : GapLine → List TimedEvent → TimedEvent → List EndedGap
 ended_on line earlier last =
-    if closes_gaps last.event then map (ended_gap line earlier ends.Open None) (open_on line earlier)
+    if closes_gaps last.event
+    then map (ended_gap line earlier ends.Open None) (open_on line earlier)
     else map (ended_gap line (last ∷ earlier) (end_with last.event) last.time)
     (filter (λ g. not (is_open_after (last ∷ earlier) g)) (open_on line earlier))
     ++ map (over_before line (last ∷ earlier))

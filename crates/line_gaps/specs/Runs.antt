@@ -51,8 +51,8 @@ count_below has zero = 0
 count_below has (suc n) = count_below has n + (if has n then 1 else 0)
 
 -- how many numbers of a run are of a set
-abbrev pub count_of : (ℕ → Bool) → NumberRun → ℕ
-count_of has run = count_below (λ n. is_in_run n run && has n) (run.last + 1)
+abbrev pub count_in_run : (ℕ → Bool) → NumberRun → ℕ
+count_in_run has run = count_below (λ n. is_in_run n run && has n) (run.last + 1)
 
 -- a number of a set to which all others come after, or none where the set has none
 abbrev pub IsLeast : (ℕ → Bool) → Option ℕ → Type 0
@@ -65,6 +65,6 @@ pub record IsBelowAll (run : NumberRun) (more : List NumberRun) : Type 0 where
   pub below : (n : ℕ) → is_in_runs n more ≡ true → run.last < n
 
 -- Each run is below all after it.
-abbrev pub AreInOrder : List NumberRun → Type 0
-AreInOrder [] = Unit
-AreInOrder (run ∷ more) = IsBelowAll run more × AreInOrder more
+abbrev pub AreAscending : List NumberRun → Type 0
+AreAscending [] = Unit
+AreAscending (run ∷ more) = IsBelowAll run more × AreAscending more

@@ -17,7 +17,7 @@ use Rattle.line_gaps.specs.declared.open_gap.OpenGap.{OpenGap}
 use Rattle.line_gaps.specs.declared.venue_gaps.VenueGaps.{VenueGaps}
 use Rattle.line_gaps.specs.declared.venue_gaps.VenueSums.{VenueSums}
 use Rattle.line_gaps.specs.Gaps.{brings_number, counts_with, far_on, has_begun, highest_on, highest_skipped, is_missing, known_number, passes}
-use Rattle.line_gaps.specs.Missing.{FitsLost, IsWhole}
+use Rattle.line_gaps.specs.Missing.{FitsLost, KeptAll}
 use Rattle.line_gaps.specs.OpenGaps.{closes_gaps, ended_on, gaps_ended, in_session, is_open_after, open_on}
 use Rattle.line_gaps.specs.Runs.{count_below}
 use Rattle.line_gaps.specs.Sums.{AreSumsOf}
@@ -34,8 +34,8 @@ lost_by_both_of sums missing =
     count_after (count_after (sums.given_up - sums.before_join) sums.recovered) missing
 
 -- how many runs of numbers were dropped
-abbrev pub dropped_of : VenueGaps → ℕ
-dropped_of gaps =
+abbrev pub runs_dropped : VenueGaps → ℕ
+runs_dropped gaps =
     count_after
     (count_after (count_after gaps.lost.missing.dropped gaps.lost.given_up.dropped)
     (count_after gaps.a.passed.dropped gaps.b.passed.dropped))
@@ -63,9 +63,9 @@ pub record FitsLine (line : GapLine) (events : List TimedEvent) (gaps : LineGaps
 -- are open that the definition has.
 pub record FitsSession (events : List TimedEvent) (gaps : VenueGaps) : Type 0 where
   pub lost : FitsLost events gaps.lost
-  pub a : IsWhole gaps.lost → FitsLine lines.A events gaps.a
-  pub b : IsWhole gaps.lost → FitsLine lines.B events gaps.b
-  pub all : IsWhole gaps.lost → FitsLine lines.All events gaps.all
+  pub a : KeptAll gaps.lost → FitsLine lines.A events gaps.a
+  pub b : KeptAll gaps.lost → FitsLine lines.B events gaps.b
+  pub all : KeptAll gaps.lost → FitsLine lines.All events gaps.all
   pub far : (line : LineId) → on_line line gaps.far ≡ far_on line events
 
 -- A venue after these events of all its sessions.
@@ -76,9 +76,9 @@ FitsGaps events gaps = FitsSession (in_session events) gaps
 pub record FitsBut (earlier : List TimedEvent) (last : TimedEvent) (gaps : VenueGaps)
     : Type 0 where
   pub lost : FitsLost earlier gaps.lost
-  pub a : IsWhole gaps.lost → FitsLine lines.A earlier gaps.a
-  pub b : IsWhole gaps.lost → FitsLine lines.B earlier gaps.b
-  pub all : IsWhole gaps.lost → FitsLine lines.All earlier gaps.all
+  pub a : KeptAll gaps.lost → FitsLine lines.A earlier gaps.a
+  pub b : KeptAll gaps.lost → FitsLine lines.B earlier gaps.b
+  pub all : KeptAll gaps.lost → FitsLine lines.All earlier gaps.all
   pub far : (line : LineId) → on_line line gaps.far ≡ far_on line (last ∷ earlier)
 
 -- the event of a packet that was answered so
@@ -115,13 +115,13 @@ pub record EndsJust (earlier : List TimedEvent) (last : TimedEvent) (old new : V
       → AreSumsOf (rows ++ ended_on lines.All earlier last) new.all.sums
 
 -- A venue took an event more of a session.
-pub record TakesInSession (earlier : List TimedEvent) (last : TimedEvent) (old new : VenueGaps)
+pub record StepsOn (earlier : List TimedEvent) (last : TimedEvent) (old new : VenueGaps)
     (before after : List EndedGap) : Type 0 where
   pub fits : FitsSession (last ∷ earlier) new
-  pub ends : IsWhole new.lost → EndsJust earlier last old new before after
+  pub ends : KeptAll new.lost → EndsJust earlier last old new before after
 
 -- A venue took an event more: it fits all its events, and ended just the gaps that this one ends.
 pub record TakesTimed (earlier : List TimedEvent) (last : TimedEvent) (old new : VenueGaps)
     (ended : List EndedGap) : Type 0 where
   pub fits : FitsGaps (last ∷ earlier) new
-  pub ends : IsWhole new.lost → EndsJust (in_session earlier) last old new [] ended
+  pub ends : KeptAll new.lost → EndsJust (in_session earlier) last old new [] ended

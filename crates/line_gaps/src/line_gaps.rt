@@ -2,14 +2,14 @@
 ghost use Rattle.std.specs.Prelude.{◌≡◌, ◌≤◌, ◌+◌, ◌-◌, ℕ, Bool, ◌&&◌, false, not, nat_lt, max, List, length, map, [], ◌∷◌, ◌++◌, None, Some, if◌then◌else◌};
 ghost use Rattle.std.specs.List.{filter, fold};
 ghost use Rattle.feed_types.specs.FullCounts.{count_after};
-ghost use Rattle.line_gaps.specs.Runs.{AreInOrder, HaveJust, is_in_run, len_of, meets_runs, run_back, sum_in};
+ghost use Rattle.line_gaps.specs.Runs.{AreAscending, HaveJust, is_in_run, len_of, meets_runs, run_back, sum_in};
 ghost use Rattle.line_gaps.specs.declared.open_gap.GapEnd.TheVariants.{Open, Skip};
 ghost use Rattle.line_gaps.specs.declared.open_gap.EndedGap.{EndedGap};
 ghost use Rattle.line_gaps.specs.Sums.{AreSumsOf};
 ghost use Rattle.line_gaps.specs.Ends.{EndsGaps, KeepsLine, end_on, gap_over, joined_gap, opened, over_at_once, over_new, over_now};
 ghost use Rattle.line_gaps.specs.Gaps.{is_packet_of, of_line};
-ghost use Rattle.line_gaps.specs.OpenGaps.{add_gap, passed_over};
-ghost use Rattle.line_gaps.specs.LineSteps.{PassesLine, SkipsLine, TakesLine, kept_open, over_if, over_skipped, over_with, pass_of, still_open};
+ghost use Rattle.line_gaps.specs.OpenGaps.{add_gap, gap_passed};
+ghost use Rattle.line_gaps.specs.LineSteps.{PassesLine, SkipsLine, TakesLine, kept_open, over_if, over_skipped, gaps_over_with, pass_of, still_open};
 
 use crate::ended_gaps::EndedGaps;
 use crate::gap_line::GapLine;
@@ -277,7 +277,7 @@ impl LineGaps {
             (len_of (run_back run self.old.highest)
             - sum_in self.old.passed.runs.items (run_back run self.old.highest)) }
         ensures passed { (has : ℕ → Bool) → HaveJust self.old.passed has
-            → AreInOrder self.old.passed.runs.items
+            → AreAscending self.old.passed.runs.items
             → HaveJust self.new.passed (λ n. has n
             && not (is_in_run n (run_back run self.old.highest))) }
     {
@@ -299,9 +299,9 @@ impl LineGaps {
         ensures begun { self.new.begun ≡ self.old.begun }
         ensures highest { self.new.highest ≡ self.old.highest }
         ensures open { self.new.open.items ≡ fold add_gap self.old.open.items
-            (still_open lost.now (passed_over self.old.highest (Some packet.now))) }
+            (still_open lost.now (gap_passed self.old.highest (Some packet.now))) }
         ensures ended { ended.new.gaps.items ≡ ended.old.gaps.items
-            ++ over_new self.old.line lost.now (passed_over self.old.highest (Some packet.now)) }
+            ++ over_new self.old.line lost.now (gap_passed self.old.highest (Some packet.now)) }
     {
         if packet.number <= self.highest {
             self.count_back(packet.run());
@@ -323,7 +323,7 @@ impl LineGaps {
         ensures ends { EndsGaps 1 self.old self.new ended.old ended.new }
         ensures passes { PassesLine (Some packet.now) lost.now self.old self.new }
         ensures ended { ended.new.gaps.items ≡ ended.old.gaps.items
-            ++ over_new self.old.line lost.now (passed_over self.old.highest (Some packet.now)) }
+            ++ over_new self.old.line lost.now (gap_passed self.old.highest (Some packet.now)) }
     {
         self.compare(packet, lost, ended);
         self.highest = self.highest.max(packet.last());
@@ -339,7 +339,7 @@ impl LineGaps {
             self.new }
         ensures ended { ended.new.gaps.items ≡ ended.old.gaps.items
             ++ over_new self.old.line lost.now
-            (passed_over self.old.highest (of_line self.old.line (Some packet.now))) }
+            (gap_passed self.old.highest (of_line self.old.line (Some packet.now))) }
     {
         if is_own(self.line, packet) {
             self.pass(packet, lost, ended);
@@ -385,7 +385,7 @@ impl LineGaps {
         ensures ends { EndsGaps 17 self.old self.new ended.old ended.new }
         ensures takes { TakesLine packet.now is_filled lost.now self.old self.new }
         ensures ended { ended.new.gaps.items ≡ ended.old.gaps.items
-            ++ over_with packet.now is_filled lost.now self.old }
+            ++ gaps_over_with packet.now is_filled lost.now self.old }
     {
         self.end_filled(packet, lost, is_filled, ended);
         self.pass_own(packet, lost, ended);

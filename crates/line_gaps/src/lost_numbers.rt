@@ -2,7 +2,7 @@
 ghost use Rattle.std.specs.Prelude.{◌≡◌, ◌≤◌, ◌<◌, ◌-◌, ◌+◌, ℕ, Bool, true, ◌&&◌, ◌||◌, not, nat_le, nat_lt, max, [], ◌∷◌, List, Option, None, Ok};
 ghost use Rattle.feed_text.specs.SinkEvents.{SinkEvent, TimedEvent, timed_event, told_packet, told_skip};
 ghost use Rattle.line_arbiter.specs.declared.outcome.Outcome.TheVariants.{Taken};
-ghost use Rattle.line_gaps.specs.Runs.{AreInOrder, HaveJust, is_in_run, is_in_runs, meets_runs};
+ghost use Rattle.line_gaps.specs.Runs.{AreAscending, HaveJust, is_in_run, is_in_runs, meets_runs};
 ghost use Rattle.line_gaps.specs.Gaps.{last_number_told};
 ghost use Rattle.line_gaps.specs.Missing.{CountsNumbers, FitsLost, KeepsDropped, KeepsKnown, is_learnt};
 
@@ -45,7 +45,7 @@ impl LostNumbers {
         ensures missing { (has : ℕ → Bool) → HaveJust self.old.missing has
             → HaveJust self.new.missing (λ n. has n && not (is_in_run n run)) }
         ensures order { self.new.missing.dropped ≡ 0 → run.first ≤ run.last + 1
-            → AreInOrder self.old.missing.runs.items → AreInOrder self.new.missing.runs.items }
+            → AreAscending self.old.missing.runs.items → AreAscending self.new.missing.runs.items }
         ensures kept { KeepsKnown self.old self.new }
     {
         if !self.missing.meets(run) {
@@ -64,9 +64,9 @@ impl LostNumbers {
             → (n : ℕ) → is_in_runs n self.new.missing.runs.items
             ≡ (is_in_runs n self.old.missing.runs.items
             || is_learnt self.old.highest self.old.floor below n) }
-        ensures order { self.new.missing.dropped ≡ 0 → AreInOrder self.old.missing.runs.items
+        ensures order { self.new.missing.dropped ≡ 0 → AreAscending self.old.missing.runs.items
             → ((n : ℕ) → is_in_runs n self.old.missing.runs.items ≡ true → n ≤ self.old.highest)
-            → AreInOrder self.new.missing.runs.items }
+            → AreAscending self.new.missing.runs.items }
         ensures kept { KeepsKnown self.old self.new }
     {
         let first = (self.highest + 1).max(self.floor);
@@ -84,9 +84,9 @@ impl LostNumbers {
             → (n : ℕ) → is_in_runs n self.new.missing.runs.items
             ≡ (is_in_runs n self.old.missing.runs.items
             || is_learnt self.old.highest self.old.floor below n) }
-        ensures order { self.new.missing.dropped ≡ 0 → AreInOrder self.old.missing.runs.items
+        ensures order { self.new.missing.dropped ≡ 0 → AreAscending self.old.missing.runs.items
             → ((n : ℕ) → is_in_runs n self.old.missing.runs.items ≡ true → n ≤ self.old.highest)
-            → AreInOrder self.new.missing.runs.items }
+            → AreAscending self.new.missing.runs.items }
         ensures highest { self.new.highest ≡ max self.old.highest last }
         ensures floor { self.new.floor ≡ self.old.floor }
         ensures given_up { self.new.given_up ≡ self.old.given_up }

@@ -1,6 +1,6 @@
 //! Runs of numbers.
 ghost use Rattle.std.specs.Prelude.{◌≡◌, ◌≤◌, ◌<◌, ◌+◌, ℕ, Bool, ◌&&◌, ◌||◌, not, nat_lt, max, min, true, false, [], ◌∷◌, ◌++◌};
-ghost use Rattle.line_gaps.specs.Runs.{AreInOrder, HaveJust, IsLeast, count_of, is_in_run, is_in_runs, meets_runs, sum_in};
+ghost use Rattle.line_gaps.specs.Runs.{AreAscending, HaveJust, IsLeast, count_in_run, is_in_run, is_in_runs, meets_runs, sum_in};
 
 use crate::number_run::NumberRun;
 use arrayvec::ArrayVec;
@@ -66,9 +66,9 @@ impl NumberRuns {
             → is_in_runs n self.new.runs.items
             ≡ (is_in_runs n (self.old.runs.items ++ last ∷ []) || is_in_run n run) }
         ensures order { self.new.dropped ≡ 0 → run.first ≤ run.last
-            → AreInOrder (self.old.runs.items ++ last ∷ [])
+            → AreAscending (self.old.runs.items ++ last ∷ [])
             → ((n : ℕ) → is_in_runs n (self.old.runs.items ++ last ∷ []) ≡ true → n < run.first)
-            → AreInOrder self.new.runs.items }
+            → AreAscending self.new.runs.items }
     {
         if last.is_before(run) {
             self.push(NumberRun {
@@ -87,9 +87,9 @@ impl NumberRuns {
         ensures dropped { self.old.dropped ≤ self.new.dropped }
         ensures has { self.new.dropped ≡ 0 → (n : ℕ) → is_in_runs n self.new.runs.items
             ≡ (is_in_runs n self.old.runs.items || is_in_run n run) }
-        ensures order { self.new.dropped ≡ 0 → AreInOrder self.old.runs.items
+        ensures order { self.new.dropped ≡ 0 → AreAscending self.old.runs.items
             → (run.first ≤ run.last → (n : ℕ) → is_in_runs n self.old.runs.items ≡ true
-            → n < run.first) → AreInOrder self.new.runs.items }
+            → n < run.first) → AreAscending self.new.runs.items }
     {
         if run.last < run.first {
             return;
@@ -105,9 +105,9 @@ impl NumberRuns {
         ensures dropped { self.old.dropped ≤ self.new.dropped }
         ensures has { self.new.dropped ≡ 0 → (n : ℕ) → is_in_runs n self.new.runs.items
             ≡ (is_in_runs n self.old.runs.items || (is_in_run n run && nat_lt n number)) }
-        ensures order { self.new.dropped ≡ 0 → AreInOrder self.old.runs.items
+        ensures order { self.new.dropped ≡ 0 → AreAscending self.old.runs.items
             → ((n : ℕ) → is_in_runs n self.old.runs.items ≡ true → n < run.first)
-            → AreInOrder self.new.runs.items }
+            → AreAscending self.new.runs.items }
     {
         if run.first < number {
             let last = run.last.min(number - 1);
@@ -123,9 +123,9 @@ impl NumberRuns {
         ensures dropped { self.old.dropped ≤ self.new.dropped }
         ensures has { self.new.dropped ≡ 0 → (n : ℕ) → is_in_runs n self.new.runs.items
             ≡ (is_in_runs n self.old.runs.items || (is_in_run n run && nat_lt number n)) }
-        ensures order { self.new.dropped ≡ 0 → AreInOrder self.old.runs.items
+        ensures order { self.new.dropped ≡ 0 → AreAscending self.old.runs.items
             → ((n : ℕ) → is_in_runs n self.old.runs.items ≡ true → n < max run.first (number + 1))
-            → AreInOrder self.new.runs.items }
+            → AreAscending self.new.runs.items }
     {
         if number < run.last {
             let first = run.first.max(number + 1);
@@ -143,7 +143,7 @@ impl NumberRuns {
             ≡ (is_in_runs n self.old.runs.items
             || (is_in_runs n runs.now && not (is_in_run n cut))) }
         ensures order { self.new.dropped ≡ 0 → self.old.runs.items ≡ []
-            → cut.first ≤ cut.last + 1 → AreInOrder runs.now → AreInOrder self.new.runs.items }
+            → cut.first ≤ cut.last + 1 → AreAscending runs.now → AreAscending self.new.runs.items }
     {
         for run in runs {
             self.add_below(*run, cut.first);
@@ -158,7 +158,7 @@ impl NumberRuns {
         ensures has { (has : ℕ → Bool) → HaveJust self.old has
             → HaveJust self.new (λ n. has n && not (is_in_run n cut)) }
         ensures order { self.new.dropped ≡ 0 → cut.first ≤ cut.last + 1
-            → AreInOrder self.old.runs.items → AreInOrder self.new.runs.items }
+            → AreAscending self.old.runs.items → AreAscending self.new.runs.items }
     {
         let mut left = NumberRuns {
             runs: ArrayVec::new(),
@@ -174,10 +174,10 @@ impl NumberRuns {
     pub fn take_out(&mut self, run: NumberRun) -> u64
         ensures count { result ≡ sum_in self.old.runs.items run }
         ensures dropped { self.old.dropped ≤ self.new.dropped }
-        ensures has { (has : ℕ → Bool) → AreInOrder self.old.runs.items → HaveJust self.old has
+        ensures has { (has : ℕ → Bool) → AreAscending self.old.runs.items → HaveJust self.old has
             → HaveJust self.new (λ n. has n && not (is_in_run n run)) }
         ensures order { self.new.dropped ≡ 0 → run.first ≤ run.last + 1
-            → AreInOrder self.old.runs.items → AreInOrder self.new.runs.items }
+            → AreAscending self.old.runs.items → AreAscending self.new.runs.items }
     {
         let count = self.count_in(run);
         if count == 0 {
@@ -208,8 +208,8 @@ impl NumberRuns {
 
     /// Returns how many of the numbers are at most this one, where the runs are in order.
     pub fn count(&self, highest: u64) -> u64
-        ensures { AreInOrder self.now.runs.items
-            → result ≡ min (count_of (λ n. is_in_runs n self.now.runs.items)
+        ensures { AreAscending self.now.runs.items
+            → result ≡ min (count_in_run (λ n. is_in_runs n self.now.runs.items)
             (record { first = 0; last = highest })) 18446744073709551615 }
     {
         self.count_in(NumberRun {
@@ -220,7 +220,7 @@ impl NumberRuns {
 
     /// Returns the first number of the first run.
     pub fn first(&self) -> Option<u64>
-        ensures { AreInOrder self.now.runs.items
+        ensures { AreAscending self.now.runs.items
             → IsLeast (λ n. is_in_runs n self.now.runs.items) result }
     {
         match self.runs.as_slice().first() {
@@ -234,9 +234,9 @@ impl NumberRuns {
         ensures dropped { self.old.dropped ≤ self.new.dropped }
         ensures has { self.new.dropped ≡ 0 → (n : ℕ) → is_in_runs n self.new.runs.items
             ≡ (is_in_runs n self.old.runs.items || (is_in_runs n runs.now && nat_lt n number)) }
-        ensures order { self.new.dropped ≡ 0 → AreInOrder self.old.runs.items → AreInOrder runs.now
-            → ((m n : ℕ) → is_in_runs m self.old.runs.items ≡ true → is_in_runs n runs.now ≡ true
-            → m < n) → AreInOrder self.new.runs.items }
+        ensures order { self.new.dropped ≡ 0 → AreAscending self.old.runs.items
+            → AreAscending runs.now → ((m n : ℕ) → is_in_runs m self.old.runs.items ≡ true → is_in_runs n runs.now ≡ true
+            → m < n) → AreAscending self.new.runs.items }
     {
         for run in runs {
             self.add_below(*run, number);
@@ -249,11 +249,11 @@ impl NumberRuns {
         ensures has { (has other : ℕ → Bool) → HaveJust self.old has → HaveJust others.now other
             → others.now.dropped ≡ 0
             → HaveJust self.new (λ n. has n || (other n && nat_lt n number)) }
-        ensures order { self.new.dropped ≡ 0 → AreInOrder self.old.runs.items
-            → AreInOrder others.now.runs.items
+        ensures order { self.new.dropped ≡ 0 → AreAscending self.old.runs.items
+            → AreAscending others.now.runs.items
             → ((m n : ℕ) → is_in_runs m self.old.runs.items ≡ true
             → is_in_runs n others.now.runs.items ≡ true → m < n)
-            → AreInOrder self.new.runs.items }
+            → AreAscending self.new.runs.items }
     {
         self.add_all_below(others.runs.as_slice(), number);
     }

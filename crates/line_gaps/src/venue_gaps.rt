@@ -6,12 +6,12 @@ ghost use Rattle.feed_text.specs.SinkEvents.{TimedEvent, timed_event, told_by, t
 ghost use Rattle.line_arbiter.specs.declared.outcome.Outcome.TheVariants.{Ahead, Taken};
 ghost use Rattle.line_gaps.specs.Ends.{EndsVenue, recovered_on, sums_on};
 ghost use Rattle.line_gaps.specs.Gaps.{is_missing};
-ghost use Rattle.line_gaps.specs.LineSteps.{ClosesLine, TakesLine, over_closed, over_with};
-ghost use Rattle.line_gaps.specs.Missing.{CountsNumbers, FitsLost, IsWhole};
+ghost use Rattle.line_gaps.specs.LineSteps.{ClosesLine, TakesLine, over_closed, gaps_over_with};
+ghost use Rattle.line_gaps.specs.Missing.{CountsNumbers, FitsLost, KeptAll};
 ghost use Rattle.line_gaps.specs.OpenGaps.{closes_gaps};
 ghost use Rattle.line_gaps.specs.Runs.{IsLeast};
 ghost use Rattle.line_gaps.specs.Sums.{AreSumsOf};
-ghost use Rattle.line_gaps.specs.VenueFits.{EndsJust, FitsBut, FitsGaps, FitsSession, IsHeard, TakesInSession, TakesTimed, dropped_of, lost_by_both_of, missing_total, packet_event};
+ghost use Rattle.line_gaps.specs.VenueFits.{EndsJust, FitsBut, FitsGaps, FitsSession, IsHeard, StepsOn, TakesTimed, runs_dropped, lost_by_both_of, missing_total, packet_event};
 
 use crate::ended_gaps::EndedGaps;
 use crate::gap_line::GapLine;
@@ -171,7 +171,7 @@ impl VenueGaps {
     /// Returns how many runs of numbers were dropped, since there were more than are kept: where
     /// it is 0, all gaps and figures are exact.
     pub fn dropped(&self) -> u64
-        ensures { result ≡ dropped_of self.now }
+        ensures { result ≡ runs_dropped self.now }
     {
         let lost = raised(self.lost.missing.dropped, self.lost.given_up.dropped);
         let lines = raised(self.a.passed.dropped, self.b.passed.dropped);
@@ -205,9 +205,9 @@ impl VenueGaps {
         ensures b { TakesLine packet.now is_filled self.old.lost self.old.b self.new.b }
         ensures all { TakesLine packet.now is_filled self.old.lost self.old.all self.new.all }
         ensures ended { ended.new.gaps.items ≡ ended.old.gaps.items
-            ++ (over_with packet.now is_filled self.old.lost self.old.a
-            ++ (over_with packet.now is_filled self.old.lost self.old.b
-            ++ over_with packet.now is_filled self.old.lost self.old.all)) }
+            ++ (gaps_over_with packet.now is_filled self.old.lost self.old.a
+            ++ (gaps_over_with packet.now is_filled self.old.lost self.old.b
+            ++ gaps_over_with packet.now is_filled self.old.lost self.old.all)) }
     {
         self.a.take(packet, &self.lost, is_filled, ended);
         self.b.take(packet, &self.lost, is_filled, ended);
@@ -225,7 +225,7 @@ impl VenueGaps {
             packet.now.number packet.now.count bytes (Ok (Taken new repeated))) ∷ events)
             self.new.lost }
         ensures takes { (earlier : List TimedEvent) (venue bytes repeated : ℕ)
-            → FitsSession earlier self.old → TakesInSession earlier
+            → FitsSession earlier self.old → StepsOn earlier
             (packet_event packet.now venue bytes (Ok (Taken new repeated))) self.old self.new
             ended.old.gaps.items ended.new.gaps.items }
     {
@@ -246,7 +246,7 @@ impl VenueGaps {
         ensures far { self.new.far ≡ self.old.far }
         ensures takes { (earlier : List TimedEvent) (last : TimedEvent)
             → CountsNumbers earlier last packet.now → IsHeard earlier last packet.now
-            → FitsBut earlier last self.old → TakesInSession earlier last self.old self.new
+            → FitsBut earlier last self.old → StepsOn earlier last self.old self.new
             ended.old.gaps.items ended.new.gaps.items }
     {
         self.lost.take_numbers(packet);
@@ -260,7 +260,7 @@ impl VenueGaps {
         requires { ended.old.gaps.items ≡ [] }
         ensures ends { EndsVenue self.old self.new ended.old ended.new }
         ensures takes { (earlier : List TimedEvent) (venue bytes : ℕ) → FitsSession earlier self.old
-            → TakesInSession earlier (packet_event packet.now venue bytes (Ok Ahead)) self.old self.new
+            → StepsOn earlier (packet_event packet.now venue bytes (Ok Ahead)) self.old self.new
             ended.old.gaps.items ended.new.gaps.items }
     {
         let earlier = self.far.on(packet.line);
@@ -281,7 +281,7 @@ impl VenueGaps {
         requires { ended.old.gaps.items ≡ [] }
         ensures ends { EndsVenue self.old self.new ended.old ended.new }
         ensures takes { (earlier : List TimedEvent) (venue bytes : ℕ) → FitsSession earlier self.old
-            → TakesInSession earlier (packet_event packet.now venue bytes (Ok outcome.now)) self.old
+            → StepsOn earlier (packet_event packet.now venue bytes (Ok outcome.now)) self.old
             self.new ended.old.gaps.items ended.new.gaps.items }
     {
         match outcome {
@@ -303,7 +303,7 @@ impl VenueGaps {
         requires { ended.old.gaps.items ≡ [] }
         ensures ends { EndsVenue self.old self.new ended.old ended.new }
         ensures takes { (earlier : List TimedEvent) (venue bytes : ℕ) → FitsSession earlier self.old
-            → TakesInSession earlier (packet_event packet.now venue bytes answer.now) self.old self.new
+            → StepsOn earlier (packet_event packet.now venue bytes answer.now) self.old self.new
             ended.old.gaps.items ended.new.gaps.items }
     {
         match answer {
@@ -321,7 +321,7 @@ impl VenueGaps {
             → FitsLost (timed_event time (told_skip venue number (Ok tt)) ∷ events)
             self.new.lost }
         ensures takes { (earlier : List TimedEvent) (venue : ℕ) → FitsSession earlier self.old
-            → TakesInSession earlier (timed_event time (told_skip venue number (Ok tt))) self.old self.new
+            → StepsOn earlier (timed_event time (told_skip venue number (Ok tt))) self.old self.new
             ended.old.gaps.items ended.new.gaps.items }
     {
         let count = self.lost.give_up(number);
@@ -342,7 +342,7 @@ impl VenueGaps {
         requires { ended.old.gaps.items ≡ [] }
         ensures ends { EndsVenue self.old self.new ended.old ended.new }
         ensures takes { (earlier : List TimedEvent) (venue : ℕ) → FitsSession earlier self.old
-            → TakesInSession earlier (timed_event time (told_skip venue number answer.now)) self.old
+            → StepsOn earlier (timed_event time (told_skip venue number answer.now)) self.old
             self.new ended.old.gaps.items ended.new.gaps.items }
     {
         match answer {
@@ -380,7 +380,7 @@ impl VenueGaps {
             → FitsSession [] self.new }
         ensures just { (earlier : List TimedEvent) (last : TimedEvent)
             → closes_gaps last.event ≡ true → FitsSession earlier self.old
-            → IsWhole self.new.lost → EndsJust earlier last self.old self.new
+            → KeptAll self.new.lost → EndsJust earlier last self.old self.new
             ended.old.gaps.items ended.new.gaps.items }
     {
         self.close(ended);

@@ -2,7 +2,7 @@ use Rattle.std.proofs.Common.{List, Option, ap, append-nil, refl, subst, sym, �
 use Rattle.line_gaps.specs.declared.heard_packet.HeardPacket.{HeardPacket}
 use Rattle.line_gaps.specs.Ends.{over_new}
 use Rattle.line_gaps.specs.LineSteps.{PassesLine}
-use Rattle.line_gaps.specs.OpenGaps.{passed_over}
+use Rattle.line_gaps.specs.OpenGaps.{gap_passed}
 use Rattle.line_gaps.proofs.EndLemmas.{ends_none}
 use Rattle.line_gaps.proofs.LineLemmas.{own_not, own_yes, passes_none}
 use Rattle.line_gaps.proofs.line_gaps.LineGaps.pass_own.Goals as goal
@@ -18,7 +18,7 @@ returns-then-is_own c =
           c.pass.ensures.passes;
       ended = c.pass.ensures.ended
           ∙ ap (λ (o : Option HeardPacket). c.args.ended.now.gaps.items
-          ++ over_new old.line lost (passed_over old.highest o)) (sym own);
+          ++ over_new old.line lost (gap_passed old.highest o)) (sym own);
     }
 
 pub returns-else-is_own : goal.returns-else-is_own
@@ -32,5 +32,5 @@ returns-else-is_own c =
           (passes_none lost old);
       ended = sym (append-nil c.args.ended.now.gaps.items)
           ∙ ap (λ (o : Option HeardPacket). c.args.ended.now.gaps.items
-          ++ over_new old.line lost (passed_over old.highest o)) (sym own);
+          ++ over_new old.line lost (gap_passed old.highest o)) (sym own);
     }

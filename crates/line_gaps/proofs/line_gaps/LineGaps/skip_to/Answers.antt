@@ -20,6 +20,7 @@ returns-clause-skips c =
           ∙ ap (λ (h : ℕ). if old.begun then h else max h low) over.kept.highest;
       «open» = rw begun.«open» over.«open»;
       sums = λ rows are.
-          subst (λ (s : GapSums). AreSumsOf (rows ++ over_skipped c.args.time c.args.lost.now old) s)
+          subst
+          (λ (s : GapSums). AreSumsOf (rows ++ over_skipped c.args.time c.args.lost.now old) s)
           (sym begun.sums) (over.sums rows are);
     }

@@ -29,7 +29,8 @@ returns-clause-fits c = λ events last counts fits.
     let known : n ≤ known_number events =
     missing_known events n (sym (fits.missing whole n) ∙ e) in
     omega (arith, known, fits.highest)))
-    (said.highest ∙ ap (λ (m : ℕ). max old.highest m) c.last-2.ensures.value) said.floor said.given_up
+    (said.highest ∙ ap (λ (m : ℕ). max old.highest m) c.last-2.ensures.value) said.floor
+    said.given_up
 
 pub returns-clause-dropped : goal.returns-clause-dropped
 returns-clause-dropped c = record {
