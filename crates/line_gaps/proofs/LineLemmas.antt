@@ -1,10 +1,9 @@
 -- The gaps of a line, one step after the other.
-use Rattle.std.proofs.Common.{◌≡◌, ℕ, ◌+◌, ◌-◌, ◌<◌, ◌≤◌, inl, inr, Bool, true, false, List, [], ◌∷◌, ◌++◌, length, map, not, zero, suc, arith, ap, refl, sym, subst, ◌∙◌, append-nil, append_assoc, max, min, Option, None, Some, Ok, Err}
-use Rattle.std.specs.Prelude.{◌&&◌, ◌||◌, nat_le, nat_lt, is_some, if◌then◌else◌}
+use Rattle.std.proofs.Common.{◌≡◌, ℕ, ◌+◌, ◌-◌, ◌<◌, ◌≤◌, inl, inr, Bool, true, false, List, [], ◌∷◌, ◌++◌, length, map, not, arith, ap, refl, sym, subst, ◌∙◌, append-nil, append_assoc, min, Option, None, Some, Ok, Err}
+use Rattle.std.specs.Prelude.{◌&&◌, ◌||◌, nat_lt, is_some, if◌then◌else◌}
 use Rattle.std.specs.List.{filter, fold}
-use Rattle.std.proofs.lemmas.Bool.{cases_Bool, cases_lt}
+use Rattle.std.proofs.lemmas.Bool.{cases_Bool}
 use Rattle.std.proofs.lemmas.Bool.Decides.{nat_tests}
-use Rattle.std.proofs.lemmas.List.Elements.{filter_agree}
 use Rattle.feed_text.specs.SinkEvents.{SinkEvent, TimedEvent, told_before, told_best, told_declaration, told_gap, told_item, told_last, told_packet, told_refusal, told_renewal, told_skip}
 use Rattle.line_gaps.specs.declared.gap_line.GapLine.{GapLine}
 use Rattle.line_gaps.specs.declared.heard_packet.HeardPacket.{HeardPacket}
@@ -16,14 +15,14 @@ use Rattle.line_gaps.specs.declared.open_gap.EndedGap.{EndedGap}
 use Rattle.line_gaps.specs.declared.open_gap.GapEnd.{GapEnd}
 use Rattle.line_gaps.specs.declared.open_gap.GapEnd.TheVariants as ends
 use Rattle.line_gaps.specs.declared.open_gap.OpenGap.{OpenGap}
-use Rattle.line_gaps.specs.Ends.{KeepsLine, end_on, gap_over, is_open_gap, joined_gap, open_gap_of, opened, over_at_once, over_first, over_new, over_now}
-use Rattle.line_gaps.specs.Gaps.{counts_on, counts_with, has_begun, highest_on, known_number, last_number_told, highest_skipped, highest_with, is_given_up, is_missing, is_packet_of, of_line}
+use Rattle.line_gaps.specs.Ends.{KeepsLine, gap_over, is_open_gap, joined_gap, open_gap_of, opened, over_at_once, over_first, over_new}
+use Rattle.line_gaps.specs.Gaps.{counts_on, counts_with, has_begun, highest_on, known_number, highest_skipped, highest_with, is_given_up, is_missing, is_packet_of, of_line}
 use Rattle.line_gaps.specs.LineSteps.{PassesLine, Reaches, TakesLine, kept_open, over_if, gaps_over_with, pass_of, still_open}
 use Rattle.line_gaps.specs.Missing.{FitsLost, KeptAll}
-use Rattle.line_gaps.specs.OpenGaps.{add_gap, closes_gaps, given_up_of, end_with, ended_gap, ended_on, gaps_with, is_open_after, join_newest, open_on, over_before, gap_passed}
+use Rattle.line_gaps.specs.OpenGaps.{add_gap, given_up_of, ended_gap, is_open_after, join_newest, over_before, gap_passed}
 use Rattle.line_gaps.specs.Runs.{count_in_run, is_in_run, meets_runs, sum_in}
 use Rattle.line_gaps.specs.Sums.{AreSumsOf}
-use Rattle.line_gaps.specs.VenueFits.{AreStanding, FitsLine, IsStanding}
+use Rattle.line_gaps.specs.VenueFits.{AreStanding, IsStanding}
 use Rattle.line_gaps.proofs.RunCounts.{count_agrees, count_of_agrees, meets_is_some, sum_is_count}
 
 -- ---- a gap more

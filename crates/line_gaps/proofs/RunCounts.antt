@@ -1,12 +1,12 @@
 -- How many numbers are in runs.
-use Rattle.std.proofs.Common.{◌≡◌, ℕ, ◌+◌, ◌-◌, ◌<◌, ◌≤◌, inl, inr, Bool, true, false, List, [], ◌∷◌, ◌++◌, zero, suc, arith, ap, refl, sym, ◌∙◌, max, min, Option, None, Some}
-use Rattle.std.specs.Prelude.{◌&&◌, ◌||◌, not, nat_le, nat_lt, if◌then◌else◌}
+use Rattle.std.proofs.Common.{◌≡◌, ℕ, ◌+◌, ◌-◌, ◌<◌, ◌≤◌, inl, inr, Bool, true, false, List, [], ◌∷◌, zero, suc, arith, ap, refl, sym, ◌∙◌, max, min, Option, None, Some}
+use Rattle.std.specs.Prelude.{◌&&◌, ◌||◌, nat_le, nat_lt, if◌then◌else◌}
 use Rattle.std.specs.List.{fold}
 use Rattle.std.proofs.lemmas.Bool.{cases_Bool, cases_lt}
 use Rattle.std.proofs.lemmas.Bool.Decides.{nat_tests}
 use Rattle.line_gaps.specs.declared.number_run.NumberRun.{NumberRun}
-use Rattle.line_gaps.specs.Runs.{AreAscending, IsLeast, count_below, count_in_run, is_in_run, is_in_runs, len_of, len_of_both, meets_run, meets_runs, sum_in}
-use Rattle.line_gaps.proofs.RunOrders.{from_first, in_span, to_last}
+use Rattle.line_gaps.specs.Runs.{AreAscending, IsLeast, count_below, count_in_run, is_in_run, is_in_runs, len_of_both, meets_runs, sum_in}
+use Rattle.line_gaps.proofs.RunOrders.{in_span, to_last}
 
 abbrev one_if : Bool → ℕ
 one_if b = if b then 1 else 0

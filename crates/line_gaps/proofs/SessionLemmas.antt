@@ -1,10 +1,9 @@
 -- The gaps of a line after one more event of its session.
-use Rattle.std.proofs.Common.{◌≡◌, ℕ, ◌+◌, ◌-◌, ◌<◌, ◌≤◌, Bool, true, false, List, [], ◌∷◌, ◌++◌, map, not, arith, ap, refl, sym, subst, ◌∙◌, append-nil, max, Option, None, Some, Result, Ok, Err}
-use Rattle.std.specs.Prelude.{◌&&◌, ◌||◌, nat_le, nat_lt, is_some, if◌then◌else◌}
+use Rattle.std.proofs.Common.{◌≡◌, ℕ, ◌-◌, ◌≤◌, Bool, true, false, List, [], ◌∷◌, ◌++◌, map, not, arith, ap, refl, sym, subst, ◌∙◌, append-nil, max, Option, None, Some, Result, Ok}
+use Rattle.std.specs.Prelude.{◌&&◌, ◌||◌, nat_le, is_some, if◌then◌else◌}
 use Rattle.std.specs.List.{filter, fold}
-use Rattle.std.proofs.lemmas.Bool.Decides.{nat_tests}
 use Rattle.std.proofs.lemmas.List.Elements.{filter_agree}
-use Rattle.feed_text.specs.SinkEvents.{SinkEvent, TimedEvent, timed_event, told_packet, told_skip}
+use Rattle.feed_text.specs.SinkEvents.{TimedEvent, timed_event, told_packet, told_skip}
 use Rattle.line_arbiter.specs.declared.outcome.LineFault.{LineFault}
 use Rattle.line_arbiter.specs.declared.outcome.Outcome.{Outcome}
 use Rattle.line_arbiter.specs.declared.outcome.Outcome.TheVariants.{Taken}
@@ -23,13 +22,13 @@ use Rattle.line_gaps.specs.Ends.{end_on, gap_over, is_open_gap, over_first, over
 use Rattle.line_gaps.specs.Gaps.{brings_number, counts_on, counts_with, has_begun, highest_on, highest_skipped, highest_with, is_missing, is_missing_by, is_packet_of, known_number, last_number_told, number_has_come, of_line, passes, was_passed}
 use Rattle.line_gaps.specs.LineSteps.{ClosesLine, Reaches, SkipsLine, TakesLine, kept_open, over_closed, over_if, over_skipped, gaps_over_with, pass_of, still_open}
 use Rattle.line_gaps.specs.Missing.{FitsLost, is_learnt}
-use Rattle.line_gaps.specs.OpenGaps.{add_gap, closes_gaps, end_with, ended_gap, ended_on, gaps_with, is_open_after, open_on, over_before, gap_passed}
+use Rattle.line_gaps.specs.OpenGaps.{add_gap, closes_gaps, end_with, ended_gap, ended_on, is_open_after, open_on, over_before, gap_passed}
 use Rattle.line_gaps.specs.Runs.{is_in_run, meets_runs}
 use Rattle.line_gaps.specs.VenueFits.{AreStanding, FitsLine, IsHeard, SaysNothing, packet_event}
 use Rattle.line_gaps.proofs.LineLemmas.{Agrees, Stays, all_stay, filter_stands, first_agrees, if_not, if_yes, map_agrees, none_over, over_agrees}
 use Rattle.line_gaps.proofs.MissingLemmas.{missing_with, not_below}
 use Rattle.line_gaps.proofs.RunLemmas.{apart_keeps, or_none}
-use Rattle.line_gaps.proofs.StandLemmas.{AreBelow, IsOneOf, filter_below, passed_stands, stand_below}
+use Rattle.line_gaps.proofs.StandLemmas.{IsOneOf, filter_below, passed_stands, stand_below}
 
 -- ---- numbers that stay missing
 

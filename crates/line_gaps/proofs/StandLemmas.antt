@@ -1,21 +1,20 @@
 -- The gaps of a line that are open, after a packet more.
-use Rattle.std.proofs.Common.{◌≡◌, ℕ, ◌+◌, ◌-◌, ◌<◌, ◌≤◌, inl, inr, Bool, true, false, List, [], ◌∷◌, ◌++◌, length, not, zero, suc, arith, ap, refl, sym, subst, ◌∙◌, max, Option, None, Some}
-use Rattle.std.specs.Prelude.{◌&&◌, nat_le, nat_lt, is_some, if◌then◌else◌}
+use Rattle.std.proofs.Common.{◌≡◌, ℕ, ◌+◌, ◌-◌, ◌<◌, ◌≤◌, inl, inr, Bool, true, false, List, [], ◌∷◌, ◌++◌, length, zero, suc, arith, ap, refl, sym, subst, ◌∙◌, max, Option, None, Some}
+use Rattle.std.specs.Prelude.{◌&&◌, nat_le, nat_lt, if◌then◌else◌}
 use Rattle.std.specs.List.{filter, fold}
 use Rattle.std.proofs.lemmas.Bool.{cases_Bool}
 use Rattle.std.proofs.lemmas.Bool.Decides.{nat_tests}
 use Rattle.feed_text.specs.SinkEvents.{TimedEvent}
 use Rattle.line_gaps.specs.declared.gap_line.GapLine.{GapLine}
 use Rattle.line_gaps.specs.declared.heard_packet.HeardPacket.{HeardPacket}
-use Rattle.line_gaps.specs.declared.number_run.NumberRun.{NumberRun}
 use Rattle.line_gaps.specs.declared.open_gap.OpenGap.{OpenGap}
 use Rattle.line_gaps.specs.Ends.{joined_gap, open_gap_of}
 use Rattle.line_gaps.specs.Gaps.{counts_on, counts_with, highest_on, highest_with, is_missing, known_number, last_number_told}
 use Rattle.line_gaps.specs.LineSteps.{Reaches}
-use Rattle.line_gaps.specs.OpenGaps.{add_gap, gaps_with, is_open_after, join_newest, gap_passed}
-use Rattle.line_gaps.specs.Runs.{count_below, count_in_run, is_in_run}
+use Rattle.line_gaps.specs.OpenGaps.{add_gap, is_open_after, join_newest, gap_passed}
+use Rattle.line_gaps.specs.Runs.{count_below, count_in_run}
 use Rattle.line_gaps.specs.VenueFits.{AreStanding, IsStanding}
-use Rattle.line_gaps.proofs.LineLemmas.{filter_stands, if_not, if_yes, passed_none, passed_some}
+use Rattle.line_gaps.proofs.LineLemmas.{if_not, if_yes}
 
 -- ---- more numbers
 

@@ -1,5 +1,5 @@
 -- The gaps of a venue after one more event of its session.
-use Rattle.std.proofs.Common.{◌≡◌, ℕ, ◌-◌, ◌≤◌, Bool, true, false, List, [], ◌∷◌, ◌++◌, arith, ap, refl, sym, subst, ◌∙◌, append-nil, Option, None, Some, Ok, Err}
+use Rattle.std.proofs.Common.{◌≡◌, ℕ, ◌-◌, Bool, true, false, List, [], ◌∷◌, ◌++◌, arith, ap, refl, sym, subst, ◌∙◌, append-nil, Option, None, Some, Ok, Err}
 use Rattle.std.specs.Prelude.{◌||◌}
 use Rattle.std.proofs.lemmas.List.{append_cancel_left}
 use Rattle.feed_types.specs.declared.line.LineId.{LineId}
@@ -16,19 +16,18 @@ use Rattle.line_gaps.specs.declared.gap_sums.GapSums.{GapSums}
 use Rattle.line_gaps.specs.declared.heard_packet.HeardPacket.{HeardPacket}
 use Rattle.line_gaps.specs.declared.line_gaps.LineGaps.{LineGaps}
 use Rattle.line_gaps.specs.declared.lost_numbers.LostNumbers.{LostNumbers}
-use Rattle.line_gaps.specs.declared.number_runs.NumberRuns.{NumberRuns}
 use Rattle.line_gaps.specs.declared.open_gap.EndedGap.{EndedGap}
 use Rattle.line_gaps.specs.declared.open_gap.OpenGap.{OpenGap}
 use Rattle.line_gaps.specs.declared.venue_gaps.VenueGaps.{VenueGaps}
 use Rattle.line_gaps.specs.declared.venue_gaps.VenueSums.{VenueSums}
 use Rattle.line_gaps.specs.Ends.{EndsGaps, KeepsLine}
-use Rattle.line_gaps.specs.Gaps.{brings_number, counts_with, far_on, far_that, goes_on, highest_skipped, highest_with, is_given_up, is_missing, known_number, number_has_come, packet_heard, passes, was_passed}
+use Rattle.line_gaps.specs.Gaps.{brings_number, counts_with, far_on, far_that, goes_on, highest_skipped, highest_with, is_given_up, known_number, number_has_come, packet_heard, passes, was_passed}
 use Rattle.line_gaps.specs.LineSteps.{ClosesLine, SkipsLine, TakesLine, over_closed, over_skipped, gaps_over_with}
 use Rattle.line_gaps.specs.Missing.{FitsLost, KeptAll, KeepsDropped}
-use Rattle.line_gaps.specs.OpenGaps.{starts_session, closes_gaps, ended_on, gaps_ended, in_session}
+use Rattle.line_gaps.specs.OpenGaps.{starts_session, closes_gaps, in_session}
 use Rattle.line_gaps.specs.Sums.{AreSumsOf}
 use Rattle.line_gaps.specs.VenueFits.{AreStanding, EndsJust, FitsBut, FitsGaps, FitsLine, FitsSession, IsHeard, SaysNothing, StepsOn, TakesTimed, packet_event}
-use Rattle.line_gaps.proofs.LineLemmas.{Agrees, Stays, agrees, if_not, if_yes}
+use Rattle.line_gaps.proofs.LineLemmas.{Stays, agrees, if_not, if_yes}
 use Rattle.line_gaps.proofs.MissingLemmas.{either_false, none_given}
 use Rattle.line_gaps.proofs.SessionLemmas.{EndsBy, close_after, idle_after, idle_missing, line_after, line_closed, line_idle, line_skipped, over_after, skip_after, skipped_at}
 

@@ -1,5 +1,5 @@
 -- What a line's gaps make of a packet, by the numbers of the venue that are missing.
-use Rattle.std.specs.Prelude.{◌≡◌, ℕ, ◌+◌, ◌-◌, ◌≤◌, Bool, not, max, List, [], ◌++◌, map, is_some, ◌||◌, Option, None, Some, if◌then◌else◌}
+use Rattle.std.specs.Prelude.{◌≡◌, ℕ, ◌+◌, ◌-◌, ◌≤◌, Bool, max, List, [], ◌++◌, map, is_some, ◌||◌, Option, None, Some, if◌then◌else◌}
 use Rattle.std.specs.List.{filter, fold}
 use Rattle.feed_types.specs.FullCounts.{count_after}
 use Rattle.line_gaps.specs.declared.gap_line.GapLine.{GapLine}

@@ -1,6 +1,6 @@
 -- The gaps of a venue, as they are kept after its events. Of a list of events the last one stands
 -- first.
-use Rattle.std.specs.Prelude.{◌≡◌, ℕ, ◌+◌, ◌-◌, ◌≤◌, Bool, true, false, Option, None, Some, Result, List, [], ◌∷◌, ◌++◌, min}
+use Rattle.std.specs.Prelude.{◌≡◌, ℕ, ◌+◌, ◌-◌, ◌≤◌, Bool, true, false, None, Some, Result, List, [], ◌∷◌, ◌++◌, min}
 use Rattle.feed_types.specs.declared.line.LineId.{LineId}
 use Rattle.feed_types.specs.FullCounts.{count_after}
 use Rattle.feed_types.specs.PerLines.{on_line}
@@ -11,7 +11,6 @@ use Rattle.line_gaps.specs.declared.gap_line.GapLine.{GapLine}
 use Rattle.line_gaps.specs.declared.gap_line.GapLine.TheVariants as lines
 use Rattle.line_gaps.specs.declared.heard_packet.HeardPacket.{HeardPacket}
 use Rattle.line_gaps.specs.declared.line_gaps.LineGaps.{LineGaps}
-use Rattle.line_gaps.specs.declared.lost_numbers.LostNumbers.{LostNumbers}
 use Rattle.line_gaps.specs.declared.open_gap.EndedGap.{EndedGap}
 use Rattle.line_gaps.specs.declared.open_gap.OpenGap.{OpenGap}
 use Rattle.line_gaps.specs.declared.venue_gaps.VenueGaps.{VenueGaps}

@@ -1,4 +1,4 @@
-use Rattle.std.proofs.Common.{List, ap, arith, refl, ◌+◌, ◌<◌, ◌≤◌, ◌∙◌}
+use Rattle.std.proofs.Common.{arith, refl, ◌+◌, ◌<◌, ◌≤◌, ◌∙◌}
 use Rattle.line_gaps.proofs.EndLemmas.{ends_none}
 use Rattle.line_gaps.proofs.LineLemmas.{ended_none, ended_some, open_none, open_some}
 use Rattle.line_gaps.proofs.line_gaps.LineGaps.compare.Goals as goal

@@ -1,4 +1,4 @@
-use Rattle.std.proofs.Common.{List, Option, ap, append-nil, refl, subst, sym, ◌++◌, ◌∙◌}
+use Rattle.std.proofs.Common.{Option, ap, append-nil, refl, subst, sym, ◌++◌, ◌∙◌}
 use Rattle.line_gaps.specs.declared.heard_packet.HeardPacket.{HeardPacket}
 use Rattle.line_gaps.specs.Ends.{over_new}
 use Rattle.line_gaps.specs.LineSteps.{PassesLine}

@@ -1,4 +1,4 @@
-use Rattle.std.proofs.Common.{ap, subst, sym, ◌++◌, ◌∙◌, List, ℕ, Bool, ◌-◌, max}
+use Rattle.std.proofs.Common.{ap, subst, sym, ◌++◌, ◌∙◌, ℕ, Bool, ◌-◌, max}
 use Rattle.std.specs.Prelude.{if◌then◌else◌}
 use Rattle.line_gaps.specs.declared.gap_sums.GapSums.{GapSums}
 use Rattle.line_gaps.specs.LineSteps.{over_skipped}

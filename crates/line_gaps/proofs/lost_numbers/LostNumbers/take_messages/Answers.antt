@@ -1,4 +1,4 @@
-use Rattle.std.proofs.Common.{◌≡◌, ◌<◌, ◌≤◌, ◌+◌, ℕ, Bool, true, ap, sym, ◌∙◌, arith, max, refl}
+use Rattle.std.proofs.Common.{◌≡◌, ◌<◌, ◌≤◌, ℕ, Bool, true, ap, sym, ◌∙◌, arith, max, refl}
 use Rattle.std.specs.Prelude.{◌||◌, ◌&&◌, not, ◌-◌}
 use Rattle.line_gaps.specs.declared.number_run.NumberRun.{NumberRun}
 use Rattle.line_gaps.specs.Gaps.{is_missing, known_number, last_number_told}

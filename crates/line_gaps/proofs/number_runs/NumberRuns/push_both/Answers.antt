@@ -1,4 +1,4 @@
-use Rattle.std.proofs.Common.{List, ap, arith, subst, sym, ◌+◌, ◌++◌, ◌∷◌, [], ◌∙◌, ◌≡◌}
+use Rattle.std.proofs.Common.{List, ap, arith, subst, sym, ◌+◌, ◌++◌, ◌∷◌, [], ◌∙◌}
 use Rattle.std.specs.Prelude.{nat_eq, nat_le}
 use Rattle.line_gaps.specs.declared.number_run.NumberRun.{NumberRun}
 use Rattle.line_gaps.specs.Runs.{AreAscending}

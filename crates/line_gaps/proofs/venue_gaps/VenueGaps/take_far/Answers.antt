@@ -1,6 +1,5 @@
-use Rattle.std.proofs.Common.{None, Ok, Option, Some, refl, sym, ◌∙◌, ◌≡◌}
+use Rattle.std.proofs.Common.{None, Ok, Some, refl, sym, ◌∙◌, ◌≡◌}
 use Rattle.line_arbiter.specs.declared.outcome.Outcome.TheVariants.{Ahead}
-use Rattle.line_gaps.specs.declared.heard_packet.HeardPacket.{HeardPacket}
 use Rattle.line_gaps.specs.Gaps.{far_on, far_that}
 use Rattle.line_gaps.specs.VenueFits.{packet_event}
 use Rattle.line_gaps.proofs.EndLemmas.{venue_keeps}

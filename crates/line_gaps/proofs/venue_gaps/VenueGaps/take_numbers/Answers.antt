@@ -1,5 +1,4 @@
-use Rattle.std.proofs.Common.{◌∷◌, Bool, false, refl, subst, sym, ◌∙◌}
-use Rattle.std.specs.Prelude.{◌&&◌, not}
+use Rattle.std.proofs.Common.{◌∷◌, false, subst, sym}
 use Rattle.line_gaps.specs.declared.lost_numbers.LostNumbers.{LostNumbers}
 use Rattle.line_gaps.specs.Gaps.{is_missing}
 use Rattle.line_gaps.specs.Missing.{FitsLost}

@@ -1,7 +1,6 @@
 use Rattle.std.proofs.Common.{Ok, refl}
 use Rattle.line_arbiter.specs.declared.outcome.Outcome.TheVariants.{Ended, Heartbeat}
 use Rattle.line_gaps.specs.VenueFits.{packet_event}
-use Rattle.line_gaps.proofs.SessionLemmas.{packet_skips_none}
 use Rattle.line_gaps.proofs.VenueLemmas.{fits_but, no_skip}
 use Rattle.line_gaps.proofs.venue_gaps.VenueGaps.take_packet.Goals as goal
 
