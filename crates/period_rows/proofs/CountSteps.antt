@@ -29,7 +29,7 @@ state_is setting events m are =
       periods = ps;
       late = m.periods.late;
     }) are.periods
-    ∙ ap (λ (n : ℕ). record { sequences = told.sequences; periods = told.periods; late = n; })
+    ∙ ap (λ (n : ℕ). record { sequences = told.sequences; periods = told.periods; late = n })
     are.late
 
 text_is : (setting : CountSetting) (events : List TimedEvent) (m : PeriodCounter)

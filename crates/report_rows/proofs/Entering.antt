@@ -4,6 +4,7 @@ use Rattle.std.specs.Prelude.{◌||◌, min, nat_lt, option_to_list, slice_get}
 use Rattle.std.specs.List.{insert}
 use Rattle.std.proofs.Math.Seq.{take-append_seam}
 use Rattle.std.proofs.lemmas.Bool.Decides.{nat_tests}
+use Rattle.std.proofs.lemmas.Option.{slice_get_past, slice_get_within}
 use Rattle.std.proofs.lemmas.List.{take_all}
 use Rattle.std.proofs.lemmas.List.Edits.{insert-append_left, insert_end, length-insert}
 use Rattle.feed_types.specs.FullCounts.{count_after}
@@ -43,6 +44,18 @@ module _ {T : Type 0} (begin : ℕ) where
       ∙ ap (λ (l : List (KeptPeriod T)). is_begun_at begin (slice_get l n)) (sym same)
       ∙ sym told ∙ so
 
+  -- so its place is one of theirs
+  begun_within : (o : Option (KeptPeriod T)) (ps : List (KeptPeriod T)) (n : ℕ)
+      → slice_get ps n ≡ o → is_begun_at begin o ≡ true → n < length ps
+  begun_within None ps n is so = absurd cc
+  begun_within (Some p) ps n is so = slice_get_within ps n p is
+
+  pub kept_within : (ps : List (KeptPeriod T)) (n : ℕ) → n ≡ period_place_of begin ps
+      → is_kept begin ps ≡ true → n < length ps
+  kept_within ps n at there =
+      begun_within (slice_get ps n) ps n refl
+      (ap (λ (k : ℕ). is_begun_at begin (slice_get ps k)) at ∙ there)
+
   late_is : (ps : List (KeptPeriod T)) (n : ℕ) (b : Bool) → n ≡ period_place_of begin ps
       → nat_lt n 16 ≡ b → is_late begin ps ≡ not b
   late_is ps n b at e =
@@ -53,11 +66,6 @@ module _ {T : Type 0} (begin : ℕ) where
   over_is ps late absent e =
       ap (λ (b : Bool). cond (b || is_late begin ps) None (slice_get ps 15)) absent
       ∙ ap (λ (b : Bool). cond b None (slice_get ps 15)) e
-
-  past_end : (ps : List (KeptPeriod T)) (n : ℕ) → length ps ≤ n → slice_get ps n ≡ None
-  past_end [] n few = refl
-  past_end (p ∷ ps) zero few = absurd (omega (arith, few))
-  past_end (p ∷ ps) (suc n) few = past_end ps n (omega (arith, few))
 
 module _ {T : Type 0} (begin : ℕ) (none : T) (old new : KeptPeriods T) (n : ℕ)
     (at : n ≡ period_place_of begin old.kept.items)
@@ -77,11 +85,11 @@ module _ {T : Type 0} (begin : ℕ) (none : T) (old new : KeptPeriods T) (n : �
       ∙ ap (λ (k : ℕ). take 16 (insert old.kept.items k (begun begin none))) (sym at)
 
   -- its period is there
-  pub enters_kept : is_kept begin old.kept.items ≡ true → n < length old.kept.items
-      → length old.kept.items ≤ 16 → new ≡ old
-      → Enters begin none old new (record { place = n; over = None })
-  enters_kept there before fits same =
+  pub enters_kept : is_kept begin old.kept.items ≡ true → length old.kept.items ≤ 16
+      → new ≡ old → Enters begin none old new (record { place = n; over = None })
+  enters_kept there fits same =
       let ps = old.kept.items in
+      let before : n < length ps = kept_within begin ps n at there in
       let not_late : is_late begin ps ≡ false =
       late_is begin ps n true at (is_early n (omega (arith, before, fits))) in
       let items : new.kept.items ≡ ps = ap (λ (k : KeptPeriods T). k.kept.items) same in
@@ -130,7 +138,7 @@ module _ {T : Type 0} (begin : ℕ) (none : T) (old new : KeptPeriods T) (n : �
       record {
         kept = put ∙ sym (entered_is absent ∙ take_all 16 added (omega (arith, len, few)));
         over = sym (over_is begin ps false absent not_late
-            ∙ past_end begin ps 15 (omega (arith, few)));
+            ∙ slice_get_past ps 15 (omega (arith, few)));
         place = min_of_less n less ∙ ap (λ (k : ℕ). min k 15) at;
         within = omega (arith, within, len, ap length put);
         late = late ∙ sym (ap (λ (b : Bool). count_after old.late (cond b 1 0)) not_late);

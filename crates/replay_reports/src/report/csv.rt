@@ -1,5 +1,5 @@
 //! The report as rows of comma-separated values, one for each figure.
-ghost use Rattle.std.specs.Prelude.{◌≡◌, ◌++◌, None, OnOk, codes, length, slice_get};
+ghost use Rattle.std.specs.Prelude.{◌≡◌, ◌++◌, None, OnOk, codes, length, option_map, slice_get};
 ghost use Rattle.report_rows.specs.FirstTexts.{first_texts};
 ghost use Rattle.replay_reports.specs.report.Figures.{figures_shown, shown_figure};
 ghost use Rattle.replay_reports.specs.report.ReportTexts.{csv_busiest, csv_gaps, csv_line, csv_lines, csv_losses, csv_name, csv_of_report, csv_of_venue, csv_own, csv_row, csv_row_of, csv_rows, csv_times, csv_times_if, csv_venue, csv_venue_at};
@@ -105,7 +105,7 @@ fn put_row_at(
 ) -> Result<(), AllocError>
     ensures { OnOk result (text.new.items ≡ text.old.items
         ++ csv_row_of how.style how.venue line.now group.now
-        (slice_get (figures_shown figures.now) place)) }
+        (option_map shown_figure (slice_get figures.now place))) }
 {
     match figures.get(place) {
         Some(figure) => put_row(text, how, line, group, figure),
@@ -114,6 +114,7 @@ fn put_row_at(
 }
 
 /// Appends the rows of figures.
+#[tactic(auto, using(crate::proofs::Putting::length_shown))]
 fn put_rows(
     text: &mut Vec<u8>,
     how: CsvStyle,
@@ -195,7 +196,13 @@ fn put_times(text: &mut Vec<u8>, how: CsvStyle, r: &VenueReport) -> Result<(), A
 {
     put_rows(text, how, "A", "lead_", &duration_figures(&r.a_first))?;
     put_rows(text, how, "B", "lead_", &duration_figures(&r.b_first))?;
-    put_rows(text, how, "", "last_packet_", &packet_figures(&r.last_packets))
+    put_rows(
+        text,
+        how,
+        "",
+        "last_packet_",
+        &packet_figures(&r.last_packets),
+    )
 }
 
 /// Appends these, where the records have times.

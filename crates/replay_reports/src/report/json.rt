@@ -1,5 +1,5 @@
 //! The report as a JSON object.
-ghost use Rattle.std.specs.Prelude.{◌≡◌, ◌++◌, OnOk, codes, decimal, slice_get};
+ghost use Rattle.std.specs.Prelude.{◌≡◌, ◌++◌, OnOk, codes, decimal, option_map, slice_get};
 ghost use Rattle.report_rows.specs.RowTexts.{comma_at};
 ghost use Rattle.replay_reports.specs.report.Figures.{figures_shown, shown_figure};
 ghost use Rattle.replay_reports.specs.report.ReportTexts.{json_all_losses, json_all_times, json_counts, json_figure_at, json_figures, json_gaps, json_in_time, json_line_of, json_lines, json_losses, json_object, json_of_figure, json_of_report, json_of_venues, json_open, json_own, json_part, json_times, json_venue, json_venue_at};
@@ -68,7 +68,8 @@ fn put_figure_at(
     place: usize,
 ) -> Result<(), AllocError>
     ensures { OnOk result (text.new.items ≡ text.old.items
-        ++ json_figure_at how.style place (slice_get (figures_shown figures.now) place)) }
+        ++ json_figure_at how.style place
+        (option_map shown_figure (slice_get figures.now place))) }
 {
     match figures.get(place) {
         Some(figure) => {
@@ -80,6 +81,7 @@ fn put_figure_at(
 }
 
 /// Appends figures as members.
+#[tactic(auto, using(crate::proofs::Putting::length_shown))]
 fn put_figures(text: &mut Vec<u8>, how: JsonStyle, figures: &[Figure]) -> Result<(), AllocError>
     ensures { OnOk result (text.new.items
         ≡ text.old.items ++ json_figures how.style (figures_shown figures.now)) }
@@ -195,7 +197,13 @@ fn put_times(text: &mut Vec<u8>, how: JsonStyle, r: &VenueReport) -> Result<(), 
 {
     put_object(text, how, ",", "a_first", &duration_figures(&r.a_first))?;
     put_object(text, how, ",", "b_first", &duration_figures(&r.b_first))?;
-    put_object(text, how, ",", "last_packets", &packet_figures(&r.last_packets))
+    put_object(
+        text,
+        how,
+        ",",
+        "last_packets",
+        &packet_figures(&r.last_packets),
+    )
 }
 
 /// Appends a part of a venue's figures.

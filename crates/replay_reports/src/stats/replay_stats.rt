@@ -22,8 +22,10 @@ use report_rows::SpannedSink;
 use run_settings::{ReportFormat, TimeStyle};
 use std::alloc::{AllocError, Global};
 
-/// The lengths of the periods of which the busiest are found, in nanoseconds.
+/// A second in nanoseconds.
 const SECOND: u64 = 1_000_000_000;
+
+/// A millisecond in nanoseconds.
 const MILLISECOND: u64 = 1_000_000;
 
 /// The statistics of a replay. As a sink of events it writes nothing, and no call of it fails.
@@ -213,11 +215,7 @@ fn table_text(alloc: Global, style: TimeStyle, report: &Report) -> Result<Vec<u8
 }
 
 /// Returns a report as a text in the format. Fails where memory is refused.
-fn report_text(
-    alloc: Global,
-    format: ReportFormat,
-    report: &Report,
-) -> Result<Vec<u8>, AllocError>
+fn report_text(alloc: Global, format: ReportFormat, report: &Report) -> Result<Vec<u8>, AllocError>
     ensures { IfOk result (λ text. IsReportText format report.now text.items) }
 {
     match format {

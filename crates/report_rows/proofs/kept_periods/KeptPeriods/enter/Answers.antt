@@ -20,4 +20,6 @@ returns-then-is_at g c =
     c.place_of-place.ensures.place ∙ ap (period_place_of begin) c.as_slice.ensures.value in
     let there = kept_at begin ps c.as_slice-2.result.now n c.is_at.result place
     c.as_slice-2.ensures.value c.is_at.ensures c.if-is_at.true in
-    enters_kept begin c.args.none.now c.args.self.now c.args.self.now n place there ? ? refl
+    enters_kept begin c.args.none.now c.args.self.now c.args.self.now n place
+    (omega (arith, c.place_of-place.ensures.within, ap length c.as_slice.ensures.value)) there
+    (omega (arith, c.as_slice.ensures.fits, ap length c.as_slice.ensures.value)) refl
