@@ -71,7 +71,7 @@ module _ {T : Type 0} (begin : ℕ) (none : T) (old new : KeptPeriods T) (n : �
     (at : n ≡ period_place_of begin old.kept.items)
     (within : n ≤ length old.kept.items) where
   -- with the new one
-  added : List (KeptPeriod T)
+  abbrev pub added : List (KeptPeriod T)
   added = insert old.kept.items n (begun begin none)
 
   longer : length added ≡ length old.kept.items + 1

@@ -100,6 +100,10 @@ abbrev pub csv_venue_at : TimeStyle → Bool → ℕ → Option VenueReport → 
 csv_venue_at style has_times place None = []
 csv_venue_at style has_times place (Some r) = csv_of_venue style has_times (Some place) r
 
+abbrev pub csv_of_venues : TimeStyle → Bool → List VenueReport → List ℕ
+csv_of_venues style has_times vs =
+    first_texts (λ place. csv_venue_at style has_times place (slice_get vs place)) (length vs)
+
 abbrev pub csv_busiest : Bool → TimeStyle → Report → List ℕ
 csv_busiest false style r = []
 csv_busiest true style r = csv_rows style None [] [] (busiest_figures r.second r.millisecond)
@@ -108,8 +112,7 @@ csv_busiest true style r = csv_rows style None [] [] (busiest_figures r.second r
 abbrev pub csv_of_report : TimeStyle → Report → List ℕ
 csv_of_report style r =
     codes "venue,line,figure,value\n"
-    ++ (first_texts (λ place.
-    csv_venue_at style r.has_times place (slice_get r.venues.items place)) (length r.venues.items)
+    ++ (csv_of_venues style r.has_times r.venues.items
     ++ (csv_rows style None [] (codes "changes_") (state_figures r.states)
     ++ csv_busiest r.has_times style r))
 

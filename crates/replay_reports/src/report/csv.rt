@@ -1,8 +1,7 @@
 //! The report as rows of comma-separated values, one for each figure.
-ghost use Rattle.std.specs.Prelude.{◌≡◌, ◌++◌, None, OnOk, codes, length, option_map, slice_get};
-ghost use Rattle.report_rows.specs.FirstTexts.{first_texts};
+ghost use Rattle.std.specs.Prelude.{◌≡◌, ◌++◌, None, OnOk, Some, codes, option_map, slice_get};
 ghost use Rattle.replay_reports.specs.report.Figures.{figures_shown, shown_figure};
-ghost use Rattle.replay_reports.specs.report.ReportTexts.{csv_busiest, csv_gaps, csv_line, csv_lines, csv_losses, csv_name, csv_of_report, csv_of_venue, csv_own, csv_row, csv_row_of, csv_rows, csv_times, csv_times_if, csv_venue, csv_venue_at};
+ghost use Rattle.replay_reports.specs.report.ReportTexts.{csv_busiest, csv_gaps, csv_line, csv_lines, csv_losses, csv_name, csv_of_report, csv_of_venue, csv_of_venues, csv_own, csv_row, csv_row_of, csv_rows, csv_times, csv_times_if, csv_venue, csv_venue_at};
 
 use crate::counts::line_counts::LineCounts;
 use crate::report::figure::Figure;
@@ -23,6 +22,19 @@ struct CsvStyle {
     alloc: Global,
     style: TimeStyle,
     venue: Option<u64>,
+}
+
+impl CsvStyle {
+    /// The same of a venue.
+    fn of_venue(self, venue: u64) -> CsvStyle
+        ensures { result ≡ record self { venue = Some venue } }
+    {
+        CsvStyle {
+            alloc: self.alloc,
+            style: self.style,
+            venue: Some(venue),
+        }
+    }
 }
 
 /// Appends a text.
@@ -240,40 +252,33 @@ fn put_venue(
 
 /// Appends the rows of the venue at a place, if there is one.
 fn put_venue_at(
-    alloc: Global,
     text: &mut Vec<u8>,
-    style: TimeStyle,
-    report: &Report,
+    how: CsvStyle,
+    has_times: bool,
+    venues: &[VenueReport],
     place: usize,
 ) -> Result<(), AllocError>
     ensures { OnOk result (text.new.items ≡ text.old.items
-        ++ csv_venue_at style report.now.has_times place
-        (slice_get report.now.venues.items place)) }
+        ++ csv_venue_at how.style has_times place (slice_get venues.now place)) }
 {
-    let how = CsvStyle {
-        alloc,
-        style,
-        venue: Some(place as u64),
-    };
-    match report.venues.get(place) {
-        Some(venue) => put_venue(text, how, report.has_times, venue),
+    match venues.get(place) {
+        Some(venue) => put_venue(text, how.of_venue(place as u64), has_times, venue),
         None => Ok(()),
     }
 }
 
 /// Appends the rows of all venues.
 fn put_venues(
-    alloc: Global,
     text: &mut Vec<u8>,
-    style: TimeStyle,
-    report: &Report,
+    how: CsvStyle,
+    has_times: bool,
+    venues: &[VenueReport],
 ) -> Result<(), AllocError>
-    ensures { OnOk result (text.new.items ≡ text.old.items
-        ++ first_texts (λ place. csv_venue_at style report.now.has_times place
-        (slice_get report.now.venues.items place)) (length report.now.venues.items)) }
+    ensures { OnOk result (text.new.items
+        ≡ text.old.items ++ csv_of_venues how.style has_times venues.now) }
 {
-    for place in 0..report.venues.len() {
-        put_venue_at(alloc, text, style, report, place)?;
+    for place in 0..venues.len() {
+        put_venue_at(text, how, has_times, venues, place)?;
     }
     Ok(())
 }
@@ -311,7 +316,7 @@ pub(crate) fn put_csv(
         venue: None,
     };
     put(text, "venue,line,figure,value\n")?;
-    put_venues(alloc, text, style, report)?;
+    put_venues(text, how, report.has_times, report.venues.as_slice())?;
     put_rows(text, how, "", "changes_", &state_figures(&report.states))?;
     put_busiest(text, how, report)
 }

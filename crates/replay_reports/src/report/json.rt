@@ -26,7 +26,7 @@ struct JsonStyle {
 
 /// Which objects of venues are in a list.
 #[derive(Clone, Copy)]
-enum VenuePart {
+pub(crate) enum VenuePart {
     Counts,
     Losses,
     Times,

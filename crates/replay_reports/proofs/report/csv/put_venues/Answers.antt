@@ -5,8 +5,7 @@ use Rattle.replay_reports.proofs.report.csv.put_venues.Goals as goal
 
 pub loop-place-preserved : goal.loop-place-preserved
 loop-place-preserved c =
-    let r = c.args.report.now in
-    next_put (λ place. csv_venue_at c.args.style r.has_times place
-    (slice_get r.venues.items place)) c.loop-place.place c.args.text.now.items
+    next_put (λ place. csv_venue_at c.args.how.style c.args.has_times place
+    (slice_get c.args.venues.now place)) c.loop-place.place c.args.text.now.items
     c.loop-place.text.items c.put_venue_at.new.text.items c.loop-place.invariant
     c.in_ok-put_venue_at.ensures

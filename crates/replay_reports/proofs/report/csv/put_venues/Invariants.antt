@@ -6,5 +6,5 @@ use Rattle.replay_reports.proofs.report.csv.put_venues.Given as goal
 
 abbrev pub invariant-loop-place : goal.invariant-loop-place
 invariant-loop-place l = l.text.items ≡ l.fn.text.items
-    ++ first_texts (λ place. csv_venue_at l.style l.report.has_times place
-    (slice_get l.report.venues.items place)) l.place
+    ++ first_texts (λ place. csv_venue_at l.how.style l.has_times place
+    (slice_get l.venues place)) l.place
