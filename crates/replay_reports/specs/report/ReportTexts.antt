@@ -45,7 +45,7 @@ abbrev pub csv_row_of : TimeStyle → Option ℕ → List ℕ → List ℕ → O
 csv_row_of style venue line group None = []
 csv_row_of style venue line group (Some f) = csv_row style venue line group f
 
-abbrev pub csv_rows : TimeStyle → Option ℕ → List ℕ → List ℕ → List ShownFigure → List ℕ
+unfoldable pub csv_rows : TimeStyle → Option ℕ → List ℕ → List ℕ → List ShownFigure → List ℕ
 csv_rows style venue line group fs =
     first_texts (λ place. csv_row_of style venue line group (slice_get fs place)) (length fs)
 
@@ -100,7 +100,7 @@ abbrev pub csv_venue_at : TimeStyle → Bool → ℕ → Option VenueReport → 
 csv_venue_at style has_times place None = []
 csv_venue_at style has_times place (Some r) = csv_of_venue style has_times (Some place) r
 
-abbrev pub csv_of_venues : TimeStyle → Bool → List VenueReport → List ℕ
+unfoldable pub csv_of_venues : TimeStyle → Bool → List VenueReport → List ℕ
 csv_of_venues style has_times vs =
     first_texts (λ place. csv_venue_at style has_times place (slice_get vs place)) (length vs)
 
@@ -137,7 +137,7 @@ json_figure_at style place None = []
 json_figure_at style place (Some f) = comma_at place ++ json_of_figure style f
 
 -- members with commas between them
-abbrev pub json_figures : TimeStyle → List ShownFigure → List ℕ
+unfoldable pub json_figures : TimeStyle → List ShownFigure → List ℕ
 json_figures style fs =
     first_texts (λ place. json_figure_at style place (slice_get fs place)) (length fs)
 
@@ -206,7 +206,7 @@ json_venue_at text place None = []
 json_venue_at text place (Some r) =
     comma_at place ++ (codes "{\"venue\":" ++ (decimal place ++ (text r ++ codes "}")))
 
-abbrev pub json_of_venues : (VenueReport → List ℕ) → List VenueReport → List ℕ
+unfoldable pub json_of_venues : (VenueReport → List ℕ) → List VenueReport → List ℕ
 json_of_venues text vs =
     first_texts (λ place. json_venue_at text place (slice_get vs place)) (length vs)
 

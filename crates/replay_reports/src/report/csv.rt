@@ -126,7 +126,7 @@ fn put_row_at(
 }
 
 /// Appends the rows of figures.
-#[tactic(auto, using(crate::proofs::Putting::length_shown))]
+#[tactic(auto, using(crate::proofs::Putting::length_shown), unfolding(crate::specs::report::ReportTexts::csv_rows))]
 fn put_rows(
     text: &mut Vec<u8>,
     how: CsvStyle,
@@ -268,6 +268,7 @@ fn put_venue_at(
 }
 
 /// Appends the rows of all venues.
+#[tactic(auto, unfolding(crate::specs::report::ReportTexts::csv_of_venues))]
 fn put_venues(
     text: &mut Vec<u8>,
     how: CsvStyle,

@@ -81,7 +81,7 @@ fn put_figure_at(
 }
 
 /// Appends figures as members.
-#[tactic(auto, using(crate::proofs::Putting::length_shown))]
+#[tactic(auto, using(crate::proofs::Putting::length_shown), unfolding(crate::specs::report::ReportTexts::json_figures))]
 fn put_figures(text: &mut Vec<u8>, how: JsonStyle, figures: &[Figure]) -> Result<(), AllocError>
     ensures { OnOk result (text.new.items
         ≡ text.old.items ++ json_figures how.style (figures_shown figures.now)) }
@@ -260,6 +260,7 @@ fn put_venue_at(
 }
 
 /// Appends the objects of all venues.
+#[tactic(auto, unfolding(crate::specs::report::ReportTexts::json_of_venues))]
 fn put_venues(
     text: &mut Vec<u8>,
     how: JsonStyle,

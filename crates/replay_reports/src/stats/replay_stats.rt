@@ -249,7 +249,8 @@ impl ReplayStats {
         ensures { IfOk result (λ text. ShowsStats format self.now text.items) }
     {
         let report = self.report(alloc)?;
-        report_text(alloc, format, &report)
+        let text = report_text(alloc, format, &report)?;
+        Ok(text)
     }
 }
 
