@@ -37,17 +37,17 @@ abbrev pub csv_name : Option ℕ → List ℕ → List ℕ → List ℕ → List
 csv_name venue line group name =
     (csv_venue venue ++ (codes "," ++ (line ++ codes ","))) ++ (group ++ (name ++ codes ","))
 
-abbrev pub csv_row : TimeStyle → Option ℕ → List ℕ → List ℕ → ShownFigure → List ℕ
-csv_row style venue line group f =
+abbrev pub csv_figure : TimeStyle → Option ℕ → List ℕ → List ℕ → ShownFigure → List ℕ
+csv_figure style venue line group f =
     csv_name venue line group f.name ++ (value_text style [] f.value ++ codes "\n")
 
-abbrev pub csv_row_of : TimeStyle → Option ℕ → List ℕ → List ℕ → Option ShownFigure → List ℕ
-csv_row_of style venue line group None = []
-csv_row_of style venue line group (Some f) = csv_row style venue line group f
+abbrev pub csv_figure_of : TimeStyle → Option ℕ → List ℕ → List ℕ → Option ShownFigure → List ℕ
+csv_figure_of style venue line group None = []
+csv_figure_of style venue line group (Some f) = csv_figure style venue line group f
 
 unfoldable pub csv_rows : TimeStyle → Option ℕ → List ℕ → List ℕ → List ShownFigure → List ℕ
 csv_rows style venue line group fs =
-    first_texts (λ place. csv_row_of style venue line group (slice_get fs place)) (length fs)
+    first_texts (λ place. csv_figure_of style venue line group (slice_get fs place)) (length fs)
 
 abbrev pub csv_line : TimeStyle → Option ℕ → List ℕ → LineCounts → List ℕ
 csv_line style venue line counts =

@@ -1,7 +1,7 @@
 //! The report as rows of comma-separated values, one for each figure.
 ghost use Rattle.std.specs.Prelude.{◌≡◌, ◌++◌, None, OnOk, Some, codes, option_map, slice_get};
 ghost use Rattle.replay_reports.specs.report.Figures.{figures_shown, shown_figure};
-ghost use Rattle.replay_reports.specs.report.ReportTexts.{csv_busiest, csv_gaps, csv_line, csv_lines, csv_losses, csv_name, csv_of_report, csv_of_venue, csv_of_venues, csv_own, csv_row, csv_row_of, csv_rows, csv_times, csv_times_if, csv_venue, csv_venue_at};
+ghost use Rattle.replay_reports.specs.report.ReportTexts.{csv_busiest, csv_gaps, csv_line, csv_lines, csv_losses, csv_name, csv_of_report, csv_of_venue, csv_of_venues, csv_own, csv_figure, csv_figure_of, csv_rows, csv_times, csv_times_if, csv_venue, csv_venue_at};
 
 use crate::counts::line_counts::LineCounts;
 use crate::report::figure::Figure;
@@ -99,7 +99,7 @@ fn put_row(
     figure: &Figure,
 ) -> Result<(), AllocError>
     ensures { OnOk result (text.new.items ≡ text.old.items
-        ++ csv_row how.style how.venue line.now group.now (shown_figure figure.now)) }
+        ++ csv_figure how.style how.venue line.now group.now (shown_figure figure.now)) }
 {
     put_head(text, how.venue, line, group, figure.name)?;
     put_value(how.alloc, text, how.style, b"", figure.value)?;
@@ -116,7 +116,7 @@ fn put_row_at(
     place: usize,
 ) -> Result<(), AllocError>
     ensures { OnOk result (text.new.items ≡ text.old.items
-        ++ csv_row_of how.style how.venue line.now group.now
+        ++ csv_figure_of how.style how.venue line.now group.now
         (option_map shown_figure (slice_get figures.now place))) }
 {
     match figures.get(place) {
