@@ -18,8 +18,14 @@ use feed_text::{Event, EventSink, SinkStop};
 use feed_types::VenueId;
 use line_gaps::EndedGaps;
 use report_rows::SpannedSink;
-use run_settings::ReportFormat;
+use run_settings::{ReportFormat, TimeStyle};
 use std::alloc::{AllocError, Global};
+
+/// A second in nanoseconds.
+const SECOND: u64 = 1_000_000_000;
+
+/// A millisecond in nanoseconds.
+const MILLISECOND: u64 = 1_000_000;
 
 /// The statistics of a replay. As a sink of events it writes nothing, and no call of it fails.
 #[derive(Drop)]
@@ -146,8 +152,8 @@ impl ReplayStats {
         Ok(ReplayStats {
             venues: new_venues(alloc, venues, window)?,
             bests: BestCounts::none(),
-            second: BusiestPeriod::new(1_000_000_000),
-            millisecond: BusiestPeriod::new(1_000_000),
+            second: BusiestPeriod::new(),
+            millisecond: BusiestPeriod::new(),
             ended: EndedGaps::new(),
             has_times,
         })
@@ -167,7 +173,8 @@ fn venue_reports(
     venues: &[VenueStats],
     bests: &BestCounts,
 ) -> Result<Vec<VenueReport>, AllocError>
-    ensures { IfOk result (λ reports. (window : ℕ) (events : List TimedEvent)
+    ensures all { IfOk result (λ reports. length reports.items ≡ length venues.now) }
+    ensures right { IfOk result (λ reports. (window : ℕ) (events : List TimedEvent)
         → length venues.now ≤ 16 → AreVenuesOf window events venues.now
         → bests.now ≡ best_counts (untimed events)
         → AreVenueReports window events reports.items) }
@@ -181,12 +188,48 @@ fn venue_reports(
     Ok(reports)
 }
 
+/// Returns a report as comma-separated values. Fails where memory is refused.
+fn csv_text(alloc: Global, style: TimeStyle, report: &Report) -> Result<Vec<u8>, AllocError> {
+    let mut text = Vec::new(alloc);
+    put_csv(alloc, &mut text, style, report)?;
+    Ok(text)
+}
+
+/// Returns a report as a JSON object. Fails where memory is refused.
+fn json_text(alloc: Global, style: TimeStyle, report: &Report) -> Result<Vec<u8>, AllocError> {
+    let mut text = Vec::new(alloc);
+    put_json(alloc, &mut text, style, report)?;
+    Ok(text)
+}
+
+/// Returns a report as a table. Fails where memory is refused.
+fn table_text(alloc: Global, style: TimeStyle, report: &Report) -> Result<Vec<u8>, AllocError> {
+    let mut text = Vec::new(alloc);
+    put_table(alloc, &mut text, style, report)?;
+    Ok(text)
+}
+
+/// Returns a report as a text in the format. Fails where memory is refused.
+fn report_text(
+    alloc: Global,
+    format: ReportFormat,
+    report: &Report,
+) -> Result<Vec<u8>, AllocError> {
+    match format {
+        ReportFormat::Table(style) => table_text(alloc, style, report),
+        ReportFormat::Csv(style) => csv_text(alloc, style, report),
+        ReportFormat::Json(style) => json_text(alloc, style, report),
+    }
+}
+
 impl ReplayStats {
     /// Returns the figures, of 16 venues at most. Fails where memory is refused.
     pub fn report(&self, alloc: Global) -> Result<Report, AllocError>
         ensures report { IfOk result (λ r. (window : ℕ) (events : List TimedEvent)
             → length self.now.venues.items ≤ 16 → AreStatsOf window events self.now
             → IsReport window events r) }
+        ensures all { IfOk result (λ r.
+            length r.venues.items ≡ length self.now.venues.items) }
         ensures has_times { IfOk result (λ r. r.has_times ≡ self.now.has_times) }
     {
         Ok(Report {
@@ -201,12 +244,7 @@ impl ReplayStats {
     /// Returns the figures as a text in the format. Fails where memory is refused.
     pub fn text(&self, alloc: Global, format: ReportFormat) -> Result<Vec<u8>, AllocError> {
         let report = self.report(alloc)?;
-        let mut text = Vec::new(alloc);
-        match format {
-            ReportFormat::Table(style) => put_table(alloc, &mut text, style, &report)?,
-            ReportFormat::Csv(style) => put_csv(alloc, &mut text, style, &report)?,
-            ReportFormat::Json(style) => put_json(alloc, &mut text, style, &report)?,
-        }
+        let text = report_text(alloc, format, &report)?;
         Ok(text)
     }
 }
@@ -234,8 +272,8 @@ impl EventSink for ReplayStats {
         take_at(&mut self.venues, &mut self.ended, time, event);
         count_best(&mut self.bests, event);
         let messages = datagram_messages(event);
-        self.second.add(time, messages);
-        self.millisecond.add(time, messages);
+        self.second.add(SECOND, time, messages);
+        self.millisecond.add(MILLISECOND, time, messages);
         Ok(())
     }
 
