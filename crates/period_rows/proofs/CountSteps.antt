@@ -8,7 +8,7 @@ use Rattle.feed_text.specs.SinkEvents.{SinkEvent, TimedEvent}
 use Rattle.feed_text.specs.TextPages.{FailsPage, TakesPage}
 use Rattle.feed_text.specs.declared.text_page.TextPage.{TextPage}
 use Rattle.run_settings.specs.declared.period_style.PeriodStyle.{PeriodStyle}
-use Rattle.report_rows.specs.PeriodLists.{entered, period_place_of}
+use Rattle.report_rows.specs.PeriodLists.{entered, entered_place}
 use Rattle.report_rows.specs.RowSinks.{FailsMaking, Makes}
 use Rattle.period_rows.specs.CountRows.{ArePeriodCounts, CountSetting, IsCounted, MakesCounts, TellsCounts, count_rows_with, made_text, count_state_of, text_by}
 use Rattle.period_rows.specs.CountStates.{CountPeriod, CountState, counted_begin, counted_period, no_lines, state_after, state_told}
@@ -18,12 +18,19 @@ use Rattle.period_rows.specs.declared.line_sequence.LineSequence.{LineSequence}
 state_is : (setting : CountSetting) (events : List TimedEvent) (m : PeriodCounter)
     → ArePeriodCounts setting events m → count_state_of m ≡ state_told setting.style.length events
 state_is setting events m are =
-    ap (λ (ss : List LineSequence). record { sequences = ss; periods = m.periods.kept.items })
-    are.sequences
+    let told = state_told setting.style.length events in
+    ap (λ (ss : List LineSequence). record {
+      sequences = ss;
+      periods = m.periods.kept.items;
+      late = m.periods.late;
+    }) are.sequences
     ∙ ap (λ (ps : List CountPeriod). record {
-      sequences = (state_told setting.style.length events).sequences;
+      sequences = told.sequences;
       periods = ps;
+      late = m.periods.late;
     }) are.periods
+    ∙ ap (λ (n : ℕ). record { sequences = told.sequences; periods = told.periods; late = n })
+    are.late
 
 text_is : (setting : CountSetting) (events : List TimedEvent) (m : PeriodCounter)
     (e : TimedEvent) → ArePeriodCounts setting events m
@@ -55,6 +62,7 @@ makes_counts old new e is = record {
         lines = is.lines ∙ are.lines;
         sequences = is.sequences ∙ ap (λ (s : CountState). s.sequences) next;
         periods = is.periods ∙ ap (λ (s : CountState). s.periods) next;
+        late = is.late ∙ ap (λ (s : CountState). s.late) next;
       };
 }
 
@@ -97,7 +105,7 @@ refill_whole {X} xs ws same =
 
 -- a datagram counts in its period
 pub counts_begin : (begin place : ℕ) (ss : List LineSequence) (ps kept lent now : List CountPeriod)
-    (event : SinkEvent) → kept ≡ entered begin no_lines ps → place ≡ period_place_of begin kept
+    (event : SinkEvent) → kept ≡ entered begin no_lines ps → place ≡ entered_place begin ps
     → lent ≡ kept → now ≡ counted_period lent place ss event
     → refill (length kept) kept now ≡ counted_begin begin ss ps event
 counts_begin begin place ss ps kept lent now event is at same counts =
@@ -106,4 +114,4 @@ counts_begin begin place ss ps kept lent now event is at same counts =
     let size : length now ≡ length kept = ap length all ∙ length-set kept place _ in
     refill_whole kept now size ∙ all
     ∙ ap (λ (n : ℕ). counted_period kept n ss event) at
-    ∙ ap (λ (l : List CountPeriod). counted_period l (period_place_of begin l) ss event) is
+    ∙ ap (λ (l : List CountPeriod). counted_period l (entered_place begin ps) ss event) is

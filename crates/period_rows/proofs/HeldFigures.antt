@@ -8,7 +8,8 @@ use Rattle.report_rows.specs.FirstTexts.{first_texts}
 use Rattle.period_rows.specs.BestHolding.{AddsStanding, AreBestsHeld, AreNone, IsBestHeld, IsBestSettled}
 use Rattle.period_rows.specs.BestRows.{best_row, mean_by, most_spread, most_time, share_of, shares_by, symbol_rows, best_venue_row}
 use Rattle.period_rows.specs.BestTimes.{figures_row, figures_shares, figures_text, settled_row, settled_shares, settled_text}
-use Rattle.period_rows.specs.Bests.{bids, in_state, is_crossed_best, is_locked_best, is_normal_best, offers, spread_of}
+use Rattle.report_rows.specs.EventFigures.{is_crossed, is_locked, is_normal}
+use Rattle.period_rows.specs.Bests.{bids, in_state, offers, spread_of}
 use Rattle.period_rows.specs.declared.best_figures.BestFigures.{BestFigures}
 use Rattle.period_rows.specs.declared.best_shares.BestShares.{BestShares}
 use Rattle.period_rows.specs.declared.best_times.PeriodOver.{PeriodOver}
@@ -130,9 +131,9 @@ module _ (sum : (National → ℕ) → ℕ) where
       λ weight most kept is. held_as weight most kept best from from 0 (sum weight)
       (sym (none weight)) (held_none weight most kept best from is) in
       record {
-        normal = zero_of (in_state is_normal_best) most_time f.normal normal;
-        locked = zero_of (in_state is_locked_best) most_time f.locked locked;
-        crossed = zero_of (in_state is_crossed_best) most_time f.crossed crossed;
+        normal = zero_of (in_state is_normal) most_time f.normal normal;
+        locked = zero_of (in_state is_locked) most_time f.locked locked;
+        crossed = zero_of (in_state is_crossed) most_time f.crossed crossed;
         spread = zero_of spread_of most_spread f.spread spread;
         bids_are = λ venue. zero_of (bids venue) most_time (slice_index_or f.bids venue 0)
             (bids_none venue);
@@ -175,9 +176,9 @@ module _ (sum : (National → ℕ) → ℕ) where
       → ((weight : National → ℕ) → sum weight ≡ other weight) → AreBestsHeld f best since at sum
       → AreBestsHeld f best since at other
   all_as other f best since at same held = record {
-    normal = held_as _ _ _ best since at _ _ (same (in_state is_normal_best)) held.normal;
-    locked = held_as _ _ _ best since at _ _ (same (in_state is_locked_best)) held.locked;
-    crossed = held_as _ _ _ best since at _ _ (same (in_state is_crossed_best)) held.crossed;
+    normal = held_as _ _ _ best since at _ _ (same (in_state is_normal)) held.normal;
+    locked = held_as _ _ _ best since at _ _ (same (in_state is_locked)) held.locked;
+    crossed = held_as _ _ _ best since at _ _ (same (in_state is_crossed)) held.crossed;
     spread = held_as _ _ _ best since at _ _ (same spread_of) held.spread;
     bids_are = λ venue. held_as (bids venue) _ _ best since at _ _ (same (bids venue))
         (held.bids_are venue);
@@ -264,22 +265,22 @@ shares_settled : (length_ns at end venue : ℕ) (t : SymbolTimes) (sum all : (Na
     → settled_shares length_ns end venue t ≡ shares_by length_ns venue all
 shares_settled length_ns at end venue t sum all on held is =
     let settled = sum_settled t.best t.since at end on in
-    let normal = settled (in_state is_normal_best) t.figures.normal (sum (in_state is_normal_best))
-    (all (in_state is_normal_best)) held.normal (is (in_state is_normal_best)) in
+    let normal = settled (in_state is_normal) t.figures.normal (sum (in_state is_normal))
+    (all (in_state is_normal)) held.normal (is (in_state is_normal)) in
     shares_as (settled_shares length_ns end venue t) (shares_by length_ns venue all)
     (ap (share_of length_ns) (settled (bids venue) _ (sum (bids venue)) (all (bids venue))
     (held.bids_are venue) (is (bids venue))))
     (ap (share_of length_ns) (settled (offers venue) _ (sum (offers venue)) (all (offers venue))
     (held.offers_are venue) (is (offers venue))))
     (ap (share_of length_ns) normal)
-    (ap (share_of length_ns) (settled (in_state is_locked_best) t.figures.locked
-    (sum (in_state is_locked_best)) (all (in_state is_locked_best)) held.locked (is
-    (in_state is_locked_best))))
-    (ap (share_of length_ns) (settled (in_state is_crossed_best) t.figures.crossed
-    (sum (in_state is_crossed_best)) (all (in_state is_crossed_best)) held.crossed
-    (is (in_state is_crossed_best))))
+    (ap (share_of length_ns) (settled (in_state is_locked) t.figures.locked
+    (sum (in_state is_locked)) (all (in_state is_locked)) held.locked (is
+    (in_state is_locked))))
+    (ap (share_of length_ns) (settled (in_state is_crossed) t.figures.crossed
+    (sum (in_state is_crossed)) (all (in_state is_crossed)) held.crossed
+    (is (in_state is_crossed))))
     (ap (λ (n : ℕ). mean_by n (count_after t.figures.normal
-    (in_state is_normal_best t.best * (end - t.since))))
+    (in_state is_normal t.best * (end - t.since))))
     (spread_settled t.best t.since at end on t.figures.spread (sum spread_of) (all spread_of)
     held.spread (is spread_of))
     ∙ ap (mean_by (min (all spread_of) most_spread)) normal)

@@ -6,7 +6,8 @@ use Rattle.feed_types.specs.Symbols.{key_of}
 use Rattle.feed_types.specs.declared.national.National.{National}
 use Rattle.feed_text.specs.SinkEvents.{SinkEvent, TimedEvent, told_before, told_best}
 use Rattle.period_rows.specs.BestRows.{most_spread, most_time}
-use Rattle.period_rows.specs.Bests.{begin_told, best_told, bids, clock_told, in_state, is_crossed_best, is_locked_best, is_normal_best, no_best, offers, spread_of, stood}
+use Rattle.report_rows.specs.EventFigures.{is_crossed, is_locked, is_normal}
+use Rattle.period_rows.specs.Bests.{begin_told, best_told, bids, clock_told, in_state, no_best, offers, spread_of, stood}
 use Rattle.period_rows.specs.declared.best_table.BestTable.{BestTable}
 use Rattle.period_rows.specs.declared.best_figures.BestFigures.{BestFigures}
 use Rattle.period_rows.specs.declared.symbol_times.SymbolTimes.{SymbolTimes}
@@ -23,12 +24,12 @@ pub record IsBestHeld (weight : National → ℕ) (most kept : ℕ) (best : Nati
 pub record AreBestsHeld (f : BestFigures) (best : National) (since at : ℕ)
     (sum : (National → ℕ) → ℕ)
     : Type 0 where
-  pub normal : IsBestHeld (in_state is_normal_best) most_time f.normal best since at
-      (sum (in_state is_normal_best))
-  pub locked : IsBestHeld (in_state is_locked_best) most_time f.locked best since at
-      (sum (in_state is_locked_best))
-  pub crossed : IsBestHeld (in_state is_crossed_best) most_time f.crossed best since at
-      (sum (in_state is_crossed_best))
+  pub normal : IsBestHeld (in_state is_normal) most_time f.normal best since at
+      (sum (in_state is_normal))
+  pub locked : IsBestHeld (in_state is_locked) most_time f.locked best since at
+      (sum (in_state is_locked))
+  pub crossed : IsBestHeld (in_state is_crossed) most_time f.crossed best since at
+      (sum (in_state is_crossed))
   pub spread : IsBestHeld spread_of most_spread f.spread best since at (sum spread_of)
   pub bids_are : (venue : ℕ) → IsBestHeld (bids venue) most_time (slice_index_or f.bids venue 0)
       best since at (sum (bids venue))
@@ -38,9 +39,9 @@ pub record AreBestsHeld (f : BestFigures) (best : National) (since at : ℕ)
 
 -- a best stood so long more
 pub record AddsStanding (best : National) (took : ℕ) (old new : BestFigures) : Type 0 where
-  pub normal : new.normal ≡ count_after old.normal (in_state is_normal_best best * took)
-  pub locked : new.locked ≡ count_after old.locked (in_state is_locked_best best * took)
-  pub crossed : new.crossed ≡ count_after old.crossed (in_state is_crossed_best best * took)
+  pub normal : new.normal ≡ count_after old.normal (in_state is_normal best * took)
+  pub locked : new.locked ≡ count_after old.locked (in_state is_locked best * took)
+  pub crossed : new.crossed ≡ count_after old.crossed (in_state is_crossed best * took)
   pub spread : new.spread ≡ min (old.spread + spread_of best * took) most_spread
   pub bids_are : (venue : ℕ) → slice_index_or new.bids venue 0
       ≡ count_after (slice_index_or old.bids venue 0) (bids venue best * took)

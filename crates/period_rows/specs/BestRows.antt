@@ -12,7 +12,8 @@ use Rattle.report_rows.specs.RowHistories.{rows_told}
 use Rattle.report_rows.specs.RowTexts.{CellValue, count, header_text, name, nothing, row_text, seconds, time}
 use Rattle.report_rows.specs.SpanEvents.{ends_all}
 use Rattle.period_rows.specs.declared.best_shares.BestShares.{BestShares}
-use Rattle.period_rows.specs.Bests.{begin_told, bids, in_state, is_crossed_best, is_locked_best, is_normal_best, offers, spread_of, stood}
+use Rattle.report_rows.specs.EventFigures.{is_crossed, is_locked, is_normal}
+use Rattle.period_rows.specs.Bests.{begin_told, bids, in_state, offers, spread_of, stood}
 
 -- ---- the figures of a row
 
@@ -39,11 +40,11 @@ shares_by length venue sum =
     record {
       bid = share (bids venue);
       offer = share (offers venue);
-      normal = share (in_state is_normal_best);
-      locked = share (in_state is_locked_best);
-      crossed = share (in_state is_crossed_best);
+      normal = share (in_state is_normal);
+      locked = share (in_state is_locked);
+      crossed = share (in_state is_crossed);
       spread = mean_by (min (sum spread_of) most_spread)
-          (min (sum (in_state is_normal_best)) most_time);
+          (min (sum (in_state is_normal)) most_time);
     }
 
 -- none stood

@@ -3,7 +3,8 @@ use Rattle.std.specs.Prelude.{ℕ, ◌+◌, ◌-◌, ◌*◌, List, [], length, 
 use Rattle.feed_types.specs.FullCounts.{count_after}
 use Rattle.report_rows.specs.FirstTexts.{first_texts}
 use Rattle.period_rows.specs.BestRows.{best_row, mean_by, most_spread, share_of}
-use Rattle.period_rows.specs.Bests.{bids, in_state, is_crossed_best, is_locked_best, is_normal_best, no_best, offers, spread_of}
+use Rattle.report_rows.specs.EventFigures.{is_crossed, is_locked, is_normal}
+use Rattle.period_rows.specs.Bests.{bids, in_state, no_best, offers, spread_of}
 use Rattle.period_rows.specs.declared.best_figures.BestFigures.{BestFigures}
 use Rattle.period_rows.specs.declared.best_shares.BestShares.{BestShares}
 use Rattle.period_rows.specs.declared.best_times.PeriodOver.{PeriodOver}
@@ -30,7 +31,7 @@ figures_text over symbol f = first_texts (figures_row over symbol f) over.venues
 abbrev pub settled_shares : ℕ → ℕ → ℕ → SymbolTimes → BestShares
 settled_shares length end venue t =
     let took = end - t.since in
-    let normal = count_after t.figures.normal (in_state is_normal_best t.best * took) in
+    let normal = count_after t.figures.normal (in_state is_normal t.best * took) in
     record {
       bid = share_of length (count_after (slice_index_or t.figures.bids venue 0)
           (bids venue t.best * took));
@@ -38,9 +39,9 @@ settled_shares length end venue t =
           (offers venue t.best * took));
       normal = share_of length normal;
       locked = share_of length (count_after t.figures.locked
-          (in_state is_locked_best t.best * took));
+          (in_state is_locked t.best * took));
       crossed = share_of length
-          (count_after t.figures.crossed (in_state is_crossed_best t.best * took));
+          (count_after t.figures.crossed (in_state is_crossed t.best * took));
       spread = mean_by (min (t.figures.spread + spread_of t.best * took) most_spread) normal;
     }
 

@@ -6,8 +6,8 @@ use Rattle.feed_types.specs.Symbols.{key_of}
 use Rattle.feed_types.specs.declared.national.Best.{Best}
 use Rattle.feed_types.specs.declared.national.National.{National}
 use Rattle.feed_types.specs.declared.national.NationalState.{NationalState}
-use Rattle.feed_types.specs.declared.national.NationalState.TheVariants.{Normal, Locked, Crossed}
 use Rattle.feed_text.specs.SinkEvents.{SinkEvent, TimedEvent, told_before, told_best, told_last}
+use Rattle.report_rows.specs.EventFigures.{is_best_of}
 use Rattle.period_rows.specs.Periods.{period_begin}
 
 -- ---- the national best of a symbol
@@ -34,28 +34,12 @@ abbrev pub one_if : Bool → ℕ
 one_if true = 1
 one_if false = 0
 
-abbrev pub is_of : ℕ → Option Best → Bool
-is_of venue None = false
-is_of venue (Some best) = nat_eq best.venue venue
-
 -- the best bid is this venue's, the first of those that are tied
 abbrev pub bids : ℕ → National → ℕ
-bids venue best = one_if (is_of venue best.bid)
+bids venue best = one_if (is_best_of venue best.bid)
 
 abbrev pub offers : ℕ → National → ℕ
-offers venue best = one_if (is_of venue best.offer)
-
-abbrev pub is_normal_best : NationalState → Bool
-is_normal_best Normal = true
-is_normal_best _ = false
-
-abbrev pub is_locked_best : NationalState → Bool
-is_locked_best Locked = true
-is_locked_best _ = false
-
-abbrev pub is_crossed_best : NationalState → Bool
-is_crossed_best Crossed = true
-is_crossed_best _ = false
+offers venue best = one_if (is_best_of venue best.offer)
 
 abbrev pub in_state : (NationalState → Bool) → National → ℕ
 in_state is best = one_if (is (state_of best))

@@ -1,5 +1,5 @@
 -- The rows of what lines brought in periods of the clock.
-use Rattle.std.specs.Prelude.{◌≡◌, ℕ, ◌/◌, ◌%◌, ◌==◌, List, [], ◌∷◌, ◌++◌, codes, length, Option, None, Some, slice_index_or, if◌then◌else◌}
+use Rattle.std.specs.Prelude.{◌≡◌, ℕ, ◌-◌, ◌/◌, ◌%◌, ◌==◌, List, [], ◌∷◌, ◌++◌, codes, length, Option, None, Some, slice_index_or, if◌then◌else◌}
 use Rattle.feed_text.specs.SinkEvents.{TimedEvent}
 use Rattle.run_settings.specs.declared.formats.RowFormat.{RowFormat}
 use Rattle.run_settings.specs.declared.formats.RowFormat.TheVariants.{Csv, Json}
@@ -56,8 +56,10 @@ abbrev pub over_text : RowFormat → ℕ → Option CountPeriod → List ℕ
 over_text format lines None = []
 over_text format lines (Some period) = period_text format lines period
 
+-- those of the period at a place, from the earliest one on: of what is kept the latest stands first
 abbrev pub text_at : RowFormat → ℕ → List CountPeriod → ℕ → List ℕ
-text_at format lines ps place = period_text format lines (slice_index_or ps place (begun 0 []))
+text_at format lines ps place =
+    period_text format lines (slice_index_or ps (length ps - 1 - place) (begun 0 []))
 
 abbrev pub periods_text : RowFormat → ℕ → List CountPeriod → List ℕ
 periods_text format lines ps = first_texts (text_at format lines ps) (length ps)
@@ -99,6 +101,7 @@ pub record ArePeriodCounts (setting : CountSetting) (events : List TimedEvent) (
   pub lines : m.lines ≡ setting.lines
   pub sequences : m.sequences ≡ (state_told setting.style.length events).sequences
   pub periods : m.periods.kept.items ≡ (state_told setting.style.length events).periods
+  pub late : m.periods.late ≡ (state_told setting.style.length events).late
 
 abbrev pub MakesCounts : PeriodCounter → List TimedEvent → List ℕ → PeriodCounter → Type 0
 MakesCounts = MakesHistory ArePeriodCounts count_rows_with
@@ -109,7 +112,11 @@ TellsCounts = TellsHistory ArePeriodCounts count_rows_with
 -- ---- only private clauses cite these
 
 abbrev pub count_state_of : PeriodCounter → CountState
-count_state_of m = record { sequences = m.sequences; periods = m.periods.kept.items }
+count_state_of m = record {
+  sequences = m.sequences;
+  periods = m.periods.kept.items;
+  late = m.periods.late;
+}
 
 abbrev pub made_text : PeriodCounter → TimedEvent → List ℕ
 made_text m e = text_by m.style m.lines m.periods.kept.items e
@@ -120,3 +127,4 @@ pub record IsCounted (old : PeriodCounter) (e : TimedEvent) (new : PeriodCounter
   pub sequences : new.sequences ≡ (state_after old.style.length (count_state_of old) e).sequences
   pub periods : new.periods.kept.items
       ≡ (state_after old.style.length (count_state_of old) e).periods
+  pub late : new.periods.late ≡ (state_after old.style.length (count_state_of old) e).late

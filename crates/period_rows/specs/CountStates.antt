@@ -1,8 +1,9 @@
 -- What is counted of events in the periods of the clock. Of a list of events the last one stands
 -- first.
 use Rattle.std.specs.Prelude.{ℕ, Bool, true, false, List, [], ◌∷◌, Option, None, Some, option_map, replicate, slice_index_or, slice_set, if◌then◌else◌}
+use Rattle.feed_types.specs.FullCounts.{count_after}
 use Rattle.feed_text.specs.SinkEvents.{SinkEvent, TimedEvent, told_packet, told_refusal}
-use Rattle.report_rows.specs.PeriodLists.{begun, entered, period_place_of}
+use Rattle.report_rows.specs.PeriodLists.{begun, entered, entered_place, is_late}
 use Rattle.report_rows.specs.SpanEvents.{ends_all}
 use Rattle.report_rows.specs.declared.kept_periods.KeptPeriod.{KeptPeriod}
 use Rattle.period_rows.specs.LineFigures.{figures_after, no_figures}
@@ -59,19 +60,25 @@ counted_period ps place ss event =
 
 -- ---- what is kept after events
 
+-- the numbers of lines, the periods, and how many datagrams were later than 16 of these
 pub record CountState : Type 0 where
   pub sequences : List LineSequence
   pub periods : List CountPeriod
+  pub late : ℕ
 
 -- a datagram counts in its own period, or in the earliest one where it is late
 abbrev pub counted_begin : ℕ → List LineSequence → List CountPeriod → SinkEvent
     → List CountPeriod
 counted_begin begin ss ps event =
-    let now = entered begin no_lines ps in counted_period now (period_place_of begin now) ss event
+    counted_period (entered begin no_lines ps) (entered_place begin ps) ss event
 
 abbrev pub periods_by : Option ℕ → CountState → SinkEvent → List CountPeriod
 periods_by None s event = s.periods
 periods_by (Some begin) s event = counted_begin begin s.sequences s.periods event
+
+abbrev pub late_by : Option ℕ → CountState → ℕ
+late_by None s = s.late
+late_by (Some begin) s = count_after s.late (if is_late begin s.periods then 1 else 0)
 
 -- after one more: it counts in its own period while that is one of the 16 latest, else in the
 -- earliest one of them; once the capture is over none is kept
@@ -79,8 +86,9 @@ abbrev pub state_after : ℕ → CountState → TimedEvent → CountState
 state_after length s e = record {
   sequences = sequences_after s.sequences e.event;
   periods = if ends_all e.event then [] else periods_by (own_begin length e) s e.event;
+  late = late_by (own_begin length e) s;
 }
 
 abbrev pub state_told : ℕ → List TimedEvent → CountState
-state_told length [] = record { sequences = replicate 32 no_sequence; periods = [] }
+state_told length [] = record { sequences = replicate 32 no_sequence; periods = []; late = 0 }
 state_told length (e ∷ earlier) = state_after length (state_told length earlier) e

@@ -3,7 +3,8 @@ ghost use Rattle.std.specs.Prelude.{◌≡◌, ◌+◌, ◌*◌, ℕ, length, mi
 ghost use Rattle.feed_types.specs.FullCounts.{count_after};
 ghost use Rattle.period_rows.specs.BestHolding.{AddsStanding, AreNone};
 ghost use Rattle.period_rows.specs.BestRows.{most_spread};
-ghost use Rattle.period_rows.specs.Bests.{is_of, one_if, spread_of};
+ghost use Rattle.report_rows.specs.EventFigures.{is_best_of};
+ghost use Rattle.period_rows.specs.Bests.{one_if, spread_of};
 
 use crate::line_figures::raised;
 use feed_types::{Best, National, NationalState};
@@ -30,7 +31,7 @@ pub struct BestFigures {
 fn lead(times: &mut [u64], side: Option<Best>, took: u64)
     requires { length times.old ≡ 16 }
     ensures { (venue : ℕ) → slice_index_or times.new venue 0
-        ≡ count_after (slice_index_or times.old venue 0) (one_if (is_of venue side) * took) }
+        ≡ count_after (slice_index_or times.old venue 0) (one_if (is_best_of venue side) * took) }
 {
     match side {
         Some(best) => {

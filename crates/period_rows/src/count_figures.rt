@@ -3,13 +3,16 @@ ghost use Rattle.std.specs.Prelude.{◌≡◌, ◌<◌, IfSome, length};
 ghost use Rattle.feed_text.specs.SinkEvents.{told_by};
 ghost use Rattle.period_rows.specs.CountStates.{counted_at, counted_in, counted_period, datagram_line};
 
-use crate::line_figures::LineFigures;
+use crate::line_figures::{LineFigures, NO_FIGURES};
 use crate::line_sequence::{LineSequence, line_place};
 use feed_text::Event;
 use report_rows::KeptPeriod;
 
 /// The figures of the lines of a capture: A and B of venue 0, then those of venue 1, and so on.
 pub type CountFigures = [LineFigures; 32];
+
+/// Of lines that brought nothing.
+pub(crate) const NO_LINES: CountFigures = [NO_FIGURES; 32];
 
 /// Returns the place of the line that a datagram came on, if it has one.
 fn datagram_line(event: &Event<'_>) -> Option<usize>

@@ -1,16 +1,15 @@
 //! What counts the datagrams of each line in each period.
-ghost use Rattle.std.specs.Prelude.{◌≡◌, ◌*◌, ◌≤◌, ◌++◌, [], OnErr, OnOk};
+ghost use Rattle.std.specs.Prelude.{◌≡◌, ◌*◌, ◌≤◌, ◌++◌, [], OnErr, OnOk, Some};
 ghost use Rattle.feed_text.specs.SinkEvents.{timed_event, told_by};
 ghost use Rattle.feed_text.specs.TextPages.{FailsPage, TakesPage};
 ghost use Rattle.report_rows.specs.PeriodLists.{over_with};
 ghost use Rattle.report_rows.specs.RowSinks.{IsNewRowSink};
 ghost use Rattle.report_rows.specs.RowTexts.{header_text};
 ghost use Rattle.period_rows.specs.CountRows.{ArePeriodCounts, IsCounted, count_names, left_text, made_text, over_text, periods_text, count_state_of};
-ghost use Rattle.period_rows.specs.CountStates.{counted_begin, own_begin, periods_by};
+ghost use Rattle.period_rows.specs.CountStates.{counted_begin, late_by, own_begin, periods_by};
 
-use crate::count_figures::{CountFigures, count_in_period};
+use crate::count_figures::{CountFigures, NO_LINES, count_in_period};
 use crate::count_rows::{count_names, write_over, write_periods};
-use crate::line_figures::NO_FIGURES;
 use crate::line_sequence::{LineSequence, take_sequences};
 use crate::times::period_begin;
 use feed_text::{Event, SinkStop, TextOut, TextPage};
@@ -75,6 +74,7 @@ impl PeriodCounter {
             page.new) }
         ensures same { self.new ≡ record self.old { periods = self.new.periods } }
         ensures none { OnOk result (self.new.periods.kept.items ≡ []) }
+        ensures late { self.new.periods.late ≡ self.old.periods.late }
     {
         let periods = self.periods.kept.as_slice();
         write_periods(page, self.style.format, self.lines, periods)?;
@@ -99,8 +99,10 @@ impl PeriodCounter {
         ensures counts { OnOk result (self.new.periods.kept.items
             ≡ counted_begin begin self.old.sequences self.old.periods.kept.items
             (told_by event.now)) }
+        ensures late { OnOk result (self.new.periods.late
+            ≡ late_by (Some begin) (count_state_of self.old)) }
     {
-        let entered = self.periods.enter(begin, [NO_FIGURES; 32]);
+        let entered = self.periods.enter(begin, &NO_LINES);
         write_over(page, self.style.format, self.lines, &entered.over)?;
         let periods = self.periods.kept.as_mut_slice();
         count_in_period(periods, entered.place, &self.sequences, event);
@@ -123,6 +125,8 @@ impl PeriodCounter {
         ensures same { self.new ≡ record self.old { periods = self.new.periods } }
         ensures counts { OnOk result (self.new.periods.kept.items
             ≡ periods_by begin (count_state_of self.old) (told_by event.now)) }
+        ensures late { OnOk result (self.new.periods.late
+            ≡ late_by begin (count_state_of self.old)) }
     {
         match begin {
             Some(begin) => self.count(page, begin, event),

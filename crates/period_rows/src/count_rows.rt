@@ -4,7 +4,7 @@ ghost use Rattle.std.specs.List.{AllByRecursion};
 ghost use Rattle.feed_text.specs.Pages.{memory_of};
 ghost use Rattle.feed_text.specs.TextPages.{FailsPage, TakesPage};
 ghost use Rattle.report_rows.specs.RowTexts.{IsShortCell, all_shown, row_room, texts_of};
-ghost use Rattle.period_rows.specs.CountRows.{count_names, count_values, count_line_row, line_word, over_text, period_text, periods_text};
+ghost use Rattle.period_rows.specs.CountRows.{count_names, count_values, count_line_row, line_word, over_text, period_text, periods_text, text_at};
 ghost use Rattle.period_rows.specs.LineFigures.{no_figures};
 
 use crate::count_figures::CountFigures;
@@ -125,7 +125,25 @@ pub(crate) fn write_over<W: TextOut>(
     }
 }
 
-/// Writes the rows of all periods.
+/// Writes the rows of the period at a place, from the earliest one on.
+fn write_period_at<W: TextOut>(
+    page: &mut TextPage<W>,
+    format: RowFormat,
+    lines: usize,
+    periods: &[KeptPeriod<CountFigures>],
+    place: usize,
+) -> Result<(), SinkStop>
+    requires { place < length periods.now }
+    ensures took { OnOk result (TakesPage W.adds W.failures page.old
+        (text_at format lines periods.now place) page.new) }
+    ensures failed { OnErr result (FailsPage W.adds W.failures page.old
+        (page.old.text.items ++ text_at format lines periods.now place) page.new) }
+{
+    let last = periods.len() - 1;
+    write_period(page, format, lines, &periods[last - place])
+}
+
+/// Writes the rows of all periods, those of the earliest one first.
 pub(crate) fn write_periods<W: TextOut>(
     page: &mut TextPage<W>,
     format: RowFormat,
@@ -138,7 +156,7 @@ pub(crate) fn write_periods<W: TextOut>(
         (page.old.text.items ++ periods_text format lines periods.now) page.new) }
 {
     for place in 0..periods.len() {
-        write_period(page, format, lines, &periods[place])?;
+        write_period_at(page, format, lines, periods, place)?;
     }
     Ok(())
 }

@@ -2,7 +2,8 @@
 ghost use Rattle.std.specs.Prelude.{◌≡◌};
 ghost use Rattle.feed_types.specs.FullCounts.{count_after};
 ghost use Rattle.feed_text.specs.SinkEvents.{told_by};
-ghost use Rattle.period_rows.specs.LineFigures.{bytes_of_event, figures_after, first_of_event, repeated_of_event};
+ghost use Rattle.report_rows.specs.EventFigures.{bytes_in, first_in, repeated_in};
+ghost use Rattle.period_rows.specs.LineFigures.{figures_after};
 
 use feed_text::Event;
 use line_arbiter::Outcome;
@@ -33,7 +34,7 @@ pub(crate) const NO_FIGURES: LineFigures = LineFigures {
 
 /// Returns how many bytes a packet's datagram has.
 fn bytes_in(event: &Event<'_>) -> u64
-    ensures { result ≡ bytes_of_event (told_by event.now) }
+    ensures { result ≡ bytes_in (told_by event.now) }
 {
     match event {
         Event::Packet { bytes, .. } => *bytes,
@@ -43,7 +44,7 @@ fn bytes_in(event: &Event<'_>) -> u64
 
 /// Returns how many messages came first with a packet.
 fn first_in(event: &Event<'_>) -> u64
-    ensures { result ≡ first_of_event (told_by event.now) }
+    ensures { result ≡ first_in (told_by event.now) }
 {
     match event {
         Event::Packet {
@@ -56,7 +57,7 @@ fn first_in(event: &Event<'_>) -> u64
 
 /// Returns how many messages of a packet had come before.
 fn repeated_in(event: &Event<'_>) -> u64
-    ensures { result ≡ repeated_of_event (told_by event.now) }
+    ensures { result ≡ repeated_in (told_by event.now) }
 {
     match event {
         Event::Packet {

@@ -2,7 +2,7 @@
 use Rattle.std.proofs.Common.{◌≡◌, ℕ, List, [], ◌∷◌, Option, length, refl, ap, ◌∙◌, arith}
 use Rattle.std.specs.Prelude.{max, slice_index_or, slice_set}
 use Rattle.std.specs.List.{refill}
-use Rattle.report_rows.specs.PeriodLists.{begun, entered, period_place_of}
+use Rattle.report_rows.specs.PeriodLists.{begun, entered, entered_place}
 use Rattle.report_rows.specs.declared.kept_periods.KeptPeriod.{KeptPeriod}
 use Rattle.replay_reports.specs.declared.times.busiest_period.BusiestPeriod.{BusiestPeriod}
 use Rattle.replay_reports.specs.times.Busiest.{HoldsBusiest, MessagesAt, began_with, begin_of, busiest_began, counts_in, entered_by, messages_at, most_messages, periods_of, place_in, with_messages}
@@ -18,32 +18,29 @@ refill_whole (x ∷ xs) (w ∷ ws) same =
 
 pub busier : (length time messages begin place : ℕ) (came : List MessagesAt)
     (old new : BusiestPeriod) (now : List (KeptPeriod ℕ)) (period : KeptPeriod ℕ)
-    → HoldsBusiest length came old → begin ≡ begin_of old.length time
-    → now ≡ entered begin 0 old.kept.kept.items → place ≡ period_place_of begin now
+    → HoldsBusiest length came old → begin ≡ begin_of length time
+    → now ≡ entered begin 0 old.kept.kept.items → place ≡ entered_place begin old.kept.kept.items
     → period ≡ with_messages messages (slice_index_or now place (begun 0 0))
-    → new.length ≡ old.length → new.kept.kept.items ≡ slice_set now place period
+    → new.kept.kept.items ≡ slice_set now place period
     → new.began ≡ began_with old.messages period old.began
     → new.messages ≡ max old.messages period.figures
     → HoldsBusiest length (messages_at time messages ∷ came) new
-busier length time messages begin place came old new now period holds begins enters at more same
-    put began_is most =
+busier length time messages begin place came old new now period holds begins enters at more put
+    began_is most =
     let last = messages_at time messages in
     let ps = periods_of length came in
-    let b : begin ≡ begin_of length time =
-    begins ∙ ap (λ (l : ℕ). begin_of l time) holds.length_is in
     let e : now ≡ entered_by length last ps =
-    enters ∙ ap (λ (x : ℕ). entered x 0 old.kept.kept.items) b
+    enters ∙ ap (λ (x : ℕ). entered x 0 old.kept.kept.items) begins
     ∙ ap (λ (xs : List (KeptPeriod ℕ)). entered (begin_of length time) 0 xs) holds.kept in
     let p : place ≡ place_in length last ps =
-    at ∙ ap (λ (x : ℕ). period_place_of x now) b
-    ∙ ap (λ (xs : List (KeptPeriod ℕ)). period_place_of (begin_of length time) xs) e in
+    at ∙ ap (λ (x : ℕ). entered_place x old.kept.kept.items) begins
+    ∙ ap (λ (xs : List (KeptPeriod ℕ)). entered_place (begin_of length time) xs) holds.kept in
     let c : period ≡ counts_in length last ps =
     more ∙ ap (λ (xs : List (KeptPeriod ℕ)). with_messages messages
     (slice_index_or xs place (begun 0 0))) e
     ∙ ap (λ (k : ℕ). with_messages messages
     (slice_index_or (entered_by length last ps) k (begun 0 0))) p in
     record {
-      length_is = same ∙ holds.length_is;
       kept = put ∙ ap (λ (xs : List (KeptPeriod ℕ)). slice_set xs place period) e
           ∙ ap (λ (k : ℕ). slice_set (entered_by length last ps) k period) p
           ∙ ap (λ (x : KeptPeriod ℕ). slice_set (entered_by length last ps)

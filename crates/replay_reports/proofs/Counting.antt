@@ -22,7 +22,8 @@ use Rattle.replay_reports.specs.declared.counts.best_counts.StateCounts.{StateCo
 use Rattle.replay_reports.specs.declared.counts.item_counts.ItemCounts.{ItemCounts}
 use Rattle.replay_reports.specs.declared.counts.line_counts.LineCounts.{LineCounts}
 use Rattle.replay_reports.specs.declared.counts.venue_counts.VenueCounts.{VenueCounts}
-use Rattle.replay_reports.specs.counts.Counts.{best_counts, bytes_in, each_place, is_best_of, is_on_line, is_refused, item_counts, leads_bid, leads_offer, line_counts, state_counts, venue_counts}
+use Rattle.report_rows.specs.EventFigures.{bytes_in, is_best_of}
+use Rattle.replay_reports.specs.counts.Counts.{best_counts, each_place, is_on_line, is_refused, item_counts, leads_bid, leads_offer, line_counts, state_counts, venue_counts}
 use Rattle.replay_reports.specs.times.Figures.{capped}
 
 -- a sum, with one element more

@@ -6,3 +6,4 @@ pub mod Counting
 pub mod Timed
 pub mod Statistics
 pub mod Busiest
+pub mod Putting

@@ -1,3 +1,4 @@
 -- The report of statistics.
 pub mod Figures
+pub mod ReportTexts
 pub mod Reports

@@ -8,3 +8,4 @@ pub mod RowHistoryLaws
 pub mod SpanEvents
 pub mod SpanLaws
 pub mod PeriodLists
+pub mod EventFigures

@@ -15,7 +15,7 @@ pub struct KeptPeriod<T> {
     pub figures: T,
 }
 
-/// The figures of the latest periods in which something came, 16 at most, the earliest one first.
+/// The figures of the latest periods in which something came, 16 at most, the latest one first.
 #[derive(Drop)]
 pub struct KeptPeriods<T> {
     pub kept: ArrayVec<KeptPeriod<T>, 16>,
@@ -30,18 +30,20 @@ pub struct Entered<T> {
     pub over: Option<KeptPeriod<T>>,
 }
 
-/// Returns how many of the first periods begin before this time.
+/// Returns how many of the first periods begin after this time.
+#[inline(always)]
 fn place_of<T>(periods: &[KeptPeriod<T>], begin: u64) -> usize
     ensures place { result ≡ period_place_of begin periods.now }
     ensures within { result ≤ length periods.now }
 {
     periods
         .iter()
-        .position(|period| period.begin >= begin)
+        .position(|period| period.begin <= begin)
         .unwrap_or(periods.len())
 }
 
 /// Returns whether the period at a place began at this time.
+#[inline(always)]
 fn is_at<T>(periods: &[KeptPeriod<T>], place: usize, begin: u64) -> bool
     ensures { result ≡ is_begun_at begin (slice_get periods.now place) }
 {
@@ -72,30 +74,32 @@ impl<T: Copy + Default> KeptPeriods<T> {
 
     /// Enters the period that began at this time, without figures where it is new, in the place of
     /// the earliest one where 16 are kept. What is earlier than all of 16 goes to the earliest one.
-    pub fn enter(&mut self, begin: u64, none: T) -> Entered<T>
-        ensures { Enters begin none self.old self.new result }
+    #[inline]
+    pub fn enter(&mut self, begin: u64, none: &T) -> Entered<T>
+        ensures { Enters begin none.now self.old self.new result }
     {
         let place = place_of(self.kept.as_slice(), begin);
         if is_at(self.kept.as_slice(), place, begin) {
             return Entered { place, over: None };
         }
+        let kept = self.kept.len();
+        if place >= KEPT {
+            self.late = self.late.saturating_add(1);
+            return Entered {
+                place: KEPT - 1,
+                over: None,
+            };
+        }
         let new = KeptPeriod {
             begin,
-            figures: none,
+            figures: *none,
         };
-        if self.kept.len() < KEPT {
+        if kept < KEPT {
             self.kept.insert(place, new);
             return Entered { place, over: None };
         }
-        if place == 0 {
-            self.late = self.late.saturating_add(1);
-            return Entered { place, over: None };
-        }
-        let over = self.kept.remove(0);
-        self.kept.insert(place - 1, new);
-        Entered {
-            place: place - 1,
-            over: Some(over),
-        }
+        let over = self.kept.pop();
+        self.kept.insert(place, new);
+        Entered { place, over }
     }
 }

@@ -7,15 +7,15 @@ use Rattle.feed_types.specs.declared.item.Item.{Item}
 use Rattle.feed_types.specs.declared.item.Item.TheVariants as items
 use Rattle.feed_types.specs.declared.line.LineId.{LineId}
 use Rattle.feed_types.specs.declared.line.LineId.TheVariants.{A, B, Recovery}
-use Rattle.feed_types.specs.declared.national.Best.{Best}
 use Rattle.feed_types.specs.declared.national.NationalState.{NationalState}
-use Rattle.feed_types.specs.declared.national.NationalState.TheVariants.{Empty, OneSided, Normal, Locked, Crossed}
+use Rattle.feed_types.specs.declared.national.NationalState.TheVariants.{Empty, OneSided}
 use Rattle.mold_packet.specs.Faults.{code_of}
 use Rattle.line_arbiter.specs.Codes.{line_fault_code}
 use Rattle.line_arbiter.specs.declared.outcome.Outcome.{Outcome}
 use Rattle.line_arbiter.specs.declared.outcome.Outcome.TheVariants.{Taken, Heartbeat, Ended, Ahead}
 use Rattle.line_arbiter.specs.Streams.{is_same_line}
 use Rattle.feed_text.specs.SinkEvents.{SinkEvent, told_packet, told_refusal, told_item, told_best, told_renewal, told_skip, told_declaration}
+use Rattle.report_rows.specs.EventFigures.{bytes_in, first_in, is_best_of, is_crossed, is_locked, is_normal, repeated_in}
 use Rattle.replay_reports.specs.declared.counts.line_counts.LineCounts.{LineCounts}
 use Rattle.replay_reports.specs.declared.counts.item_counts.ItemCounts.{ItemCounts}
 use Rattle.replay_reports.specs.declared.counts.best_counts.BestCounts.{BestCounts}
@@ -51,21 +51,6 @@ is_end_packet _ = false
 abbrev pub is_ahead_packet : SinkEvent → Bool
 is_ahead_packet (told_packet venue on number count bytes (Ok Ahead)) = true
 is_ahead_packet _ = false
-
--- how many messages came first with it
-abbrev pub first_in : SinkEvent → ℕ
-first_in (told_packet venue on number count bytes (Ok (Taken new repeated))) = new
-first_in _ = 0
-
--- how many of its messages had come before
-abbrev pub repeated_in : SinkEvent → ℕ
-repeated_in (told_packet venue on number count bytes (Ok (Taken new repeated))) = repeated
-repeated_in _ = 0
-
--- how many bytes its datagram has, where it is a packet
-abbrev pub bytes_in : SinkEvent → ℕ
-bytes_in (told_packet venue on number count bytes answer) = bytes
-bytes_in _ = 0
 
 -- it was refused for the fault of this code
 abbrev pub is_refused : ℕ → SinkEvent → Bool
@@ -195,18 +180,6 @@ abbrev pub is_one_sided : NationalState → Bool
 is_one_sided OneSided = true
 is_one_sided _ = false
 
-abbrev pub is_normal : NationalState → Bool
-is_normal Normal = true
-is_normal _ = false
-
-abbrev pub is_locked : NationalState → Bool
-is_locked Locked = true
-is_locked _ = false
-
-abbrev pub is_crossed : NationalState → Bool
-is_crossed Crossed = true
-is_crossed _ = false
-
 abbrev pub state_counts : List SinkEvent → StateCounts
 state_counts events = record {
   empty = capped (count_by (is_change is_empty_state) events);
@@ -215,11 +188,6 @@ state_counts events = record {
   locked = capped (count_by (is_change is_locked) events);
   crossed = capped (count_by (is_change is_crossed) events);
 }
-
--- the best of a side is this venue's
-abbrev pub is_best_of : ℕ → Option Best → Bool
-is_best_of venue None = false
-is_best_of venue (Some best) = best.venue == venue
 
 -- a national best changed, and its bid is this venue's
 abbrev pub leads_bid : ℕ → SinkEvent → Bool

@@ -3,7 +3,7 @@
 use Rattle.std.specs.Prelude.{◌≡◌, ℕ, ◌+◌, ◌-◌, ◌%◌, nat_lt, List, [], ◌∷◌, ◌++◌, max, min, flat_map, slice_index_or, slice_set, Option, None, Some, Ok, if◌then◌else◌}
 use Rattle.line_arbiter.specs.declared.outcome.Outcome.TheVariants.{Taken}
 use Rattle.feed_text.specs.SinkEvents.{SinkEvent, TimedEvent, told_packet, told_refusal}
-use Rattle.report_rows.specs.PeriodLists.{begun, entered, period_place_of}
+use Rattle.report_rows.specs.PeriodLists.{begun, entered, entered_place}
 use Rattle.report_rows.specs.declared.kept_periods.KeptPeriod.{KeptPeriod}
 use Rattle.replay_reports.specs.declared.times.busiest_period.BusiestPeriod.{BusiestPeriod}
 use Rattle.replay_reports.specs.declared.times.busiest_period.Peak.{Peak}
@@ -48,7 +48,7 @@ entered_by length last ps = entered (begin_of length last.time) 0 ps
 
 -- the place of the period in which they count, and that period with them
 abbrev pub place_in : ℕ → MessagesAt → List (KeptPeriod ℕ) → ℕ
-place_in length last ps = period_place_of (begin_of length last.time) (entered_by length last ps)
+place_in length last ps = entered_place (begin_of length last.time) ps
 
 abbrev pub counts_in : ℕ → MessagesAt → List (KeptPeriod ℕ) → KeptPeriod ℕ
 counts_in length last ps =
@@ -84,7 +84,6 @@ pub record IsPeak (length : ℕ) (came : List MessagesAt) (p : Peak) : Type 0 wh
 
 -- What is held after these messages.
 pub record HoldsBusiest (length : ℕ) (came : List MessagesAt) (b : BusiestPeriod) : Type 0 where
-  pub length_is : b.length ≡ length
   pub kept : b.kept.kept.items ≡ periods_of length came
   pub messages : b.messages ≡ most_messages length came
   pub began : b.began ≡ busiest_began length came

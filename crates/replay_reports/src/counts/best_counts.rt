@@ -2,7 +2,8 @@
 ghost use Rattle.std.specs.Prelude.{◌≡◌, ◌+◌, ℕ, ◌∷◌, [], List, if◌then◌else◌};
 ghost use Rattle.feed_text.specs.SinkEvents.{SinkEvent, told_best};
 ghost use Rattle.journal_book.specs.Changes.{notice_of};
-ghost use Rattle.replay_reports.specs.counts.Counts.{best_counts, each_place, is_best_of, state_counts};
+ghost use Rattle.report_rows.specs.EventFigures.{is_best_of};
+ghost use Rattle.replay_reports.specs.counts.Counts.{best_counts, each_place, state_counts};
 ghost use Rattle.replay_reports.specs.times.Figures.{capped};
 
 use feed_types::{Best, NationalState};

@@ -1,6 +1,6 @@
 //! The figures of a report: each with its label, its name and its value.
-ghost use Rattle.std.specs.Prelude.{◌≡◌, map, if◌then◌else◌};
-ghost use Rattle.replay_reports.specs.report.Figures.{count_if, time_if};
+ghost use Rattle.std.specs.Prelude.{◌≡◌};
+ghost use Rattle.replay_reports.specs.report.Figures.{count_if, figure_named, shown_figure, time_if};
 ghost use Rattle.replay_reports.specs.declared.report.figure.FigureValue.TheVariants.{Count};
 
 /// The value of a figure.
@@ -25,7 +25,7 @@ pub struct Figure {
 
 /// Returns a figure that is a count.
 pub(crate) fn count(label: &'static str, name: &'static str, value: u64) -> Figure
-    ensures { result.value ≡ Count value }
+    ensures { shown_figure result ≡ figure_named name.now (Count value) }
 {
     Figure {
         label,
@@ -41,7 +41,7 @@ pub(crate) fn count_if(
     is_there: bool,
     value: u64,
 ) -> Figure
-    ensures { result.value ≡ count_if is_there value }
+    ensures { shown_figure result ≡ figure_named name.now (count_if is_there value) }
 {
     let value = match is_there {
         true => FigureValue::Count(value),
@@ -52,7 +52,7 @@ pub(crate) fn count_if(
 
 /// Returns a figure that is a time where there is one.
 pub(crate) fn time(label: &'static str, name: &'static str, time: Option<u64>) -> Figure
-    ensures { result.value ≡ time_if time }
+    ensures { shown_figure result ≡ figure_named name.now (time_if time) }
 {
     let value = match time {
         Some(time) => FigureValue::Time(time),

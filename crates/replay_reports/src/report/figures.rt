@@ -1,6 +1,6 @@
 //! The figures of each part of a report, in the order in which they are printed.
-ghost use Rattle.std.specs.Prelude.{◌≡◌, ◌∷◌, []};
-ghost use Rattle.replay_reports.specs.report.Figures.{busiest_values, figure_counts_of, duration_values, gap_sum_values, item_values, line_loss_values, line_values, loss_values, packet_values, refusal_values, state_values, values_of, venue_values};
+ghost use Rattle.std.specs.Prelude.{◌≡◌};
+ghost use Rattle.replay_reports.specs.report.Figures.{busiest_figures, duration_figures, figures_shown, gap_figures, item_figures, leading_figures, line_figures, line_loss_figures, loss_figures, packet_figures, refusal_figures, state_figures, venue_figures};
 
 use crate::counts::best_counts::StateCounts;
 use crate::counts::item_counts::ItemCounts;
@@ -15,7 +15,7 @@ use line_gaps::GapSums;
 
 /// Returns the figures of a line's datagrams.
 pub fn line_figures(s: &LineCounts) -> [Figure; 8]
-    ensures { values_of result ≡ line_values s.now }
+    ensures { figures_shown result ≡ line_figures s.now }
 {
     [
         count("packets", "packets", s.packets),
@@ -31,7 +31,7 @@ pub fn line_figures(s: &LineCounts) -> [Figure; 8]
 
 /// Returns the figures of a line's refusals, by their faults.
 pub fn refusal_figures(s: &LineCounts) -> [Figure; 9]
-    ensures { values_of result ≡ refusal_values s.now }
+    ensures { figures_shown result ≡ refusal_figures s.now }
 {
     let r = &s.refused;
     [
@@ -49,7 +49,7 @@ pub fn refusal_figures(s: &LineCounts) -> [Figure; 9]
 
 /// Returns the figures of a venue's items.
 pub fn item_figures(s: &ItemCounts) -> [Figure; 6]
-    ensures { values_of result ≡ item_values s.now }
+    ensures { figures_shown result ≡ item_figures s.now }
 {
     [
         count("quotes", "quotes", s.quotes),
@@ -63,7 +63,7 @@ pub fn item_figures(s: &ItemCounts) -> [Figure; 6]
 
 /// Returns the figures of a venue's sessions, skips and declarations of self-help.
 pub fn venue_figures(s: &VenueCounts) -> [Figure; 7]
-    ensures { values_of result ≡ venue_values s.now }
+    ensures { figures_shown result ≡ venue_figures s.now }
 {
     [
         count("next sessions begun", "renewals", s.renewals),
@@ -82,7 +82,7 @@ pub fn venue_figures(s: &VenueCounts) -> [Figure; 7]
 
 /// Returns the figures of durations in nanoseconds. Of no duration there is no mean.
 pub fn duration_figures(s: &DurationStats) -> [Figure; 7]
-    ensures { values_of result ≡ duration_values s.now }
+    ensures { figures_shown result ≡ duration_figures s.now }
 {
     let some = s.count > 0;
     [
@@ -98,7 +98,7 @@ pub fn duration_figures(s: &DurationStats) -> [Figure; 7]
 
 /// Returns the figures of the changes of national bests, by the state after.
 pub fn state_figures(s: &StateCounts) -> [Figure; 5]
-    ensures { values_of result ≡ state_values s.now }
+    ensures { figures_shown result ≡ state_figures s.now }
 {
     [
         count("empty", "empty", s.empty),
@@ -111,7 +111,7 @@ pub fn state_figures(s: &StateCounts) -> [Figure; 5]
 
 /// Returns the figures of the gaps of a line, or of all lines.
 pub fn gap_figures(s: &GapSums) -> [Figure; 13]
-    ensures { values_of result ≡ gap_sum_values s.now }
+    ensures { figures_shown result ≡ gap_figures s.now }
 {
     let by = &s.ended_by;
     [
@@ -133,7 +133,7 @@ pub fn gap_figures(s: &GapSums) -> [Figure; 13]
 
 /// Returns what a line lost, and what of the messages that it passed over it brought late.
 pub fn line_loss_figures(s: &GapSums) -> [Figure; 2]
-    ensures { values_of result ≡ line_loss_values s.now }
+    ensures { figures_shown result ≡ line_loss_figures s.now }
 {
     [
         count("lost", "lost", s.lost()),
@@ -143,7 +143,7 @@ pub fn line_loss_figures(s: &GapSums) -> [Figure; 2]
 
 /// Returns the figures of the messages that a venue's lines lack together.
 pub fn loss_figures(s: &GapReport) -> [Figure; 5]
-    ensures { values_of result ≡ loss_values s.now }
+    ensures { figures_shown result ≡ loss_figures s.now }
 {
     [
         count("highest number known", "known", s.known),
@@ -156,7 +156,7 @@ pub fn loss_figures(s: &GapReport) -> [Figure; 5]
 
 /// Returns the figures of the changes of national bests whose side is a venue's.
 pub fn leading_figures(bids: u64, offers: u64) -> [Figure; 2]
-    ensures { values_of result ≡ figure_counts_of (bids ∷ offers ∷ []) }
+    ensures { figures_shown result ≡ leading_figures bids offers }
 {
     [
         count("best bids led", "best_bids", bids),
@@ -166,7 +166,7 @@ pub fn leading_figures(bids: u64, offers: u64) -> [Figure; 2]
 
 /// Returns when the last packet of each line came.
 pub fn packet_figures(s: &PerLine<Option<u64>>) -> [Figure; 3]
-    ensures { values_of result ≡ packet_values s.now }
+    ensures { figures_shown result ≡ packet_figures s.now }
 {
     [
         time("line A", "A", s.a),
@@ -177,7 +177,7 @@ pub fn packet_figures(s: &PerLine<Option<u64>>) -> [Figure; 3]
 
 /// Returns the busiest second and the busiest millisecond, and when they began.
 pub fn busiest_figures(second: &Peak, millisecond: &Peak) -> [Figure; 4]
-    ensures { values_of result ≡ busiest_values second.now millisecond.now }
+    ensures { figures_shown result ≡ busiest_figures second.now millisecond.now }
 {
     [
         count("messages in a second", "busiest_second", second.messages),
@@ -186,10 +186,10 @@ pub fn busiest_figures(second: &Peak, millisecond: &Peak) -> [Figure; 4]
             "busiest_millisecond",
             millisecond.messages,
         ),
-        time("that second began", "busiest_second_ns", second.began),
+        time("that second began", "busiest_second_began", second.began),
         time(
             "that millisecond began",
-            "busiest_millisecond_ns",
+            "busiest_millisecond_began",
             millisecond.began,
         ),
     ]

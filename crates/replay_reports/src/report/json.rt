@@ -1,166 +1,325 @@
 //! The report as a JSON object.
+ghost use Rattle.std.specs.Prelude.{◌≡◌, ◌++◌, OnOk, codes, decimal, option_map, slice_get};
+ghost use Rattle.report_rows.specs.RowTexts.{comma_at};
+ghost use Rattle.replay_reports.specs.report.Figures.{figures_shown, shown_figure};
+ghost use Rattle.replay_reports.specs.report.ReportTexts.{json_all_losses, json_all_times, json_counts, json_figure_at, json_figures, json_gaps, json_in_time, json_line_of, json_lines, json_losses, json_object, json_of_figure, json_of_report, json_of_venues, json_open, json_own, json_part, json_times, json_venue, json_venue_at};
 
 use crate::counts::line_counts::LineCounts;
-use crate::report::figure::{Figure, FigureValue};
+use crate::report::figure::Figure;
 use crate::report::figures::{
     busiest_figures, duration_figures, gap_figures, item_figures, leading_figures, line_figures,
     line_loss_figures, loss_figures, packet_figures, refusal_figures, state_figures, venue_figures,
 };
 use crate::report::statistics_report::Report;
-use crate::report::values::put_json_value;
-use crate::report::venue_report::VenueReport;
+use crate::report::values::{put_count, put_json_value};
+use crate::report::venue_report::{GapReport, VenueReport};
+use feed_types::PerLine;
 use run_settings::TimeStyle;
 use std::alloc::{AllocError, Global};
 
-/// The object that is written, and how.
-#[derive(Drop)]
-struct Json<'a> {
+/// How the object is written.
+#[derive(Clone, Copy)]
+struct JsonStyle {
     alloc: Global,
-    text: &'a mut Vec<u8>,
     style: TimeStyle,
-    /// Whether something stands before, so that a comma is due.
-    is_after: bool,
 }
 
-impl Json<'_> {
-    fn put(&mut self, text: &str) -> Result<(), AllocError> {
-        self.text.extend_from_slice(text.as_bytes())
-    }
+/// Which objects of venues are in a list.
+#[derive(Clone, Copy)]
+pub(crate) enum VenuePart {
+    Counts,
+    Losses,
+    Times,
+}
 
-    /// Appends a comma, where one is due.
-    fn put_comma(&mut self) -> Result<(), AllocError> {
-        if self.is_after {
-            self.put(",")?;
+/// Appends a text.
+fn put(text: &mut Vec<u8>, more: &str) -> Result<(), AllocError>
+    ensures { OnOk result (text.new.items ≡ text.old.items ++ more.now) }
+{
+    text.extend_from_slice(more.as_bytes())
+}
+
+/// Appends a comma, unless the place is the first one.
+fn put_comma(text: &mut Vec<u8>, place: usize) -> Result<(), AllocError>
+    ensures { OnOk result (text.new.items ≡ text.old.items ++ comma_at place) }
+{
+    if place == 0 {
+        return Ok(());
+    }
+    put(text, ",")
+}
+
+/// Appends a figure as a member.
+fn put_figure(text: &mut Vec<u8>, how: JsonStyle, figure: &Figure) -> Result<(), AllocError>
+    ensures { OnOk result (text.new.items
+        ≡ text.old.items ++ json_of_figure how.style (shown_figure figure.now)) }
+{
+    put(text, "\"")?;
+    put(text, figure.name)?;
+    put(text, "\":")?;
+    put_json_value(how.alloc, text, how.style, figure.value)
+}
+
+/// Appends the figure at a place, if there is one, after a comma unless it is the first one.
+fn put_figure_at(
+    text: &mut Vec<u8>,
+    how: JsonStyle,
+    figures: &[Figure],
+    place: usize,
+) -> Result<(), AllocError>
+    ensures { OnOk result (text.new.items ≡ text.old.items
+        ++ json_figure_at how.style place
+        (option_map shown_figure (slice_get figures.now place))) }
+{
+    match figures.get(place) {
+        Some(figure) => {
+            put_comma(text, place)?;
+            put_figure(text, how, figure)
         }
-        self.is_after = true;
-        Ok(())
+        None => Ok(()),
     }
+}
 
-    /// Appends the name of a member.
-    fn put_name(&mut self, name: &str) -> Result<(), AllocError> {
-        self.put_comma()?;
-        self.put("\"")?;
-        self.put(name)?;
-        self.put("\":")
+/// Appends figures as members.
+#[tactic(auto, using(crate::proofs::Putting::length_shown), unfolding(crate::specs::report::ReportTexts::json_figures))]
+fn put_figures(text: &mut Vec<u8>, how: JsonStyle, figures: &[Figure]) -> Result<(), AllocError>
+    ensures { OnOk result (text.new.items
+        ≡ text.old.items ++ json_figures how.style (figures_shown figures.now)) }
+{
+    for place in 0..figures.len() {
+        put_figure_at(text, how, figures, place)?;
     }
+    Ok(())
+}
 
-    /// Begins an object or a list as a member.
-    fn open(&mut self, name: &str, bracket: &str) -> Result<(), AllocError> {
-        self.put_name(name)?;
-        self.put(bracket)?;
-        self.is_after = false;
-        Ok(())
+/// Begins an object that is a member, after what stands before.
+fn put_open(text: &mut Vec<u8>, before: &str, name: &str) -> Result<(), AllocError>
+    ensures { OnOk result (text.new.items ≡ text.old.items ++ json_open before.now name.now) }
+{
+    put(text, before)?;
+    put(text, "\"")?;
+    put(text, name)?;
+    put(text, "\":{")
+}
+
+/// Appends figures as an object that is a member, after what stands before.
+fn put_object(
+    text: &mut Vec<u8>,
+    how: JsonStyle,
+    before: &str,
+    name: &str,
+    figures: &[Figure],
+) -> Result<(), AllocError>
+    ensures { OnOk result (text.new.items ≡ text.old.items
+        ++ json_object how.style before.now name.now (figures_shown figures.now)) }
+{
+    put_open(text, before, name)?;
+    put_figures(text, how, figures)?;
+    put(text, "}")
+}
+
+/// Appends the counts of a line, after what stands before.
+fn put_line(
+    text: &mut Vec<u8>,
+    how: JsonStyle,
+    before: &str,
+    name: &str,
+    counts: &LineCounts,
+) -> Result<(), AllocError>
+    ensures { OnOk result (text.new.items
+        ≡ text.old.items ++ json_line_of how.style before.now name.now counts.now) }
+{
+    put_open(text, before, name)?;
+    put_figures(text, how, &line_figures(counts))?;
+    put_object(text, how, ",", "refused", &refusal_figures(counts))?;
+    put(text, "}")
+}
+
+/// Appends the counts of a venue's lines.
+fn put_lines(
+    text: &mut Vec<u8>,
+    how: JsonStyle,
+    lines: &PerLine<LineCounts>,
+) -> Result<(), AllocError>
+    ensures { OnOk result (text.new.items
+        ≡ text.old.items ++ json_lines how.style lines.now) }
+{
+    put_line(text, how, ",\"lines\":{", "A", &lines.a)?;
+    put_line(text, how, ",", "B", &lines.b)?;
+    put_line(text, how, ",", "recovery", &lines.recovery)?;
+    put(text, "},")
+}
+
+/// Appends the gaps of a venue's lines.
+fn put_gaps(text: &mut Vec<u8>, how: JsonStyle, gaps: &GapReport) -> Result<(), AllocError>
+    ensures { OnOk result (text.new.items ≡ text.old.items ++ json_gaps how.style gaps.now) }
+{
+    put_open(text, "", "gaps")?;
+    put_figures(text, how, &gap_figures(&gaps.all))?;
+    put_object(text, how, ",", "A", &gap_figures(&gaps.a))?;
+    put_object(text, how, ",", "B", &gap_figures(&gaps.b))
+}
+
+/// Appends a venue's sessions, and how often it leads.
+fn put_own(text: &mut Vec<u8>, how: JsonStyle, r: &VenueReport) -> Result<(), AllocError>
+    ensures { OnOk result (text.new.items ≡ text.old.items ++ json_own how.style r.now) }
+{
+    put(text, "},")?;
+    put_figures(text, how, &venue_figures(&r.counts))?;
+    put(text, ",")?;
+    put_figures(text, how, &leading_figures(r.bids, r.offers))
+}
+
+/// Appends a venue's counts.
+fn put_venue(text: &mut Vec<u8>, how: JsonStyle, r: &VenueReport) -> Result<(), AllocError>
+    ensures { OnOk result (text.new.items ≡ text.old.items ++ json_venue how.style r.now) }
+{
+    put_lines(text, how, &r.counts.lines)?;
+    put_object(text, how, "", "items", &item_figures(&r.counts.items))?;
+    put(text, ",")?;
+    put_gaps(text, how, &r.gaps)?;
+    put_own(text, how, r)
+}
+
+/// Appends what a venue's lines lost.
+fn put_losses(text: &mut Vec<u8>, how: JsonStyle, r: &VenueReport) -> Result<(), AllocError>
+    ensures { OnOk result (text.new.items ≡ text.old.items ++ json_losses how.style r.now) }
+{
+    put(text, ",")?;
+    put_figures(text, how, &loss_figures(&r.gaps))?;
+    put_object(text, how, ",", "A", &line_loss_figures(&r.gaps.a))?;
+    put_object(text, how, ",", "B", &line_loss_figures(&r.gaps.b))
+}
+
+/// Appends how a venue's lines run in time.
+fn put_times(text: &mut Vec<u8>, how: JsonStyle, r: &VenueReport) -> Result<(), AllocError>
+    ensures { OnOk result (text.new.items ≡ text.old.items ++ json_times how.style r.now) }
+{
+    put_object(text, how, ",", "a_first", &duration_figures(&r.a_first))?;
+    put_object(text, how, ",", "b_first", &duration_figures(&r.b_first))?;
+    put_object(
+        text,
+        how,
+        ",",
+        "last_packets",
+        &packet_figures(&r.last_packets),
+    )
+}
+
+/// Appends a part of a venue's figures.
+fn put_part(
+    text: &mut Vec<u8>,
+    how: JsonStyle,
+    part: VenuePart,
+    r: &VenueReport,
+) -> Result<(), AllocError>
+    ensures { OnOk result (text.new.items ≡ text.old.items ++ json_part how.style part r.now) }
+{
+    match part {
+        VenuePart::Counts => put_venue(text, how, r),
+        VenuePart::Losses => put_losses(text, how, r),
+        VenuePart::Times => put_times(text, how, r),
     }
+}
 
-    /// Begins a venue's object in a list.
-    fn open_venue(&mut self, place: usize) -> Result<(), AllocError> {
-        self.put_comma()?;
-        self.put("{")?;
-        self.is_after = false;
-        self.put_member("venue", FigureValue::Count(place as u64))
-    }
+/// Appends a part of a venue's figures as an object, after its number.
+fn put_numbered(
+    text: &mut Vec<u8>,
+    how: JsonStyle,
+    part: VenuePart,
+    place: usize,
+    r: &VenueReport,
+) -> Result<(), AllocError>
+    ensures { OnOk result (text.new.items ≡ text.old.items ++ (codes "{\"venue\":"
+        ++ (decimal place ++ (json_part how.style part r.now ++ codes "}")))) }
+{
+    put(text, "{\"venue\":")?;
+    put_count(text, place as u64)?;
+    put_part(text, how, part, r)?;
+    put(text, "}")
+}
 
-    /// Ends an object or a list.
-    fn close(&mut self, bracket: &str) -> Result<(), AllocError> {
-        self.is_after = true;
-        self.put(bracket)
-    }
-
-    /// Appends a member.
-    fn put_member(&mut self, name: &str, value: FigureValue) -> Result<(), AllocError> {
-        self.put_name(name)?;
-        put_json_value(self.alloc, self.text, self.style, value)
-    }
-
-    /// Appends figures as members.
-    fn put_figures(&mut self, figures: &[Figure]) -> Result<(), AllocError> {
-        for figure in figures {
-            self.put_member(figure.name, figure.value)?;
+/// Appends the object of the venue at a place, if there is one.
+fn put_venue_at(
+    text: &mut Vec<u8>,
+    how: JsonStyle,
+    part: VenuePart,
+    venues: &[VenueReport],
+    place: usize,
+) -> Result<(), AllocError>
+    ensures { OnOk result (text.new.items ≡ text.old.items
+        ++ json_venue_at (json_part how.style part) place (slice_get venues.now place)) }
+{
+    match venues.get(place) {
+        Some(venue) => {
+            put_comma(text, place)?;
+            put_numbered(text, how, part, place, venue)
         }
-        Ok(())
+        None => Ok(()),
     }
+}
 
-    /// Appends figures as an object that is a member.
-    fn put_object(&mut self, name: &str, figures: &[Figure]) -> Result<(), AllocError> {
-        self.open(name, "{")?;
-        self.put_figures(figures)?;
-        self.close("}")
+/// Appends the objects of all venues.
+#[tactic(auto, unfolding(crate::specs::report::ReportTexts::json_of_venues))]
+fn put_venues(
+    text: &mut Vec<u8>,
+    how: JsonStyle,
+    part: VenuePart,
+    venues: &[VenueReport],
+) -> Result<(), AllocError>
+    ensures { OnOk result (text.new.items ≡ text.old.items
+        ++ json_of_venues (json_part how.style part) venues.now) }
+{
+    for place in 0..venues.len() {
+        put_venue_at(text, how, part, venues, place)?;
     }
+    Ok(())
+}
 
-    /// Appends the counts of a line.
-    fn put_line(&mut self, name: &str, line: &LineCounts) -> Result<(), AllocError> {
-        self.open(name, "{")?;
-        self.put_figures(&line_figures(line))?;
-        self.put_object("refused", &refusal_figures(line))?;
-        self.close("}")
-    }
+/// Appends how all venues' lines run in time.
+fn put_all_times(text: &mut Vec<u8>, how: JsonStyle, report: &Report) -> Result<(), AllocError>
+    ensures { OnOk result (text.new.items
+        ≡ text.old.items ++ json_all_times how.style report.now) }
+{
+    put(text, ",\"in_time\":{")?;
+    put_figures(
+        text,
+        how,
+        &busiest_figures(&report.second, &report.millisecond),
+    )?;
+    put(text, ",\"venues\":[")?;
+    put_venues(text, how, VenuePart::Times, report.venues.as_slice())?;
+    put(text, "]}")
+}
 
-    /// Appends a venue's counts.
-    fn put_venue(&mut self, place: usize, r: &VenueReport) -> Result<(), AllocError> {
-        self.open_venue(place)?;
-        self.open("lines", "{")?;
-        self.put_line("A", &r.counts.lines.a)?;
-        self.put_line("B", &r.counts.lines.b)?;
-        self.put_line("recovery", &r.counts.lines.recovery)?;
-        self.close("}")?;
-        self.put_object("items", &item_figures(&r.counts.items))?;
-        self.open("gaps", "{")?;
-        self.put_figures(&gap_figures(&r.gaps.all))?;
-        self.put_object("A", &gap_figures(&r.gaps.a))?;
-        self.put_object("B", &gap_figures(&r.gaps.b))?;
-        self.close("}")?;
-        self.put_figures(&venue_figures(&r.counts))?;
-        self.put_figures(&leading_figures(r.bids, r.offers))?;
-        self.close("}")
+/// Appends that, where the records have times.
+fn put_in_time(text: &mut Vec<u8>, how: JsonStyle, report: &Report) -> Result<(), AllocError>
+    ensures { OnOk result (text.new.items ≡ text.old.items
+        ++ json_in_time report.now.has_times how.style report.now) }
+{
+    match report.has_times {
+        true => put_all_times(text, how, report),
+        false => Ok(()),
     }
+}
 
-    /// Appends what a venue's lines lost.
-    fn put_losses(&mut self, place: usize, r: &VenueReport) -> Result<(), AllocError> {
-        self.open_venue(place)?;
-        self.put_figures(&loss_figures(&r.gaps))?;
-        self.put_object("A", &line_loss_figures(&r.gaps.a))?;
-        self.put_object("B", &line_loss_figures(&r.gaps.b))?;
-        self.close("}")
-    }
+/// Appends the counts of all venues, and how often national bests changed to each state.
+fn put_counts(text: &mut Vec<u8>, how: JsonStyle, report: &Report) -> Result<(), AllocError>
+    ensures { OnOk result (text.new.items ≡ text.old.items ++ json_counts how.style report.now) }
+{
+    put(text, "{\"venues\":[")?;
+    put_venues(text, how, VenuePart::Counts, report.venues.as_slice())?;
+    put_object(text, how, "],", "states", &state_figures(&report.states))
+}
 
-    /// Appends how a venue's lines run in time.
-    fn put_times(&mut self, place: usize, r: &VenueReport) -> Result<(), AllocError> {
-        self.open_venue(place)?;
-        self.put_object("a_first", &duration_figures(&r.a_first))?;
-        self.put_object("b_first", &duration_figures(&r.b_first))?;
-        self.put_object("last_heard_ns", &packet_figures(&r.last_packets))?;
-        self.close("}")
-    }
-
-    /// Appends how all venues' lines run in time.
-    fn put_all_times(&mut self, report: &Report) -> Result<(), AllocError> {
-        self.open("in_time", "{")?;
-        self.put_figures(&busiest_figures(&report.second, &report.millisecond))?;
-        self.open("venues", "[")?;
-        for place in 0..report.venues.len() {
-            self.put_times(place, &report.venues[place])?;
-        }
-        self.close("]}")
-    }
-
-    /// Appends the report.
-    fn put_report(&mut self, report: &Report) -> Result<(), AllocError> {
-        self.open("venues", "[")?;
-        for place in 0..report.venues.len() {
-            self.put_venue(place, &report.venues[place])?;
-        }
-        self.close("]")?;
-        self.put_object("states", &state_figures(&report.states))?;
-        self.open("losses", "[")?;
-        for place in 0..report.venues.len() {
-            self.put_losses(place, &report.venues[place])?;
-        }
-        self.close("]")?;
-        if report.has_times {
-            self.put_all_times(report)?;
-        }
-        Ok(())
-    }
+/// Appends what the lines of all venues lost.
+fn put_all_losses(text: &mut Vec<u8>, how: JsonStyle, report: &Report) -> Result<(), AllocError>
+    ensures { OnOk result (text.new.items
+        ≡ text.old.items ++ json_all_losses how.style report.now) }
+{
+    put(text, ",\"losses\":[")?;
+    put_venues(text, how, VenuePart::Losses, report.venues.as_slice())?;
+    put(text, "]")
 }
 
 /// Appends the report as an object on a line of its own.
@@ -169,14 +328,12 @@ pub(crate) fn put_json(
     text: &mut Vec<u8>,
     style: TimeStyle,
     report: &Report,
-) -> Result<(), AllocError> {
-    let mut json = Json {
-        alloc,
-        text,
-        style,
-        is_after: false,
-    };
-    json.put("{")?;
-    json.put_report(report)?;
-    json.put("}\n")
+) -> Result<(), AllocError>
+    ensures { OnOk result (text.new.items ≡ text.old.items ++ json_of_report style report.now) }
+{
+    let how = JsonStyle { alloc, style };
+    put_counts(text, how, report)?;
+    put_all_losses(text, how, report)?;
+    put_in_time(text, how, report)?;
+    put(text, "}\n")
 }

@@ -105,10 +105,13 @@ impl Tables<'_> {
         Ok(())
     }
 
-    /// Appends a title on a new line, and the heads of columns.
+    /// Appends a title on a new line, and the heads of columns, if there are any.
     fn put_title(&mut self, title: &str, heads: &[&str]) -> Result<(), AllocError> {
         self.put("\n  ")?;
         self.put(title)?;
+        if heads.is_empty() {
+            return Ok(());
+        }
         self.text
             .extend_from_slice(filling(LABEL, title.len().saturating_add(2)))?;
         for head in heads {

@@ -1,4 +1,7 @@
 //! Values as texts.
+ghost use Rattle.std.specs.Prelude.{◌≡◌, ◌++◌, IfOk, OnOk, decimal};
+ghost use Rattle.best_rows.specs.Times.{time_text};
+ghost use Rattle.replay_reports.specs.report.ReportTexts.{json_of_value, json_time_of, value_text};
 
 use crate::report::figure::FigureValue;
 use best_rows::put_time;
@@ -8,9 +11,21 @@ use run_settings::TimeStyle;
 use std::alloc::{AllocError, Global};
 
 /// Appends a number in decimal.
-pub(crate) fn put_count(text: &mut Vec<u8>, number: u64) -> Result<(), AllocError> {
+pub(crate) fn put_count(text: &mut Vec<u8>, number: u64) -> Result<(), AllocError>
+    ensures { OnOk result (text.new.items ≡ text.old.items ++ decimal number) }
+{
     let mut buffer = Buffer::new();
     text.extend_from_slice(buffer.format(number).as_bytes())
+}
+
+/// Returns a time in nanoseconds from 1970 on, in the style.
+fn date_of(alloc: Global, style: TimeStyle, time: u64) -> Result<LineBuffer, AllocError>
+    ensures { IfOk result (λ date. date.items ≡ time_text style time) }
+{
+    let mut date = LineBuffer::new(alloc);
+    date.make_room(30)?;
+    put_time(&mut date, style, time);
+    Ok(date)
 }
 
 /// Appends a time in nanoseconds from 1970 on, in the style.
@@ -19,10 +34,10 @@ fn put_date(
     text: &mut Vec<u8>,
     style: TimeStyle,
     time: u64,
-) -> Result<(), AllocError> {
-    let mut date = LineBuffer::new(alloc);
-    date.make_room(30)?;
-    put_time(&mut date, style, time);
+) -> Result<(), AllocError>
+    ensures { OnOk result (text.new.items ≡ text.old.items ++ time_text style time) }
+{
+    let date = date_of(alloc, style, time)?;
     text.extend_from_slice(date.as_slice())
 }
 
@@ -33,7 +48,9 @@ pub(crate) fn put_value(
     style: TimeStyle,
     none: &[u8],
     value: FigureValue,
-) -> Result<(), AllocError> {
+) -> Result<(), AllocError>
+    ensures { OnOk result (text.new.items ≡ text.old.items ++ value_text style none.now value) }
+{
     match value {
         FigureValue::Nothing => text.extend_from_slice(none),
         FigureValue::Count(number) => put_count(text, number),
@@ -41,20 +58,37 @@ pub(crate) fn put_value(
     }
 }
 
-/// Appends a value as JSON has it: a time as nanoseconds, or as a date in quotation marks.
+/// Appends a time as JSON has it: as nanoseconds, or as a date in quotation marks.
+fn put_json_time(
+    alloc: Global,
+    text: &mut Vec<u8>,
+    style: TimeStyle,
+    time: u64,
+) -> Result<(), AllocError>
+    ensures { OnOk result (text.new.items ≡ text.old.items ++ json_time_of style time) }
+{
+    match style {
+        TimeStyle::Seconds => put_count(text, time),
+        TimeStyle::Utc => {
+            text.extend_from_slice(b"\"")?;
+            put_date(alloc, text, TimeStyle::Utc, time)?;
+            text.extend_from_slice(b"\"")
+        }
+    }
+}
+
+/// Appends a value as JSON has it.
 pub(crate) fn put_json_value(
     alloc: Global,
     text: &mut Vec<u8>,
     style: TimeStyle,
     value: FigureValue,
-) -> Result<(), AllocError> {
-    match (value, style) {
-        (FigureValue::Time(time), TimeStyle::Seconds) => put_count(text, time),
-        (FigureValue::Time(time), TimeStyle::Utc) => {
-            text.extend_from_slice(b"\"")?;
-            put_date(alloc, text, style, time)?;
-            text.extend_from_slice(b"\"")
-        }
-        (value, _) => put_value(alloc, text, style, b"null", value),
+) -> Result<(), AllocError>
+    ensures { OnOk result (text.new.items ≡ text.old.items ++ json_of_value style value) }
+{
+    match value {
+        FigureValue::Nothing => text.extend_from_slice(b"null"),
+        FigureValue::Count(number) => put_count(text, number),
+        FigureValue::Time(time) => put_json_time(alloc, text, style, time),
     }
 }

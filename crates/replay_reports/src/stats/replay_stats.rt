@@ -3,7 +3,8 @@ ghost use Rattle.std.specs.Prelude.{◌≡◌, ◌==◌, ◌<◌, ◌≤◌, ℕ
 ghost use Rattle.std.specs.Option.{option_map_or};
 ghost use Rattle.feed_text.specs.SinkEvents.{TimedEvent, timed_event, told_by};
 ghost use Rattle.replay_reports.specs.counts.Counts.{best_counts};
-ghost use Rattle.replay_reports.specs.report.Reports.{AreVenueReports, IsReport};
+ghost use Rattle.replay_reports.specs.report.ReportTexts.{IsReportText, csv_of_report, json_of_report};
+ghost use Rattle.replay_reports.specs.report.Reports.{AreVenueReports, IsReport, ShowsStats};
 ghost use Rattle.replay_reports.specs.stats.Statistics.{AreStatsOf, AreVenuesOf, is_at_venue, untimed};
 
 use crate::counts::best_counts::BestCounts;
@@ -18,8 +19,14 @@ use feed_text::{Event, EventSink, SinkStop};
 use feed_types::VenueId;
 use line_gaps::EndedGaps;
 use report_rows::SpannedSink;
-use run_settings::ReportFormat;
+use run_settings::{ReportFormat, TimeStyle};
 use std::alloc::{AllocError, Global};
+
+/// A second in nanoseconds.
+const SECOND: u64 = 1_000_000_000;
+
+/// A millisecond in nanoseconds.
+const MILLISECOND: u64 = 1_000_000;
 
 /// The statistics of a replay. As a sink of events it writes nothing, and no call of it fails.
 #[derive(Drop)]
@@ -146,8 +153,8 @@ impl ReplayStats {
         Ok(ReplayStats {
             venues: new_venues(alloc, venues, window)?,
             bests: BestCounts::none(),
-            second: BusiestPeriod::new(1_000_000_000),
-            millisecond: BusiestPeriod::new(1_000_000),
+            second: BusiestPeriod::new(),
+            millisecond: BusiestPeriod::new(),
             ended: EndedGaps::new(),
             has_times,
         })
@@ -167,7 +174,8 @@ fn venue_reports(
     venues: &[VenueStats],
     bests: &BestCounts,
 ) -> Result<Vec<VenueReport>, AllocError>
-    ensures { IfOk result (λ reports. (window : ℕ) (events : List TimedEvent)
+    ensures all { IfOk result (λ reports. length reports.items ≡ length venues.now) }
+    ensures right { IfOk result (λ reports. (window : ℕ) (events : List TimedEvent)
         → length venues.now ≤ 16 → AreVenuesOf window events venues.now
         → bests.now ≡ best_counts (untimed events)
         → AreVenueReports window events reports.items) }
@@ -181,12 +189,50 @@ fn venue_reports(
     Ok(reports)
 }
 
+/// Returns a report as comma-separated values. Fails where memory is refused.
+fn csv_text(alloc: Global, style: TimeStyle, report: &Report) -> Result<Vec<u8>, AllocError>
+    ensures { IfOk result (λ text. text.items ≡ csv_of_report style report.now) }
+{
+    let mut text = Vec::new(alloc);
+    put_csv(alloc, &mut text, style, report)?;
+    Ok(text)
+}
+
+/// Returns a report as a JSON object. Fails where memory is refused.
+fn json_text(alloc: Global, style: TimeStyle, report: &Report) -> Result<Vec<u8>, AllocError>
+    ensures { IfOk result (λ text. text.items ≡ json_of_report style report.now) }
+{
+    let mut text = Vec::new(alloc);
+    put_json(alloc, &mut text, style, report)?;
+    Ok(text)
+}
+
+/// Returns a report as a table. Fails where memory is refused.
+fn table_text(alloc: Global, style: TimeStyle, report: &Report) -> Result<Vec<u8>, AllocError> {
+    let mut text = Vec::new(alloc);
+    put_table(alloc, &mut text, style, report)?;
+    Ok(text)
+}
+
+/// Returns a report as a text in the format. Fails where memory is refused.
+fn report_text(alloc: Global, format: ReportFormat, report: &Report) -> Result<Vec<u8>, AllocError>
+    ensures { IfOk result (λ text. IsReportText format report.now text.items) }
+{
+    match format {
+        ReportFormat::Table(style) => table_text(alloc, style, report),
+        ReportFormat::Csv(style) => csv_text(alloc, style, report),
+        ReportFormat::Json(style) => json_text(alloc, style, report),
+    }
+}
+
 impl ReplayStats {
     /// Returns the figures, of 16 venues at most. Fails where memory is refused.
     pub fn report(&self, alloc: Global) -> Result<Report, AllocError>
         ensures report { IfOk result (λ r. (window : ℕ) (events : List TimedEvent)
             → length self.now.venues.items ≤ 16 → AreStatsOf window events self.now
             → IsReport window events r) }
+        ensures all { IfOk result (λ r.
+            length r.venues.items ≡ length self.now.venues.items) }
         ensures has_times { IfOk result (λ r. r.has_times ≡ self.now.has_times) }
     {
         Ok(Report {
@@ -199,14 +245,11 @@ impl ReplayStats {
     }
 
     /// Returns the figures as a text in the format. Fails where memory is refused.
-    pub fn text(&self, alloc: Global, format: ReportFormat) -> Result<Vec<u8>, AllocError> {
+    pub fn text(&self, alloc: Global, format: ReportFormat) -> Result<Vec<u8>, AllocError>
+        ensures { IfOk result (λ text. ShowsStats format self.now text.items) }
+    {
         let report = self.report(alloc)?;
-        let mut text = Vec::new(alloc);
-        match format {
-            ReportFormat::Table(style) => put_table(alloc, &mut text, style, &report)?,
-            ReportFormat::Csv(style) => put_csv(alloc, &mut text, style, &report)?,
-            ReportFormat::Json(style) => put_json(alloc, &mut text, style, &report)?,
-        }
+        let text = report_text(alloc, format, &report)?;
         Ok(text)
     }
 }
@@ -234,8 +277,8 @@ impl EventSink for ReplayStats {
         take_at(&mut self.venues, &mut self.ended, time, event);
         count_best(&mut self.bests, event);
         let messages = datagram_messages(event);
-        self.second.add(time, messages);
-        self.millisecond.add(time, messages);
+        self.second.add(SECOND, time, messages);
+        self.millisecond.add(MILLISECOND, time, messages);
         Ok(())
     }
 

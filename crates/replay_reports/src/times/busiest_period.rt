@@ -18,12 +18,11 @@ pub struct Peak {
     pub began: Option<u64>,
 }
 
-/// The most messages that come within one period of the clock, of a length in nanoseconds. The
-/// messages of the latest 16 periods are kept, so that those of a frame that comes late count in
-/// its own one, and those of one that is later still in the earliest of these.
+/// The most messages that come within one period of the clock, of a length in nanoseconds that each
+/// call is given. The messages of the latest 16 periods are kept, so that those of a frame that
+/// comes late count in its own one, and those of one that is later still in the earliest of these.
 #[derive(Drop)]
 pub struct BusiestPeriod {
-    length: u64,
     kept: KeptPeriods<u64>,
     /// The most messages of a period.
     pub messages: u64,
@@ -101,12 +100,10 @@ fn taken_messages(answer: &Result<Outcome, LineFault>) -> u64
 
 impl BusiestPeriod {
     /// No message yet.
-    pub(crate) fn new(length: u64) -> BusiestPeriod
-        requires { 0 < length }
-        ensures { HoldsBusiest length [] result }
+    pub(crate) fn new() -> BusiestPeriod
+        ensures { (length : ℕ) → HoldsBusiest length [] result }
     {
         BusiestPeriod {
-            length,
             kept: KeptPeriods::new(),
             messages: 0,
             began: None,
@@ -115,11 +112,11 @@ impl BusiestPeriod {
 
     /// Counts messages at a time in nanoseconds.
     #[inline(always)]
-    fn add_at(&mut self, time: u64, messages: u64)
-        ensures { (length : ℕ) (came : List MessagesAt) → HoldsBusiest length came self.old
+    fn add_at(&mut self, length: u64, time: u64, messages: u64)
+        ensures { (came : List MessagesAt) → HoldsBusiest length came self.old
             → HoldsBusiest length (messages_at time messages ∷ came) self.new }
     {
-        let place = self.kept.enter(begin_of(self.length, time), 0).place;
+        let place = self.kept.enter(begin_of(length, time), &0).place;
         let period = raise(self.kept.kept.as_mut_slice(), place, messages);
         self.began = began_with(self.messages, period, self.began);
         self.messages = self.messages.max(period.figures);
@@ -127,12 +124,12 @@ impl BusiestPeriod {
 
     /// Counts the messages of a datagram at a time in nanoseconds, where both are known.
     #[inline(always)]
-    pub(crate) fn add(&mut self, time: Option<u64>, messages: Option<u64>)
-        ensures { (length : ℕ) (came : List MessagesAt) → HoldsBusiest length came self.old
+    pub(crate) fn add(&mut self, length: u64, time: Option<u64>, messages: Option<u64>)
+        ensures { (came : List MessagesAt) → HoldsBusiest length came self.old
             → HoldsBusiest length (messages_by time messages ++ came) self.new }
     {
         match (time, messages) {
-            (Some(time), Some(messages)) => self.add_at(time, messages),
+            (Some(time), Some(messages)) => self.add_at(length, time, messages),
             _ => {}
         }
     }

@@ -13,14 +13,14 @@ pub loop-place-preserved : goal.loop-place-preserved
 loop-place-preserved g c =
     takes_next_text g.W.TextOut.adds g.W.TextOut.failures g.met.W.TextOut.adds_more
     (text_at c.args.format c.args.lines c.args.periods.now) c.loop-place.place c.args.page.now
-    c.loop-place.page c.write_period.new.page c.loop-place.invariant
-    c.in_ok-write_period.ensures.took
+    c.loop-place.page c.write_period_at.new.page c.loop-place.invariant
+    c.in_ok-write_period_at.ensures.took
 
-pub returns-in_err-write_period-clause-failed : goal.returns-in_err-write_period-clause-failed
-returns-in_err-write_period-clause-failed g c =
+pub returns-in_err-write_period_at-clause-failed : goal.returns-in_err-write_period_at-clause-failed
+returns-in_err-write_period_at-clause-failed g c =
     let p = err_from_is_err_and c.from_residual.result c.from_residual.ensures.1 in
     rw p.1 (fails_in_text g.W.TextOut.adds g.W.TextOut.failures g.met.W.TextOut.adds_more
     (text_at c.args.format c.args.lines c.args.periods.now) c.loop-place.place
-    (length c.args.periods.now) c.args.page.now c.loop-place.page c.write_period.new.page
+    (length c.args.periods.now) c.args.page.now c.loop-place.page c.write_period_at.new.page
     (omega (arith, c.loop-place-test.true)) c.loop-place.invariant
-    c.in_err-write_period.ensures.failed)
+    c.in_err-write_period_at.ensures.failed)

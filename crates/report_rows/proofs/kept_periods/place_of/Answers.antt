@@ -9,13 +9,13 @@ pub returns-clause-place : goal.returns-clause-place
 returns-clause-place g c =
     let begin = c.args.begin in
     let ps = c.args.periods.now in
-    let first = IsFirst-from_position _ _ c.position.result (λ q. nat_le begin q.begin ≡ true)
-    (λ q. nat_le begin q.begin ≡ false)
+    let first = IsFirst-from_position _ _ c.position.result (λ q. nat_le q.begin begin ≡ true)
+    (λ q. nat_le q.begin begin ≡ false)
     c.position.ensures.ran (YieldsList-from_slice ps cc) (λ x q k. search (rules, tests))
     (λ x q k. search (rules, tests)) in
     let found : period_place_of begin ps ≡ unwrap_or c.position.result (length ps) =
-    index_from_first (period_place_of begin) (λ q. nat_le begin q.begin ≡ true)
-    (λ q. nat_le begin q.begin ≡ false)
+    index_from_first (period_place_of begin) (λ q. nat_le q.begin begin ≡ true)
+    (λ q. nat_le q.begin begin ≡ false)
     refl
     (λ x xs e. ap (λ b. cond (not b) (1 + period_place_of begin xs) 0) e)
     (λ x xs e. ap (λ b. cond (not b) (1 + period_place_of begin xs) 0) e ∙ omega arith)

@@ -4,7 +4,8 @@ use Rattle.std.proofs.lemmas.List.Sums.{sum_by-cons}
 use Rattle.line_arbiter.specs.declared.outcome.LineFault.{LineFault}
 use Rattle.line_arbiter.specs.declared.outcome.Outcome.{Outcome}
 use Rattle.feed_text.specs.SinkEvents.{told_packet}
-use Rattle.replay_reports.specs.counts.Counts.{bytes_in, line_counts}
+use Rattle.report_rows.specs.EventFigures.{bytes_in}
+use Rattle.replay_reports.specs.counts.Counts.{line_counts}
 use Rattle.replay_reports.proofs.Counting.{fault_codes, line_refused, longer, summed_more}
 use Rattle.replay_reports.proofs.counts.line_counts.LineCounts.add_packet.Goals as goal
 

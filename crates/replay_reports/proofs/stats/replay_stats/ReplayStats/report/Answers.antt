@@ -8,7 +8,7 @@ pub returns-clause-report : goal.returns-clause-report
 returns-clause-report c = λ window events few are.
     let same = sym c.as_slice.ensures.value in
     record {
-      venues = c.in_ok-venue_reports.ensures window events
+      venues = c.in_ok-venue_reports.ensures.right window events
           (subst (λ (vs : List VenueStats). length vs ≤ 16) same few)
           (subst (λ (vs : List VenueStats). AreVenuesOf window events vs) same are.venues)
           are.bests;

@@ -5,12 +5,12 @@ use Rattle.replay_reports.proofs.stats.replay_stats.ReplayStatsEventSink.take.Go
 
 more : (length : ℕ) (came : List MessagesAt) (old new : BusiestPeriod) (found told : Option ℕ)
     (time : Option ℕ) → found ≡ told
-    → ((length : ℕ) (came : List MessagesAt) → HoldsBusiest length came old
+    → ((came : List MessagesAt) → HoldsBusiest length came old
     → HoldsBusiest length (messages_by time found ++ came) new)
     → HoldsBusiest length came old → HoldsBusiest length (messages_by time told ++ came) new
 more length came old new found told time is adds holds =
     subst (λ (m : Option ℕ). HoldsBusiest length (messages_by time m ++ came) new) is
-    (adds length came holds)
+    (adds came holds)
 
 pub returns-clause-took : goal.returns-clause-took
 returns-clause-took c = record {
