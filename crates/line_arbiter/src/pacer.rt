@@ -1,6 +1,6 @@
 //! The pace of requests for what is missing.
 
-ghost use Rattle.std.specs.Prelude.{◌≡◌, ◌<◌, ◌+◌, ◌×◌, ◌↔◌, None, IsTrue};
+ghost use Rattle.std.specs.Prelude.{◌≡◌, ◌<◌, ◌+◌, ◌↔◌, None, IsTrue};
 ghost use Rattle.line_arbiter.specs.Pacing.{IsPaced, IsTooSoon, seen_at};
 
 use mold_packet::Request;
