@@ -348,6 +348,7 @@ impl<G: Genuine> Arbiter<G> {
     }
 
     /// Returns the cursors of the present session.
+    #[inline(always)]
     pub fn status(&self) -> ArbiterStatus
         ensures cursors { ShowsCursors self.now result }
         ensures packets { (packets : List Input) → Fits self.now packets

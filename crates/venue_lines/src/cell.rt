@@ -353,6 +353,7 @@ impl<G: Genuine, N: FeedName> VenueCell<G, N> {
     }
 
     /// Whether messages are missing: the session is known to go past the front.
+    #[inline(always)]
     pub(crate) fn has_gap(&self) -> bool {
         let status = self.lines.status();
         status.front < status.known
