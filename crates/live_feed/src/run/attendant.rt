@@ -78,7 +78,8 @@ impl<'r, G: Genuine, N: FeedName> RunView<'r, G, N> {
             };
             let last = self.is_over();
             match log.poll_holding(rt) {
-                Ok(None) if !last => looks = back_off(rt, looks, key),
+                Ok(None) if last => return Ok(None),
+                Ok(None) => looks = back_off(rt, looks, key),
                 polled => return polled,
             }
         }

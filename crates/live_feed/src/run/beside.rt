@@ -87,6 +87,32 @@ where
     (Beside { first, second }, log)
 }
 
+/// Has both attend the run, and waits for the first one's thread.
+fn attend_scoped<'s, G, N, A, B, R>(
+    rt: &'s R,
+    run: &'s RunView<'s, G, N>,
+    pair: Beside<A, B>,
+    log: OwnLog<N>,
+) -> (Beside<A, B>, OwnLog<N>)
+where
+    G: Genuine + Send + Sync + 's,
+    N: FeedName + Send + Sync + 's,
+    A: Attendant<G, N, OwnLog<N>> + Send + 's,
+    B: Attendant<G, N, OwnLog<N>>,
+    R: Threads + Wait + Sync,
+    ensures { AttendBoth A.attends B.attends None pair.first pair.second log
+        result.0.first result.0.second result.1 }
+{
+    thread::scope(
+        thread::scope_env(),
+        rt,
+        move |scope| -> (Beside<A, B>, OwnLog<N>)
+            ensures { AttendBoth A.attends B.attends None pair.first pair.second log
+                result.0.first result.0.second result.1 }
+        { attend_both(rt, scope, run, pair, log) },
+    )
+}
+
 impl<G, N, A, B> Attendant<G, N, OwnLog<N>> for Beside<A, B>
 where
     G: Genuine + Send + Sync,
@@ -106,13 +132,6 @@ where
         run: &RunView<'_, G, N>,
         log: OwnLog<N>,
     ) -> (Beside<A, B>, OwnLog<N>) {
-        thread::scope(
-            thread::scope_env(),
-            rt,
-            move |scope| -> (Beside<A, B>, OwnLog<N>)
-                ensures { AttendBoth A.attends B.attends None self.first self.second log
-                    result.0.first result.0.second result.1 }
-            { attend_both(rt, scope, run, self, log) },
-        )
+        attend_scoped(rt, run, self, log)
     }
 }

@@ -1,5 +1,7 @@
 //! The names of a run's threads, by which tools of the system tell them apart.
 
+ghost use Rattle.std.specs.Prelude.{◌<◌};
+
 use feed_types::{LineId, SubscriberId, VenueId};
 
 /// Returns the tens and the ones of a number below 100, as text.
