@@ -37,8 +37,7 @@ struct AttendantOf<G, N: FeedName, A> {
 }
 
 impl<G: Genuine, N: FeedName, A: Attendant<G, N, OwnLog<N>>> Promise<(A, OwnLog<N>)>
-    for AttendantOf<G, N, A>
-{
+    for AttendantOf<G, N, A> {
     ghost kept_by = { λ p r. A.attends p.attendant.value p.log.value r.0 r.1 };
 }
 
@@ -74,14 +73,15 @@ where
         }
         first.attend(rt, run, log)
     };
-    let thread: ThreadOf<(A, OwnLog<N>), AttendantOf<G, N, A>> =
-        match scope.spawn_with(promise, job) {
-            Ok(handle) => Ok(handle),
-            Err(refused) => {
-                run.signals.note_spawn_failure();
-                Err((refused.value)())
-            }
-        };
+    let thread: ThreadOf<(A, OwnLog<N>), AttendantOf<G, N, A>> = match scope.spawn_with(
+        promise, job,
+    ) {
+        Ok(handle) => Ok(handle),
+        Err(refused) => {
+            run.signals.note_spawn_failure();
+            Err((refused.value)())
+        }
+    };
     let (second, _no_log) = second.attend(rt, run, None);
     let (first, log) = join_one(rt, thread);
     (Beside { first, second }, log)
