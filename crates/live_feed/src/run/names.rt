@@ -44,8 +44,3 @@ pub(crate) fn name_subscriber(id: SubscriberId) {
 pub(crate) fn name_consolidator() {
     let _named = os::set_thread_name(b"consolidator");
 }
-
-/// Names the calling thread, as that of the first of two attendants.
-pub(crate) fn name_attendant() {
-    let _named = os::set_thread_name(b"attendant");
-}
