@@ -11,7 +11,7 @@ use feed_types::{Genuine, VenueId};
 use std::snapshot::Snapshot;
 use std::sync::Wait;
 use std::thread::Promise;
-use venue_lines::{LineSeat, LineSource, SourceFault, VenueLocks};
+use venue_lines::{LineSeat, LineSource, Looked, SourceFault, VenueLocks};
 
 /// The line that a thread has. What the thread returns is that line, ended.
 #[derive(Drop)]
@@ -27,13 +27,15 @@ impl<G: Genuine, N: FeedName, S: LineSource<G>> Promise<LineEnd<G, N, S>> for Li
         S.failures p.seat.value p.source.value r };
 }
 
-/// Has the source send the request for the venue's gap that is due, if any. Where there is no gap,
-/// nothing is due, and the clock isn't read.
+/// Has the source send the request for the venue's gap that is due, if any: for one that has been
+/// there for `wait_ms` milliseconds. Where there is no gap, nothing is due, and the clock isn't
+/// read.
 fn request_due<G: Genuine, N: FeedName, S: LineSource<G>, W: Wait>(
     rt: &W,
     venues: &VenueLocks<G, N>,
     venue: VenueId,
     gap: bool,
+    wait_ms: u64,
     source: &mut S,
 ) -> Result<(), SourceFault>
     ensures venue { S.venue_of source.new ≡ S.venue_of source.old }
@@ -46,7 +48,7 @@ fn request_due<G: Genuine, N: FeedName, S: LineSource<G>, W: Wait>(
         return Ok(());
     }
     let now_ms = source.now_ms();
-    match venues.request_due(rt, venue, now_ms) {
+    match venues.request_due(rt, venue, now_ms, wait_ms) {
         Ok(Some(request)) => source.request(&request),
         Ok(None) | Err(_) => Ok(()),
     }
@@ -94,7 +96,8 @@ pub(crate) fn work_line<G: Genuine, N: FeedName, S: LineSource<G>, W: Wait>(
     let venue = seat.venue();
     let mut datagrams: u64 = 0;
     let mut fault = None;
-    let mut gap = false;
+    let mut looked = Looked::default();
+    let wait_ms = signals.rules().request_after_ms;
     for _ in rt.forever() {
         if !is_next_there(rt, venues, signals, &mut source) {
             break;
@@ -102,8 +105,8 @@ pub(crate) fn work_line<G: Genuine, N: FeedName, S: LineSource<G>, W: Wait>(
         match source.next() {
             Ok(Some(datagram)) => {
                 datagrams = datagrams.saturating_add(1);
-                let _answer = venues.take_and_look(rt, &mut seat, &datagram, &mut gap);
-                source.recycle(datagram);
+                let _answer = venues.take_and_look(rt, &mut seat, &datagram, &mut looked);
+                source.recycle(datagram, looked.place);
             }
             Ok(None) => break,
             Err(failed) => {
@@ -111,7 +114,7 @@ pub(crate) fn work_line<G: Genuine, N: FeedName, S: LineSource<G>, W: Wait>(
                 break;
             }
         }
-        if let Err(failed) = request_due(rt, venues, venue, gap, &mut source) {
+        if let Err(failed) = request_due(rt, venues, venue, looked.gap, wait_ms, &mut source) {
             fault = Some(failed);
             break;
         }
