@@ -438,7 +438,7 @@ impl<C: Clock + Drop> LineSource<Anything> for UdpLine<C> {
     }
 
     /// Keeps the datagram's memory for the next one.
-    fn recycle(&mut self, datagram: Datagram)
+    fn recycle(&mut self, datagram: Datagram, _place: u64)
         ensures { self.new ≡ self.old }
     {
         self.line_socket.used = Some(datagram.into_bytes());
