@@ -15,8 +15,8 @@ use feed_text::TextOut;
 use feed_types::{Anything, FeedConfig};
 use filter_terms::{Filter, Strategy, Terms};
 use live_feed::{
-    CoreFault, FeedEnd, FeedName, FeedTask, JournalFault, LineTask, LiveFeed, SettleFault,
-    Subscription, WholeFault,
+    CoreFault, FeedEnd, FeedName, FeedTask, JournalFault, LineTask, LiveFeed, RunRules,
+    SettleFault, Subscription, WholeFault,
 };
 use run_notes::AbsentList;
 use run_settings::ListenSettings;
@@ -162,6 +162,7 @@ where
         lines,
         attended: Some(subscription),
         subscriptions: Vec::new(alloc),
+        rules: RunRules::default(),
     };
     let FeedEnd {
         outcome,

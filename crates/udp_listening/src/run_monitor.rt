@@ -16,6 +16,7 @@ use live_feed::{Attendant, FeedName, OwnLog, RunView, SubscriberLog};
 use run_watches::{RunProgress, RunWatches};
 use std::alloc::Global;
 use std::sync::Wait;
+use std::thread::Threads;
 use std::time::Clock;
 
 /// How long the monitor waits between two looks at a run, in milliseconds.
@@ -221,7 +222,7 @@ where
         (record { adds = E.adds; failures = E.failures }) before log after later };
 
     /// Attends the run with the log of its subscriber. Without one it does nothing.
-    fn attend<R: Wait>(
+    fn attend<R: Threads + Wait + Sync>(
         self,
         rt: &R,
         run: &RunView<'_, Anything, N>,
