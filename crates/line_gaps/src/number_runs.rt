@@ -235,8 +235,8 @@ impl NumberRuns {
         ensures has { self.new.dropped ≡ 0 → (n : ℕ) → is_in_runs n self.new.runs.items
             ≡ (is_in_runs n self.old.runs.items || (is_in_runs n runs.now && nat_lt n number)) }
         ensures order { self.new.dropped ≡ 0 → AreAscending self.old.runs.items
-            → AreAscending runs.now → ((m n : ℕ) → is_in_runs m self.old.runs.items ≡ true → is_in_runs n runs.now ≡ true
-            → m < n) → AreAscending self.new.runs.items }
+            → AreAscending runs.now → ((m n : ℕ) → is_in_runs m self.old.runs.items ≡ true
+            → is_in_runs n runs.now ≡ true → m < n) → AreAscending self.new.runs.items }
     {
         for run in runs {
             self.add_below(*run, number);
