@@ -95,9 +95,9 @@ gap_figures s = named
     (codes "found" ∷ codes "left_out" ∷ codes "late" ∷ codes "given_up" ∷ codes "again"
     ∷ codes "longest_ns" ∷ codes "ended_by_a" ∷ codes "ended_by_b" ∷ codes "ended_by_recovery"
     ∷ codes "ended_by_skip" ∷ codes "before" ∷ codes "open" ∷ codes "merged" ∷ [])
-    (figure_counts_of (s.found ∷ s.left_out ∷ s.late ∷ s.given_up ∷ s.again ∷ s.longest ∷ s.ended_by.a
-    ∷ s.ended_by.b ∷ s.ended_by.recovery ∷ s.ended_by.skip ∷ s.ended_by.before ∷ s.ended_by.open
-    ∷ s.merged ∷ []))
+    (figure_counts_of (s.found ∷ s.left_out ∷ s.late ∷ s.given_up ∷ s.again ∷ s.longest
+    ∷ s.ended_by.a ∷ s.ended_by.b ∷ s.ended_by.recovery ∷ s.ended_by.skip ∷ s.ended_by.before
+    ∷ s.ended_by.open ∷ s.merged ∷ []))
 
 -- lost is what was left out and didn't come late, and what came on other lines past its highest
 abbrev pub line_loss_figures : GapSums → List ShownFigure

@@ -1,15 +1,12 @@
 -- The figures of a replay, by its events. Of a list of events the last one stands first.
-use Rattle.std.specs.Prelude.{◌≡◌, ◌≤◌, ℕ, List, length, slice_get, Some}
+use Rattle.std.specs.Prelude.{◌≡◌, ℕ, List, length, slice_get, Some}
 use Rattle.std.specs.List.{count_by}
 use Rattle.feed_types.specs.declared.line.LineId.TheVariants.{A, B}
 use Rattle.feed_text.specs.SinkEvents.{TimedEvent}
-use Rattle.run_settings.specs.declared.formats.ReportFormat.{ReportFormat}
 use Rattle.replay_reports.specs.counts.Counts.{leads_bid, leads_offer, state_counts, venue_counts}
 use Rattle.replay_reports.specs.declared.report.statistics_report.Report.{Report}
 use Rattle.replay_reports.specs.declared.report.venue_report.VenueReport.{VenueReport}
-use Rattle.replay_reports.specs.declared.stats.replay_stats.ReplayStats.{ReplayStats}
-use Rattle.replay_reports.specs.report.ReportTexts.{IsReportText}
-use Rattle.replay_reports.specs.stats.Statistics.{AreStatsOf, events_at, untimed}
+use Rattle.replay_reports.specs.stats.Statistics.{events_at, untimed}
 use Rattle.replay_reports.specs.times.Busiest.{IsPeak, messages_told}
 use Rattle.replay_reports.specs.times.DurationStats.{AreDurationStats}
 use Rattle.replay_reports.specs.times.Figures.{capped}
@@ -40,12 +37,3 @@ pub record IsReport (window : ℕ) (events : List TimedEvent) (r : Report) : Typ
   pub states : r.states ≡ state_counts (untimed events)
   pub second : IsPeak 1000000000 (messages_told events) r.second
   pub millisecond : IsPeak 1000000 (messages_told events) r.millisecond
-
--- Of statistics: the report of whatever events they are of, all venues in it, and its text.
-pub record ShowsStats (format : ReportFormat) (s : ReplayStats) (text : List ℕ) : Type 0 where
-  pub report : Report
-  pub has_times : report.has_times ≡ s.has_times
-  pub all : length report.venues.items ≡ length s.venues.items
-  pub right : (window : ℕ) (events : List TimedEvent) → length s.venues.items ≤ 16
-      → AreStatsOf window events s → IsReport window events report
-  pub shown : IsReportText format report text

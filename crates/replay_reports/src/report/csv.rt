@@ -1,7 +1,4 @@
 //! The report as rows of comma-separated values, one for each figure.
-ghost use Rattle.std.specs.Prelude.{◌≡◌, ◌++◌, None, OnOk, Some, codes, option_map, slice_get};
-ghost use Rattle.replay_reports.specs.report.Figures.{figures_shown, shown_figure};
-ghost use Rattle.replay_reports.specs.report.ReportTexts.{csv_busiest, csv_gaps, csv_line, csv_lines, csv_losses, csv_name, csv_of_report, csv_of_venue, csv_of_venues, csv_own, csv_figure, csv_figure_of, csv_rows, csv_times, csv_times_if, csv_venue, csv_venue_at};
 
 use crate::counts::line_counts::LineCounts;
 use crate::report::figure::Figure;
@@ -26,9 +23,7 @@ struct CsvStyle {
 
 impl CsvStyle {
     /// The same of a venue.
-    fn of_venue(self, venue: u64) -> CsvStyle
-        ensures { result ≡ record self { venue = Some venue } }
-    {
+    fn of_venue(self, venue: u64) -> CsvStyle {
         CsvStyle {
             alloc: self.alloc,
             style: self.style,
@@ -38,16 +33,12 @@ impl CsvStyle {
 }
 
 /// Appends a text.
-fn put(text: &mut Vec<u8>, more: &str) -> Result<(), AllocError>
-    ensures { OnOk result (text.new.items ≡ text.old.items ++ more.now) }
-{
+fn put(text: &mut Vec<u8>, more: &str) -> Result<(), AllocError> {
     text.extend_from_slice(more.as_bytes())
 }
 
 /// Appends the number of a venue, if there is one.
-fn put_venue_number(text: &mut Vec<u8>, venue: Option<u64>) -> Result<(), AllocError>
-    ensures { OnOk result (text.new.items ≡ text.old.items ++ csv_venue venue) }
-{
+fn put_venue_number(text: &mut Vec<u8>, venue: Option<u64>) -> Result<(), AllocError> {
     match venue {
         Some(venue) => put_count(text, venue),
         None => Ok(()),
@@ -55,10 +46,7 @@ fn put_venue_number(text: &mut Vec<u8>, venue: Option<u64>) -> Result<(), AllocE
 }
 
 /// Appends whose figure it is.
-fn put_place(text: &mut Vec<u8>, venue: Option<u64>, line: &str) -> Result<(), AllocError>
-    ensures { OnOk result (text.new.items
-        ≡ text.old.items ++ (csv_venue venue ++ (codes "," ++ (line.now ++ codes ",")))) }
-{
+fn put_place(text: &mut Vec<u8>, venue: Option<u64>, line: &str) -> Result<(), AllocError> {
     put_venue_number(text, venue)?;
     put(text, ",")?;
     put(text, line)?;
@@ -66,10 +54,7 @@ fn put_place(text: &mut Vec<u8>, venue: Option<u64>, line: &str) -> Result<(), A
 }
 
 /// Appends a name after that of its group.
-fn put_name(text: &mut Vec<u8>, group: &str, name: &str) -> Result<(), AllocError>
-    ensures { OnOk result (text.new.items
-        ≡ text.old.items ++ (group.now ++ (name.now ++ codes ","))) }
-{
+fn put_name(text: &mut Vec<u8>, group: &str, name: &str) -> Result<(), AllocError> {
     put(text, group)?;
     put(text, name)?;
     put(text, ",")
@@ -82,10 +67,7 @@ fn put_head(
     line: &str,
     group: &str,
     name: &str,
-) -> Result<(), AllocError>
-    ensures { OnOk result (text.new.items
-        ≡ text.old.items ++ csv_name venue line.now group.now name.now) }
-{
+) -> Result<(), AllocError> {
     put_place(text, venue, line)?;
     put_name(text, group, name)
 }
@@ -97,10 +79,7 @@ fn put_row(
     line: &str,
     group: &str,
     figure: &Figure,
-) -> Result<(), AllocError>
-    ensures { OnOk result (text.new.items ≡ text.old.items
-        ++ csv_figure how.style how.venue line.now group.now (shown_figure figure.now)) }
-{
+) -> Result<(), AllocError> {
     put_head(text, how.venue, line, group, figure.name)?;
     put_value(how.alloc, text, how.style, b"", figure.value)?;
     put(text, "\n")
@@ -114,11 +93,7 @@ fn put_row_at(
     group: &str,
     figures: &[Figure],
     place: usize,
-) -> Result<(), AllocError>
-    ensures { OnOk result (text.new.items ≡ text.old.items
-        ++ csv_figure_of how.style how.venue line.now group.now
-        (option_map shown_figure (slice_get figures.now place))) }
-{
+) -> Result<(), AllocError> {
     match figures.get(place) {
         Some(figure) => put_row(text, how, line, group, figure),
         None => Ok(()),
@@ -126,17 +101,13 @@ fn put_row_at(
 }
 
 /// Appends the rows of figures.
-#[tactic(auto, using(crate::proofs::Putting::length_shown), unfolding(crate::specs::report::ReportTexts::csv_rows))]
 fn put_rows(
     text: &mut Vec<u8>,
     how: CsvStyle,
     line: &str,
     group: &str,
     figures: &[Figure],
-) -> Result<(), AllocError>
-    ensures { OnOk result (text.new.items ≡ text.old.items
-        ++ csv_rows how.style how.venue line.now group.now (figures_shown figures.now)) }
-{
+) -> Result<(), AllocError> {
     for place in 0..figures.len() {
         put_row_at(text, how, line, group, figures, place)?;
     }
@@ -149,10 +120,7 @@ fn put_line(
     how: CsvStyle,
     line: &str,
     counts: &LineCounts,
-) -> Result<(), AllocError>
-    ensures { OnOk result (text.new.items
-        ≡ text.old.items ++ csv_line how.style how.venue line.now counts.now) }
-{
+) -> Result<(), AllocError> {
     put_rows(text, how, line, "", &line_figures(counts))?;
     put_rows(text, how, line, "refused_", &refusal_figures(counts))
 }
@@ -162,50 +130,35 @@ fn put_lines(
     text: &mut Vec<u8>,
     how: CsvStyle,
     lines: &PerLine<LineCounts>,
-) -> Result<(), AllocError>
-    ensures { OnOk result (text.new.items
-        ≡ text.old.items ++ csv_lines how.style how.venue lines.now) }
-{
+) -> Result<(), AllocError> {
     put_line(text, how, "A", &lines.a)?;
     put_line(text, how, "B", &lines.b)?;
     put_line(text, how, "recovery", &lines.recovery)
 }
 
 /// Appends the rows of gaps.
-fn put_gaps(text: &mut Vec<u8>, how: CsvStyle, gaps: &GapReport) -> Result<(), AllocError>
-    ensures { OnOk result (text.new.items
-        ≡ text.old.items ++ csv_gaps how.style how.venue gaps.now) }
-{
+fn put_gaps(text: &mut Vec<u8>, how: CsvStyle, gaps: &GapReport) -> Result<(), AllocError> {
     put_rows(text, how, "A", "gaps_", &gap_figures(&gaps.a))?;
     put_rows(text, how, "B", "gaps_", &gap_figures(&gaps.b))?;
     put_rows(text, how, "all", "gaps_", &gap_figures(&gaps.all))
 }
 
 /// Appends the rows of what the lines lost, and lack together.
-fn put_losses(text: &mut Vec<u8>, how: CsvStyle, gaps: &GapReport) -> Result<(), AllocError>
-    ensures { OnOk result (text.new.items
-        ≡ text.old.items ++ csv_losses how.style how.venue gaps.now) }
-{
+fn put_losses(text: &mut Vec<u8>, how: CsvStyle, gaps: &GapReport) -> Result<(), AllocError> {
     put_rows(text, how, "A", "", &line_loss_figures(&gaps.a))?;
     put_rows(text, how, "B", "", &line_loss_figures(&gaps.b))?;
     put_rows(text, how, "", "", &loss_figures(gaps))
 }
 
 /// Appends the rows of a venue's items and sessions.
-fn put_own(text: &mut Vec<u8>, how: CsvStyle, r: &VenueReport) -> Result<(), AllocError>
-    ensures { OnOk result (text.new.items
-        ≡ text.old.items ++ csv_own how.style how.venue r.now) }
-{
+fn put_own(text: &mut Vec<u8>, how: CsvStyle, r: &VenueReport) -> Result<(), AllocError> {
     put_rows(text, how, "", "items_", &item_figures(&r.counts.items))?;
     put_rows(text, how, "", "", &venue_figures(&r.counts))?;
     put_rows(text, how, "", "", &leading_figures(r.bids, r.offers))
 }
 
 /// Appends the rows of how a venue's lines run in time.
-fn put_times(text: &mut Vec<u8>, how: CsvStyle, r: &VenueReport) -> Result<(), AllocError>
-    ensures { OnOk result (text.new.items
-        ≡ text.old.items ++ csv_times how.style how.venue r.now) }
-{
+fn put_times(text: &mut Vec<u8>, how: CsvStyle, r: &VenueReport) -> Result<(), AllocError> {
     put_rows(text, how, "A", "lead_", &duration_figures(&r.a_first))?;
     put_rows(text, how, "B", "lead_", &duration_figures(&r.b_first))?;
     put_rows(
@@ -223,10 +176,7 @@ fn put_times_if(
     how: CsvStyle,
     has_times: bool,
     r: &VenueReport,
-) -> Result<(), AllocError>
-    ensures { OnOk result (text.new.items
-        ≡ text.old.items ++ csv_times_if has_times how.style how.venue r.now) }
-{
+) -> Result<(), AllocError> {
     match has_times {
         true => put_times(text, how, r),
         false => Ok(()),
@@ -239,10 +189,7 @@ fn put_venue(
     how: CsvStyle,
     has_times: bool,
     r: &VenueReport,
-) -> Result<(), AllocError>
-    ensures { OnOk result (text.new.items
-        ≡ text.old.items ++ csv_of_venue how.style has_times how.venue r.now) }
-{
+) -> Result<(), AllocError> {
     put_lines(text, how, &r.counts.lines)?;
     put_gaps(text, how, &r.gaps)?;
     put_losses(text, how, &r.gaps)?;
@@ -257,10 +204,7 @@ fn put_venue_at(
     has_times: bool,
     venues: &[VenueReport],
     place: usize,
-) -> Result<(), AllocError>
-    ensures { OnOk result (text.new.items ≡ text.old.items
-        ++ csv_venue_at how.style has_times place (slice_get venues.now place)) }
-{
+) -> Result<(), AllocError> {
     match venues.get(place) {
         Some(venue) => put_venue(text, how.of_venue(place as u64), has_times, venue),
         None => Ok(()),
@@ -268,16 +212,12 @@ fn put_venue_at(
 }
 
 /// Appends the rows of all venues.
-#[tactic(auto, unfolding(crate::specs::report::ReportTexts::csv_of_venues))]
 fn put_venues(
     text: &mut Vec<u8>,
     how: CsvStyle,
     has_times: bool,
     venues: &[VenueReport],
-) -> Result<(), AllocError>
-    ensures { OnOk result (text.new.items
-        ≡ text.old.items ++ csv_of_venues how.style has_times venues.now) }
-{
+) -> Result<(), AllocError> {
     for place in 0..venues.len() {
         put_venue_at(text, how, has_times, venues, place)?;
     }
@@ -285,11 +225,7 @@ fn put_venues(
 }
 
 /// Appends the rows of the busiest periods, where the records have times.
-fn put_busiest(text: &mut Vec<u8>, how: CsvStyle, report: &Report) -> Result<(), AllocError>
-    requires { how.venue ≡ None }
-    ensures { OnOk result (text.new.items
-        ≡ text.old.items ++ csv_busiest report.now.has_times how.style report.now) }
-{
+fn put_busiest(text: &mut Vec<u8>, how: CsvStyle, report: &Report) -> Result<(), AllocError> {
     match report.has_times {
         true => put_rows(
             text,
@@ -308,9 +244,7 @@ pub(crate) fn put_csv(
     text: &mut Vec<u8>,
     style: TimeStyle,
     report: &Report,
-) -> Result<(), AllocError>
-    ensures { OnOk result (text.new.items ≡ text.old.items ++ csv_of_report style report.now) }
-{
+) -> Result<(), AllocError> {
     let how = CsvStyle {
         alloc,
         style,

@@ -1,8 +1,4 @@
 //! The report as a JSON object.
-ghost use Rattle.std.specs.Prelude.{◌≡◌, ◌++◌, OnOk, codes, decimal, option_map, slice_get};
-ghost use Rattle.report_rows.specs.RowTexts.{comma_at};
-ghost use Rattle.replay_reports.specs.report.Figures.{figures_shown, shown_figure};
-ghost use Rattle.replay_reports.specs.report.ReportTexts.{json_all_losses, json_all_times, json_counts, json_figure_at, json_figures, json_gaps, json_in_time, json_line_of, json_lines, json_losses, json_object, json_of_figure, json_of_report, json_of_venues, json_open, json_own, json_part, json_times, json_venue, json_venue_at};
 
 use crate::counts::line_counts::LineCounts;
 use crate::report::figure::Figure;
@@ -33,16 +29,12 @@ pub(crate) enum VenuePart {
 }
 
 /// Appends a text.
-fn put(text: &mut Vec<u8>, more: &str) -> Result<(), AllocError>
-    ensures { OnOk result (text.new.items ≡ text.old.items ++ more.now) }
-{
+fn put(text: &mut Vec<u8>, more: &str) -> Result<(), AllocError> {
     text.extend_from_slice(more.as_bytes())
 }
 
 /// Appends a comma, unless the place is the first one.
-fn put_comma(text: &mut Vec<u8>, place: usize) -> Result<(), AllocError>
-    ensures { OnOk result (text.new.items ≡ text.old.items ++ comma_at place) }
-{
+fn put_comma(text: &mut Vec<u8>, place: usize) -> Result<(), AllocError> {
     if place == 0 {
         return Ok(());
     }
@@ -50,10 +42,7 @@ fn put_comma(text: &mut Vec<u8>, place: usize) -> Result<(), AllocError>
 }
 
 /// Appends a figure as a member.
-fn put_figure(text: &mut Vec<u8>, how: JsonStyle, figure: &Figure) -> Result<(), AllocError>
-    ensures { OnOk result (text.new.items
-        ≡ text.old.items ++ json_of_figure how.style (shown_figure figure.now)) }
-{
+fn put_figure(text: &mut Vec<u8>, how: JsonStyle, figure: &Figure) -> Result<(), AllocError> {
     put(text, "\"")?;
     put(text, figure.name)?;
     put(text, "\":")?;
@@ -66,11 +55,7 @@ fn put_figure_at(
     how: JsonStyle,
     figures: &[Figure],
     place: usize,
-) -> Result<(), AllocError>
-    ensures { OnOk result (text.new.items ≡ text.old.items
-        ++ json_figure_at how.style place
-        (option_map shown_figure (slice_get figures.now place))) }
-{
+) -> Result<(), AllocError> {
     match figures.get(place) {
         Some(figure) => {
             put_comma(text, place)?;
@@ -81,11 +66,7 @@ fn put_figure_at(
 }
 
 /// Appends figures as members.
-#[tactic(auto, using(crate::proofs::Putting::length_shown), unfolding(crate::specs::report::ReportTexts::json_figures))]
-fn put_figures(text: &mut Vec<u8>, how: JsonStyle, figures: &[Figure]) -> Result<(), AllocError>
-    ensures { OnOk result (text.new.items
-        ≡ text.old.items ++ json_figures how.style (figures_shown figures.now)) }
-{
+fn put_figures(text: &mut Vec<u8>, how: JsonStyle, figures: &[Figure]) -> Result<(), AllocError> {
     for place in 0..figures.len() {
         put_figure_at(text, how, figures, place)?;
     }
@@ -93,9 +74,7 @@ fn put_figures(text: &mut Vec<u8>, how: JsonStyle, figures: &[Figure]) -> Result
 }
 
 /// Begins an object that is a member, after what stands before.
-fn put_open(text: &mut Vec<u8>, before: &str, name: &str) -> Result<(), AllocError>
-    ensures { OnOk result (text.new.items ≡ text.old.items ++ json_open before.now name.now) }
-{
+fn put_open(text: &mut Vec<u8>, before: &str, name: &str) -> Result<(), AllocError> {
     put(text, before)?;
     put(text, "\"")?;
     put(text, name)?;
@@ -109,29 +88,32 @@ fn put_object(
     before: &str,
     name: &str,
     figures: &[Figure],
-) -> Result<(), AllocError>
-    ensures { OnOk result (text.new.items ≡ text.old.items
-        ++ json_object how.style before.now name.now (figures_shown figures.now)) }
-{
+) -> Result<(), AllocError> {
     put_open(text, before, name)?;
     put_figures(text, how, figures)?;
     put(text, "}")
 }
 
-/// Appends the counts of a line, after what stands before.
+/// Appends the counts of a line.
+fn put_counts_of(
+    text: &mut Vec<u8>,
+    how: JsonStyle,
+    counts: &LineCounts,
+) -> Result<(), AllocError> {
+    put_figures(text, how, &line_figures(counts))?;
+    put_object(text, how, ",", "refused", &refusal_figures(counts))
+}
+
+/// Appends a line as an object, after what stands before.
 fn put_line(
     text: &mut Vec<u8>,
     how: JsonStyle,
     before: &str,
     name: &str,
     counts: &LineCounts,
-) -> Result<(), AllocError>
-    ensures { OnOk result (text.new.items
-        ≡ text.old.items ++ json_line_of how.style before.now name.now counts.now) }
-{
+) -> Result<(), AllocError> {
     put_open(text, before, name)?;
-    put_figures(text, how, &line_figures(counts))?;
-    put_object(text, how, ",", "refused", &refusal_figures(counts))?;
+    put_counts_of(text, how, counts)?;
     put(text, "}")
 }
 
@@ -140,10 +122,7 @@ fn put_lines(
     text: &mut Vec<u8>,
     how: JsonStyle,
     lines: &PerLine<LineCounts>,
-) -> Result<(), AllocError>
-    ensures { OnOk result (text.new.items
-        ≡ text.old.items ++ json_lines how.style lines.now) }
-{
+) -> Result<(), AllocError> {
     put_line(text, how, ",\"lines\":{", "A", &lines.a)?;
     put_line(text, how, ",", "B", &lines.b)?;
     put_line(text, how, ",", "recovery", &lines.recovery)?;
@@ -151,9 +130,7 @@ fn put_lines(
 }
 
 /// Appends the gaps of a venue's lines.
-fn put_gaps(text: &mut Vec<u8>, how: JsonStyle, gaps: &GapReport) -> Result<(), AllocError>
-    ensures { OnOk result (text.new.items ≡ text.old.items ++ json_gaps how.style gaps.now) }
-{
+fn put_gaps(text: &mut Vec<u8>, how: JsonStyle, gaps: &GapReport) -> Result<(), AllocError> {
     put_open(text, "", "gaps")?;
     put_figures(text, how, &gap_figures(&gaps.all))?;
     put_object(text, how, ",", "A", &gap_figures(&gaps.a))?;
@@ -161,9 +138,7 @@ fn put_gaps(text: &mut Vec<u8>, how: JsonStyle, gaps: &GapReport) -> Result<(), 
 }
 
 /// Appends a venue's sessions, and how often it leads.
-fn put_own(text: &mut Vec<u8>, how: JsonStyle, r: &VenueReport) -> Result<(), AllocError>
-    ensures { OnOk result (text.new.items ≡ text.old.items ++ json_own how.style r.now) }
-{
+fn put_own(text: &mut Vec<u8>, how: JsonStyle, r: &VenueReport) -> Result<(), AllocError> {
     put(text, "},")?;
     put_figures(text, how, &venue_figures(&r.counts))?;
     put(text, ",")?;
@@ -171,9 +146,7 @@ fn put_own(text: &mut Vec<u8>, how: JsonStyle, r: &VenueReport) -> Result<(), Al
 }
 
 /// Appends a venue's counts.
-fn put_venue(text: &mut Vec<u8>, how: JsonStyle, r: &VenueReport) -> Result<(), AllocError>
-    ensures { OnOk result (text.new.items ≡ text.old.items ++ json_venue how.style r.now) }
-{
+fn put_venue(text: &mut Vec<u8>, how: JsonStyle, r: &VenueReport) -> Result<(), AllocError> {
     put_lines(text, how, &r.counts.lines)?;
     put_object(text, how, "", "items", &item_figures(&r.counts.items))?;
     put(text, ",")?;
@@ -182,21 +155,22 @@ fn put_venue(text: &mut Vec<u8>, how: JsonStyle, r: &VenueReport) -> Result<(), 
 }
 
 /// Appends what a venue's lines lost.
-fn put_losses(text: &mut Vec<u8>, how: JsonStyle, r: &VenueReport) -> Result<(), AllocError>
-    ensures { OnOk result (text.new.items ≡ text.old.items ++ json_losses how.style r.now) }
-{
+fn put_losses(text: &mut Vec<u8>, how: JsonStyle, r: &VenueReport) -> Result<(), AllocError> {
     put(text, ",")?;
     put_figures(text, how, &loss_figures(&r.gaps))?;
     put_object(text, how, ",", "A", &line_loss_figures(&r.gaps.a))?;
     put_object(text, how, ",", "B", &line_loss_figures(&r.gaps.b))
 }
 
-/// Appends how a venue's lines run in time.
-fn put_times(text: &mut Vec<u8>, how: JsonStyle, r: &VenueReport) -> Result<(), AllocError>
-    ensures { OnOk result (text.new.items ≡ text.old.items ++ json_times how.style r.now) }
-{
+/// Appends how far lines A and B are first.
+fn put_leads(text: &mut Vec<u8>, how: JsonStyle, r: &VenueReport) -> Result<(), AllocError> {
     put_object(text, how, ",", "a_first", &duration_figures(&r.a_first))?;
-    put_object(text, how, ",", "b_first", &duration_figures(&r.b_first))?;
+    put_object(text, how, ",", "b_first", &duration_figures(&r.b_first))
+}
+
+/// Appends how a venue's lines run in time.
+fn put_times(text: &mut Vec<u8>, how: JsonStyle, r: &VenueReport) -> Result<(), AllocError> {
+    put_leads(text, how, r)?;
     put_object(
         text,
         how,
@@ -212,9 +186,7 @@ fn put_part(
     how: JsonStyle,
     part: VenuePart,
     r: &VenueReport,
-) -> Result<(), AllocError>
-    ensures { OnOk result (text.new.items ≡ text.old.items ++ json_part how.style part r.now) }
-{
+) -> Result<(), AllocError> {
     match part {
         VenuePart::Counts => put_venue(text, how, r),
         VenuePart::Losses => put_losses(text, how, r),
@@ -229,10 +201,7 @@ fn put_numbered(
     part: VenuePart,
     place: usize,
     r: &VenueReport,
-) -> Result<(), AllocError>
-    ensures { OnOk result (text.new.items ≡ text.old.items ++ (codes "{\"venue\":"
-        ++ (decimal place ++ (json_part how.style part r.now ++ codes "}")))) }
-{
+) -> Result<(), AllocError> {
     put(text, "{\"venue\":")?;
     put_count(text, place as u64)?;
     put_part(text, how, part, r)?;
@@ -246,10 +215,7 @@ fn put_venue_at(
     part: VenuePart,
     venues: &[VenueReport],
     place: usize,
-) -> Result<(), AllocError>
-    ensures { OnOk result (text.new.items ≡ text.old.items
-        ++ json_venue_at (json_part how.style part) place (slice_get venues.now place)) }
-{
+) -> Result<(), AllocError> {
     match venues.get(place) {
         Some(venue) => {
             put_comma(text, place)?;
@@ -260,16 +226,12 @@ fn put_venue_at(
 }
 
 /// Appends the objects of all venues.
-#[tactic(auto, unfolding(crate::specs::report::ReportTexts::json_of_venues))]
 fn put_venues(
     text: &mut Vec<u8>,
     how: JsonStyle,
     part: VenuePart,
     venues: &[VenueReport],
-) -> Result<(), AllocError>
-    ensures { OnOk result (text.new.items ≡ text.old.items
-        ++ json_of_venues (json_part how.style part) venues.now) }
-{
+) -> Result<(), AllocError> {
     for place in 0..venues.len() {
         put_venue_at(text, how, part, venues, place)?;
     }
@@ -277,10 +239,7 @@ fn put_venues(
 }
 
 /// Appends how all venues' lines run in time.
-fn put_all_times(text: &mut Vec<u8>, how: JsonStyle, report: &Report) -> Result<(), AllocError>
-    ensures { OnOk result (text.new.items
-        ≡ text.old.items ++ json_all_times how.style report.now) }
-{
+fn put_all_times(text: &mut Vec<u8>, how: JsonStyle, report: &Report) -> Result<(), AllocError> {
     put(text, ",\"in_time\":{")?;
     put_figures(
         text,
@@ -293,10 +252,7 @@ fn put_all_times(text: &mut Vec<u8>, how: JsonStyle, report: &Report) -> Result<
 }
 
 /// Appends that, where the records have times.
-fn put_in_time(text: &mut Vec<u8>, how: JsonStyle, report: &Report) -> Result<(), AllocError>
-    ensures { OnOk result (text.new.items ≡ text.old.items
-        ++ json_in_time report.now.has_times how.style report.now) }
-{
+fn put_in_time(text: &mut Vec<u8>, how: JsonStyle, report: &Report) -> Result<(), AllocError> {
     match report.has_times {
         true => put_all_times(text, how, report),
         false => Ok(()),
@@ -304,19 +260,14 @@ fn put_in_time(text: &mut Vec<u8>, how: JsonStyle, report: &Report) -> Result<()
 }
 
 /// Appends the counts of all venues, and how often national bests changed to each state.
-fn put_counts(text: &mut Vec<u8>, how: JsonStyle, report: &Report) -> Result<(), AllocError>
-    ensures { OnOk result (text.new.items ≡ text.old.items ++ json_counts how.style report.now) }
-{
+fn put_counts(text: &mut Vec<u8>, how: JsonStyle, report: &Report) -> Result<(), AllocError> {
     put(text, "{\"venues\":[")?;
     put_venues(text, how, VenuePart::Counts, report.venues.as_slice())?;
     put_object(text, how, "],", "states", &state_figures(&report.states))
 }
 
 /// Appends what the lines of all venues lost.
-fn put_all_losses(text: &mut Vec<u8>, how: JsonStyle, report: &Report) -> Result<(), AllocError>
-    ensures { OnOk result (text.new.items
-        ≡ text.old.items ++ json_all_losses how.style report.now) }
-{
+fn put_all_losses(text: &mut Vec<u8>, how: JsonStyle, report: &Report) -> Result<(), AllocError> {
     put(text, ",\"losses\":[")?;
     put_venues(text, how, VenuePart::Losses, report.venues.as_slice())?;
     put(text, "]")
@@ -328,9 +279,7 @@ pub(crate) fn put_json(
     text: &mut Vec<u8>,
     style: TimeStyle,
     report: &Report,
-) -> Result<(), AllocError>
-    ensures { OnOk result (text.new.items ≡ text.old.items ++ json_of_report style report.now) }
-{
+) -> Result<(), AllocError> {
     let how = JsonStyle { alloc, style };
     put_counts(text, how, report)?;
     put_all_losses(text, how, report)?;

