@@ -24,10 +24,8 @@ use nbbo_runs::{
 };
 use run_settings::ListenSettings;
 use std::alloc::{AllocError, Global};
-use std::fs::File;
 use std::io::{ErrorKind, IsTerminal, Stderr, Stdin, Stdout};
 use std::marker::Brand;
-use std::os::fd::{AsRawFd, IntoRawFd};
 use std::process::ExitCode;
 use std::sync::Wait;
 use std::sync::ledger::{Blank, Ledger};
@@ -37,9 +35,6 @@ use udp_listening::{
     BindFault, ListenSockets, NO_MEMORY, SocketTables, bind_metrics, bind_sockets, enlarge,
     listen_with, listening_line, metrics_line, write_bind_fault,
 };
-
-/// How many standard streams there are, which have the first descriptors.
-const STREAMS: i32 = 3;
 
 /// The words of the command line, the program's name first.
 fn words_of(rt: &HostRuntime) -> io::Result<Vec<String>> {
@@ -148,21 +143,6 @@ fn run_words<R: CaptureIn + Drop, W: TextOut + Drop, E: TextOut>(
     (ran.next, ran.output)
 }
 
-/// Opens `/dev/null` in place of each standard stream that is closed, so that no socket gets its
-/// number: input that was closed has ended, and output fails, as it did.
-fn fill_streams(rt: &HostRuntime) {
-    for _ in 0..STREAMS {
-        let Ok(file) = File::open(rt, "/dev/null") else {
-            return;
-        };
-        if file.as_raw_fd() >= STREAMS {
-            return;
-        }
-        // It is left open.
-        let _fd = file.into_raw_fd();
-    }
-}
-
 /// Opens the sockets of the settings, and where it is told what the system drops at them its
 /// tables. Where a socket is refused, all are closed.
 fn bind_all(rt: &HostRuntime, settings: &ListenSettings) -> Result<ListenSockets, BindFault> {
@@ -218,7 +198,6 @@ where
     W: TextOut + Drop,
     E: TextOut + Drop,
 {
-    fill_streams(rt);
     let sockets = match bind_all(rt, settings) {
         Ok(sockets) => sockets,
         Err(fault) => {

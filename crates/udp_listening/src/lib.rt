@@ -14,7 +14,6 @@
 #![tactic(auto)]
 
 mod console;
-mod group_socket;
 mod input_end;
 mod listen;
 mod listen_lines;
@@ -37,4 +36,4 @@ pub use listen_sockets::ListenSockets;
 pub use metrics_socket::{bind_metrics, metrics_line};
 pub use run_watches::SocketTables;
 pub use socket_buffers::enlarge;
-pub use sockets::{BindFault, BindRefusal, bind_sockets, listening_line, write_bind_fault};
+pub use sockets::{BindFault, bind_sockets, listening_line, write_bind_fault};
