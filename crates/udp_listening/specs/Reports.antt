@@ -1,5 +1,5 @@
 -- What is reported of a feed that was listened to.
-use Rattle.std.specs.Prelude.{◌≡◌, ℕ, Bool, true, false, ◌&&◌, not, List, [], ◌∷◌, Option, None, Some, flat_map, is_some, length, map, take, vec_len, if◌then◌else◌}
+use Rattle.std.specs.Prelude.{◌≡◌, ℕ, Bool, true, false, ◌&&◌, not, List, [], ◌∷◌, Option, None, Some, flat_map, is_some, length, map, vec_len, if◌then◌else◌}
 use Rattle.feed_types.specs.declared.genuine.Anything.{Anything}
 use Rattle.feed_types.specs.declared.genuine.Genuine.{Ghosts as Genuine}
 use Rattle.feed_types.specs.declared.journal.Entry.{Entry}
@@ -15,12 +15,13 @@ use Rattle.live_feed.specs.venue.Seats.{SeatState}
 use Rattle.run_notes.specs.AbsentSymbols.{absent_among, unchanged_among}
 use Rattle.run_settings.specs.FurtherOptions.{has_further_options}
 use Rattle.run_settings.specs.declared.listen_settings.ListenSettings.{ListenSettings}
-use Rattle.run_watches.specs.RunLines.{listened_lines}
+use Rattle.udp_listening.specs.Lines.{run_lines}
 use Rattle.udp_listening.specs.Settings.{feed_setting}
 use Rattle.udp_listening.specs.SettledLacks.{settled_lacks}
 use Rattle.udp_listening.specs.SettledNotices.{settled_notices}
 use Rattle.udp_lines.specs.UdpLines.{UdpLineState, is_read_out}
 use Rattle.udp_listening.specs.declared.listen_report.EndedLine.{EndedLine}
+use Rattle.udp_listening.specs.declared.listen_sockets.BoundLine.{BoundLine}
 use Rattle.udp_listening.specs.declared.listen_report.ListenReport.{ListenReport}
 
 -- lines that may carry anything
@@ -127,11 +128,11 @@ pub record IsReportOfRun (settings : ListenSettings) (lanes : FeedLanes)
   pub settled : IsSettlement any_lines lanes seats (log ∷ []) whole.settlement
   pub tells : IsReportOfFeed settings whole report
 
--- The feed of the settings, with a venue for each of their sessions, was run over so many of their
--- lines, and settled, and the report is that of its whole life.
-pub record IsListened (settings : ListenSettings) (sockets : ℕ) (report : ListenReport)
-    : Type 0 where
+-- The feed of the settings, with a venue for each of their sessions, was run over the lines of
+-- these sockets, and settled, and the report is that of its whole life.
+pub record IsListened (settings : ListenSettings) (sockets : List BoundLine)
+    (report : ListenReport) : Type 0 where
   pub lanes : FeedLanes
   pub setting : lanes.setting ≡ feed_setting settings
   pub venues : length lanes.venues ≡ vec_len settings.feed.sessions
-  pub run : IsReportOfRun settings lanes (take sockets (listened_lines settings)) report
+  pub run : IsReportOfRun settings lanes (run_lines settings sockets) report

@@ -42,7 +42,7 @@ pub record IsSourceOf (settings : ListenSettings) (venue : ℕ) (line : UdpLineS
   pub venue_is : line.venue ≡ venue
   pub session : slice_get settings.feed.sessions.items venue ≡ Some line.session
   pub rule : line.rule ≡ settings.end
-  pub senders : line.senders ≡ senders_of settings.from
+  pub senders : line.senders ≡ senders_of settings.senders
   pub left : line.left ≡ settings.datagrams
   pub whole : line.failed ≡ false
   pub unended : line.ended ≡ false

@@ -26,23 +26,24 @@ returns-in_default g c =
     let console = c.new-console.result in
     let printed = c.print_end-status in
     let style = c.style_of.result in
-    let run = listened_run c.args.settings.now (length c.args.sockets.lines.items) in
-    let ended : ListensToEnd writing telling style (Err NoMemory) c.args.output
-    printed.new.console.output console.errors printed.new.console.errors printed.result
-    = listened writing telling g.met.W.TextOut.adds_more style (Err NoMemory) c.args.output console
-    printed.new.console.output console.errors printed.new.console.errors printed.result
+    let run = listened_run c.args.settings.now
+    (run_lines c.args.settings.now c.args.sockets.lines.items) in
+    let ended : ListensToEnd writing telling style (Err NoMemory) c.args.streams.output
+    printed.new.console.output c.args.streams.errors printed.new.errors printed.result
+    = listened writing telling g.met.W.TextOut.adds_more style (Err NoMemory) c.args.streams.output console
+    printed.new.console.output c.args.streams.errors printed.new.errors printed.result
     ([], 0, c.new-console.ensures.unprinted []) printed.ensures in
     record {
       outcome = Err NoMemory;
       listened = tt;
       said = console.errors;
       says =
-          subst (λ (said : g.row.E.Denot). SaysOfRun telling run c.args.errors said)
-          (sym c.new-console.ensures.errors) (nothing_of_run telling run c.args.errors);
+          subst (λ (said : g.row.E.Denot). SaysOfRun telling run c.args.streams.errors said)
+          (sym c.new-console.ensures.errors) (nothing_of_run telling run c.args.streams.errors);
       ended = printed.result;
       ends =
-          subst (λ (s : RowStyle). ListensToEnd writing telling s (Err NoMemory) c.args.output
-          printed.new.console.output console.errors printed.new.console.errors printed.result)
+          subst (λ (s : RowStyle). ListensToEnd writing telling s (Err NoMemory) c.args.streams.output
+          printed.new.console.output c.args.streams.errors printed.new.errors printed.result)
           c.style_of.ensures ended;
       status_is = refl;
     }
@@ -68,8 +69,8 @@ returns g c =
     let style = c.style_of.result in
     let new : monitor.console ≡ record (c.new-console.result) { unchanged = made.unchanged } =
     c.new-monitor.ensures.console in
-    let unprinted : IsUnprinted writing style c.args.output monitor.console =
-    subst (λ (k : Console g.row.W.Denot g.row.E.Denot). IsUnprinted writing style c.args.output k)
+    let unprinted : IsUnprinted writing style c.args.streams.output monitor.console =
+    subst (λ (k : Console g.row.C.Denot g.row.W.Denot). IsUnprinted writing style c.args.streams.output k)
     (sym new) c.new-console.ensures.unprinted in
     let lines = heard_lines settings sockets in
     let run : watched_run monitor.watches ≡ listened_run settings sockets =
@@ -99,11 +100,11 @@ returns g c =
           ran.ensures.says);
       ended = printed.result;
       ends =
-          subst (λ (s : RowStyle). ListensToEnd writing telling s outcome c.args.output
-          printed.new.console.output console.errors printed.new.console.errors printed.result)
+          subst (λ (s : RowStyle). ListensToEnd writing telling s outcome c.args.streams.output
+          printed.new.console.output c.args.streams.errors printed.new.errors printed.result)
           c.style_of.ensures
-          (listened writing telling g.met.W.TextOut.adds_more style outcome c.args.output console
-          printed.new.console.output console.errors printed.new.console.errors printed.result
-          (ran.ensures.listened style c.args.output unprinted) printed.ensures);
+          (listened writing telling g.met.W.TextOut.adds_more style outcome c.args.streams.output console
+          printed.new.console.output c.args.streams.errors printed.new.errors printed.result
+          (ran.ensures.listened style c.args.streams.output unprinted) printed.ensures);
       status_is = c.complete_status-status.ensures;
     }

@@ -1,0 +1,14 @@
+-- The lines of a run, by the sockets that receive them.
+use Rattle.std.specs.Prelude.{ℕ, List, [], ◌∷◌, flat_map, ltb, vec_len, if◌then◌else◌}
+use Rattle.feed_types.specs.declared.line.LineId.{LineId}
+use Rattle.run_settings.specs.declared.listen_settings.ListenSettings.{ListenSettings}
+use Rattle.udp_listening.specs.declared.listen_sockets.BoundLine.{BoundLine}
+
+-- the line, where it is of one of so many venues
+abbrev pub line_below : ℕ → BoundLine → List (ℕ × LineId)
+line_below venues bound =
+    if ltb bound.venue venues then (bound.venue, bound.line) ∷ [] else []
+
+-- the lines that are run over these sockets, in their order: those of the settings' venues
+abbrev pub run_lines : ListenSettings → List BoundLine → List (ℕ × LineId)
+run_lines settings sockets = flat_map (line_below (vec_len settings.feed.sessions)) sockets
