@@ -146,20 +146,27 @@ class Failing:
             raise Fault(f'{self.call} has not failed')
 
 
+def port_of(address):
+    """The port of an address, and None of a line that isn't there."""
+    return None if address == '-' else int(address.rpartition(':')[2])
+
+
 class Listener:
     """The program, listening on the lines of `venues` venues on loopback, until the context ends. The system picks the
-    ports, and the program tells them, but where a call of one line's socket is to fail, or ports are given."""
+    ports, and the program tells them, but where a call of one line's socket is to fail, or ports are given. Lines may
+    each have a host, and what sends to them may be given; a host of None is a line that isn't there."""
 
     def __init__(
         self, program, *words, venues=1, sessions=None, environment=None, host=HOST, ports=None, failing=None,
-        stdin=None, wrapped=lambda command: command,
+        stdin=None, wrapped=lambda command: command, hosts=None, out=None,
     ):
-        self.host, self.stdin, self.environment = host, stdin, environment
+        self.hosts, self.stdin, self.environment = hosts or [host] * 2 * venues, stdin, environment
+        self.host, self.given_out = host, out
         is_known = failing is not None and failing.line is not None
         self.ports = ports or (free_ports(2 * venues, host) if is_known else [0] * 2 * venues)
         if failing:
             self.environment = failing.environment(self.ports)
-        lines = ','.join(address_of(host, port) for port in self.ports)
+        lines = ','.join(self.address(line) for line in range(2 * venues))
         names = sessions or ','.join(['0000000001'] * venues)
         self.command = wrapped([program, 'listen', '--sessions', names, '--lines', lines, *words])
         self.until = time.monotonic() + LIMIT_SECONDS
@@ -171,7 +178,7 @@ class Listener:
         with contextlib.ExitStack() as ends:
             how = {'stdin': self.stdin, 'stderr': subprocess.PIPE, 'env': self.environment}
             self.child = ends.enter_context(started(self.command, **how))
-            self.out = ends.enter_context(udp_socket(self.host))
+            self.out = self.given_out or ends.enter_context(udp_socket(self.host))
             self.ends = ends.pop_all()
         return self
 
@@ -208,25 +215,30 @@ class Listener:
         self.without_ports(self.told.decode())
         return self
 
+    def address(self, line):
+        """The word of a line in --lines."""
+        return address_of(self.hosts[line], self.ports[line]) if self.hosts[line] else '-'
+
     def without_ports(self, told):
         """Standard error without its first line, by which the ports are known."""
         found = LISTENS.match(told)
-        addresses = found[1].split(',') if found else []
-        ports = [int(address.rpartition(':')[2]) for address in addresses]
-        is_right = addresses == [address_of(self.host, port) for port in ports] and len(set(ports)) == len(self.ports)
-        if not is_right or 0 in ports or any(asked not in (0, port) for asked, port in zip(self.ports, ports)):
+        asked, self.ports = self.ports, [port_of(address) for address in found[1].split(',')] if found else []
+        there = [port for port in self.ports if port]
+        is_right = found and found[1].split(',') == [self.address(line) for line in range(len(self.ports))]
+        is_right = is_right and len(set(there)) == len(there) == len(list(filter(None, self.hosts)))
+        if not is_right or any(port not in (None, was) for port, was in zip(self.ports, asked) if was):
             raise Fault(f'standard error: {told[:400]!r} does not begin with where it listens')
-        self.ports = ports
         return told[found.end() :]
 
     def send(self, line, *datagrams):
         """To a line: twice the venue's number, and one more for line B."""
         for datagram in datagrams:
-            self.out.sendto(datagram, (self.host, self.ports[line]))
+            self.out.sendto(datagram, (self.hosts[line], self.ports[line]))
 
     def send_to_both(self, *datagrams, venue=0):
         for line in (2 * venue, 2 * venue + 1):
-            self.send(line, *datagrams)
+            if self.hosts[line]:
+                self.send(line, *datagrams)
 
     def send_quote_and_ends(self):
         """A quotation on line A, and the session's end on both lines."""
@@ -235,7 +247,7 @@ class Listener:
 
     def is_all_read(self):
         waiting = waiting_bytes()
-        return not any(waiting.get(port) for port in self.ports)
+        return not any(waiting.get(port) for port in self.ports if port)
 
     def wait_while_unread(self):
         """Waits until what was sent is read, or the time is over."""

@@ -256,7 +256,7 @@ fn listen_live<H, E, L, M>(
 ) -> u8
 where
     H: Threads + Wait + Sync,
-    E: TextOut + Drop,
+    E: TextOut + Drop + Send,
     L: Ledger,
     M: Ledger,
 {

@@ -220,7 +220,7 @@ where
     R: Threads + Wait + Sync,
     C: Clock + Clone + Drop + Send,
     W: TextOut + Drop + Send,
-    E: TextOut + Drop,
+    E: TextOut + Drop + Send,
     ensures { Listens
         (record { adds = W.adds; failures = W.failures })
         (record { adds = E.adds; failures = E.failures })

@@ -158,7 +158,7 @@ where
     R: Threads + Wait + Sync,
     C: Clock + Drop + Send,
     W: TextOut + Drop + Send,
-    E: TextOut + Drop,
+    E: TextOut + Drop + Send,
     requires lanes { feed ≡ N.lanes }
     requires unchanged { attendants.first.console.unchanged ≡ noted_symbols settings.now }
     ensures listened { HasListenedOn (record { adds = W.adds; failures = W.failures })

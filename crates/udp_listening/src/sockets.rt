@@ -206,6 +206,7 @@ pub fn write_bind_fault<E: TextOut>(alloc: Global, fault: BindFault, is_named: b
 
 /// Appends where the socket is bound; where that can't be read, the address that was asked for.
 fn push_address(
+    alloc: Global,
     line: &mut String,
     bound: Option<&BoundLine>,
     asked: SocketAddr,
@@ -214,7 +215,7 @@ fn push_address(
         Some(bound) => bound.socket.local_addr().unwrap_or(asked),
         None => asked,
     };
-    let text = format!(in Global; "{address}")?;
+    let text = format!(in alloc; "{address}")?;
     line.push_str(text.as_str())
 }
 
@@ -233,7 +234,7 @@ pub fn listening_line(
             line.push(',')?;
         }
         match asked {
-            Some(asked) => push_address(&mut line, bound.next(), *asked)?,
+            Some(asked) => push_address(alloc, &mut line, bound.next(), *asked)?,
             None => line.push('-')?,
         }
     }
