@@ -5,13 +5,13 @@ ghost use Rattle.run_settings.specs.FurtherOptions.{has_further_options, most_le
 use crate::listen_settings::ListenSettings;
 
 /// For how many milliseconds a gap stands before its messages are asked for, with a further option.
-const USUAL_WAIT: u32 = 10;
+pub const USUAL_WAIT: u32 = 10;
 
 /// How many messages past what the lines have brought a number may be, with a further option.
-const USUAL_LEAD: u32 = 1_000_000;
+pub const USUAL_LEAD: u32 = 1_000_000;
 
 /// After how many milliseconds a line that brings nothing is reported, with a further option.
-const USUAL_SILENCE: u32 = 3_000;
+pub const USUAL_SILENCE: u32 = 3_000;
 
 /// The number that is said, or the usual one.
 fn said_or(said: Option<u32>, usual: u32) -> u32

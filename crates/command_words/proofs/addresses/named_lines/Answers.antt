@@ -3,7 +3,7 @@ use Rattle.std.specs.declared.alloc.AllocError.{AllocError}
 use Rattle.std.proofs.lemmas.Iterator.Consumers.{map_from_collect}
 use Rattle.std.proofs.lemmas.Iterator.Splits.{YieldsList-from_str_split}
 use Rattle.command_words.proofs.Spelling.{NameLines-all, none_spelled, other_length}
-use Rattle.command_words.proofs.addresses.read_lines.Goals as goal
+use Rattle.command_words.proofs.addresses.named_lines.Goals as goal
 
 pub returns-then-len-venues-clause-reads : goal.returns-then-len-venues-clause-reads
 returns-then-len-venues-clause-reads c =
