@@ -68,12 +68,7 @@ fn put_venue_rows(
         ≡ text.old.items ++ flat_map (λ v. venue_row_of metric v) venues.now) }
 {
     for venue in venues {
-        put_venue_row(
-            text,
-            metric.name(),
-            venue.venue,
-            metric.value(venue),
-        )?;
+        put_venue_row(text, metric.name(), venue.venue, metric.value(venue))?;
     }
     Ok(())
 }

@@ -21,13 +21,13 @@ impl Reply {
             Reply::BadRequest => "400 Bad Request\r\n",
         }
     }
+}
 
-    /// Whether the content is in the answer; if not the answer has its length alone.
-    fn has_content(self) -> bool
-        ensures { result ≡ has_content self }
-    {
-        !matches!(self, Reply::PageHead | Reply::NotFoundHead)
-    }
+/// Whether the content is in an answer; if not the answer has its length alone.
+fn has_content(reply: Reply) -> bool
+    ensures { result ≡ has_content reply }
+{
+    !matches!(reply, Reply::PageHead | Reply::NotFoundHead)
 }
 
 /// Appends what is at a request's target, or why nothing is.
@@ -71,7 +71,7 @@ pub fn answer(alloc: Global, reply: Reply, figures: &RunFigures<'_>) -> Result<V
     put_content(&mut content, reply, figures)?;
     let mut text = Vec::new(alloc);
     put_response_head(&mut text, reply, content.len() as u64)?;
-    if reply.has_content() {
+    if has_content(reply) {
         text.extend_from_slice(content.as_slice())?;
     }
     Ok(text)

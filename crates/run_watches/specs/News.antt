@@ -42,17 +42,17 @@ change_text changes.Heard = codes " is heard again\n"
 change_text changes.Unheard = codes " never brought a datagram\n"
 
 -- a session's name, or a number, and what is after it
-abbrev pub session_texts : (session end : List ℕ) → List (List ℕ)
-session_texts session end = name_texts session ++ end ∷ []
+abbrev pub named_session_texts : (session end : List ℕ) → List (List ℕ)
+named_session_texts session end = name_texts session ++ end ∷ []
 
 abbrev pub ms_texts : ℕ → (end : List ℕ) → List (List ℕ)
 ms_texts ms end = decimal ms ∷ end ∷ []
 
 -- these, where they are told
 abbrev pub rest_texts : LineChange → List (List ℕ)
-rest_texts (changes.EndedWith session) = session_texts session (codes "\n")
+rest_texts (changes.EndedWith session) = named_session_texts session (codes "\n")
 rest_texts (changes.Stranger session) =
-    session_texts session (codes ", which isn't its venue's\n")
+    named_session_texts session (codes ", which isn't its venue's\n")
 rest_texts (changes.Silent ms) = ms_texts ms (codes " ms\n")
 rest_texts (changes.Unjoined ms) = ms_texts ms (codes " ms, its group isn't joined\n")
 rest_texts changes.Ended = []

@@ -14,8 +14,8 @@ row_start_text (outputs.Untaken texts) =
     if texts.is_cut then codes "\nnbbo: second " else codes "nbbo: second "
 
 -- in which second of the run
-abbrev pub second_texts : OutputNews → List (List ℕ)
-second_texts news = row_start_text news.change ∷ decimal news.second ∷ []
+abbrev pub output_time_texts : OutputNews → List (List ℕ)
+output_time_texts news = row_start_text news.change ∷ decimal news.second ∷ []
 
 abbrev pub waiting_end_text : ℕ → List ℕ
 waiting_end_text count = if count == 1 then codes " change waits\n" else codes " changes wait\n"
@@ -34,4 +34,4 @@ output_change_texts (outputs.Untaken texts) =
 
 -- what has happened to what is printed, and when
 abbrev pub output_news_texts : OutputNews → List (List ℕ)
-output_news_texts news = second_texts news ++ output_change_texts news.change
+output_news_texts news = output_time_texts news ++ output_change_texts news.change

@@ -92,7 +92,9 @@ impl ErrorsProgress {
         if !self.marks.is_behind.swap(true, Ordering::SeqCst) {
             self.marks.is_cut.store(is_in_row, Ordering::SeqCst);
         }
-        self.marks.untaken.fetch_add(ends_in(text), Ordering::SeqCst);
+        self.marks
+            .untaken
+            .fetch_add(ends_in(text), Ordering::SeqCst);
     }
 
     /// Returns how many texts weren't taken, once texts are taken again; the writer goes on then.

@@ -5,7 +5,7 @@ ghost use Rattle.line_arbiter.specs.Counts.{shown};
 ghost use Rattle.feed_text.specs.Devices.{Writing};
 ghost use Rattle.feed_text.specs.StandardError.{SaysEach};
 ghost use Rattle.run_watches.specs.GapNews.{gap_texts_if};
-ghost use Rattle.run_watches.specs.Gaps.{GivesUpDue, LooksAt, TellsIfDone, TellsStanding, closed_run, count_of, due_of, gap_next, has_come, is_unanswered, lacking_of, news_of, passed_then, run_of, said_then, standing_at, stands, stood_of, told_still, told_then, unanswered_of};
+ghost use Rattle.run_watches.specs.Gaps.{GivesUpDue, LooksAt, TellsIfDone, TellsStanding, closed_run, due_count, due_of, gap_next, has_come, is_unanswered, lacking_of, news_of, passed_then, run_of, said_then, standing_at, stands, stood_of, told_still, told_then, unanswered_of};
 
 use crate::gap_news::{GapChange, GapNews, MissingRun, write_gap_news};
 use crate::gap_rule::GapRule;
@@ -42,8 +42,8 @@ pub struct DueGap {
 }
 
 /// How many messages are to be given up.
-fn count_of(due: &DueGap) -> u64
-    ensures { result ≡ count_of due.now }
+fn due_count(due: &DueGap) -> u64
+    ensures { result ≡ due_count due.now }
 {
     due.next.saturating_sub(due.number)
 }
@@ -320,11 +320,11 @@ impl GapWatch {
         ensures { self.new ≡ record (self.old) {
           told = None;
           passed = passed_then self.old.passed due.now;
-          given_up = shown (self.old.given_up + count_of due.now);
+          given_up = shown (self.old.given_up + due_count due.now);
         } }
     {
         self.told = None;
-        self.given_up = self.given_up.saturating_add(count_of(due));
+        self.given_up = self.given_up.saturating_add(due_count(due));
         let last_before = due.number.saturating_sub(1);
         if last_before <= self.passed {
             self.passed = due.next.saturating_sub(1);
@@ -353,7 +353,7 @@ impl GapWatch {
             change: GapChange::GivenUp,
             run: MissingRun {
                 number: due.number,
-                count: count_of(due),
+                count: due_count(due),
             },
         };
         write_gap_news(&news, errors);

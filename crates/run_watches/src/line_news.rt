@@ -2,7 +2,7 @@
 ghost use Rattle.std.specs.Prelude.{◌≡◌, decimal};
 ghost use Rattle.feed_text.specs.Devices.{Writing};
 ghost use Rattle.feed_text.specs.StandardError.{Says, SaysEach};
-ghost use Rattle.run_watches.specs.News.{change_text, change_texts, counted_text, counted_texts, letter_text, line_end_texts, line_name_texts, ms_texts, news_texts, rest_texts, session_texts, time_texts, total_texts, verb_text};
+ghost use Rattle.run_watches.specs.News.{change_text, change_texts, counted_text, counted_texts, letter_text, line_end_texts, line_name_texts, ms_texts, news_texts, rest_texts, named_session_texts, time_texts, total_texts, verb_text};
 
 use feed_text::{TextOut, write_number, write_stderr};
 use feed_types::{LineId, VenueId};
@@ -171,7 +171,7 @@ fn write_line_name<E: TextOut>(venue: VenueId, line: LineId, errors: &mut E)
 /// Writes the name of a session, and then this text.
 fn write_session<E: TextOut>(session: &[u8; 10], end: &str, errors: &mut E)
     ensures { SaysEach (record { adds = E.adds; failures = E.failures })
-        (session_texts session.now end.now) errors.old errors.new }
+        (named_session_texts session.now end.now) errors.old errors.new }
 {
     write_session_name(session, errors);
     write_stderr(end, errors);

@@ -36,7 +36,11 @@ impl LineSilence {
     /// The silence of a line from the beginning of a run on. It is told after so many milliseconds;
     /// that of line R, which brings replies alone, never is.
     pub fn of(line: LineId, after_ms: u32) -> LineSilence {
-        let after_ms = if line == LineId::Recovery { 0 } else { after_ms };
+        let after_ms = if line == LineId::Recovery {
+            0
+        } else {
+            after_ms
+        };
         LineSilence {
             after_ms: u64::from(after_ms),
             seen_ms: None,

@@ -2,7 +2,7 @@
 ghost use Rattle.std.specs.Prelude.{◌≡◌, decimal};
 ghost use Rattle.feed_text.specs.Devices.{Writing};
 ghost use Rattle.feed_text.specs.StandardError.{Says, SaysEach};
-ghost use Rattle.run_watches.specs.OutputNews.{output_change_texts, output_news_texts, row_start_text, second_texts, untaken_end_text, waiting_end_text};
+ghost use Rattle.run_watches.specs.OutputNews.{output_change_texts, output_news_texts, row_start_text, output_time_texts, untaken_end_text, waiting_end_text};
 
 use crate::errors_progress::UntakenTexts;
 use feed_text::{TextOut, write_number, write_stderr};
@@ -40,7 +40,7 @@ fn row_start(change: OutputChange) -> &'static str
 /// Writes in which second something has happened.
 fn write_second<E: TextOut>(news: &OutputNews, errors: &mut E)
     ensures { SaysEach (record { adds = E.adds; failures = E.failures })
-        (second_texts news.now) errors.old errors.new }
+        (output_time_texts news.now) errors.old errors.new }
 {
     write_stderr(row_start(news.change), errors);
     write_number(news.second, errors);
