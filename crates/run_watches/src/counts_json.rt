@@ -71,15 +71,25 @@ fn line_json(alloc: Global, counts: &LineCounts, state: &LineState) -> Result<St
     )
 }
 
+/// The member of what line R has brought, where the venue has that line.
+fn recovery_json(alloc: Global, figures: &VenueFigures) -> Result<String, AllocError> {
+    let Some(state) = &figures.recovery else {
+        return Ok(String::new(alloc));
+    };
+    let counts = line_json(alloc, &figures.status.recovery, state)?;
+    format!(in alloc; ",\"R\":{}", counts.as_str())
+}
+
 /// The members of a venue and its lines.
 fn venue_json(alloc: Global, place: usize, figures: &VenueFigures) -> Result<String, AllocError> {
     let venue = &figures.status;
     let a = line_json(alloc, &venue.a, &figures.a)?;
     let b = line_json(alloc, &venue.b, &figures.b)?;
+    let recovery = recovery_json(alloc, figures)?;
     let given_up = given_up_json(alloc, figures.given_up)?;
     format!(in alloc;
         "\"venue\":{place},\"sent\":{},\"known\":{},\"lag\":{},\"lacks\":{},\
-         \"requests\":{},{}\"lines\":{{\"A\":{},\"B\":{}}}",
+         \"requests\":{},{}\"lines\":{{\"A\":{},\"B\":{}{}}}",
         venue.cursors.sent,
         venue.cursors.known,
         lag(venue),
@@ -87,7 +97,8 @@ fn venue_json(alloc: Global, place: usize, figures: &VenueFigures) -> Result<Str
         venue.requests,
         given_up.as_str(),
         a.as_str(),
-        b.as_str()
+        b.as_str(),
+        recovery.as_str()
     )
 }
 

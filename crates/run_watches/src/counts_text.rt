@@ -63,6 +63,15 @@ fn line_text(alloc: Global, counts: &LineCounts, state: &LineState) -> Result<St
     )
 }
 
+/// What line R has brought in a period, where the venue has that line.
+fn recovery_text(alloc: Global, figures: &VenueFigures) -> Result<String, AllocError> {
+    let Some(state) = &figures.recovery else {
+        return Ok(String::new(alloc));
+    };
+    let counts = line_text(alloc, &figures.status.recovery, state)?;
+    format!(in alloc; " R {}", counts.as_str())
+}
+
 /// Returns the line of a venue after `seconds` seconds, of what was counted in a period.
 pub fn period_text(
     alloc: Global,
@@ -73,10 +82,11 @@ pub fn period_text(
     let venue = &figures.status;
     let a = line_text(alloc, &venue.a, &figures.a)?;
     let b = line_text(alloc, &venue.b, &figures.b)?;
+    let recovery = recovery_text(alloc, figures)?;
     let given_up = given_up_text(alloc, figures.given_up)?;
     format!(in alloc;
         "nbbo: second {seconds} venue {place} \
-         sent {} known {} lag {} lacks {} requests {}{} A {} B {}\n",
+         sent {} known {} lag {} lacks {} requests {}{} A {} B {}{}\n",
         venue.cursors.sent,
         venue.cursors.known,
         lag(venue),
@@ -84,7 +94,8 @@ pub fn period_text(
         venue.requests,
         given_up.as_str(),
         a.as_str(),
-        b.as_str()
+        b.as_str(),
+        recovery.as_str()
     )
 }
 
@@ -112,6 +123,17 @@ fn line_row(
     )
 }
 
+/// The table's rows of a venue's lines.
+fn line_rows(alloc: Global, place: usize, venue: &VenueFigures) -> Result<String, AllocError> {
+    let status = &venue.status;
+    let mut text = line_row(alloc, place, "A", &status.a, &venue.a)?;
+    text.push_str(line_row(alloc, place, "B", &status.b, &venue.b)?.as_str())?;
+    if let Some(state) = &venue.recovery {
+        text.push_str(line_row(alloc, place, "R", &status.recovery, state)?.as_str())?;
+    }
+    Ok(text)
+}
+
 /// The table's row of a venue.
 fn venue_row(alloc: Global, place: usize, figures: &VenueFigures) -> Result<String, AllocError> {
     let venue = &figures.status;
@@ -133,9 +155,7 @@ pub fn table_text(alloc: Global, venues: &AllFigures) -> Result<String, AllocErr
     text.push_str(LINE_HEADS)?;
     for (place, venue) in venues.iter().enumerate() {
         if let Some(venue) = venue {
-            let VenueFigures { status, a, b, .. } = venue;
-            text.push_str(line_row(alloc, place, "A", &status.a, a)?.as_str())?;
-            text.push_str(line_row(alloc, place, "B", &status.b, b)?.as_str())?;
+            text.push_str(line_rows(alloc, place, venue)?.as_str())?;
         }
     }
     text.push_str(VENUE_HEADS)?;

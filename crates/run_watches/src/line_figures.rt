@@ -57,6 +57,7 @@ fn status_since(now: &VenueStatus, earlier: &VenueStatus) -> VenueStatus {
     since.requests = now.requests.saturating_sub(earlier.requests);
     since.a = line_since(&now.a, &earlier.a);
     since.b = line_since(&now.b, &earlier.b);
+    since.recovery = line_since(&now.recovery, &earlier.recovery);
     since
 }
 
@@ -68,6 +69,10 @@ pub fn figures_since(now: &VenueFigures, earlier: Option<&VenueFigures>) -> Venu
         since.given_up = now.given_up.saturating_sub(earlier.given_up);
         since.a = state_since(&now.a, &earlier.a);
         since.b = state_since(&now.b, &earlier.b);
+        since.recovery = match (&now.recovery, &earlier.recovery) {
+            (Some(now), Some(earlier)) => Some(state_since(now, earlier)),
+            _ => now.recovery,
+        };
     }
     since
 }
