@@ -61,8 +61,8 @@ impl RowProgress {
         self.marks.begun.fetch_add(1, Ordering::SeqCst);
     }
 
-    /// Marks that the write is over, and that the rows of all changes up to the one with this number
-    /// were printed.
+    /// Marks that the write is over, and that the rows of all changes up to this number were
+    /// printed.
     pub fn end_write(&self, printed: u64) {
         self.marks.printed.store(printed, Ordering::SeqCst);
         self.marks.done.fetch_add(1, Ordering::SeqCst);
