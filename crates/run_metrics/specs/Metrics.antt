@@ -108,20 +108,19 @@ run_family figures metric =
     head_text (run_name metric) (run_help metric) (run_kind metric)
     ++ run_row (run_name metric) (run_value metric figures)
 
--- the sum of the rows' latencies
-unfoldable pub latency_sum_row : ℕ → List ℕ
-latency_sum_row time =
-    text_of_parts
-    (codes "nbbo_row_latency_seconds_sum " ∷ decimal (time / 1000000000) ∷ codes "." ∷ [])
+-- the row of a time of the run
+unfoldable pub run_time_row : (name : List ℕ) → ℕ → List ℕ
+run_time_row name time =
+    text_of_parts (name ∷ codes " " ∷ decimal (time / 1000000000) ∷ codes "." ∷ [])
     ++ (places_text time ++ codes "\n")
 
--- that sum, and how many rows there are
-unfoldable pub latency_family : RunFigures → List ℕ
+-- the sum of the rows' latencies, and how many rows there are
+abbrev pub latency_family : RunFigures → List ℕ
 latency_family figures =
     head_text (codes "nbbo_row_latency_seconds")
     (codes "Time from the datagrams of printed rows to their printing.")
     (codes "summary")
-    ++ (latency_sum_row figures.latency
+    ++ (run_time_row (codes "nbbo_row_latency_seconds_sum") figures.latency
     ++ run_row (codes "nbbo_row_latency_seconds_count") figures.timed)
 
 -- ---- metrics of venues

@@ -6,7 +6,7 @@ use crate::figures::{RunFigures, VenueFigures};
 use crate::line_metric::LineMetric;
 use crate::line_states::put_state_families;
 use crate::parts::{
-    COUNTER, SUMMARY, put_head, put_latency_sum, put_line_row, put_refusal_row, put_run_row,
+    COUNTER, SUMMARY, put_head, put_line_row, put_refusal_row, put_run_row, put_run_time_row,
     put_venue_row,
 };
 use crate::run_metric::RunMetric;
@@ -44,7 +44,6 @@ fn put_run_families(
 }
 
 /// Appends how long rows took from their datagrams to their printing.
-#[tactic(auto, unfolding(crate::specs::Metrics::latency_family))]
 fn put_latency_family(text: &mut Vec<u8>, figures: &RunFigures<'_>) -> Result<(), AllocError>
     ensures { OnOk result (text.new.items ≡ text.old.items ++ latency_family figures.now) }
 {
@@ -54,7 +53,7 @@ fn put_latency_family(text: &mut Vec<u8>, figures: &RunFigures<'_>) -> Result<()
         "Time from the datagrams of printed rows to their printing.",
         SUMMARY,
     )?;
-    put_latency_sum(text, figures.latency)?;
+    put_run_time_row(text, "nbbo_row_latency_seconds_sum", figures.latency)?;
     put_run_row(text, "nbbo_row_latency_seconds_count", figures.timed)
 }
 

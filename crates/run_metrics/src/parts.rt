@@ -1,6 +1,6 @@
 //! The texts of which a page of metrics is made: the head of a metric, and rows.
 ghost use Rattle.std.specs.Prelude.{◌≡◌, ◌+◌, ◌++◌, ◌%◌, OnOk, codes, decimal, drop, flat_map};
-ghost use Rattle.run_metrics.specs.Metrics.{end_row, head_text, latency_sum_row, line_row, line_time_row, places_text, refusal_row, run_row, venue_row};
+ghost use Rattle.run_metrics.specs.Metrics.{end_row, head_text, line_row, line_time_row, places_text, refusal_row, run_row, run_time_row, venue_row};
 
 use feed_types::VenueId;
 use itoa::Buffer;
@@ -164,14 +164,14 @@ pub(crate) fn put_line_time_row(
     put_places(text, time)
 }
 
-/// Appends the row of a sum of times, in nanoseconds, as seconds.
-#[tactic(auto, unfolding(crate::specs::Metrics::latency_sum_row))]
-pub(crate) fn put_latency_sum(text: &mut Vec<u8>, time: u64) -> Result<(), AllocError>
-    ensures { OnOk result (text.new.items ≡ text.old.items ++ latency_sum_row time) }
+/// Appends the row of a time of a run, in nanoseconds, as seconds.
+#[tactic(auto, unfolding(crate::specs::Metrics::run_time_row))]
+pub(crate) fn put_run_time_row(text: &mut Vec<u8>, name: &str, time: u64) -> Result<(), AllocError>
+    ensures { OnOk result (text.new.items ≡ text.old.items ++ run_time_row name.now time) }
 {
     let mut digits = Buffer::new();
     let seconds = digits.format(time / SECOND);
-    put_texts(text, &["nbbo_row_latency_seconds_sum ", seconds, "."])?;
+    put_texts(text, &[name, " ", seconds, "."])?;
     put_places(text, time)
 }
 

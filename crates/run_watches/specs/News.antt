@@ -39,7 +39,7 @@ change_text (changes.Stranger session) = codes " brings session "
 change_text (changes.Silent ms) = codes " has brought nothing for "
 change_text (changes.Unjoined ms) = codes " has brought nothing for "
 change_text changes.Heard = codes " is heard again\n"
-change_text changes.Unheard = codes " never brought a datagram\n"
+change_text changes.Unheard = codes " had no datagram\n"
 
 -- a session's name, or a number, and what is after it
 abbrev pub named_session_texts : (session end : List ℕ) → List (List ℕ)

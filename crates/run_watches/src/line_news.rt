@@ -113,7 +113,7 @@ fn change_end(change: LineChange) -> &'static str
         LineChange::Stranger(_) => " brings session ",
         LineChange::Silent(_) | LineChange::Unjoined(_) => " has brought nothing for ",
         LineChange::Heard => " is heard again\n",
-        LineChange::Unheard => " never brought a datagram\n",
+        LineChange::Unheard => " had no datagram\n",
     }
 }
 
