@@ -24,10 +24,11 @@ pub record WatchedLines : Type 0 where
   pub tells_more : Bool
   pub lines : List (ℕ × LineId)
 
--- the lines, the gaps, and whether counts are written
+-- the lines, the gaps, whether rows are printed as they come, and whether counts are written
 pub record WatchedRun : Type 0 where
   pub lines : WatchedLines
   pub gaps : WatchedGaps
+  pub follows : Bool
   pub counted : Bool
 
 -- the line of an address: line A's and then line B's, those of venue 0 first
@@ -75,6 +76,7 @@ abbrev pub listened_run : ListenSettings → ℕ → WatchedRun
 listened_run settings sockets = record {
   lines = heard_lines settings sockets;
   gaps = told_gaps settings;
+  follows = settings.follow;
   counted = is_some settings.stats;
 }
 
@@ -94,5 +96,6 @@ abbrev pub watched_run : RunWatches → WatchedRun
 watched_run watches = record {
   lines = watched_lines watches.lines;
   gaps = watched_gaps watches.gaps;
+  follows = watches.output.follows;
   counted = is_some watches.counts;
 }

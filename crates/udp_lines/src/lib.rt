@@ -13,6 +13,7 @@
 
 mod datagram_in;
 mod line_progress;
+mod session_mark;
 mod udp_line;
 
 pub use line_progress::LineProgress;
