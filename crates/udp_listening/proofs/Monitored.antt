@@ -24,7 +24,7 @@ use Rattle.run_watches.specs.RunLines.{watched_run}
 use Rattle.udp_listening.specs.Lines.{run_lines}
 use Rattle.run_watches.specs.RunNews.{SaysOfRun}
 use Rattle.udp_listening.specs.Settings.{feed_setting}
-use Rattle.udp_lines.specs.UdpLines.{UdpLineState}
+use Rattle.udp_listening.specs.Lines.{LineState}
 use Rattle.udp_listening.specs.declared.console.Console.{Console}
 use Rattle.udp_listening.specs.declared.listen_report.ListenReport.{ListenReport}
 use Rattle.udp_listening.specs.declared.listen_sockets.BoundLine.{BoundLine}
@@ -132,8 +132,8 @@ monitored_if_run writing telling before after (inr ran) =
 
 -- the lines that have ended are those that were run
 pub lines_of : {G N : Type 0} (takes : SeatState → List (List ℕ) → SeatState → Type 0)
-    (brings : UdpLineState → List (List ℕ) → UdpLineState → Type 0) (failures : UdpLineState → ℕ)
-    (tasks : List (LineTask UdpLineState)) (ends : List (LineEnd G N UdpLineState))
+    (brings : LineState → List (List ℕ) → LineState → Type 0) (failures : LineState → ℕ)
+    (tasks : List (LineTask LineState)) (ends : List (LineEnd G N LineState))
     → Pairwise (λ task. LineHasEnded takes brings failures
     (new_seat task.source.venue task.line) task.source) tasks ends
     → map seat_line (map (λ e. e.seat) ends) ≡ map task_line tasks
@@ -147,16 +147,16 @@ lines_of takes brings failures (task ∷ tasks) (e ∷ ends) each =
     ∙ ap (λ lines. task_line task ∷ lines) (lines_of takes brings failures tasks ends each.1)
 
 -- and what is reported of each is of its seat
-pub reported_of : {G N : Type 0} (ends : List (LineEnd G N UdpLineState))
+pub reported_of : {G N : Type 0} (ends : List (LineEnd G N LineState))
     → map reported_line (map line_report ends) ≡ map seat_line (map (λ e. e.seat) ends)
 reported_of [] = refl
 reported_of (e ∷ ends) = ap (λ lines. seat_line e.seat ∷ lines) (reported_of ends)
 
 module _ {G N C W E : Type 0} (settings : ListenSettings) (writing : Writing W)
     (telling : Writing E) (lanes : FeedLanes)
-    (brings : UdpLineState → List (List ℕ) → UdpLineState → Type 0) (failures : UdpLineState → ℕ)
-    (tasks : List (LineTask UdpLineState)) (count : ℕ) (none : count ≡ 0)
-    (before after : Pair C W E) (whole : FeedReport UdpLineState)
+    (brings : LineState → List (List ℕ) → LineState → Type 0) (failures : LineState → ℕ)
+    (tasks : List (LineTask LineState)) (count : ℕ) (none : count ≡ 0)
+    (before after : Pair C W E) (whole : FeedReport LineState)
     (w : IsWholeRun G N any_lines lanes (λ l. l.venue) brings failures
     (HasAttendedBoth writing telling) tasks true count before after whole) where
   ended : Monitored writing telling before after (logs_with w.later w.others)

@@ -18,9 +18,8 @@ use Rattle.live_feed.specs.settle.Settlements.{SettlementState, VenueEndState, S
 use Rattle.feed_text.specs.StandardError.{Says, SaysEach}
 use Rattle.run_notes.specs.AbsentSymbols.{absent_texts, unchanged_texts}
 use Rattle.run_watches.specs.News.{line_end_texts}
-use Rattle.run_watches.specs.RunLines.{listened_run}
 use Rattle.run_watches.specs.RunNews.{SaysOfRun}
-use Rattle.udp_listening.specs.Lines.{run_lines}
+use Rattle.udp_listening.specs.Lines.{socket_run}
 use Rattle.udp_listening.specs.Reports.{IsListened}
 use Rattle.udp_listening.specs.Settings.{row_style}
 use Rattle.udp_listening.specs.SettledNotices.{HasNoted, notices_of, settled_forgotten, settled_log, settled_notices}
@@ -314,7 +313,7 @@ pub record Listens {W E : Type 0} (writing : Writing W) (telling : Writing E)
   pub outcome : Result ListenReport ListenFault
   pub listened : IfOk outcome (IsListened settings sockets)
   pub said : E
-  pub says : SaysOfRun telling (listened_run settings (run_lines settings sockets)) silent said
+  pub says : SaysOfRun telling (socket_run settings sockets) silent said
   pub ended : ℕ
   pub ends : ListensToEnd writing telling (row_style settings) outcome before after said told ended
   pub status_is : status ≡ complete_status settings.complete outcome ended

@@ -1,8 +1,9 @@
 //! The sources of a feed's lines.
-ghost use Rattle.std.specs.Prelude.{◌≡◌, ◌/◌, ◌<◌, IfOk, is_some, length, map, take, vec_len};
+ghost use Rattle.std.specs.Prelude.{◌≡◌, ◌++◌, ◌<◌, [], IfOk, OnOk, is_some, length, map, vec_len};
 ghost use Rattle.run_settings.specs.FurtherOptions.{has_further_options};
+ghost use Rattle.run_watches.specs.RunLines.{line_at, watched, watched_lines};
+ghost use Rattle.udp_listening.specs.Lines.{line_below, run_lines, socket_lines};
 ghost use Rattle.udp_listening.specs.Reports.{task_line};
-ghost use Rattle.run_watches.specs.RunLines.{heard_lines, line_at, listened_lines, watched_lines};
 ghost use Rattle.udp_listening.specs.Settings.{IsSourceOf};
 
 use crate::listen_sockets::BoundLine;
@@ -99,7 +100,7 @@ fn source_of<C: Clock + Drop>(
     Ok(source)
 }
 
-/// Returns what the lines of each of so many venues share.
+/// Returns what the lines of each of so many venues share, of which none is made.
 fn venue_shares(alloc: Global, venues: usize) -> Result<Vec<VenueShares>, AllocError>
     ensures { IfOk result (λ shares. length shares.items ≡ venues) }
 {
@@ -117,6 +118,61 @@ pub struct ListenLines<C> {
     pub tasks: Vec<LineTask<UdpSource<C>>>,
     /// What becomes of the lines.
     pub watches: LineWatches,
+}
+
+/// The lines of a run that are made so far.
+#[derive(Drop)]
+struct LinesMade<C> {
+    tasks: Vec<LineTask<UdpSource<C>>>,
+    watches: Vec<LineWatch>,
+    /// Of each venue of the settings.
+    venues: Vec<VenueShares>,
+}
+
+impl<C: Clock + Clone + Drop> LinesMade<C> {
+    /// Returns the lines of a run with so many venues, of which none is made.
+    fn none(alloc: Global, venues: usize) -> Result<LinesMade<C>, AllocError>
+        ensures tasks { IfOk result (λ made. made.tasks.items ≡ []) }
+        ensures watches { IfOk result (λ made. made.watches.items ≡ []) }
+        ensures venues { IfOk result (λ made. length made.venues.items ≡ venues) }
+    {
+        Ok(LinesMade {
+            tasks: Vec::new(alloc),
+            watches: Vec::new(alloc),
+            venues: venue_shares(alloc, venues)?,
+        })
+    }
+
+    /// Makes the line that this socket receives, unless it is of a venue that the settings haven't.
+    fn push(
+        &mut self,
+        alloc: Global,
+        settings: &ListenSettings,
+        bound: BoundLine,
+        clock: &C,
+    ) -> Result<(), AllocError>
+        requires { length self.old.venues.items ≡ vec_len settings.now.feed.sessions }
+        ensures tasks { OnOk result (map task_line self.new.tasks.items
+            ≡ map task_line self.old.tasks.items
+            ++ line_below (vec_len settings.now.feed.sessions) bound) }
+        ensures watches { OnOk result (map watched self.new.watches.items
+            ≡ map watched self.old.watches.items
+            ++ line_below (vec_len settings.now.feed.sessions) bound) }
+        ensures venues { length self.new.venues.items ≡ length self.old.venues.items }
+    {
+        let Some(shares) = self.venues.get_mut(bound.venue.index()) else {
+            return Ok(());
+        };
+        let line = bound.line;
+        let address = bound.socket.local_addr().ok();
+        let source = source_of(alloc, settings, bound, shares, clock.clone()?)?;
+        let progress = source.share_progress()?;
+        let silent_after = settings.silence_limit().unwrap_or(0);
+        let watch = LineWatch::new(source.venue(), line, progress, address, silent_after);
+        self.watches.push(watch)?;
+        self.tasks.push(LineTask { line, source })?;
+        Ok(())
+    }
 }
 
 /// The system's tables, where more is told of the lines: by settings with further options.
@@ -142,25 +198,14 @@ pub fn lines_over<C: Clock + Clone + Drop>(
     ensures tasks { IfOk result (λ lines. map task_line lines.tasks.items
         ≡ run_lines settings.now sockets.items) }
     ensures watches { IfOk result (λ lines. watched_lines lines.watches
-        ≡ heard_lines settings.now (run_lines settings.now sockets.items)) }
+        ≡ socket_lines settings.now sockets.items) }
 {
-    let mut tasks = Vec::with_capacity(alloc, sockets.len())?;
-    let mut watches = Vec::with_capacity(alloc, sockets.len())?;
-    let mut venues = venue_shares(alloc, settings.feed.sessions.len())?;
+    let mut made = LinesMade::none(alloc, settings.feed.sessions.len())?;
     for bound in sockets {
-        let Some(shares) = venues.get_mut(bound.venue.index()) else {
-            continue;
-        };
-        let line = bound.line;
-        let address = bound.socket.local_addr().ok();
-        let source = source_of(alloc, settings, bound, shares, clock.clone()?)?;
-        let progress = source.share_progress()?;
-        let silent_after = settings.silence_limit().unwrap_or(0);
-        watches.push(LineWatch::new(source.venue(), line, progress, address, silent_after))?;
-        tasks.push(LineTask { line, source })?;
+        made.push(alloc, settings, bound, clock)?;
     }
     Ok(ListenLines {
-        tasks,
-        watches: LineWatches::new(watches, tables_if_told(settings, tables)),
+        tasks: made.tasks,
+        watches: LineWatches::new(made.watches, tables_if_told(settings, tables)),
     })
 }
