@@ -5,7 +5,8 @@ use Rattle.mold_packet.specs.Content.{Content, Spells}
 use Rattle.mold_packet.specs.declared.packet.Kind.TheVariants.{End}
 use Rattle.run_settings.specs.declared.end_rule.EndRule.{EndRule}
 use Rattle.run_settings.specs.declared.end_rule.EndRule.TheVariants.{AnySession, OwnSession, NoSession}
-use Rattle.udp_lines.specs.UdpLines.{EndsLine, IsLast, SpellsEndOf}
+use Rattle.udp_lines.specs.EndsOfSessions.{SpellsEndOf}
+use Rattle.udp_lines.specs.UdpLines.{EndsLine, IsLast}
 
 -- the bytes are this packet and no other one
 abbrev pub IsOnly : List ℕ → Content → Type 0

@@ -12,9 +12,20 @@
 #![tactic(auto)]
 
 mod datagram_in;
+mod intake;
+mod line_ends;
 mod line_progress;
+mod line_socket;
+mod line_use;
+mod number_check;
+mod requests;
 mod session_mark;
 mod udp_line;
+mod venue_marks;
 
+pub use datagram_in::{DatagramIn, ReceiveStop};
 pub use line_progress::LineProgress;
+pub use line_use::LineUse;
+pub use requests::Requests;
 pub use udp_line::{UdpLine, UdpLineSettings, millis};
+pub use venue_marks::VenueMarks;

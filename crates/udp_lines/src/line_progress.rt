@@ -155,6 +155,11 @@ impl LineProgress {
         self.marks.failed.load(Ordering::SeqCst)
     }
 
+    /// Whether the line has ended by a datagram, or failed.
+    pub(crate) fn is_over(&self) -> bool {
+        self.has_ended() || self.is_read_out() || self.has_failed()
+    }
+
     /// How many requests were sent.
     pub fn sent(&self) -> u64 {
         self.marks.sent.load(Ordering::SeqCst)

@@ -1,0 +1,167 @@
+//! What a line makes of what its socket brings.
+ghost use Rattle.std.specs.Prelude.{◌≡◌, ◌≤◌, IfOk, Some, length, take, vec_capacity};
+ghost use Rattle.std.specs.declared.net.socket_addr.SocketAddr.{SocketAddr};
+ghost use Rattle.run_settings.specs.Senders.{IsTakenFrom, senders_of};
+ghost use Rattle.udp_lines.specs.Brought.{HasMet, counted, counted_with, listed, nothing_kept};
+ghost use Rattle.udp_lines.specs.Sockets.{HearsFrom};
+ghost use Rattle.udp_lines.specs.UdpLines.{held_in, kept_by, sorting_by, waiting_in};
+
+use crate::datagram_in::DatagramIn;
+use crate::line_ends::ended_session;
+use crate::line_progress::LineProgress;
+use crate::line_socket::{LineSocket, Received, datagram_of, with_room};
+use crate::number_check::{NumberCheck, Verdict};
+use std::alloc::{AllocError, Global};
+use std::mem;
+use venue_lines::{Datagram, SourceFault};
+
+/// A line's socket, and what the line makes of what that brings.
+#[derive(Drop)]
+pub(crate) struct Intake<S> {
+    pub(crate) line_socket: LineSocket<S>,
+    pub(crate) check: NumberCheck,
+    pub(crate) progress: LineProgress,
+    /// An end of the session that waits until another line has brought it.
+    pub(crate) held: Option<Datagram>,
+    /// How many datagrams of other senders were passed over.
+    pub(crate) foreign: u64,
+    /// How many datagrams of the senders were withheld.
+    pub(crate) withheld: u64,
+    /// Whether a datagram of the senders has come since that was asked last.
+    pub(crate) has_heard: bool,
+    pub(crate) alloc: Global,
+    /// The memory of a datagram that came back, for the next one.
+    pub(crate) used: Vec<u8>,
+}
+
+impl<S: Drop> Intake<S> {
+    /// The intake over this socket, which has brought nothing.
+    pub(crate) fn new(
+        alloc: Global,
+        line_socket: LineSocket<S>,
+        check: NumberCheck,
+    ) -> Result<Intake<S>, AllocError>
+        ensures socket { IfOk result (λ intake. intake.line_socket ≡ line_socket) }
+        ensures check { IfOk result (λ intake. intake.check ≡ check) }
+        ensures kept { IfOk result (λ intake.
+            kept_by intake ≡ record nothing_kept { highest = check.highest }) }
+    {
+        Ok(Intake {
+            line_socket,
+            check,
+            progress: LineProgress::new(alloc)?,
+            held: None,
+            foreign: 0,
+            withheld: 0,
+            has_heard: false,
+            alloc,
+            used: Vec::new(alloc),
+        })
+    }
+}
+
+impl<S: DatagramIn> Intake<S> {
+    /// Counts a datagram that was withheld, beside the end that is held.
+    fn count_withheld(&mut self)
+        ensures { self.new ≡ record (self.old) { withheld = counted self.old.withheld } }
+    {
+        self.withheld = self.withheld.saturating_add(1);
+        self.progress.count_withheld();
+    }
+
+    /// Holds this end of the session in place of the one before, which is withheld then.
+    fn hold(&mut self, end: Datagram)
+        ensures { self.new ≡ record (self.old) {
+          held = Some end;
+          withheld = counted_with (held_in self.old.held) self.old.withheld;
+        } }
+    {
+        if self.held.is_some() {
+            self.count_withheld();
+        }
+        self.held = Some(end);
+    }
+
+    /// Returns the end that was held, once another line has brought it.
+    fn release(&mut self) -> Option<Datagram>
+        ensures met { HasMet S.brings S.waits (sorting_by self.old)
+            self.old.line_socket.socket (kept_by self.old) (listed (held_in result))
+            self.new.line_socket.socket (kept_by self.new) }
+        ensures rule { sorting_by self.new ≡ sorting_by self.old }
+    {
+        if self.held.is_some() && self.check.is_confirmed() {
+            self.held.take()
+        } else {
+            None
+        }
+    }
+
+    /// Returns the datagram of one of the senders that is the first `count` bytes of the buffer, in
+    /// this memory, unless it is withheld or held.
+    fn sort(&mut self, memory: Vec<u8>, count: usize) -> Option<Datagram>
+        requires count { count ≤ length self.old.line_socket.buffer.items }
+        requires room { count ≤ vec_capacity memory }
+        ensures met { (before : S) (sender : SocketAddr)
+            → HearsFrom S.brings S.waits before sender
+            (take count self.old.line_socket.buffer.items) self.old.line_socket.socket
+            → IsTakenFrom (senders_of self.old.line_socket.senders) sender
+            → HasMet S.brings S.waits (sorting_by self.old) before (kept_by self.old)
+            (listed (held_in result)) self.new.line_socket.socket (kept_by self.new) }
+        ensures rule { sorting_by self.new ≡ sorting_by self.old }
+    {
+        let bytes = &self.line_socket.buffer[..count];
+        let ended = ended_session(bytes);
+        match self.check.judge(bytes, ended) {
+            Verdict::Plausible => return Some(datagram_of(memory, bytes)),
+            Verdict::Unconfirmed => {
+                let end = datagram_of(memory, bytes);
+                self.hold(end);
+            }
+            Verdict::TooFar => self.count_withheld(),
+            Verdict::Barred => {
+                self.withheld = self.withheld.saturating_add(1);
+                self.progress.count_passed();
+            }
+        }
+        None
+    }
+
+    /// Waits a while for a datagram, and returns what the line brings next, if that is there: a
+    /// datagram, or why there is none. A held end comes before what the socket brings.
+    ///
+    /// NoMemory where memory for a datagram was refused: the socket is asked for none then.
+    pub(crate) fn next(&mut self) -> Option<Result<Datagram, SourceFault>>
+        ensures met { HasMet S.brings S.waits (sorting_by self.old)
+            self.old.line_socket.socket (kept_by self.old) (waiting_in result)
+            self.new.line_socket.socket (kept_by self.new) }
+        ensures rule { sorting_by self.new ≡ sorting_by self.old }
+    {
+        if let Some(end) = self.release() {
+            return Some(Ok(end));
+        }
+        let used = mem::replace(&mut self.used, Vec::new(self.alloc));
+        let Ok(memory) = with_room(self.alloc, used, self.line_socket.buffer.len()) else {
+            return Some(Err(SourceFault::NoMemory));
+        };
+        match self.line_socket.try_receive() {
+            Received::Taken(count) => {
+                self.has_heard = true;
+                match self.sort(memory, count) {
+                    Some(datagram) => Some(Ok(datagram)),
+                    None => None,
+                }
+            }
+            Received::Foreign => {
+                self.used = memory;
+                self.foreign = self.foreign.saturating_add(1);
+                self.progress.count_foreign();
+                None
+            }
+            Received::Failed(fault) => Some(Err(fault)),
+            Received::NoneYet => {
+                self.used = memory;
+                None
+            }
+        }
+    }
+}
