@@ -168,7 +168,7 @@ class Listener:
             self.environment = failing.environment(self.ports)
         lines = ','.join(self.address(line) for line in range(2 * venues))
         names = sessions or ','.join(['0000000001'] * venues)
-        self.command = wrapped([program, 'listen', '--sessions', names, '--lines', lines, *words])
+        self.command = wrapped([program, 'listen', '--sessions', names, f'--lines={lines}', *words])
         self.until = time.monotonic() + LIMIT_SECONDS
         # What was read of standard error, and then the news among it.
         self.told = b''
