@@ -60,12 +60,13 @@ const REQUEST_AFTER: CommandOption<'static> = CommandOption {
     value: "MS",
     form: OptionForm::FromZero,
     help: text!(
-        "For how many milliseconds a gap stands before it is asked for, 0 to " MAX_COUNT " [default: 0, with an option of those below 10]"
+        "For how many milliseconds a gap stands before it is asked for, 0 to " MAX_COUNT " [default: 0, with a further option " USUAL_WAIT "]"
     ),
     long_help: text!("\
 With --request: for how many milliseconds a gap stands before its messages are asked for, 0
-to " MAX_COUNT ", so that the other line can bring them first. By default 0 where no option is
-given but --sessions, --lines, --request, --window, --journal and --datagrams, else " USUAL_WAIT),
+to " MAX_COUNT ", so that the other line can bring them first. By default 0, with a further option
+" USUAL_WAIT ". A further option is one other than --sessions, --lines, --request, --window, --journal,
+--datagrams and --end any"),
 };
 
 /// The long help of the list of senders.
@@ -100,14 +101,13 @@ const MOST_AHEAD: CommandOption<'static> = CommandOption {
     value: "N",
     form: OptionForm::FromOne,
     help: text!(
-        "How far ahead of a venue's lines a number may be, 1 to " MAX_COUNT " [default: no limit, with an option of those below " USUAL_LEAD "]"
+        "How far ahead of a venue's lines a number may be, 1 to " MAX_COUNT " [default: no limit, with a further option " USUAL_LEAD "]"
     ),
     long_help: text!("\
 How many messages past the highest number that the lines of its venue have brought the number
 of a datagram may be, 1 to " MAX_COUNT ". One that is further is withheld: it changes nothing, and
 standard error says so once of each line, and at the end how many there were. By default
-there is no limit where no option is given but --sessions, --lines, --request, --window,
---journal and --datagrams, else it is " USUAL_LEAD),
+there is no limit, with a further option, as of --request-after, it is " USUAL_LEAD),
 };
 
 /// `--silent-after MS`.
@@ -116,13 +116,12 @@ const SILENT_AFTER: CommandOption<'static> = CommandOption {
     value: "MS",
     form: OptionForm::FromOne,
     help: text!(
-        "After how many milliseconds a line that brings nothing is reported, 1 to " MAX_COUNT " [default: never, with an option of those below " USUAL_SILENCE "]"
+        "After how many milliseconds a line that brings nothing is reported, 1 to " MAX_COUNT " [default: never, with a further option " USUAL_SILENCE "]"
     ),
     long_help: text!("\
 After how many milliseconds standard error has a line for a line that brings nothing, from the
-start, too, and another when it is heard again: 1 to " MAX_COUNT ". By default none where no option
-is given but --sessions, --lines, --request, --window, --journal and --datagrams, else after
-" USUAL_SILENCE),
+start, too, and another when it is heard again: 1 to " MAX_COUNT ". By default it has none, with a
+further option, as of --request-after, it has them after " USUAL_SILENCE),
 };
 
 /// `--record FILE`.
