@@ -347,8 +347,8 @@ state_metrics =
     states.OtherSenders ∷ states.Withheld ∷ states.Unsent ∷ states.HeldBack ∷ states.Dropped
     ∷ states.Heard ∷ states.Ended ∷ []
 
--- the metrics of the run, of its venues, of their lines, the refusals, and what else is known of the
--- lines
+-- the metrics of the run, of its venues, of their lines, the refusals, and what else is known of
+-- the lines
 abbrev pub page_text : RunFigures → List ℕ
 page_text figures =
     flat_map (λ m. run_family figures m) run_metrics

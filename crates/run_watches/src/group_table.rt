@@ -1,8 +1,8 @@
 //! Which multicast groups the machine has joined, by the system's own tables.
 //!
-//! The table of version four of IP has a row for each group whose first field is the group's address
-//! in 8 hexadecimal digits, as the machine has it in memory. That of version six has the address in
-//! the third field, in 32 digits from the first byte on.
+//! The table of version four of IP has a row for each group, with the group's address in 8
+//! hexadecimal digits, as the machine has it in memory. That of version six has the address in 32
+//! digits, from the first byte on.
 
 use std::alloc::{AllocError, Global};
 use std::net::{IpAddr, Ipv4Addr, Ipv6Addr, SocketAddr};

@@ -16,8 +16,8 @@ pub enum Silence {
 /// Since when a line has brought nothing, as it is seen at looks at the line.
 #[derive(Clone, Copy, Debug)]
 pub struct LineSilence {
-    /// After how many milliseconds a silence is told; 0 where none is.
-    after_ms: u64,
+    /// After how many milliseconds a silence is told, if after any number.
+    after_ms: Option<u64>,
     /// When the last datagram came that was seen, by the line's own clock.
     seen_ms: Option<u64>,
     /// Since when none has been seen, in milliseconds of the run.
@@ -33,16 +33,15 @@ fn nanoseconds(time: Duration) -> Option<u64> {
 }
 
 impl LineSilence {
-    /// The silence of a line from the beginning of a run on. It is told after so many milliseconds;
-    /// that of line R, which brings replies alone, never is.
-    pub fn of(line: LineId, after_ms: u32) -> LineSilence {
-        let after_ms = if line == LineId::Recovery {
-            0
-        } else {
-            after_ms
+    /// The silence of a line from the beginning of a run on. It is told after so many milliseconds,
+    /// if after any number; that of line R, which brings replies alone, never is.
+    pub fn of(line: LineId, after_ms: Option<u32>) -> LineSilence {
+        let after_ms = match after_ms {
+            Some(after_ms) if line != LineId::Recovery => Some(u64::from(after_ms)),
+            _ => None,
         };
         LineSilence {
-            after_ms: u64::from(after_ms),
+            after_ms,
             seen_ms: None,
             since_ms: 0,
             heard: None,
@@ -63,14 +62,14 @@ impl LineSilence {
             self.since_ms = moment.elapsed_ms;
             self.heard = moment.since_1970.and_then(nanoseconds);
         }
-        let silent_ms = moment.elapsed_ms.saturating_sub(self.since_ms);
-        let is_silent = self.after_ms > 0 && silent_ms >= self.after_ms;
+        let after_ms = self.after_ms?;
+        let is_silent = moment.elapsed_ms.saturating_sub(self.since_ms) >= after_ms;
         if is_silent == self.is_told {
             return None;
         }
         self.is_told = is_silent;
         if is_silent {
-            Some(Silence::Begun(self.after_ms))
+            Some(Silence::Begun(after_ms))
         } else {
             Some(Silence::Over)
         }

@@ -41,13 +41,13 @@ pub struct LineWatch {
 
 impl LineWatch {
     /// A line of which nothing was said yet. Once it has brought nothing for `silent_after`
-    /// milliseconds that is said, of lines A and B where the number isn't 0.
+    /// milliseconds that is said, of lines A and B.
     pub fn new(
         venue: VenueId,
         line: LineId,
         progress: LineProgress,
         address: Option<SocketAddr>,
-        silent_after: u32,
+        silent_after: Option<u32>,
     ) -> LineWatch
         ensures { watched result ≡ (venue, line) }
     {

@@ -53,6 +53,7 @@ pub struct MetricsServer {
 }
 
 /// What is seen of a run that is served.
+#[derive(Clone, Copy)]
 pub(crate) struct RunSeen<'a> {
     /// How many milliseconds it has gone on.
     pub elapsed_ms: u64,

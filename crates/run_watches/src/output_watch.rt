@@ -33,7 +33,7 @@ pub struct OutputWatch {
 }
 
 impl OutputWatch {
-    /// The rows of a run, which are printed as they come where it `follows`, and its standard error.
+    /// The rows of a run, printed as they come where it `follows`, and its standard error.
     pub fn new(follows: bool, rows: RowProgress, errors: ErrorsProgress) -> OutputWatch
         ensures { result.follows ≡ follows }
     {
