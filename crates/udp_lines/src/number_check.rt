@@ -4,6 +4,7 @@ ghost use Rattle.mold_packet.specs.declared.request.Request.{Request};
 ghost use Rattle.udp_lines.specs.EndsOfSessions.{SpellsEndOf};
 ghost use Rattle.udp_lines.specs.Plausible.{Covers, HasHeader, IsAnEnd, IsFar, announced_by, is_past, row_after};
 
+use crate::line_progress::LineProgress;
 use crate::venue_marks::VenueMarks;
 use feed_types::LineId;
 use mold_packet::{Request, read_request, reads_back};
@@ -55,6 +56,7 @@ pub(crate) struct NumberCheck {
     pub(crate) most_ahead: Option<u64>,
     pub(crate) line: LineId,
     pub(crate) marks: VenueMarks,
+    pub(crate) progress: LineProgress,
     /// The highest number that the line has handed on.
     pub(crate) highest: u64,
     /// Numbers too far ahead that came in a row, and agree.
@@ -189,6 +191,7 @@ impl NumberCheck {
             return Verdict::Plausible;
         };
         if header.session != self.session {
+            self.progress.meet(&header.session);
             return Verdict::Plausible;
         }
         let number = announced_by(&header);
