@@ -4,11 +4,12 @@ use Rattle.std.specs.Prelude.{IsTrue, is_some}
 use Rattle.std.proofs.lemmas.List.{append-nil}
 use Rattle.std.specs.declared.net.socket_addr.SocketAddr.{SocketAddr}
 use Rattle.run_settings.specs.Senders.{IsTakenFrom}
-use Rattle.udp_lines.specs.Brought.{Fate, HandedOn, Foreign, Withheld, Held, Released, HasMet, Kept, SortingRule, counted, counted_with, listed}
+use Rattle.udp_lines.specs.Brought.{Fate, HandedOn, Foreign, Withheld, Held, Released, HasMet, Kept, SortingRule, one_counted, counted_with, listed}
 use Rattle.udp_lines.specs.EndsOfSessions.{SpellsEndOf}
 use Rattle.udp_lines.specs.Plausible.{Covers, IsWithheld}
 use Rattle.udp_lines.specs.Sockets.{HearsFrom, HearsOf}
-use Rattle.udp_lines.specs.UdpLines.{HasBrought, UdpLineState, sorting_of}
+use Rattle.udp_lines.specs.UdpLines.{HasBrought, UdpLineState, held_in, kept_in, sorting_of}
+use Rattle.udp_lines.specs.declared.intake.Intake.{Intake}
 
 module _ {S : Type 0} (brings : S → SocketAddr → List ℕ → S → Type 0) (waits : S → S → Type 0)
     (waits_not : (s : S) → waits s s) where
@@ -35,48 +36,59 @@ module _ {S : Type 0} (brings : S → SocketAddr → List ℕ → S → Type 0) 
     handed_on = ap (λ (x : List ℕ). x ∷ []) (e ∙ b);
   }
 
-  pub kept_back : (rule : SortingRule) (s t : S) (k : Kept) (sender : SocketAddr)
-      (bytes seen : List ℕ) → HearsFrom brings waits s sender bytes t
+  pub kept_back : (rule : SortingRule) (before : S) (old new : Intake S) (sender : SocketAddr)
+      (bytes seen : List ℕ) → HearsFrom brings waits before sender bytes old.line_socket.socket
       → IsTakenFrom rule.senders sender
-      → IsWithheld rule.end rule.most_ahead rule.session k.highest seen → seen ≡ bytes
-      → HasMet brings waits rule s k [] t (record k { withheld = counted k.withheld })
-  kept_back rule s t k sender bytes seen heard is why b = record {
+      → IsWithheld rule.end rule.most_ahead rule.session old.check.highest seen → seen ≡ bytes
+      → new.line_socket.socket ≡ old.line_socket.socket
+      → kept_in new ≡ record (kept_in old) { withheld = one_counted old.withheld }
+      → HasMet brings waits rule before (kept_in old) [] new.line_socket.socket (kept_in new)
+  kept_back rule before old new sender bytes seen heard is why b socket kept = record {
     fates = Withheld sender bytes ∷ [];
     met = (
-      t,
+      old.line_socket.socket,
       (
         heard,
         is,
-        subst (λ (x : List ℕ). IsWithheld rule.end rule.most_ahead rule.session k.highest x) b why,
+        subst (λ (x : List ℕ). IsWithheld rule.end rule.most_ahead rule.session old.check.highest x)
+            b why,
       ),
-      waits_not t,
+      subst (λ (x : S). waits old.line_socket.socket x) (sym socket)
+          (waits_not old.line_socket.socket),
     );
-    kept = refl;
+    kept = kept;
     handed_on = refl;
   }
 
-  pub held_back : (rule : SortingRule) (s t : S) (k : Kept) (sender : SocketAddr)
-      (bytes seen read : List ℕ) → HearsFrom brings waits s sender bytes t
+  pub held_back : (rule : SortingRule) (before : S) (old new : Intake S) (sender : SocketAddr)
+      (bytes seen : List ℕ) → HearsFrom brings waits before sender bytes old.line_socket.socket
       → IsTakenFrom rule.senders sender → SpellsEndOf rule.session seen
-      → IsTrue (is_some rule.most_ahead) → seen ≡ bytes → read ≡ seen
-      → HasMet brings waits rule s k [] t
-      (record k { held = Some read; withheld = counted_with k.held k.withheld })
-  held_back rule s t k sender bytes seen read heard is end asked b e = record {
+      → IsTrue (is_some rule.most_ahead) → seen ≡ bytes
+      → new.line_socket.socket ≡ old.line_socket.socket
+      → kept_in new ≡ record (kept_in old) {
+        held = Some seen;
+        withheld = counted_with (held_in old.held) old.withheld;
+      }
+      → HasMet brings waits rule before (kept_in old) [] new.line_socket.socket (kept_in new)
+  held_back rule before old new sender bytes seen heard is end asked b socket kept = record {
     fates = Held sender bytes ∷ [];
     met = (
-      t,
+      old.line_socket.socket,
       (heard, is, subst (λ (x : List ℕ). SpellsEndOf rule.session x) b end, asked),
-      waits_not t,
+      subst (λ (x : S). waits old.line_socket.socket x) (sym socket)
+          (waits_not old.line_socket.socket),
     );
     kept =
-        ap (λ (x : List ℕ). record k { held = Some x; withheld = counted_with k.held k.withheld })
-        (e ∙ b);
+        kept ∙ ap (λ (x : List ℕ). record (kept_in old) {
+          held = Some x;
+          withheld = counted_with (held_in old.held) old.withheld;
+        }) b;
     handed_on = refl;
   }
 
   pub passed_over : (rule : SortingRule) (s t : S) (k : Kept) (bytes : List ℕ)
       → HearsOf brings waits (λ sender. IsTakenFrom rule.senders sender → ⊥) s bytes t
-      → HasMet brings waits rule s k [] t (record k { foreign = counted k.foreign })
+      → HasMet brings waits rule s k [] t (record k { foreign = one_counted k.foreign })
   passed_over rule s t k bytes h = record {
     fates = Foreign h.sender bytes ∷ [];
     met = (t, (h.heard, h.is), waits_not t);
@@ -127,9 +139,9 @@ took brings waits l m n xs b venue sorting socket kept none here = record {
   sorting = sorting ∙ b.sorting;
   handed_on = b.handed_on;
   met =
-      subst (λ (x : Kept). HasMet brings waits (sorting_of l) l.socket l.kept b.handed_on n.socket x)
-      (sym kept)
-      (subst (λ (x : _). HasMet brings waits (sorting_of l) l.socket l.kept b.handed_on x m.kept)
+      subst (λ (x : Kept). HasMet brings waits (sorting_of l) l.socket l.kept b.handed_on n.socket
+      x) (sym kept)
+      (subst (λ (x : S). HasMet brings waits (sorting_of l) l.socket l.kept b.handed_on x m.kept)
       (sym socket) b.met);
   all =
       b.all ∙ here ∙ sym (append-nil xs)

@@ -2,9 +2,9 @@
 ghost use Rattle.std.specs.Prelude.{◌≡◌, ◌≤◌, IsTrue, Some, is_some, length, take, true, vec_capacity};
 ghost use Rattle.std.specs.declared.net.socket_addr.SocketAddr.{SocketAddr};
 ghost use Rattle.run_settings.specs.Senders.{IsTakenFrom, senders_of};
-ghost use Rattle.udp_lines.specs.Brought.{HasMet, counted, counted_with, listed, nothing_kept};
+ghost use Rattle.udp_lines.specs.Brought.{HasMet, one_counted, counted_with, listed, nothing_kept};
 ghost use Rattle.udp_lines.specs.Sockets.{HearsFrom};
-ghost use Rattle.udp_lines.specs.UdpLines.{held_in, kept_by, sorting_by, waiting_in};
+ghost use Rattle.udp_lines.specs.UdpLines.{held_in, kept_in, sorting_by, waiting_in};
 
 use crate::datagram_in::DatagramIn;
 use crate::line_ends::ended_session;
@@ -37,7 +37,7 @@ impl<S: Drop> Intake<S> {
     pub(crate) fn new(alloc: Global, line_socket: LineSocket<S>, check: NumberCheck) -> Intake<S>
         ensures socket { result.line_socket ≡ line_socket }
         ensures check { result.check ≡ check }
-        ensures kept { kept_by result ≡ record nothing_kept { highest = check.highest } }
+        ensures kept { kept_in result ≡ record nothing_kept { highest = check.highest } }
     {
         Intake {
             line_socket,
@@ -53,12 +53,11 @@ impl<S: Drop> Intake<S> {
 }
 
 impl<S: DatagramIn> Intake<S> {
-    /// Counts a datagram that was withheld, beside the end that is held.
-    fn count_withheld(&mut self)
-        ensures { self.new ≡ record (self.old) { withheld = counted self.old.withheld } }
+    /// Counts a datagram that is withheld.
+    fn withhold(&mut self)
+        ensures { self.new ≡ record (self.old) { withheld = one_counted self.old.withheld } }
     {
         self.withheld = self.withheld.saturating_add(1);
-        self.check.progress.count_withheld();
     }
 
     /// Holds this end of the session in place of the one before, which is withheld then.
@@ -69,7 +68,8 @@ impl<S: DatagramIn> Intake<S> {
         } }
     {
         if self.held.is_some() {
-            self.count_withheld();
+            self.withhold();
+            self.check.progress.count_withheld();
         }
         self.held = Some(end);
     }
@@ -86,8 +86,8 @@ impl<S: DatagramIn> Intake<S> {
     fn release(&mut self) -> Option<Result<Datagram, SourceFault>>
         requires { IsTrue (is_some (held_in self.old.held)) }
         ensures met { HasMet S.brings S.waits (sorting_by self.old) self.old.line_socket.socket
-            (kept_by self.old) (waiting_in result) self.new.line_socket.socket
-            (kept_by self.new) }
+            (kept_in self.old) (waiting_in result) self.new.line_socket.socket
+            (kept_in self.new) }
         ensures rule { sorting_by self.new ≡ sorting_by self.old }
     {
         match self.held.take() {
@@ -105,8 +105,8 @@ impl<S: DatagramIn> Intake<S> {
             → HearsFrom S.brings S.waits before sender
             (take count self.old.line_socket.buffer.items) self.old.line_socket.socket
             → IsTakenFrom (senders_of self.old.line_socket.senders) sender
-            → HasMet S.brings S.waits (sorting_by self.old) before (kept_by self.old)
-            (listed (held_in result)) self.new.line_socket.socket (kept_by self.new) }
+            → HasMet S.brings S.waits (sorting_by self.old) before (kept_in self.old)
+            (listed (held_in result)) self.new.line_socket.socket (kept_in self.new) }
         ensures rule { sorting_by self.new ≡ sorting_by self.old }
     {
         let bytes = &self.line_socket.buffer[..count];
@@ -117,9 +117,12 @@ impl<S: DatagramIn> Intake<S> {
                 let end = datagram_of(memory, bytes);
                 self.hold(end);
             }
-            Verdict::TooFar => self.count_withheld(),
+            Verdict::TooFar => {
+                self.withhold();
+                self.check.progress.count_withheld();
+            }
             Verdict::Barred => {
-                self.withheld = self.withheld.saturating_add(1);
+                self.withhold();
                 self.check.progress.count_passed();
             }
         }
@@ -132,8 +135,8 @@ impl<S: DatagramIn> Intake<S> {
     #[tactic(auto, using(crate::proofs::Meeting::passed_over, crate::proofs::Meeting::waited))]
     fn receive(&mut self) -> Option<Result<Datagram, SourceFault>>
         ensures met { HasMet S.brings S.waits (sorting_by self.old) self.old.line_socket.socket
-            (kept_by self.old) (waiting_in result) self.new.line_socket.socket
-            (kept_by self.new) }
+            (kept_in self.old) (waiting_in result) self.new.line_socket.socket
+            (kept_in self.new) }
         ensures rule { sorting_by self.new ≡ sorting_by self.old }
     {
         let used = mem::replace(&mut self.used, Vec::new(self.alloc));
@@ -167,8 +170,8 @@ impl<S: DatagramIn> Intake<S> {
     /// and is confirmed by now, or what `receive` returns.
     pub(crate) fn next(&mut self) -> Option<Result<Datagram, SourceFault>>
         ensures met { HasMet S.brings S.waits (sorting_by self.old) self.old.line_socket.socket
-            (kept_by self.old) (waiting_in result) self.new.line_socket.socket
-            (kept_by self.new) }
+            (kept_in self.old) (waiting_in result) self.new.line_socket.socket
+            (kept_in self.new) }
         ensures rule { sorting_by self.new ≡ sorting_by self.old }
     {
         if self.is_confirmed() {

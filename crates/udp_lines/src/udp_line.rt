@@ -92,7 +92,7 @@ pub struct UdpLine<S, C> {
 
 impl<S, C> Model for UdpLine<S, C> {
     ghost use Rattle.run_settings.specs.Senders.{senders_of};
-    ghost use Rattle.udp_lines.specs.UdpLines.{UdpLineState, kept_by, waiting_in};
+    ghost use Rattle.udp_lines.specs.UdpLines.{UdpLineState, kept_in, waiting_in};
 
     ghost Value = { UdpLineState S };
 
@@ -107,7 +107,7 @@ impl<S, C> Model for UdpLine<S, C> {
       ender = l.ender;
       most_ahead = l.intake.check.most_ahead;
       socket = l.intake.line_socket.socket;
-      kept = kept_by l.intake;
+      kept = kept_in l.intake;
       waiting = waiting_in l.received;
     } };
 }
