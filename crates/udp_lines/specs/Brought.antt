@@ -37,18 +37,18 @@ pub data Fate : Type 0 where
   Held : SocketAddr → List ℕ → Fate
   Released : Fate
 
-abbrev pub counted : ℕ → ℕ
-counted n = min (n + 1) (2 ^ 64 - 1)
+abbrev pub one_counted : ℕ → ℕ
+one_counted n = min (n + 1) (2 ^ 64 - 1)
 
 -- the count of what is withheld, where an end is held in place of another
 abbrev pub counted_with : Option (List ℕ) → ℕ → ℕ
 counted_with None n = n
-counted_with (Some bytes) n = counted n
+counted_with (Some bytes) n = one_counted n
 
 abbrev pub kept_after : Kept → Fate → Kept
 kept_after k (HandedOn sender bytes highest) = record k { highest = highest }
-kept_after k (Foreign sender bytes) = record k { foreign = counted k.foreign }
-kept_after k (Withheld sender bytes) = record k { withheld = counted k.withheld }
+kept_after k (Foreign sender bytes) = record k { foreign = one_counted k.foreign }
+kept_after k (Withheld sender bytes) = record k { withheld = one_counted k.withheld }
 kept_after k (Held sender bytes) =
     record k { held = Some bytes; withheld = counted_with k.held k.withheld }
 kept_after k Released = record k { held = None }
@@ -67,9 +67,9 @@ abbrev pub all_handed_on : Kept → List Fate → List (List ℕ)
 all_handed_on k [] = []
 all_handed_on k (fate ∷ fates) = handed_on k fate ++ all_handed_on (kept_after k fate) fates
 
-abbrev pub all_kept : Kept → List Fate → Kept
-all_kept k [] = k
-all_kept k (fate ∷ fates) = all_kept (kept_after k fate) fates
+abbrev pub kept_after_all : Kept → List Fate → Kept
+kept_after_all k [] = k
+kept_after_all k (fate ∷ fates) = kept_after_all (kept_after k fate) fates
 
 module _ {S : Type 0} (brings : S → SocketAddr → List ℕ → S → Type 0) (waits : S → S → Type 0)
     (rule : SortingRule) where
@@ -100,5 +100,5 @@ module _ {S : Type 0} (brings : S → SocketAddr → List ℕ → S → Type 0) 
   pub record HasMet (s : S) (k : Kept) (bytes : List (List ℕ)) (t : S) (l : Kept) : Type 0 where
     pub fates : List Fate
     pub met : MeetsAll s k fates t
-    pub kept : l ≡ all_kept k fates
+    pub kept : l ≡ kept_after_all k fates
     pub handed_on : bytes ≡ all_handed_on k fates

@@ -25,11 +25,13 @@ is_past most highest number = nat_lt (highest + most) number
 
 -- The row of numbers too far ahead after one more: it goes on where that is not below the last one
 -- and at most `most` past it.
-abbrev pub row_after : ℕ → Row → ℕ → Row
-row_after most row number =
+abbrev pub far_row_after : ℕ → Row → ℕ → Row
+far_row_after most row number =
     record {
       number = number;
-      times = if nat_lt 0 row.times && (nat_le row.number number && not (is_past most row.number number))
+      times =
+          if nat_lt 0 row.times
+          && (nat_le row.number number && not (is_past most row.number number))
           then min (row.times + 1) 255 else 1;
     }
 
@@ -37,7 +39,7 @@ row_after most row number =
 -- such one in a row.
 abbrev pub is_too_far : (most highest : ℕ) → Row → ℕ → Bool
 is_too_far most highest row number =
-    is_past most highest number && nat_lt (row_after most row number).times 3
+    is_past most highest number && nat_lt (far_row_after most row number).times 3
 
 -- the bytes announce a number of the session that is past the highest one by more than is asked
 pub record IsFar (session : List ℕ) (most_ahead : Option ℕ) (highest : ℕ) (bytes : List ℕ)

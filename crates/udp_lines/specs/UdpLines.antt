@@ -46,8 +46,8 @@ held_in None = None
 held_in (Some datagram) = Some (bytes_of datagram)
 
 -- what a line keeps, by what it has
-abbrev pub kept_by : {S : Type 0} → Intake S → Kept
-kept_by intake = record {
+abbrev pub kept_in : {S : Type 0} → Intake S → Kept
+kept_in intake = record {
   held = held_in intake.held;
   highest = intake.check.highest;
   foreign = intake.foreign;

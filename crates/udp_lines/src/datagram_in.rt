@@ -67,7 +67,13 @@ impl DatagramIn for UdpSocket {
 
     fn receive(&mut self, buffer: &mut [u8]) -> Result<(usize, SocketAddr), ReceiveStop> {
         match self.recv_from(buffer) {
-            Ok((count, from)) => Ok((count, from)),
+            // A socket of both versions shows a sender of version four by a mapped address.
+            Ok((count, from)) => {
+                Ok((
+                    count,
+                    SocketAddr::new(from.ip().to_canonical(), from.port()),
+                ))
+            }
             Err(error) => Err(match error.kind() {
                 ErrorKind::Interrupted => ReceiveStop::Interrupted,
                 ErrorKind::WouldBlock => ReceiveStop::NoneYet,

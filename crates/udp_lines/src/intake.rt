@@ -1,17 +1,16 @@
 //! What a line makes of what its socket brings.
-ghost use Rattle.std.specs.Prelude.{◌≡◌, ◌≤◌, IfOk, Some, length, take, vec_capacity};
+ghost use Rattle.std.specs.Prelude.{◌≡◌, ◌≤◌, IsTrue, Some, is_some, length, take, true, vec_capacity};
 ghost use Rattle.std.specs.declared.net.socket_addr.SocketAddr.{SocketAddr};
 ghost use Rattle.run_settings.specs.Senders.{IsTakenFrom, senders_of};
-ghost use Rattle.udp_lines.specs.Brought.{HasMet, counted, counted_with, listed, nothing_kept};
+ghost use Rattle.udp_lines.specs.Brought.{HasMet, one_counted, counted_with, listed, nothing_kept};
 ghost use Rattle.udp_lines.specs.Sockets.{HearsFrom};
-ghost use Rattle.udp_lines.specs.UdpLines.{held_in, kept_by, sorting_by, waiting_in};
+ghost use Rattle.udp_lines.specs.UdpLines.{held_in, kept_in, sorting_by, waiting_in};
 
 use crate::datagram_in::DatagramIn;
 use crate::line_ends::ended_session;
-use crate::line_progress::LineProgress;
-use crate::line_socket::{LineSocket, Received, datagram_of, with_room};
+use crate::line_socket::{LineSocket, Received, datagram_of, try_receive, with_room};
 use crate::number_check::{NumberCheck, Verdict};
-use std::alloc::{AllocError, Global};
+use std::alloc::Global;
 use std::mem;
 use venue_lines::{Datagram, SourceFault};
 
@@ -20,7 +19,6 @@ use venue_lines::{Datagram, SourceFault};
 pub(crate) struct Intake<S> {
     pub(crate) line_socket: LineSocket<S>,
     pub(crate) check: NumberCheck,
-    pub(crate) progress: LineProgress,
     /// An end of the session that waits until another line has brought it.
     pub(crate) held: Option<Datagram>,
     /// How many datagrams of other senders were passed over.
@@ -36,37 +34,30 @@ pub(crate) struct Intake<S> {
 
 impl<S: Drop> Intake<S> {
     /// The intake over this socket, which has brought nothing.
-    pub(crate) fn new(
-        alloc: Global,
-        line_socket: LineSocket<S>,
-        check: NumberCheck,
-    ) -> Result<Intake<S>, AllocError>
-        ensures socket { IfOk result (λ intake. intake.line_socket ≡ line_socket) }
-        ensures check { IfOk result (λ intake. intake.check ≡ check) }
-        ensures kept { IfOk result (λ intake.
-            kept_by intake ≡ record nothing_kept { highest = check.highest }) }
+    pub(crate) fn new(alloc: Global, line_socket: LineSocket<S>, check: NumberCheck) -> Intake<S>
+        ensures socket { result.line_socket ≡ line_socket }
+        ensures check { result.check ≡ check }
+        ensures kept { kept_in result ≡ record nothing_kept { highest = check.highest } }
     {
-        Ok(Intake {
+        Intake {
             line_socket,
             check,
-            progress: LineProgress::new(alloc)?,
             held: None,
             foreign: 0,
             withheld: 0,
             has_heard: false,
             alloc,
             used: Vec::new(alloc),
-        })
+        }
     }
 }
 
 impl<S: DatagramIn> Intake<S> {
-    /// Counts a datagram that was withheld, beside the end that is held.
-    fn count_withheld(&mut self)
-        ensures { self.new ≡ record (self.old) { withheld = counted self.old.withheld } }
+    /// Counts a datagram that is withheld.
+    fn withhold(&mut self)
+        ensures { self.new ≡ record (self.old) { withheld = one_counted self.old.withheld } }
     {
         self.withheld = self.withheld.saturating_add(1);
-        self.progress.count_withheld();
     }
 
     /// Holds this end of the session in place of the one before, which is withheld then.
@@ -77,22 +68,31 @@ impl<S: DatagramIn> Intake<S> {
         } }
     {
         if self.held.is_some() {
-            self.count_withheld();
+            self.withhold();
+            self.check.progress.count_withheld();
         }
         self.held = Some(end);
     }
 
-    /// Returns the end that was held, once another line has brought it.
-    fn release(&mut self) -> Option<Datagram>
-        ensures met { HasMet S.brings S.waits (sorting_by self.old)
-            self.old.line_socket.socket (kept_by self.old) (listed (held_in result))
-            self.new.line_socket.socket (kept_by self.new) }
+    /// Whether an end is held that another line has brought by now.
+    fn is_confirmed(&self) -> bool
+        ensures { result ≡ true → IsTrue (is_some (held_in self.now.held)) }
+    {
+        self.held.is_some() && self.check.is_confirmed()
+    }
+
+    /// Returns the end that is held.
+    #[tactic(auto, using(crate::proofs::Meeting::released))]
+    fn release(&mut self) -> Option<Result<Datagram, SourceFault>>
+        requires { IsTrue (is_some (held_in self.old.held)) }
+        ensures met { HasMet S.brings S.waits (sorting_by self.old) self.old.line_socket.socket
+            (kept_in self.old) (waiting_in result) self.new.line_socket.socket
+            (kept_in self.new) }
         ensures rule { sorting_by self.new ≡ sorting_by self.old }
     {
-        if self.held.is_some() && self.check.is_confirmed() {
-            self.held.take()
-        } else {
-            None
+        match self.held.take() {
+            Some(end) => Some(Ok(end)),
+            None => None,
         }
     }
 
@@ -105,8 +105,8 @@ impl<S: DatagramIn> Intake<S> {
             → HearsFrom S.brings S.waits before sender
             (take count self.old.line_socket.buffer.items) self.old.line_socket.socket
             → IsTakenFrom (senders_of self.old.line_socket.senders) sender
-            → HasMet S.brings S.waits (sorting_by self.old) before (kept_by self.old)
-            (listed (held_in result)) self.new.line_socket.socket (kept_by self.new) }
+            → HasMet S.brings S.waits (sorting_by self.old) before (kept_in self.old)
+            (listed (held_in result)) self.new.line_socket.socket (kept_in self.new) }
         ensures rule { sorting_by self.new ≡ sorting_by self.old }
     {
         let bytes = &self.line_socket.buffer[..count];
@@ -117,33 +117,34 @@ impl<S: DatagramIn> Intake<S> {
                 let end = datagram_of(memory, bytes);
                 self.hold(end);
             }
-            Verdict::TooFar => self.count_withheld(),
+            Verdict::TooFar => {
+                self.withhold();
+                self.check.progress.count_withheld();
+            }
             Verdict::Barred => {
-                self.withheld = self.withheld.saturating_add(1);
-                self.progress.count_passed();
+                self.withhold();
+                self.check.progress.count_passed();
             }
         }
         None
     }
 
-    /// Waits a while for a datagram, and returns what the line brings next, if that is there: a
-    /// datagram, or why there is none. A held end comes before what the socket brings.
+    /// Waits a while for a datagram, and returns what the line brings of it, or why there is none.
     ///
     /// NoMemory where memory for a datagram was refused: the socket is asked for none then.
-    pub(crate) fn next(&mut self) -> Option<Result<Datagram, SourceFault>>
-        ensures met { HasMet S.brings S.waits (sorting_by self.old)
-            self.old.line_socket.socket (kept_by self.old) (waiting_in result)
-            self.new.line_socket.socket (kept_by self.new) }
+    #[tactic(auto, using(crate::proofs::Meeting::passed_over, crate::proofs::Meeting::waited))]
+    fn receive(&mut self) -> Option<Result<Datagram, SourceFault>>
+        ensures met { HasMet S.brings S.waits (sorting_by self.old) self.old.line_socket.socket
+            (kept_in self.old) (waiting_in result) self.new.line_socket.socket
+            (kept_in self.new) }
         ensures rule { sorting_by self.new ≡ sorting_by self.old }
     {
-        if let Some(end) = self.release() {
-            return Some(Ok(end));
-        }
         let used = mem::replace(&mut self.used, Vec::new(self.alloc));
         let Ok(memory) = with_room(self.alloc, used, self.line_socket.buffer.len()) else {
             return Some(Err(SourceFault::NoMemory));
         };
-        match self.line_socket.try_receive() {
+        let line = &mut self.line_socket;
+        match try_receive(&mut line.socket, &line.senders, line.buffer.as_mut_slice()) {
             Received::Taken(count) => {
                 self.has_heard = true;
                 match self.sort(memory, count) {
@@ -154,7 +155,7 @@ impl<S: DatagramIn> Intake<S> {
             Received::Foreign => {
                 self.used = memory;
                 self.foreign = self.foreign.saturating_add(1);
-                self.progress.count_foreign();
+                self.check.progress.count_foreign();
                 None
             }
             Received::Failed(fault) => Some(Err(fault)),
@@ -162,6 +163,21 @@ impl<S: DatagramIn> Intake<S> {
                 self.used = memory;
                 None
             }
+        }
+    }
+
+    /// Waits a while, and returns what the line brings next, if that is there: an end that was held
+    /// and is confirmed by now, or what `receive` returns.
+    pub(crate) fn next(&mut self) -> Option<Result<Datagram, SourceFault>>
+        ensures met { HasMet S.brings S.waits (sorting_by self.old) self.old.line_socket.socket
+            (kept_in self.old) (waiting_in result) self.new.line_socket.socket
+            (kept_in self.new) }
+        ensures rule { sorting_by self.new ≡ sorting_by self.old }
+    {
+        if self.is_confirmed() {
+            self.release()
+        } else {
+            self.receive()
         }
     }
 }

@@ -2,13 +2,23 @@
 //!
 //! A [`UdpLine`] is a source of `venue_lines`: it brings the datagrams that its socket receives of
 //! its senders, and sends requests. How far it is it marks in its [`LineProgress`], at which
-//! another thread may look.
+//! another thread may look; what a venue's lines know of one another is in its [`VenueMarks`].
 //!
-//! Contract: a line brings what its socket brings of its senders, up to an end of session that by
+//! Contract: a line brings exactly what its socket brings, but for datagrams of other senders and
+//! those whose numbers or ends aren't plausible, which are counted; up to an end of session that by
 //! its rule ends it, to its count of datagrams, or to a fault (`specs/UdpLines.antt`,
-//! `specs/Sockets.antt`). What a socket brings, and that a line's time ends it, tests show.
+//! `specs/Brought.antt`, `specs/Plausible.antt`). What a socket brings, what another line's numbers
+//! do, and that a line's time ends it, tests show.
 //!
-//! Begin with `udp_line.rt`, then `datagram_in.rt`.
+//! A datagram is plausible if the number of the last message that it announces is at most
+//! `most_ahead` past the highest one that any of its venue's lines has brought, or if it is the
+//! third in a row of its line that isn't and these agree: none is below the one before it, or more
+//! than `most_ahead` past it. So one wrong number does nothing; a line that is joined far in a
+//! session loses its first two packets; and three wrong ones in a row, which agree, are believed.
+//! An end of the line's session is handed on once another line has brought it, or this one three
+//! times in a row. Where no end ends a line, none is handed on.
+//!
+//! Begin with `udp_line.rt`, then `intake.rt`, `number_check.rt` and `datagram_in.rt`.
 #![tactic(auto)]
 
 mod datagram_in;

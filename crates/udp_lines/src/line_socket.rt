@@ -34,25 +34,26 @@ pub(crate) enum Received {
     NoneYet,
 }
 
-impl<S: DatagramIn> LineSocket<S> {
-    /// Waits a while for a datagram, and returns its length where it is taken, or why there is
-    /// none. Its bytes are at the front of the buffer then.
-    pub(crate) fn try_receive(&mut self) -> Received
-        ensures handed_over { IsHandedOver S.brings S.waits (senders_of self.old.senders)
-            self.old.socket result self.new.buffer.items self.new.socket }
-        ensures senders { self.new.senders ≡ self.old.senders }
-    {
-        match receive(&mut self.socket, self.buffer.as_mut_slice()) {
-            Ok(None) => Received::NoneYet,
-            Ok(Some((count, from))) => {
-                if self.senders.takes_from(&from) {
-                    Received::Taken(count)
-                } else {
-                    Received::Foreign
-                }
+/// Waits a while for a datagram, and returns its length where it is of one of the senders, or why
+/// there is none. Its bytes are at the front of the buffer then.
+pub(crate) fn try_receive<S: DatagramIn>(
+    socket: &mut S,
+    senders: &Senders,
+    buffer: &mut [u8],
+) -> Received
+    ensures { IsHandedOver S.brings S.waits (senders_of senders.now) socket.old result buffer.new
+        socket.new }
+{
+    match receive(socket, buffer) {
+        Ok(None) => Received::NoneYet,
+        Ok(Some((count, from))) => {
+            if senders.takes_from(&from) {
+                Received::Taken(count)
+            } else {
+                Received::Foreign
             }
-            Err(fault) => Received::Failed(fault),
         }
+        Err(fault) => Received::Failed(fault),
     }
 }
 

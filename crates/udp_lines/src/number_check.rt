@@ -1,19 +1,20 @@
 //! Which datagrams of a line are plausible, by their numbers and by the ends that they are.
-ghost use Rattle.std.specs.Prelude.{◌≡◌, ◌≢◌, ◌≤◌, IfSome, IsTrue, Some, is_some};
+ghost use Rattle.std.specs.Prelude.{◌≡◌, ◌≤◌, IfSome, IsTrue, Some, is_some};
 ghost use Rattle.mold_packet.specs.declared.request.Request.{Request};
 ghost use Rattle.udp_lines.specs.EndsOfSessions.{SpellsEndOf};
-ghost use Rattle.udp_lines.specs.Plausible.{Covers, HasHeader, IsAnEnd, IsFar, announced_by, is_past, row_after};
+ghost use Rattle.udp_lines.specs.Plausible.{Covers, HasHeader, IsAnEnd, IsFar, announced_by, far_row_after, is_past};
 
+use crate::line_progress::LineProgress;
 use crate::venue_marks::VenueMarks;
 use feed_types::LineId;
 use mold_packet::{Request, read_request, reads_back};
 use run_settings::EndRule;
 
 /// How many bytes a packet's header has.
-const HEADER: usize = 20;
+pub(crate) const HEADER: usize = 20;
 
 /// The count of an end of session.
-const END: u16 = 0xffff;
+pub(crate) const END: u16 = 0xffff;
 
 /// How many times in a row a line brings what isn't plausible until it is taken for true.
 const TIMES: u8 = 3;
@@ -55,6 +56,7 @@ pub(crate) struct NumberCheck {
     pub(crate) most_ahead: Option<u64>,
     pub(crate) line: LineId,
     pub(crate) marks: VenueMarks,
+    pub(crate) progress: LineProgress,
     /// The highest number that the line has handed on.
     pub(crate) highest: u64,
     /// Numbers too far ahead that came in a row, and agree.
@@ -99,8 +101,8 @@ fn is_past(most: u64, highest: u64, number: u64) -> bool
 
 /// The row of numbers too far ahead after one more: it goes on where that is not below the last one
 /// and at most `most` past it.
-fn row_after(most: u64, row: Row, number: u64) -> Row
-    ensures { result ≡ row_after most row number }
+fn far_row_after(most: u64, row: Row, number: u64) -> Row
+    ensures { result ≡ far_row_after most row number }
 {
     let times = if row.times > 0 && row.number <= number && !is_past(most, row.number, number) {
         row.times.saturating_add(1)
@@ -121,7 +123,7 @@ impl NumberCheck {
             self.far = NO_ROW;
             return false;
         }
-        self.far = row_after(most, self.far, number);
+        self.far = far_row_after(most, self.far, number);
         self.far.times < TIMES
     }
 
@@ -163,16 +165,15 @@ impl NumberCheck {
     /// is an end of session.
     pub(crate) fn judge(&mut self, bytes: &[u8], ended: Option<[u8; 10]>) -> Verdict
         requires { IfSome ended (λ session. SpellsEndOf session bytes.now) }
-        ensures far { result ≡ Verdict.TooFar
-            → IsFar self.old.session self.old.most_ahead self.old.highest bytes.now }
-        ensures barred { result ≡ Verdict.Barred
-            → (self.old.end_rule ≡ EndRule.NoSession) × IsAnEnd bytes.now }
-        ensures held { result ≡ Verdict.Unconfirmed
-            → SpellsEndOf self.old.session bytes.now × IsTrue (is_some self.old.most_ahead) }
+        ensures far { result ≡ Verdict.TooFar → (self.new.highest ≡ self.old.highest)
+            × IsFar self.old.session self.old.most_ahead self.old.highest bytes.now }
+        ensures barred { result ≡ Verdict.Barred → (self.new.highest ≡ self.old.highest)
+            × (self.old.end_rule ≡ EndRule.NoSession) × IsAnEnd bytes.now }
+        ensures held { result ≡ Verdict.Unconfirmed → (self.new.highest ≡ self.old.highest)
+            × SpellsEndOf self.old.session bytes.now × IsTrue (is_some self.old.most_ahead) }
         ensures covers { result ≡ Verdict.Plausible → IsTrue (is_some self.old.most_ahead)
             → Covers self.old.session bytes.now self.new.highest }
         ensures kept { self.old.highest ≤ self.new.highest }
-        ensures same { result ≢ Verdict.Plausible → self.new.highest ≡ self.old.highest }
         ensures rest { self.new ≡ record (self.old) {
           highest = self.new.highest;
           far = self.new.far;
@@ -189,6 +190,7 @@ impl NumberCheck {
             return Verdict::Plausible;
         };
         if header.session != self.session {
+            self.progress.meet(&header.session);
             return Verdict::Plausible;
         }
         let number = announced_by(&header);

@@ -6,7 +6,7 @@ ghost use Rattle.venue_lines.specs.Sources.{brought_in, failures_after};
 ghost use Rattle.run_settings.specs.Senders.{senders_of};
 ghost use Rattle.udp_lines.specs.Brought.{nothing_kept};
 ghost use Rattle.udp_lines.specs.EndsOfSessions.{SpellsEndOf};
-ghost use Rattle.udp_lines.specs.UdpLines.{EndsLine, HasBrought, IsEndedBy, IsOver, failures_of, is_none_left, is_read_out};
+ghost use Rattle.udp_lines.specs.UdpLines.{EndsLine, HasBrought, IsEndedBy, IsOver, failures_of, is_none_left, is_read_out, waiting_in};
 
 use crate::datagram_in::DatagramIn;
 use crate::intake::Intake;
@@ -92,7 +92,7 @@ pub struct UdpLine<S, C> {
 
 impl<S, C> Model for UdpLine<S, C> {
     ghost use Rattle.run_settings.specs.Senders.{senders_of};
-    ghost use Rattle.udp_lines.specs.UdpLines.{UdpLineState, kept_by, waiting_in};
+    ghost use Rattle.udp_lines.specs.UdpLines.{UdpLineState, kept_in, waiting_in};
 
     ghost Value = { UdpLineState S };
 
@@ -107,7 +107,7 @@ impl<S, C> Model for UdpLine<S, C> {
       ender = l.ender;
       most_ahead = l.intake.check.most_ahead;
       socket = l.intake.line_socket.socket;
-      kept = kept_by l.intake;
+      kept = kept_in l.intake;
       waiting = waiting_in l.received;
     } };
 }
@@ -186,6 +186,7 @@ impl<S: DatagramIn + Drop, C: Clock + Drop> UdpLine<S, C> {
             most_ahead: settings.most_ahead,
             line: settings.line.line(),
             marks: settings.marks,
+            progress: LineProgress::new(alloc)?,
             highest: 0,
             far: NO_ROW,
             ends: NO_ROW,
@@ -193,7 +194,7 @@ impl<S: DatagramIn + Drop, C: Clock + Drop> UdpLine<S, C> {
         Ok(UdpLine {
             line_venue: settings.venue,
             line_use: settings.line,
-            intake: Intake::new(alloc, line_socket, check)?,
+            intake: Intake::new(alloc, line_socket, check),
             requests: settings.requests,
             pace: RequestPace::new(),
             timed: settings.timed,
@@ -255,8 +256,26 @@ impl<S: DatagramIn + Drop, C: Clock + Drop> UdpLine<S, C> {
             return;
         }
         if let Ok(time) = self.clock.monotonic() {
-            self.intake.progress.hear(millis(time));
+            self.intake.check.progress.hear(millis(time));
         }
+    }
+
+    /// Waits a while for a datagram, where none is there for the next call.
+    #[tactic(auto, using(crate::proofs::Meeting::polled))]
+    fn ask(&mut self)
+        requires { self.old.waiting ≡ [] }
+        ensures brought { HasBrought S.brings S.waits self.old [] self.new }
+        ensures rest { self.new ≡ record (self.old) {
+          socket = self.new.socket;
+          kept = self.new.kept;
+          waiting = self.new.waiting;
+        } }
+    {
+        self.received = match self.intake.next() {
+            Some(Ok(datagram)) => Some(Ok(datagram.received_at(self.time()))),
+            other => other,
+        };
+        self.mark_heard();
     }
 
     /// Waits a while for a datagram, and returns whether the next one needn't be waited for: it is
@@ -272,11 +291,7 @@ impl<S: DatagramIn + Drop, C: Clock + Drop> UdpLine<S, C> {
         if self.broken || is_none_left(self.to_read) || self.received.is_some() {
             return true;
         }
-        self.received = match self.intake.next() {
-            Some(Ok(datagram)) => Some(Ok(datagram.received_at(self.time()))),
-            other => other,
-        };
-        self.mark_heard();
+        self.ask();
         self.received.is_some()
     }
 }
@@ -285,7 +300,7 @@ impl<S: Drop, C: Drop> UdpLine<S, C> {
     /// The progress of the line, for another thread. AllocError where it can't be shared any
     /// further.
     pub fn share_progress(&self) -> Result<LineProgress, AllocError> {
-        self.intake.progress.share()
+        self.intake.check.progress.share()
     }
 
     /// Marks how the line has ended, if it has by a datagram.
@@ -295,7 +310,7 @@ impl<S: Drop, C: Drop> UdpLine<S, C> {
                 .progress
                 .end(&session, session == self.intake.check.session);
         } else if is_none_left(self.to_read) {
-            self.intake.progress.read_out();
+            self.intake.check.progress.read_out();
         }
     }
 
@@ -308,7 +323,7 @@ impl<S: Drop, C: Drop> UdpLine<S, C> {
         ensures failed { failures_of self.new.failed
             ≡ failures_after (failures_of self.old.failed) fault }
     {
-        self.intake.progress.fail();
+        self.intake.check.progress.fail();
         match fault {
             SourceFault::NoMemory => {}
             _ => self.broken = true,
@@ -333,7 +348,7 @@ impl<S: Drop, C: Drop> UdpLine<S, C> {
         let ended = ended_session(bytes);
         self.at_end = is_last(self.intake.check.end_rule, self.intake.check.session, ended);
         if ended.is_some() && !self.at_end {
-            self.intake.progress.count_passed();
+            self.intake.check.progress.count_passed();
         }
         if self.at_end {
             self.ender = ended;
@@ -360,6 +375,30 @@ impl<S: Drop, C: Drop> UdpLine<S, C> {
 }
 
 impl<S: DatagramIn + Drop, C: Clock + Drop> UdpLine<S, C> {
+    /// Waits until the next datagram is there, or why there is none, or until the line has ended.
+    fn wait_for_next(&mut self)
+        ensures brought { HasBrought S.brings S.waits self.old [] self.new }
+        ensures rest { self.new ≡ record (self.old) {
+          socket = self.new.socket;
+          kept = self.new.kept;
+          waiting = self.new.waiting;
+        } }
+    {
+        for _ in 0..u64::MAX {
+            if self.poll() {
+                break;
+            }
+        }
+    }
+
+    /// Takes what was received for the next call.
+    fn take_received(&mut self) -> Option<Result<Datagram, SourceFault>>
+        ensures waiting { waiting_in result ≡ self.old.waiting }
+        ensures rest { self.new ≡ record (self.old) { waiting = [] } }
+    {
+        self.received.take()
+    }
+
     /// Receives the next datagram; None once the line has ended, and only then. An end of session
     /// that by the line's rule ends it is its last, and so is the last datagram that it may read.
     ///
@@ -385,16 +424,12 @@ impl<S: DatagramIn + Drop, C: Clock + Drop> UdpLine<S, C> {
     {
         if self.broken || is_none_left(self.to_read) {
             if self.is_read_out() {
-                self.intake.progress.read_out();
+                self.intake.check.progress.read_out();
             }
             return Ok(None);
         }
-        for _ in 0..u64::MAX {
-            if self.poll() {
-                break;
-            }
-        }
-        match self.received.take() {
+        self.wait_for_next();
+        match self.take_received() {
             Some(Ok(datagram)) => {
                 self.count_read(datagram.bytes());
                 Ok(Some(datagram))
@@ -405,21 +440,32 @@ impl<S: DatagramIn + Drop, C: Clock + Drop> UdpLine<S, C> {
     }
 }
 
-impl<S: DatagramIn + Drop, C: Drop> UdpLine<S, C> {
-    /// Sends these bytes as a request at this moment, and counts it. Where requests are dropped it
+impl<S: DatagramIn + Drop, C: Clock + Drop> UdpLine<S, C> {
+    /// The milliseconds of the line's clock, or those read last where it can't be read.
+    fn read_clock(&mut self) -> u64
+        ensures { self.new ≡ self.old }
+    {
+        if let Ok(time) = self.clock.monotonic() {
+            self.moment_ms = millis(time);
+        }
+        self.moment_ms
+    }
+
+    /// Sends these bytes as a request, and counts it. Where requests are dropped it
     /// isn't counted.
-    fn send_request(&mut self, bytes: &[u8], now_ms: u64)
+    fn send_request(&mut self, bytes: &[u8])
         ensures { self.new ≡ self.old }
     {
         if self.requests.are_dropped() {
             return;
         }
+        let now_ms = self.read_clock();
         if !self.pace.may_send(now_ms) {
-            self.intake.progress.count_held_back();
+            self.intake.check.progress.count_held_back();
         } else if self.requests.send(&self.intake.line_socket.socket, bytes) {
-            self.intake.progress.count_sent();
+            self.intake.check.progress.count_sent();
         } else {
-            self.intake.progress.count_unsent();
+            self.intake.check.progress.count_unsent();
         }
     }
 }
@@ -452,17 +498,16 @@ impl<S: DatagramIn + Drop, C: Clock + Drop> LineSource<Anything> for UdpLine<S, 
     }
 
     /// Keeps the datagram's memory for the next one.
-    fn recycle(&mut self, datagram: Datagram)
+    fn recycle(&mut self, datagram: Datagram, _place: u64)
         ensures { self.new ≡ self.old }
     {
         self.intake.used = datagram.into_bytes();
     }
 
-    fn now_ms(&mut self) -> u64 {
-        if let Ok(time) = self.clock.monotonic() {
-            self.moment_ms = millis(time);
-        }
-        self.moment_ms
+    fn now_ms(&mut self) -> u64
+        ensures { self.new ≡ self.old }
+    {
+        self.read_clock()
     }
 
     /// Sends a request, and counts it. That it can't be sent, or isn't since too many were, is no
@@ -475,8 +520,7 @@ impl<S: DatagramIn + Drop, C: Clock + Drop> LineSource<Anything> for UdpLine<S, 
         if self.broken || write_request(request, &mut bytes).is_err() {
             return Ok(());
         }
-        let now_ms = self.now_ms();
-        self.send_request(&bytes, now_ms);
+        self.send_request(&bytes);
         Ok(())
     }
 }

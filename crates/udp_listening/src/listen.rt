@@ -253,9 +253,11 @@ where
     let of_output = OutputWatch::new(settings.follow, shares.progress, errors_progress);
     let watches = RunWatches::new(lines.watches, gaps, of_output, counts, metrics);
     let time = RunTime::new(settings, input, shares.clock);
+    let follower = RowFollower::new(alloc, console, shares.state);
+    let monitor = RunMonitor::new(time, errors, watches, output_state, settings.follow);
     let attendants = Beside {
-        first: RowFollower::new(alloc, console, shares.state),
-        second: RunMonitor::new(time, errors, watches, output_state, settings.follow),
+        first: follower,
+        second: monitor,
     };
     let Listened {
         outcome,

@@ -50,7 +50,9 @@ impl VenueShares {
         match line {
             LineId::A => LineUse::A,
             LineId::B => LineUse::B,
-            LineId::Recovery => LineUse::Recovery(mem::replace(&mut self.progress, Vec::new(alloc))),
+            LineId::Recovery => {
+                LineUse::Recovery(mem::replace(&mut self.progress, Vec::new(alloc)))
+            }
         }
     }
 }

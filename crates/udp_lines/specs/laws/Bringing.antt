@@ -2,22 +2,22 @@
 use Rattle.std.proofs.Common.{◌≡◌, ◌∙◌, ℕ, List, [], ◌∷◌, ◌++◌, refl, sym, ap, subst, append_assoc}
 use Rattle.std.proofs.lemmas.List.{append-nil}
 use Rattle.std.specs.declared.net.socket_addr.SocketAddr.{SocketAddr}
-use Rattle.udp_lines.specs.Brought.{Fate, HandedOn, Foreign, Withheld, Held, Released, HasMet, Kept, Meets, MeetsAll, SortingRule, all_handed_on, all_kept, handed_on, kept_after}
+use Rattle.udp_lines.specs.Brought.{Fate, HandedOn, Foreign, Withheld, Held, Released, HasMet, Kept, Meets, MeetsAll, SortingRule, all_handed_on, kept_after_all, handed_on, kept_after}
 use Rattle.udp_lines.specs.Sockets.{HearsFrom}
 use Rattle.udp_lines.specs.UdpLines.{HasBrought, UdpLineState, sorting_of}
 
 all_kept_more : (k : Kept) (xs ys : List Fate)
-    → all_kept k (xs ++ ys) ≡ all_kept (all_kept k xs) ys
+    → kept_after_all k (xs ++ ys) ≡ kept_after_all (kept_after_all k xs) ys
 all_kept_more k [] ys = refl
 all_kept_more k (x ∷ xs) ys = all_kept_more (kept_after k x) xs ys
 
 all_handed_on_more : (k : Kept) (xs ys : List Fate)
-    → all_handed_on k (xs ++ ys) ≡ all_handed_on k xs ++ all_handed_on (all_kept k xs) ys
+    → all_handed_on k (xs ++ ys) ≡ all_handed_on k xs ++ all_handed_on (kept_after_all k xs) ys
 all_handed_on_more k [] ys = refl
 all_handed_on_more k (x ∷ xs) ys =
     ap (λ (z : List (List ℕ)). handed_on k x ++ z) (all_handed_on_more (kept_after k x) xs ys)
     ∙ sym (append_assoc (handed_on k x) (all_handed_on (kept_after k x) xs)
-    (all_handed_on (all_kept k (x ∷ xs)) ys))
+    (all_handed_on (kept_after_all k (x ∷ xs)) ys))
 
 module _ {S : Type 0} (brings : S → SocketAddr → List ℕ → S → Type 0) (waits : S → S → Type 0)
     (more : (s t u : S) → waits s t → waits t u → waits s u) where
@@ -48,7 +48,7 @@ module _ {S : Type 0} (brings : S → SocketAddr → List ℕ → S → Type 0) 
 
   meets_more : (rule : SortingRule) (s t u : S) (k : Kept) (xs ys : List Fate)
       → MeetsAll brings waits rule s k xs t
-      → MeetsAll brings waits rule t (all_kept k xs) ys u
+      → MeetsAll brings waits rule t (kept_after_all k xs) ys u
       → MeetsAll brings waits rule s k (xs ++ ys) u
   meets_more rule s t u k [] ys a b = meets_all_later rule s t u k ys a b
   meets_more rule s t u k (x ∷ xs) ys a b =
@@ -63,7 +63,7 @@ module _ {S : Type 0} (brings : S → SocketAddr → List ℕ → S → Type 0) 
         meets_more rule s t u k a.fates b.fates a.met
         (subst (λ (x : Kept). MeetsAll brings waits rule t x b.fates u) a.kept b.met);
     kept =
-        b.kept ∙ ap (λ (x : Kept). all_kept x b.fates) a.kept
+        b.kept ∙ ap (λ (x : Kept). kept_after_all x b.fates) a.kept
         ∙ sym (all_kept_more k a.fates b.fates);
     handed_on =
         ap (λ (z : List (List ℕ)). z ++ ys) a.handed_on

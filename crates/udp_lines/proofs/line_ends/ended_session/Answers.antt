@@ -1,5 +1,5 @@
 use Rattle.std.proofs.Common.{◌∙◌, List, Some, ap, rules, ℕ}
-use Rattle.udp_lines.proofs.Seeing.{end_of_one}
+use Rattle.udp_lines.proofs.Seeing.{end_count, end_of_one}
 use Rattle.udp_lines.proofs.line_ends.ended_session.Goals as goal
 
 pub returns-then-eq-clause-only : goal.returns-then-eq-clause-only

@@ -1,0 +1,45 @@
+use Rattle.std.proofs.Common.{◌≡◌, rules, refl, inl, inr}
+use Rattle.std.specs.Prelude.{take}
+use Rattle.udp_lines.proofs.Meeting.{handed, held_back, kept_back}
+use Rattle.udp_lines.specs.UdpLines.{kept_in, sorting_by}
+use Rattle.udp_lines.proofs.intake.Intake.sort.Goals.{in-Unconfirmed, in-TooFar, in-Barred}
+use Rattle.udp_lines.proofs.intake.Intake.sort.Goals as goal
+
+pub returns-in-Plausible-clause-met : goal.returns-in-Plausible-clause-met
+returns-in-Plausible-clause-met g c =
+    λ before sender heard is.
+    let d = g.S.DatagramIn in
+    let old = c.args.self.now in
+    let bytes = take c.args.count old.line_socket.buffer.items in
+    let same : c.deref.result.now ≡ bytes = search (rules, c.deref.ensures.value) in
+    handed d.brings d.waits d.waits_not (sorting_by old) before old.line_socket.socket (kept_in old)
+    sender bytes c.deref.result.now c.datagram_of.result.all.items c.judge.new.self.highest heard is
+    c.judge.ensures.kept (c.judge.ensures.covers c.in-Plausible.is) same c.datagram_of.ensures
+
+pub returns-clause-met : goal.returns-clause-met
+returns-clause-met g c =
+    λ before sender heard is.
+    let d = g.S.DatagramIn in
+    let old = c.args.self.now in
+    let new = c.match-judge.self in
+    let bytes = take c.args.count old.line_socket.buffer.items in
+    let same : c.deref.result.now ≡ bytes = search (rules, c.deref.ensures.value) in
+    elim c.match-judge.branch [
+      | in-Unconfirmed w ↦
+          let why = c.judge.ensures.held w.in-Unconfirmed.is in
+          held_back d.brings d.waits d.waits_not (sorting_by old) before old new sender bytes
+          c.deref.result.now heard is why.1 why.2 same (search (rules, w.self-is, w.hold.ensures))
+          (search (rules, w.self-is, w.hold.ensures, w.datagram_of-end.ensures, why.0))
+      | in-TooFar w ↦
+          let why = c.judge.ensures.far w.in-TooFar.is in
+          kept_back d.brings d.waits d.waits_not (sorting_by old) before old new sender bytes
+          c.deref.result.now heard is (inl why.1) same
+          (search (rules, w.self-is, w.withhold.ensures))
+          (search (rules, w.self-is, w.withhold.ensures, why.0))
+      | in-Barred w ↦
+          let why = c.judge.ensures.barred w.in-Barred.is in
+          kept_back d.brings d.waits d.waits_not (sorting_by old) before old new sender bytes
+          c.deref.result.now heard is (inr (why.1, why.2)) same
+          (search (rules, w.self-is, w.withhold.ensures))
+          (search (rules, w.self-is, w.withhold.ensures, why.0))
+    ]
