@@ -22,7 +22,8 @@ const REPLAY_OPTIONS: [&str; 5] = ["skip-after", "from", "to", "format", "times"
 /// The flags of `replay`, but for that of gap lines.
 const REPLAY_FLAGS: [&str; 3] = ["join", "skip-gaps", "best-only"];
 
-/// The options of `listen` that have a value, beside those for which the refusal has one line alone.
+/// The options of `listen` that have a value, beside those for which the refusal has one line
+/// alone.
 const LISTEN_OPTIONS: [&str; 16] = [
     "request-after",
     "senders",
@@ -183,7 +184,7 @@ fn explained(
         }
         Refusal::BadRequest => value_explained(alloc, options, "request", asked),
         Refusal::BadSender => senders_explained(alloc, options),
-        Refusal::BadRecord => value_explained(alloc, options, "record", "is no file's name"),
+        Refusal::BadRecording => value_explained(alloc, options, "record", "is no file's name"),
         Refusal::BadMetrics => value_explained(alloc, options, "metrics", address),
         _ => None,
     }

@@ -118,12 +118,12 @@ Status:
        no memory        memory was refused
   2  the command line was refused; standard error says why. 'bad session', 'too many sessions',
      'bad symbol', 'too many symbols' and 'duplicate symbol' as of 'nbbo replay'; 'bad lines': not
-     two addresses for each session, or a venue without a line; 'bad request address': it is none, or none that the lines
-     can send to (port 0, IP address 0.0.0.0 or [::], another version of IP than a line's);
-     'bad end': --end is neither any nor own nor none; '--kept without --follow': without it all
-     changes are kept; 'bad sender': --senders or --from isn't IP addresses, with or without a port;
-     '--senders with --from', which are the same; 'bad file for --record': its name is empty; 'bad
-     next session': with --end own, a name after a slash is none, or is of that venue twice; 'bad
+     two addresses for each session, or a venue without a line; 'bad request address': it is none,
+     or none that the lines can send to (port 0, IP address 0.0.0.0 or [::], another version of IP
+     than a line's); 'bad end': --end is neither any nor own nor none; '--kept without --follow':
+     without it all changes are kept; 'bad sender': --senders or --from isn't IP addresses, with or
+     without a port; '--senders with --from', which are the same; 'bad file for --record': its name
+     is empty; 'bad next session': with --end own, after a slash no name, or one twice; 'bad
      metrics address': --metrics isn't an IP address and a port; 'bad format': --stats-format is
      neither table nor json, or --stats isn't given, or --format is neither text nor csv nor json;
      '--format without --follow'; 'bad time style': --times is neither seconds nor utc;

@@ -32,7 +32,7 @@ B's, venue 0's first, parted by commas. An address is an IP address of this mach
 and a port, as 127.0.0.1:7001 or [::1]:7001; with 0.0.0.0 all of its addresses. For a
 line whose datagrams come by multicast it is the group's, which the system has to have
 joined before: see below. A '-' stands in place of a line that isn't there, of one of the
-two of a venue",
+two of a venue; write --lines=LIST where the list begins with it",
 };
 
 /// `--request ADDR`.

@@ -25,7 +25,8 @@ go in it: two addresses for each venue, line A's and then line B's, venue 0's fi
 parted by commas and each once. An address is an IP address, of a machine or a group,
 and a port, as 239.1.1.1:26400 or [ff02::1]:26400. One of zeros, as 0.0.0.0:26400, takes
 what goes to that port at any address; a datagram goes to the first line that takes it.
-A '-' stands in place of a line that isn't there, of one of the two of a venue";
+A '-' stands in place of a line that isn't there, of one of the two of a venue; write
+--lines=LIST where the list begins with it";
 
 /// `--lines LIST` of a command that also reads captures of the project's own format.
 pub const CAPTURED_LINES: CommandOption<'static> = CommandOption {

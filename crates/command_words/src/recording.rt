@@ -15,7 +15,7 @@ pub fn read_record(alloc: Global, text: Option<&str>) -> Result<Option<String>, 
         return Ok(None);
     };
     if text.is_empty() {
-        return Err(Refusal::BadRecord);
+        return Err(Refusal::BadRecording);
     }
     match String::from_str(alloc, text) {
         Ok(name) => Ok(Some(name)),

@@ -36,8 +36,8 @@ listed_more xs place n d old new same few front more =
     ∙ ap (λ k. lines_from 0 (take n xs) ++ line_of_place k (slice_index_or xs n d)) same
     ∙ sym (lines_more xs n d few)
 
-pub listed_venues : (xs : List (Option SocketAddr)) (n : ℕ) (items : List CapturedLine) → length xs ≤ n
-    → items ≡ lines_from 0 (take n xs) → (venues : ℕ) → length xs ≤ 2 * venues
+pub listed_venues : (xs : List (Option SocketAddr)) (n : ℕ) (items : List CapturedLine)
+    → length xs ≤ n → items ≡ lines_from 0 (take n xs) → (venues : ℕ) → length xs ≤ 2 * venues
     → AreOfVenues venues items
 listed_venues xs n items most is venues few =
     let all : items ≡ lines_from 0 xs = is ∙ ap (lines_from 0) (take_all n xs most) in
