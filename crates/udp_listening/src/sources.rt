@@ -169,7 +169,7 @@ impl<C: Clock + Clone + Drop> LinesMade<C> {
         let address = bound.socket.local_addr().ok();
         let source = source_of(alloc, settings, bound, shares, clock.clone()?)?;
         let progress = source.share_progress()?;
-        let silent_after = settings.silence_limit().unwrap_or(0);
+        let silent_after = settings.silence_limit();
         let watch = LineWatch::new(source.venue(), line, progress, address, silent_after);
         self.watches.push(watch)?;
         self.tasks.push(LineTask { line, source })?;
