@@ -2,9 +2,7 @@
 use Rattle.std.proofs.Common.{List, [], ◌∷◌, ◌++◌, ◌≡◌, ◌≢◌, ◌∙◌, ◌<◌, ℕ, zero, suc, Contains, ap, flat_map, get_or, length, map, refl, sym, subst, arith}
 use Rattle.std.specs.Prelude.{Bool, true, false, IfSome, Option, Some, ◌==◌, if◌then◌else◌}
 use Rattle.std.proofs.lemmas.Bool.Decides.{nat_tests}
-use Rattle.std.proofs.lemmas.Grind.{flat_map-append}
 use Rattle.std.proofs.lemmas.List.{append-nil, get_or-map, length-map, map-append}
-use Rattle.std.proofs.lemmas.List.Elements.{All-append}
 use Rattle.feed_types.specs.declared.line.LineId.{LineId}
 use Rattle.feed_text.specs.Devices.{Writing}
 use Rattle.feed_text.specs.StandardError.{SaysEach}
