@@ -3,7 +3,6 @@
 -- project's own.
 use Rattle.std.specs.Prelude.{ℕ, ◌+◌, ◌/◌, ◌%◌, List, [], ◌∷◌, ◌++◌, Option, Some, None, codes, decimal, drop, flat_map, slice_index}
 use Rattle.venue_lines.specs.declared.line_counts.LineCounts.{LineCounts}
-use Rattle.venue_lines.specs.declared.status.VenueStatus.{VenueStatus}
 use Rattle.run_metrics.specs.LineFigures.{datagram_count, lacking, lag, message_count}
 use Rattle.run_metrics.specs.declared.figures.LineEnd.{LineEnd}
 use Rattle.run_metrics.specs.declared.figures.LineEnd.TheVariants as ends

@@ -10,7 +10,7 @@ use Rattle.mold_packet.specs.declared.request.Request.{Request}
 use Rattle.run_watches.specs.GapNews.{gap_texts_if}
 use Rattle.run_watches.specs.Gaps.{LooksAt, SaysOfGap, TellsIfDone, TellsStanding, closed_run, due_of, gap_next, gives_up, has_stood, is_due, lacking_of, news_of, stands, stood_of, told_still, unanswered_of}
 use Rattle.run_watches.specs.RunLines.{WatchedRun, watched_venue}
-use Rattle.run_watches.specs.RunNews.{IsNewsOf, IsNewsOfGap, MayHappen, RunNews, SaysCounts, SaysNews, SaysOfRun, SaysRunNews, SaysTable, of_counts, of_gap, run_news_texts}
+use Rattle.run_watches.specs.RunNews.{IsNewsOf, IsNewsOfGap, MayHappen, RunNews, SaysCounts, SaysNews, SaysRunNews, of_counts, of_gap, run_news_texts}
 use Rattle.run_watches.specs.declared.gap_news.GapChange.{GapChange}
 use Rattle.run_watches.specs.declared.gap_news.GapChange.TheVariants.{Closed, Lacking, Unanswered}
 use Rattle.run_watches.specs.declared.gap_news.MissingRun.{MissingRun}
@@ -18,7 +18,7 @@ use Rattle.run_watches.specs.declared.gap_rule.GapRule.{GapRule}
 use Rattle.run_watches.specs.declared.gap_watch.DueGap.{DueGap}
 use Rattle.run_watches.specs.declared.gap_watch.GapWatch.{GapWatch}
 use Rattle.venue_lines.specs.declared.status.VenueStatus.{VenueStatus}
-use Rattle.run_watches.specs.RunNewsLaws.{more_news, no_news, no_totals}
+use Rattle.run_watches.specs.RunNewsLaws.{more_news, no_news}
 use Rattle.run_watches.proofs.Telling.{one_news}
 
 -- ---- a gap

@@ -1,10 +1,8 @@
 -- What is said of lines, one thing after the other.
 use Rattle.std.proofs.Common.{List, [], ◌∷◌, ◌++◌, ◌≡◌, ◌≢◌, ◌∙◌, ◌<◌, ℕ, zero, suc, Contains, ap, flat_map, get_or, length, map, refl, sym, subst, arith}
-use Rattle.std.specs.Prelude.{Bool, true, false, IfSome, Option, None, Some, ◌==◌, if◌then◌else◌}
+use Rattle.std.specs.Prelude.{Bool, true, false, IfSome, Option, Some, ◌==◌, if◌then◌else◌}
 use Rattle.std.proofs.lemmas.Bool.Decides.{nat_tests}
-use Rattle.std.proofs.lemmas.Grind.{flat_map-append}
 use Rattle.std.proofs.lemmas.List.{append-nil, get_or-map, length-map, map-append}
-use Rattle.std.proofs.lemmas.List.Elements.{All-append}
 use Rattle.feed_types.specs.declared.line.LineId.{LineId}
 use Rattle.feed_text.specs.Devices.{Writing}
 use Rattle.feed_text.specs.StandardError.{SaysEach}
@@ -136,20 +134,13 @@ dropped_total w line true count s t said none = said
 dropped_total w line false count s t said none =
     subst (λ n. SaysEach w (flat_map total_texts (total_if line Dropped n)) s t) (none refl) said
 
--- no notes where no more is told
-pub no_notes : {E : Type 0} (w : Writing E) (tells_more : Bool) (line : ℕ × LineId) (s : E)
-    → tells_more ≡ false → SaysNotes w tells_more line s s
-no_notes w true line s e = absurd cc
-no_notes w false line s e = record { stranger = None; unheard = false; says = refl }
-
 -- the session, and then that nothing came
-pub both_notes : {E : Type 0} (w : Writing E) (tells_more : Bool) (line : ℕ × LineId)
-    (stranger : Option (List ℕ)) (unheard : Bool) (s t u : E) → tells_more ≡ true
+pub both_notes : {E : Type 0} (w : Writing E) (line : ℕ × LineId)
+    (stranger : Option (List ℕ)) (unheard : Bool) (s t u : E)
     → SaysEach w (flat_map (line_end_texts line) (stranger_note stranger)) s t
     → SaysEach w (flat_map (line_end_texts line) (unheard_note unheard)) t u
-    → SaysNotes w tells_more line s u
-both_notes w false line stranger unheard s t u e a b = absurd cc
-both_notes w true line stranger unheard s t u e a b = record {
+    → SaysNotes w true line s u
+both_notes w line stranger unheard s t u a b = record {
   stranger = stranger;
   unheard = unheard;
   says =

@@ -5,3 +5,4 @@ pub mod OutputNews
 pub mod RunLines
 pub mod RunNews
 pub mod RunNewsLaws
+pub mod Silences

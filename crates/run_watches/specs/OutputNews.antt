@@ -1,7 +1,6 @@
 -- What standard error has of standard output and of itself while a run goes on. The texts are this
 -- project's own.
 use Rattle.std.specs.Prelude.{ℕ, ◌==◌, List, [], ◌∷◌, ◌++◌, if◌then◌else◌, codes, decimal}
-use Rattle.run_watches.specs.declared.errors_progress.UntakenTexts.{UntakenTexts}
 use Rattle.run_watches.specs.declared.output_news.OutputChange.{OutputChange}
 use Rattle.run_watches.specs.declared.output_news.OutputChange.TheVariants as outputs
 use Rattle.run_watches.specs.declared.output_news.OutputNews.{OutputNews}

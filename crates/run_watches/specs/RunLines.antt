@@ -1,5 +1,5 @@
--- What is watched of a run: its lines, each by its venue's number, the gaps of its venues, and
--- whether its counts are written.
+-- What is watched of a run: its lines, each by its venue's number, the gaps of its venues, whether
+-- its rows are printed as they come, and whether its counts are written.
 use Rattle.std.specs.Prelude.{ℕ, Bool, List, [], is_some, map, vec_len, if◌then◌else◌}
 use Rattle.std.specs.List.{range_with_len}
 use Rattle.feed_types.specs.declared.line.LineId.{LineId}
@@ -18,7 +18,8 @@ pub record WatchedGaps : Type 0 where
   pub rule : GapRule
   pub venues : List ℕ
 
--- the lines, and whether it is told with which sessions they ended, and what the system dropped
+-- the lines, and whether more is told of them: with which sessions they ended, which others they
+-- brought, whether they are silent, what they held back, and what the system dropped
 pub record WatchedLines : Type 0 where
   pub tells_more : Bool
   pub lines : List (ℕ × LineId)

@@ -1,6 +1,6 @@
 //! The lines of a run as the thread beside it sees them: what is news of them, and what was
 //! counted.
-ghost use Rattle.std.specs.Prelude.{◌≡◌, ◌∷◌, [], Bool, IfSome, false, flat_map, is_some, map};
+ghost use Rattle.std.specs.Prelude.{◌≡◌, ◌∷◌, [], Bool, IfSome, false, flat_map, is_some, map, true};
 ghost use Rattle.feed_text.specs.Devices.{Writing};
 ghost use Rattle.feed_text.specs.StandardError.{SaysEach};
 ghost use Rattle.run_watches.specs.News.{SaysNotes, SaysTotals, line_end_texts, stranger_note, told_if, total_if, total_texts, unheard_note};
@@ -378,6 +378,20 @@ impl LineWatch {
         }
     }
 
+    /// Whether it never brought a datagram, as lines A and B are to.
+    fn is_unheard(&self) -> bool {
+        self.line != LineId::Recovery && self.progress.heard_ms().is_none()
+    }
+
+    /// Writes what else there is to note of the line at the end.
+    fn write_all_notes<E: TextOut>(&self, errors: &mut E)
+        ensures { SaysNotes (record { adds = E.adds; failures = E.failures })
+            true (watched self.now) errors.old errors.new }
+    {
+        self.write_stranger(self.progress.stranger(), errors);
+        self.write_unheard(self.is_unheard(), errors);
+    }
+
     /// Writes what else there is to note of the line at the end, where more is told.
     fn write_notes<E: TextOut>(&self, tells_more: bool, errors: &mut E)
         ensures { SaysNotes (record { adds = E.adds; failures = E.failures })
@@ -386,9 +400,7 @@ impl LineWatch {
         if !tells_more {
             return;
         }
-        let unheard = self.line != LineId::Recovery && self.progress.heard_ms().is_none();
-        self.write_stranger(self.progress.stranger(), errors);
-        self.write_unheard(unheard, errors);
+        self.write_all_notes(errors);
     }
 
     /// Writes what was counted of the line, and where it is looked for what the system dropped, and

@@ -5,6 +5,18 @@ use Rattle.run_watches.specs.RunNews.{IsNewsOfLine, SaysNews}
 use Rattle.run_watches.specs.RunNewsLaws.{more_news}
 use Rattle.run_watches.proofs.line_watch.LineWatch.write_news.Goals as goal
 
+pub write_both-requires-clause-first : goal.write_both-requires-clause-first
+write_both-requires-clause-first g c = c.new_unsent.ensures.told c.args.tells_more
+
+pub write_both-requires-2-clause-first : goal.write_both-requires-2-clause-first
+write_both-requires-2-clause-first g c = c.new_passed.ensures.told c.args.tells_more
+
+pub write_both-requires-2-clause-last : goal.write_both-requires-2-clause-last
+write_both-requires-2-clause-last g c = c.new_foreign.ensures.told c.args.tells_more
+
+pub write_end-requires : goal.write_end-requires
+write_end-requires g c = c.new_end-end.ensures.told c.args.tells_more
+
 pub returns-clause-news : goal.returns-clause-news
 returns-clause-news g c =
     let w : Writing g.row.E.Denot = record {

@@ -4,6 +4,10 @@ use Rattle.run_watches.specs.RunNews.{IsNewsOfOutput, SaysNews}
 use Rattle.run_watches.specs.RunNewsLaws.{more_news}
 use Rattle.run_watches.proofs.output_watch.OutputWatch.write_news.Goals as goal
 
+pub write_change-requires : goal.write_change-requires
+write_change-requires g c =
+    c.new_errors-of_errors.ensures c.new_output-of_output.new.self.follows
+
 pub returns-clause-news : goal.returns-clause-news
 returns-clause-news g c =
     let w : Writing g.row.E.Denot = record {
