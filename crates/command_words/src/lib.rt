@@ -10,7 +10,8 @@
 //! `specs/Addresses.antt`, `specs/CapturedLines.antt`, `specs/BestFormats.antt`,
 //! `specs/StatsFormats.antt`, `specs/StatsOutputs.antt`, `specs/PeriodWords.antt`,
 //! `specs/TimeWords.antt`, `specs/TimeStyles.antt`, `specs/SpanWords.antt`,
-//! `specs/SkipRules.antt`, `specs/EndRules.antt`, `specs/SenderLists.antt`).
+//! `specs/SkipRules.antt`, `specs/EndRules.antt`, `specs/SenderLists.antt`,
+//! `specs/Recordings.antt`).
 //!
 //! Begin with `command_line.rt`, then `listen_words.rt`. An option stands with its texts in the
 //! table of its command, or in `options.rt` if commands share it. Its form is one of
@@ -26,18 +27,25 @@ mod commands;
 mod convert_command;
 mod discovery_command;
 mod end_rule;
+mod explained_lists;
 mod explanation;
 mod feed_words;
 mod limits;
 mod listen_command;
 mod listen_format;
 mod listen_options;
+mod listen_outputs;
+mod listen_parts;
+mod listen_rules;
 mod listen_words;
 mod next_sessions;
 mod option_table;
 mod option_values;
 mod options;
 mod period_words;
+mod quoting;
+mod reception;
+mod recording;
 mod refusal;
 mod replay_command;
 mod run_words;

@@ -2,7 +2,23 @@
 
 use crate::limits::text;
 use crate::option_table::{CommandOption, OptionForm};
-use crate::options::{SESSIONS, SYMBOLS, TIMES, WINDOW};
+use crate::options::{SYMBOLS, TIMES, WINDOW};
+
+/// `--sessions LIST` of a command that listens.
+const SESSIONS: CommandOption<'static> = CommandOption {
+    name: "sessions",
+    value: "LIST",
+    form: OptionForm::Required,
+    help: text!("The first session of each venue, 1 to " MAX_VENUES " names parted by commas"),
+    long_help: text!("\
+The first session of each venue, venue 0's first: 1 to " MAX_VENUES " names parted by commas. A
+name has 1 to 10 characters of printable ASCII (bytes 20 to 7e) and is filled on the
+right with spaces to ten bytes. Write --sessions=LIST where the list begins with '-'.
+With --end own the sessions that follow a venue's first one stand after it, each after a slash,
+as in NORTH/NORTH2,SOUTH: up to " MAX_SESSIONS " of a venue, each once. The next session begins
+with the first packet of its name that comes after the end of the one before, and the venue's
+lines end with the last one"),
+};
 
 /// `--lines LIST`.
 const LINES: CommandOption<'static> = CommandOption {
@@ -15,7 +31,8 @@ Where the lines are received: two addresses for each venue, line A's and then li
 B's, venue 0's first, parted by commas. An address is an IP address of this machine
 and a port, as 127.0.0.1:7001 or [::1]:7001; with 0.0.0.0 all of its addresses. For a
 line whose datagrams come by multicast it is the group's, which the system has to have
-joined before: see below",
+joined before: see below. A '-' stands in place of a line that isn't there, of one of the
+two of a venue; write --lines=LIST where the list begins with it",
 };
 
 /// `--request ADDR`.
@@ -26,26 +43,97 @@ const REQUEST: CommandOption<'static> = CommandOption {
     help: "Where messages that are missing are asked for",
     long_help: "\
 Where messages that are missing are asked for: the address of a retransmission server.
-A request goes there from the socket of the line that found the gap, at once, and again
-while the gap stands, with the venue's next datagram that comes 250 ms or more later,
-from the line that it came on. A reply is read on the line that asked. The port isn't 0,
+A request goes there from the socket of the line that found the gap, at once or as
+--request-after says, and again while the gap stands, with the venue's next datagram that
+comes 250 ms or more later, from the line that it came on. A reply is read on the line that
+asked. Where a line of the venue is a multicast group, requests leave from a socket of the
+venue's own, and replies come there, as line R. The port isn't 0,
 nor the IP address 0.0.0.0 or [::], and it is of each line's version of IP. A request that
 can't be sent, as where a firewall refuses it or there is no route, ends nothing: standard
 error says so of each line, at the first one, and at the end how many there were. Without
 this option nothing is asked for",
 };
 
-/// `--from LIST`.
+/// `--request-after MS`.
+const REQUEST_AFTER: CommandOption<'static> = CommandOption {
+    name: "request-after",
+    value: "MS",
+    form: OptionForm::FromZero,
+    help: text!(
+        "For how many milliseconds a gap stands before it is asked for, 0 to " MAX_COUNT " [default: 0, with a further option " USUAL_WAIT "]"
+    ),
+    long_help: text!("\
+With --request: for how many milliseconds a gap stands before its messages are asked for, 0
+to " MAX_COUNT ", so that the other line can bring them first. By default 0, with a further option
+" USUAL_WAIT ". A further option is one other than --sessions, --lines, --request, --window, --journal,
+--datagrams and --end any"),
+};
+
+/// The long help of the list of senders.
+const SENDERS_HELP: &str = "\
+Whose datagrams are taken: IP addresses, or IP addresses with a port, parted by commas, as
+10.0.0.7,10.0.0.8:26400 or [::1]:7001. What others send comes to nothing, replies to
+requests, too: standard error says so of each line, at the first datagram, and at the end
+how many there were. Without this option the datagrams of any sender are taken";
+
+/// `--senders LIST`.
+const SENDERS: CommandOption<'static> = CommandOption {
+    name: "senders",
+    value: "LIST",
+    form: OptionForm::Text,
+    help: "Whose datagrams are taken: IP addresses, with or without a port",
+    long_help: SENDERS_HELP,
+};
+
+/// `--from LIST`, the other name of `--senders`.
 const FROM: CommandOption<'static> = CommandOption {
     name: "from",
     value: "LIST",
     form: OptionForm::Text,
-    help: "Whose datagrams are taken: IP addresses, with or without a port",
+    help: "The same as --senders",
     long_help: "\
-Whose datagrams are taken: IP addresses, or IP addresses with a port, parted by commas, as
-10.0.0.7,10.0.0.8:26400 or [::1]:7001. What others send comes to nothing, replies to
-requests, too: standard error says so of each line, at the first datagram, and at the end
-how many there were. Without this option the datagrams of any sender are taken",
+The same as --senders. One of the two is given at most",
+};
+
+/// `--most-ahead N`.
+const MOST_AHEAD: CommandOption<'static> = CommandOption {
+    name: "most-ahead",
+    value: "N",
+    form: OptionForm::FromOne,
+    help: text!(
+        "How far ahead of a venue's lines a number may be, 1 to " MAX_COUNT " [default: no limit, with a further option " USUAL_LEAD "]"
+    ),
+    long_help: text!("\
+How many messages past the highest number that the lines of its venue have brought the number
+of a datagram may be, 1 to " MAX_COUNT ". One that is further is withheld: it changes nothing, and
+standard error says so once of each line, and at the end how many there were. By default
+there is no limit, with a further option, as of --request-after, it is " USUAL_LEAD),
+};
+
+/// `--silent-after MS`.
+const SILENT_AFTER: CommandOption<'static> = CommandOption {
+    name: "silent-after",
+    value: "MS",
+    form: OptionForm::FromOne,
+    help: text!(
+        "After how many milliseconds a line that brings nothing is reported, 1 to " MAX_COUNT " [default: never, with a further option " USUAL_SILENCE "]"
+    ),
+    long_help: text!("\
+After how many milliseconds standard error has a line for a line that brings nothing, from the
+start, too, and another when it is heard again: 1 to " MAX_COUNT ". By default it has none, with a
+further option, as of --request-after, it has them after " USUAL_SILENCE),
+};
+
+/// `--record FILE`.
+const RECORD: CommandOption<'static> = CommandOption {
+    name: "record",
+    value: "FILE",
+    form: OptionForm::Text,
+    help: "Writes what the lines bring into this file, for 'nbbo replay'",
+    long_help: "\
+Writes what the lines bring into this file, which is made anew: a capture as 'nbbo replay' reads
+it without --lines, in which the datagrams of each venue stand in the order in which they were
+taken. What couldn't be kept is counted, and standard error has the count at the end",
 };
 
 /// `--join` of a command that listens.
@@ -259,7 +347,10 @@ pub const LISTEN_OPTIONS: &[CommandOption<'static>] = &[
     SESSIONS,
     LINES,
     REQUEST,
+    REQUEST_AFTER,
+    SENDERS,
     FROM,
+    MOST_AHEAD,
     JOIN,
     SKIP_AFTER,
     WINDOW,
@@ -270,6 +361,8 @@ pub const LISTEN_OPTIONS: &[CommandOption<'static>] = &[
     COMPLETE,
     SECONDS,
     UNTIL_INPUT_ENDS,
+    SILENT_AFTER,
+    RECORD,
     FOLLOW,
     KEPT,
     FORMAT,

@@ -8,8 +8,8 @@ use crate::command_texts::{CommandTexts, command_with};
 use crate::limits::text;
 use crate::option_table::{CommandOption, OptionForm};
 use crate::options::{
-    CAPTURED_LINES, CAPTURED_SESSIONS, FROM_TIME, JOIN, JOURNAL, SKIP_AFTER, SKIP_GAPS, SYMBOLS,
-    TIMES, TO_TIME, WINDOW,
+    CAPTURED_LINES, FROM_TIME, JOIN, JOURNAL, SESSIONS, SKIP_AFTER, SKIP_GAPS, SYMBOLS, TIMES,
+    TO_TIME, WINDOW,
 };
 use clap::Command;
 use std::alloc::{AllocError, Global};
@@ -211,7 +211,7 @@ integer of nanoseconds; empty or null where the packet capture has none. Without
 
 /// The options of `replay`, in the order in which its help has them.
 const OPTIONS: &[CommandOption<'static>] = &[
-    CAPTURED_SESSIONS,
+    SESSIONS,
     CAPTURED_LINES,
     WINDOW,
     JOURNAL,

@@ -8,8 +8,7 @@ use crate::command_texts::{CommandTexts, command_with};
 use crate::limits::text;
 use crate::option_table::{CommandOption, OptionForm};
 use crate::options::{
-    CAPTURED_LINES, CAPTURED_SESSIONS, FROM_TIME, JOIN, SKIP_AFTER, SKIP_GAPS, TIMES, TO_TIME,
-    WINDOW,
+    CAPTURED_LINES, FROM_TIME, JOIN, SESSIONS, SKIP_AFTER, SKIP_GAPS, TIMES, TO_TIME, WINDOW,
 };
 use clap::Command;
 use std::alloc::{AllocError, Global};
@@ -117,11 +116,11 @@ In JSON the counts are one object; null stands where nothing is known:
   losses           of each venue: known missing lost_by_both given_up before_join; and in A and in B
                    of each line: lost late
   in_time          with --lines, the most messages in a second and in a millisecond, and when these
-                   began: busiest_second busiest_millisecond busiest_second_ns
-                   busiest_millisecond_ns; and in 'venues' of each venue
+                   began, as --times says: busiest_second busiest_millisecond
+                   busiest_second_began busiest_millisecond_began; and in 'venues' of each venue
     a_first        and b_first, by the line that was first in time: messages mean_ns p50_ns p90_ns
                    p99_ns p999_ns longest_ns
-    last_heard_ns  of A, B and recovery
+    last_packets   of A, B and recovery, as --times says
 With --format csv each figure has a row: the venue, the line, the figure and its value. The figure
 has the name that JSON has, after a word of its part where it has one: refused_, gaps_, items_,
 lead_ of the line that was first in time, last_packet_, or changes_ by the state after. The words
@@ -223,7 +222,7 @@ words, each once, of 1 to 8 characters of printable ASCII without a space (bytes
 
 /// The options of `stats`, in the order in which its help has them.
 const OPTIONS: &[CommandOption<'static>] = &[
-    CAPTURED_SESSIONS,
+    SESSIONS,
     CAPTURED_LINES,
     WINDOW,
     JOIN,

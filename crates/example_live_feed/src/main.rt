@@ -10,8 +10,9 @@ ghost use Rattle.live_feed.specs.settle.Settlements.{IsServed};
 
 use live_feed::{
     Advice, Anything, Attendant, Datagram, FeedConfig, FeedEnd, FeedName, FeedTask, Filter, Limits,
-    LineId, LineSource, LineTask, LiveFeed, National, Notice, OwnLog, Request, RunView, Settlement,
-    SourceFault, Strategy, SubscriberId, Subscription, SymbolName, Terms, Unattended, VenueId,
+    LineId, LineSource, LineTask, LiveFeed, National, Notice, OwnLog, Request, RunRules, RunView,
+    Settlement, SourceFault, Strategy, SubscriberId, Subscription, SymbolName, Terms, Unattended,
+    VenueId,
 };
 use std::alloc::{AllocError, Global};
 use std::collections::VecDeque;
@@ -220,6 +221,7 @@ where
         lines: lines_of(alloc)?,
         attended: None,
         subscriptions: Vec::from_array(alloc, subscriptions).ok()?,
+        rules: RunRules::default(),
     };
     let FeedEnd {
         outcome,
@@ -276,9 +278,9 @@ impl<N: FeedName> Attendant<Anything, N, OwnLog<N>> for Watcher {
     // Its subscriber is there as before.
     ghost attends = { λ _ log _ later. is_some later ≡ is_some log };
 
-    fn attend<W: Wait>(
+    fn attend<R: Threads + Wait + Sync>(
         self,
-        rt: &W,
+        rt: &R,
         run: &RunView<'_, Anything, N>,
         log: OwnLog<N>,
     ) -> (Watcher, OwnLog<N>) {
@@ -287,15 +289,11 @@ impl<N: FeedName> Attendant<Anything, N, OwnLog<N>> for Watcher {
             return (watcher, None);
         };
         for _ in rt.forever() {
-            let is_over = run.is_over();
-            if let Ok(Some(_)) = log.poll_holding(rt) {
-                if let Some(logged) = log.log().last() {
-                    watcher.look(rt, run, &logged.notice);
-                }
-            } else if is_over {
+            let Ok(Some(_)) = run.await_notice(rt, &mut log) else {
                 break;
-            } else {
-                thread::yield_now();
+            };
+            if let Some(logged) = log.log().last() {
+                watcher.look(rt, run, &logged.notice);
             }
         }
         (watcher, Some(log))
@@ -318,6 +316,7 @@ where
         lines: lines_of(alloc)?,
         attended: Some(own),
         subscriptions: Vec::new(alloc),
+        rules: RunRules::default(),
     };
     let watcher = Watcher { looks: [None; 2] };
     let end = closed.run_whole::<N, Recorded, Watcher, R>(rt, alloc, task, watcher);

@@ -3,7 +3,7 @@ use Rattle.std.proofs.Common.{◌≡◌, ◌<◌, ◌≤◌, ℕ, List, [], ◌�
 use Rattle.std.specs.Prelude.{OnErr, OnOk}
 use Rattle.std.proofs.lemmas.Bool.Decides.{nat_tests}
 use Rattle.run_settings.specs.declared.formats.RowFormat.{RowFormat}
-use Rattle.feed_text.specs.SinkEvents.{TimedEvent}
+use Rattle.feed_text.specs.SinkEvents.{SinkEvent, TimedEvent, timed_event, told_before}
 use Rattle.feed_text.specs.TextPages.{FailsPage, TakesPage}
 use Rattle.feed_text.specs.declared.text_page.TextPage.{TextPage}
 use Rattle.line_gaps.specs.declared.open_gap.EndedGap.{EndedGap}
@@ -11,7 +11,7 @@ use Rattle.line_gaps.specs.declared.venue_gaps.VenueGaps.{VenueGaps}
 use Rattle.report_rows.specs.RowSinks.{FailsMaking, Makes}
 use Rattle.gap_rows.specs.declared.gap_maker.GapMaker.{GapMaker}
 use Rattle.gap_rows.specs.GapCells.{gap_rows_text}
-use Rattle.gap_rows.specs.GapMakers.{EndsIn, MakesGaps, TakesEach, TellsGaps, one_of, rows_in, shown_in, venue_in}
+use Rattle.gap_rows.specs.GapMakers.{EndsIn, MakesGaps, TakesEach, TellsGaps, one_of, rows_in, said_at, said_by, shown_in, venue_in}
 
 pub is_one : (count venue : ℕ) → venue < count → one_of count (Some venue) ≡ Some venue
 is_one count venue within = grind (arith, nat_tests, within)
@@ -20,19 +20,20 @@ pub is_none : (count venue : ℕ) → count ≤ venue → one_of count (Some ven
 is_none count venue past = grind (arith, nat_tests, past)
 
 -- gaps that end are of a venue
-pub rows_are : (format : RowFormat) (o : Option ℕ) (count venue : ℕ) (old new : List VenueGaps)
+pub rows_are : (format : RowFormat) (e : TimedEvent) (o : Option ℕ) (count venue : ℕ)
+    (old new : List VenueGaps)
     (gaps : List EndedGap) → ((n : ℕ) → o ≡ Some n → venue ≡ n)
-    → EndsIn (one_of count o) old new gaps
+    → EndsIn e (one_of count o) old new gaps
     → gap_rows_text format venue gaps ≡ rows_in format o gaps
-rows_are format None count venue old new gaps is ends =
+rows_are format e None count venue old new gaps is ends =
     ap (λ (g : List EndedGap). gap_rows_text format venue g) ends.none
-rows_are format (Some n) count venue old new gaps is ends =
+rows_are format e (Some n) count venue old new gaps is ends =
     ap (λ (v : ℕ). gap_rows_text format v gaps) (is n refl)
 
 -- one event
 pub takes_one : (format : RowFormat) (e : TimedEvent) (old new : List VenueGaps)
     (gaps : List EndedGap) (text : List ℕ)
-    → EndsIn (one_of (length old) (venue_in e.event)) old new gaps
+    → EndsIn e (one_of (length old) (venue_in e.event)) old new gaps
     → text ≡ rows_in format (shown_in e.event) gaps
     → TakesEach format (e ∷ []) old text new
 takes_one format e old new gaps text ends is = record {
@@ -76,3 +77,12 @@ module _ {W : Type 0} (adds : W → List ℕ → W → Type 0) (failures : W →
     fails = subst (λ (f : RowFormat). FailsPage adds failures p
         (p.text.items ++ gap_rows_text f venue gaps) q) same fails;
   }
+
+-- what is told of an event, and what would be told of it
+pub said_told : (time : Option ℕ) (event : SinkEvent) → said_by event ≡ event
+    → said_at (timed_event time event) ≡ timed_event time event
+said_told time event said = ap (timed_event time) said
+
+pub said_before : (time : Option ℕ) (event : SinkEvent) → said_by event ≡ event
+    → said_at (timed_event time (told_before event)) ≡ timed_event time event
+said_before time event said = ap (timed_event time) said

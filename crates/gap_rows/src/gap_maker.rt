@@ -1,10 +1,10 @@
 //! What makes the rows of gaps.
 ghost use Rattle.std.specs.Prelude.{◌≡◌, ℕ, [], length, Some};
-ghost use Rattle.feed_text.specs.SinkEvents.{told_before, told_by};
+ghost use Rattle.feed_text.specs.SinkEvents.{TimedEvent, timed_event, told_before, told_by};
 ghost use Rattle.report_rows.specs.RowSinks.{IsNewRowSink};
 ghost use Rattle.report_rows.specs.RowTexts.{header_text};
 ghost use Rattle.gap_rows.specs.GapCells.{gap_names};
-ghost use Rattle.gap_rows.specs.GapMakers.{EndsIn, one_of, shown_in, venue_in};
+ghost use Rattle.gap_rows.specs.GapMakers.{EndsIn, one_of, said_at, said_by, shown_in, venue_in};
 
 use crate::gap_row::{gap_names, write_gaps};
 use feed_text::{Event, SinkStop, TextOut, TextPage};
@@ -28,6 +28,7 @@ fn venue_of(event: &Event<'_>) -> Option<VenueId>
     ensures venue { venue_in (told_by event.now) ≡ result }
     ensures shown { shown_in (told_by event.now) ≡ result }
     ensures before { venue_in (told_before (told_by event.now)) ≡ result }
+    ensures said { said_by (told_by event.now) ≡ told_by event.now }
 {
     match event {
         Event::Packet { venue, .. } => Some(*venue),
@@ -52,7 +53,8 @@ fn take_at(
     ended: &mut EndedGaps,
 )
     requires { ended.old.gaps.items ≡ [] }
-    ensures { EndsIn (one_of (length venues.old.items) (Some venue)) venues.old.items
+    ensures { (e : TimedEvent) → said_at e ≡ timed_event time (told_by event.now)
+        → EndsIn e (one_of (length venues.old.items) (Some venue)) venues.old.items
         venues.new.items ended.new.gaps.items }
 {
     let place = venue.index();
@@ -78,8 +80,10 @@ impl GapMaker {
     #[inline(always)]
     fn take_event(&mut self, time: Option<u64>, event: &Event<'_>) -> VenueId
         ensures format { self.new.format ≡ self.old.format }
-        ensures ends { EndsIn (one_of (length self.old.venues.items) (venue_in (told_by event.now)))
+        ensures ends { (e : TimedEvent) → said_at e ≡ timed_event time (told_by event.now)
+            → EndsIn e (one_of (length self.old.venues.items) (venue_in (told_by event.now)))
             self.old.venues.items self.new.venues.items self.new.ended.gaps.items }
+        ensures said { said_by (told_by event.now) ≡ told_by event.now }
         ensures venue { (n : ℕ) → venue_in (told_by event.now) ≡ Some n → result ≡ n }
         ensures shown { shown_in (told_by event.now) ≡ venue_in (told_by event.now) }
     {

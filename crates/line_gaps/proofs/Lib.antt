@@ -1,3 +1,9 @@
 pub mod RunLemmas
+pub mod RunOrders
+pub mod RunCounts
 pub mod EndLemmas
 pub mod MissingLemmas
+pub mod LineLemmas
+pub mod StandLemmas
+pub mod SessionLemmas
+pub mod VenueLemmas

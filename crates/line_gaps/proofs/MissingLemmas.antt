@@ -1,5 +1,5 @@
 -- Which numbers are missing after one more event.
-use Rattle.std.proofs.Common.{◌≡◌, ℕ, zero, suc, ◌-◌, ◌<◌, ◌≤◌, inl, inr, Bool, true, false, List, ◌∷◌, arith, ap, refl, sym, subst, ◌∙◌, max}
+use Rattle.std.proofs.Common.{◌≡◌, ℕ, zero, suc, ◌+◌, ◌-◌, ◌<◌, ◌≤◌, inl, inr, Bool, true, false, List, [], ◌∷◌, arith, ap, refl, sym, subst, ◌∙◌, max}
 use Rattle.std.specs.Prelude.{◌&&◌, ◌||◌, not, nat_le}
 use Rattle.std.proofs.lemmas.Bool.{cases_lt}
 use Rattle.std.proofs.lemmas.Bool.Decides.{nat_tests}
@@ -10,7 +10,7 @@ use Rattle.line_gaps.specs.declared.lost_numbers.LostNumbers.{LostNumbers}
 use Rattle.line_gaps.specs.declared.number_runs.NumberRuns.{NumberRuns}
 use Rattle.line_gaps.specs.Gaps.{brings_number, counts_with, number_has_come, highest_with, is_given_up, is_missing, is_missing_by, known_number, last_number_told, passes, was_passed}
 use Rattle.line_gaps.specs.Missing.{FitsLost, is_learnt}
-use Rattle.line_gaps.specs.Runs.{is_in_runs}
+use Rattle.line_gaps.specs.Runs.{AreInOrder, HaveJust, is_in_runs}
 
 -- a number that was known
 known_all : (z b c p : Bool) → (((z && (true && not (c || p))) && not b) || false)
@@ -53,7 +53,7 @@ not_at_most m n is = grind (arith, nat_tests, is)
 below : (m n : ℕ) → m < n → nat_lt m n ≡ true
 below m n is = grind (arith, nat_tests, is)
 
-not_below : (m n : ℕ) → n ≤ m → nat_lt m n ≡ false
+pub not_below : (m n : ℕ) → n ≤ m → nat_lt m n ≡ false
 not_below m n is = grind (arith, nat_tests, is)
 
 reversed : (m n : ℕ) → nat_le m n ≡ not (nat_lt n m)
@@ -93,10 +93,10 @@ pub and_true : (b : Bool) → (b && true) ≡ b
 and_true true = refl
 and_true false = refl
 
-none_given : (g p z : Bool) → p ≡ false → ((p && z) || g) ≡ g
+pub none_given : (g p z : Bool) → p ≡ false → ((p && z) || g) ≡ g
 none_given g p z is = ap (λ (b : Bool). (b && z) || g) is
 
-either_false : (a b : Bool) → a ≡ false → b ≡ false → (a || b) ≡ false
+pub either_false : (a b : Bool) → a ≡ false → b ≡ false → (a || b) ≡ false
 either_false false b e f = f
 either_false true b e f = cc e
 
@@ -112,11 +112,12 @@ pub fits_packet : (events : List TimedEvent) (last : TimedEvent) (packet : Heard
     → FitsLost events old → old.missing.dropped ≤ new.missing.dropped
     → (new.missing.dropped ≡ 0 → (n : ℕ) → is_in_runs n new.missing.runs.items
     ≡ ((is_missing events n && not (b n)) || is_learnt old.highest old.floor below_it n))
+    → (new.missing.dropped ≡ 0 → AreInOrder new.missing.runs.items)
     → new.highest ≡ max old.highest (last_number_told packet.number packet.count)
     → new.floor ≡ old.floor → new.given_up ≡ old.given_up
     → FitsLost (last ∷ events) new
 fits_packet events last packet old new below_it b counts passes_none brings_b past told fits more
-    missing highest floor given =
+    missing order highest floor given =
     let end = last_number_told packet.number packet.count in
     let known = known_number events in
     let reach : known_number (last ∷ events) ≡ max known end =
@@ -142,6 +143,11 @@ fits_packet events last packet old new below_it b counts passes_none brings_b pa
           ∙ fits.given_up (omega (arith, none, more))
           (sym (ap (λ (g : NumberRuns). g.dropped) given) ∙ few) n
           ∙ sym (none_given (is_given_up events n) (passes n last.event) _ (passes_none n));
+      order = order;
+      given_order = λ none few.
+          subst (λ (g : NumberRuns). AreInOrder g.runs.items) (sym given)
+          (fits.given_order (omega (arith, none, more))
+          (sym (ap (λ (g : NumberRuns). g.dropped) given) ∙ few));
       highest = highest ∙ ap (λ (h : ℕ). max h end) fits.highest ∙ sym reach;
       floor = λ n.
           ap (λ (c : Bool). c || was_passed events n) (passes_none n) ∙ fits.floor n
@@ -159,7 +165,7 @@ below_first : (first last n : ℕ) → 0 < n → first - 1 ≤ last → nat_le n
     ≡ (nat_le n last && not (nat_le first n && nat_le n last))
 below_first first last n over from = grind (arith, nat_tests, over, from)
 
-told_from : (first count : ℕ) → first - 1 < 18446744073709551616
+pub told_from : (first count : ℕ) → first - 1 < 18446744073709551616
     → first - 1 ≤ last_number_told first count
 told_from first zero fits = omega arith
 told_from first (suc count) fits = omega (arith, fits)
@@ -287,3 +293,81 @@ pub same_lost : (events : List TimedEvent) (last : TimedEvent) (a b : LostNumber
     → FitsLost (last ∷ events) a → FitsLost (last ∷ events) b
 same_lost events last a b same fits =
     subst (λ (l : LostNumbers). FitsLost (last ∷ events) l) (sym same) fits
+
+-- ---- in order
+
+and_then : (a b c : Bool) → (a && (b && c)) ≡ true → b ≡ true
+and_then true true c e = refl
+and_then true false c e = cc e
+and_then false b c e = cc e
+
+and_last : (a b c : Bool) → (a && (b && not c)) ≡ true → c ≡ false
+and_last true true false e = refl
+and_last true true true e = cc e
+and_last true false c e = cc e
+and_last false b c e = cc e
+
+at_most_from : (m n : ℕ) → nat_le m n ≡ true → m ≤ n
+at_most_from m n e = grind (arith, nat_tests, e)
+
+pub missing_known : (events : List TimedEvent) (n : ℕ) → is_missing events n ≡ true
+    → n ≤ known_number events
+missing_known events n e =
+    at_most_from n (known_number events) (and_then (nat_lt 0 n) (nat_le n (known_number events))
+    (not (number_has_come events n || was_passed events n)) e)
+
+-- what is missing was not passed by a skip
+pub missing_from : (events : List TimedEvent) (floor n : ℕ)
+    → was_passed events n ≡ nat_lt n floor → is_missing events n ≡ true → floor ≤ n
+missing_from events floor n by e =
+    let none : (number_has_come events n || was_passed events n) ≡ false =
+    and_last (nat_lt 0 n) (nat_le n (known_number events)) _ e in
+    not_below_from n floor (sym by ∙ second_false (number_has_come events n) (was_passed events n)
+    none)
+  where
+    second_false : (a b : Bool) → (a || b) ≡ false → b ≡ false
+    second_false false b f = f
+    second_false true b f = cc f
+    not_below_from : (n floor : ℕ) → nat_lt n floor ≡ false → floor ≤ n
+    not_below_from n floor f = grind (arith, nat_tests, f)
+
+passed_or : (p z g w : Bool) → (g ≡ true → w ≡ true) → ((p && z) || g) ≡ true → (p || w) ≡ true
+passed_or true z g w then_ e = refl
+passed_or false z g w then_ e = then_ e
+
+-- what was given up was passed
+pub given_passed : (events : List TimedEvent) (n : ℕ) → is_given_up events n ≡ true
+    → was_passed events n ≡ true
+given_passed [] n e = cc e
+given_passed (last ∷ earlier) n e =
+    passed_or (passes n last.event) _ (is_given_up earlier n) (was_passed earlier n)
+    (given_passed earlier n) e
+
+pub given_below : (events : List TimedEvent) (floor n : ℕ) → was_passed events n ≡ nat_lt n floor
+    → is_given_up events n ≡ true → n < floor
+given_below events floor n by e = below_from n floor (sym by ∙ given_passed events n e)
+  where
+    below_from : (n floor : ℕ) → nat_lt n floor ≡ true → n < floor
+    below_from n floor f = grind (arith, nat_tests, f)
+
+pub unknown_from : (highest floor number n : ℕ)
+    → (nat_lt highest n && (nat_le floor n && nat_lt n number)) ≡ true
+    → max (highest + 1) floor ≤ n
+unknown_from highest floor number n e = grind (arith, nat_tests, e)
+
+none_below : (n known : ℕ) (b : Bool) → known ≡ 0 → (nat_lt 0 n && (nat_le n known && b)) ≡ false
+none_below n known b is = grind (arith, nat_tests, is)
+
+-- no number, before all events
+pub fits_first : (lost : LostNumbers) → HaveJust lost.missing (λ n. false)
+    → HaveJust lost.given_up (λ n. false) → lost.missing.runs.items ≡ []
+    → lost.given_up.runs.items ≡ [] → lost.highest ≡ 0 → lost.floor ≡ 0 → FitsLost [] lost
+fits_first lost missing given no_missing no_given highest floor = record {
+  missing = λ none n. missing none n ∙ sym (none_below n 0 true refl);
+  given_up = λ none few n. given few n;
+  order = λ none. subst AreInOrder (sym no_missing) tt;
+  given_order = λ none few. subst AreInOrder (sym no_given) tt;
+  highest = highest;
+  floor = λ n. sym (not_below n lost.floor (omega (arith, floor)));
+  come = λ n over. refl;
+}

@@ -1,5 +1,6 @@
 -- What becomes of the gaps of a line, by the numbers of the venue that are missing.
-use Rattle.std.specs.Prelude.{◌≡◌, ℕ, Bool, ◌≤◌, List, [], ◌∷◌, ◌++◌, length, Option, if◌then◌else◌}
+use Rattle.std.specs.Prelude.{◌≡◌, ℕ, Bool, not, ◌≤◌, List, [], ◌∷◌, ◌++◌, length, map, Option, if◌then◌else◌}
+use Rattle.std.specs.List.{filter}
 use Rattle.feed_types.specs.declared.line.LineId.{LineId}
 use Rattle.feed_types.specs.declared.line.LineId.TheVariants as on
 use Rattle.feed_types.specs.FullCounts.{count_after}
@@ -60,6 +61,25 @@ over_at_once line lost run time =
     if is_open_gap lost (open_gap_of run time) then []
     else gap_over line lost (record { by = end_at_once lost run; time = time })
     (open_gap_of run time) ∷ []
+
+-- what ends a gap that a packet of the line ends
+abbrev pub end_on : LineId → GapEnd
+end_on on.A = ends.A
+end_on on.B = ends.B
+end_on on.Recovery = ends.Recovery
+
+-- of gaps those that are over, and of those that begin
+abbrev pub over_now : GapLine → LostNumbers → GapPass → List OpenGap → List EndedGap
+over_now line lost pass gaps =
+    map (gap_over line lost pass) (filter (λ g. not (is_open_gap lost g)) gaps)
+
+abbrev pub over_first : GapLine → LostNumbers → OpenGap → EndedGap
+over_first line lost gap =
+    gap_over line lost (record { by = end_at_once lost gap.run; time = gap.began }) gap
+
+abbrev pub over_new : GapLine → LostNumbers → List OpenGap → List EndedGap
+over_new line lost gaps =
+    map (over_first line lost) (filter (λ g. not (is_open_gap lost g)) gaps)
 
 -- All else of a line's gaps stays.
 pub record KeepsLine (old new : LineGaps) : Type 0 where

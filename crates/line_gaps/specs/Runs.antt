@@ -1,5 +1,5 @@
 -- Runs of numbers, as the set of the numbers in them.
-use Rattle.std.specs.Prelude.{◌≡◌, ℕ, ◌+◌, ◌-◌, Bool, ◌&&◌, List, nat_eq, nat_le, max, min}
+use Rattle.std.specs.Prelude.{◌≡◌, ℕ, zero, suc, ◌+◌, ◌-◌, ◌<◌, ◌≤◌, Bool, true, false, ◌&&◌, List, [], ◌∷◌, nat_eq, nat_le, max, min, Option, Some, None, if◌then◌else◌}
 use Rattle.std.specs.List.{fold, list_any}
 use Rattle.line_gaps.specs.declared.number_run.NumberRun.{NumberRun}
 use Rattle.line_gaps.specs.declared.number_runs.NumberRuns.{NumberRuns}
@@ -40,3 +40,31 @@ len_of_both run other =
 abbrev pub sum_in : List NumberRun → NumberRun → ℕ
 sum_in runs other =
     fold (λ count run. min (count + len_of_both run other) 18446744073709551615) 0 runs
+
+-- the numbers of a run up to the highest
+abbrev pub run_back : NumberRun → ℕ → NumberRun
+run_back run highest = record { first = run.first; last = min run.last highest }
+
+-- how many numbers below this one are of a set
+abbrev pub count_below : (ℕ → Bool) → ℕ → ℕ
+count_below has zero = 0
+count_below has (suc n) = count_below has n + (if has n then 1 else 0)
+
+-- how many numbers of a run are of a set
+abbrev pub count_of : (ℕ → Bool) → NumberRun → ℕ
+count_of has run = count_below (λ n. is_in_run n run && has n) (run.last + 1)
+
+-- a number of a set to which all others come after, or none where the set has none
+abbrev pub IsLeast : (ℕ → Bool) → Option ℕ → Type 0
+IsLeast has None = (m : ℕ) → has m ≡ false
+IsLeast has (Some n) = (has n ≡ true) × ((m : ℕ) → has m ≡ true → n ≤ m)
+
+-- A run has numbers, and all are below those of the runs after it.
+pub record IsBelowAll (run : NumberRun) (more : List NumberRun) : Type 0 where
+  pub some : run.first ≤ run.last
+  pub below : (n : ℕ) → is_in_runs n more ≡ true → run.last < n
+
+-- Each run is below all after it.
+abbrev pub AreInOrder : List NumberRun → Type 0
+AreInOrder [] = Unit
+AreInOrder (run ∷ more) = IsBelowAll run more × AreInOrder more

@@ -1,6 +1,6 @@
 //! Packets that lines bring.
 
-ghost use Rattle.std.specs.Prelude.{◌≡◌};
+ghost use Rattle.std.specs.Prelude.{◌≡◌, ◌≤◌, ◌+◌};
 ghost use Rattle.line_gaps.specs.Gaps.{goes_on, last_number_told};
 
 use crate::number_run::NumberRun;
@@ -20,7 +20,8 @@ impl HeardPacket {
     /// own where it has none.
     #[inline(always)]
     pub fn last(&self) -> u64
-        ensures { result ≡ last_number_told self.now.number self.now.count }
+        ensures value { result ≡ last_number_told self.now.number self.now.count }
+        ensures reaches { self.now.number ≤ result + 1 }
     {
         self.number
             .saturating_sub(1)

@@ -2,9 +2,10 @@
 //!
 //! A gap of a line is a run of numbers that its packets pass over. It ends once each of these
 //! numbers has come on any line or was given up, wherever the venue's sequence stands
-//! (`specs/Gaps.antt`). A [`VenueGaps`] takes the events of a venue and returns the gaps that each
-//! one ends; its sums ([`GapSums`]) are those of the same gaps (`specs/Sums.antt`). Which numbers
-//! are missing it keeps as runs ([`NumberRuns`], `specs/Runs.antt`).
+//! (`specs/Gaps.antt`, `specs/OpenGaps.antt`). A [`VenueGaps`] takes the events of a venue and
+//! returns just the gaps that each one ends (`TakesTimed`, `specs/VenueFits.antt`); its sums
+//! ([`GapSums`]) are those of the same gaps (`specs/Sums.antt`). Which numbers are missing it keeps
+//! as runs ([`NumberRuns`], `specs/Runs.antt`).
 //!
 //! Begin with `venue_gaps.rt`, then `line_gaps.rt` and `number_runs.rt`.
 #![tactic(auto)]

@@ -1,12 +1,15 @@
 //! The gaps of one line, or of all lines together.
-ghost use Rattle.std.specs.Prelude.{◌≡◌, ◌≤◌, ◌+◌, ◌-◌, ℕ, List, length, map, not, [], ◌∷◌, ◌++◌, None};
-ghost use Rattle.std.specs.List.{filter};
+ghost use Rattle.std.specs.Prelude.{◌≡◌, ◌≤◌, ◌+◌, ◌-◌, ℕ, Bool, ◌&&◌, false, not, nat_lt, max, List, length, map, [], ◌∷◌, ◌++◌, None, Some, if◌then◌else◌};
+ghost use Rattle.std.specs.List.{filter, fold};
 ghost use Rattle.feed_types.specs.FullCounts.{count_after};
-ghost use Rattle.line_gaps.specs.Runs.{meets_runs};
-ghost use Rattle.line_gaps.specs.declared.open_gap.GapEnd.TheVariants.{Open};
+ghost use Rattle.line_gaps.specs.Runs.{AreInOrder, HaveJust, is_in_run, len_of, meets_runs, run_back, sum_in};
+ghost use Rattle.line_gaps.specs.declared.open_gap.GapEnd.TheVariants.{Open, Skip};
 ghost use Rattle.line_gaps.specs.declared.open_gap.EndedGap.{EndedGap};
 ghost use Rattle.line_gaps.specs.Sums.{AreSumsOf};
-ghost use Rattle.line_gaps.specs.Ends.{EndsGaps, KeepsLine, gap_over, joined_gap, opened, over_at_once};
+ghost use Rattle.line_gaps.specs.Ends.{EndsGaps, KeepsLine, end_on, gap_over, joined_gap, opened, over_at_once, over_new, over_now};
+ghost use Rattle.line_gaps.specs.Gaps.{is_packet_of, of_line};
+ghost use Rattle.line_gaps.specs.OpenGaps.{add_gap, passed_over};
+ghost use Rattle.line_gaps.specs.LineSteps.{PassesLine, SkipsLine, TakesLine, kept_open, over_if, over_skipped, over_with, pass_of, still_open};
 
 use crate::ended_gaps::EndedGaps;
 use crate::gap_line::GapLine;
@@ -44,11 +47,25 @@ pub struct LineGaps {
 }
 
 /// Returns what ends a gap that a packet of the line ends.
-fn end_by_line(line: LineId) -> GapEnd {
+fn end_by_line(line: LineId) -> GapEnd
+    ensures { result ≡ end_on line }
+{
     match line {
         LineId::A => GapEnd::A,
         LineId::B => GapEnd::B,
         LineId::Recovery => GapEnd::Recovery,
+    }
+}
+
+/// Returns whether a packet is of the line, or the line is all lines.
+#[inline(always)]
+fn is_own(line: GapLine, packet: &HeardPacket) -> bool
+    ensures { result ≡ is_packet_of line packet.now }
+{
+    match line {
+        GapLine::A => matches!(packet.line, LineId::A),
+        GapLine::B => matches!(packet.line, LineId::B),
+        GapLine::All => true,
     }
 }
 
@@ -100,6 +117,8 @@ impl LineGaps {
     /// Of a line on which nothing came.
     pub fn new(line: GapLine) -> LineGaps
         ensures line { result.line ≡ line }
+        ensures begun { result.begun ≡ false }
+        ensures highest { result.highest ≡ 0 }
         ensures open { result.open.items ≡ [] }
         ensures sums { AreSumsOf [] result.sums }
     {
@@ -115,9 +134,9 @@ impl LineGaps {
 
     /// Adds a gap that is open, to the newest one where 16 are.
     fn add_open(&mut self, gap: OpenGap)
-        ensures merged { self.old.sums.merged ≤ self.new.sums.merged }
-        ensures open { self.new.sums.merged ≡ 0
-            → self.new.open.items ≡ self.old.open.items ++ gap ∷ [] }
+        ensures merged { self.new.sums.merged ≡ count_after self.old.sums.merged
+            (if nat_lt (length self.old.open.items) 16 then 0 else 1) }
+        ensures open { self.new.open.items ≡ add_gap self.old.open.items gap }
         ensures sums { (rows : List EndedGap) → AreSumsOf rows self.old.sums
             → AreSumsOf rows self.new.sums }
         ensures kept { KeepsLine self.old self.new }
@@ -141,6 +160,7 @@ impl LineGaps {
         ensures sums { (rows : List EndedGap) → AreSumsOf rows self.old.sums
             → AreSumsOf (rows ++ gap_over self.old.line lost.now pass gap ∷ []) self.new.sums }
         ensures merged { self.new.sums.merged ≡ self.old.sums.merged }
+        ensures tail { self.new.sums.tail ≡ self.old.sums.tail }
         ensures open { self.new.open ≡ self.old.open }
         ensures kept { KeepsLine self.old self.new }
     {
@@ -171,6 +191,7 @@ impl LineGaps {
             → AreSumsOf (rows ++ map (gap_over self.old.line lost.now pass) gaps.now)
             self.new.sums }
         ensures merged { self.new.sums.merged ≡ self.old.sums.merged }
+        ensures tail { self.new.sums.tail ≡ self.old.sums.tail }
         ensures open { self.new.open ≡ self.old.open }
         ensures kept { KeepsLine self.old self.new }
     {
@@ -213,12 +234,12 @@ impl LineGaps {
         requires { length ended.old.gaps.items + 1 ≤ 51 }
         ensures ended { ended.new.gaps.items
             ≡ ended.old.gaps.items ++ over_at_once self.old.line lost.now run time }
-        ensures merged { self.old.sums.merged ≤ self.new.sums.merged }
-        ensures open { self.new.sums.merged ≡ 0
-            → self.new.open.items ≡ self.old.open.items ++ opened lost.now run time }
+        ensures open { self.new.open.items
+            ≡ fold add_gap self.old.open.items (opened lost.now run time) }
         ensures sums { (rows : List EndedGap) → AreSumsOf rows self.old.sums
             → AreSumsOf (rows ++ over_at_once self.old.line lost.now run time) self.new.sums }
         ensures line { self.new.line ≡ self.old.line }
+        ensures begun { self.new.begun ≡ self.old.begun }
         ensures highest { self.new.highest ≡ self.old.highest }
     {
         self.passed.add(run);
@@ -246,17 +267,25 @@ impl LineGaps {
         ensures sums { (rows : List EndedGap) → AreSumsOf rows self.old.sums
             → AreSumsOf rows self.new.sums }
         ensures line { self.new.line ≡ self.old.line }
+        ensures begun { self.new.begun ≡ self.old.begun }
+        ensures highest { self.new.highest ≡ self.old.highest }
         ensures open { self.new.open ≡ self.old.open }
         ensures merged { self.new.sums.merged ≡ self.old.sums.merged }
+        ensures late { self.new.sums.late ≡ count_after self.old.sums.late
+            (sum_in self.old.passed.runs.items (run_back run self.old.highest)) }
+        ensures again { self.new.sums.again ≡ count_after self.old.sums.again
+            (len_of (run_back run self.old.highest)
+            - sum_in self.old.passed.runs.items (run_back run self.old.highest)) }
+        ensures passed { (has : ℕ → Bool) → HaveJust self.old.passed has
+            → AreInOrder self.old.passed.runs.items
+            → HaveJust self.new.passed (λ n. has n
+            && not (is_in_run n (run_back run self.old.highest))) }
     {
         let back = NumberRun {
             first: run.first,
             last: run.last.min(self.highest),
         };
-        let late = self.passed.count_in(back);
-        if late > 0 {
-            self.passed.cut(back);
-        }
+        let late = self.passed.take_out(back);
         self.sums.late = raised(self.sums.late, late);
         self.sums.again = raised(self.sums.again, back.len().saturating_sub(late));
     }
@@ -266,7 +295,13 @@ impl LineGaps {
     #[inline(always)]
     fn compare(&mut self, packet: &HeardPacket, lost: &LostNumbers, ended: &mut EndedGaps)
         requires { length ended.old.gaps.items + 1 ≤ 51 }
-        ensures { EndsGaps 1 self.old self.new ended.old ended.new }
+        ensures ends { EndsGaps 1 self.old self.new ended.old ended.new }
+        ensures begun { self.new.begun ≡ self.old.begun }
+        ensures highest { self.new.highest ≡ self.old.highest }
+        ensures open { self.new.open.items ≡ fold add_gap self.old.open.items
+            (still_open lost.now (passed_over self.old.highest (Some packet.now))) }
+        ensures ended { ended.new.gaps.items ≡ ended.old.gaps.items
+            ++ over_new self.old.line lost.now (passed_over self.old.highest (Some packet.now)) }
     {
         if packet.number <= self.highest {
             self.count_back(packet.run());
@@ -285,7 +320,10 @@ impl LineGaps {
     #[inline(always)]
     fn pass(&mut self, packet: &HeardPacket, lost: &LostNumbers, ended: &mut EndedGaps)
         requires { length ended.old.gaps.items + 1 ≤ 51 }
-        ensures { EndsGaps 1 self.old self.new ended.old ended.new }
+        ensures ends { EndsGaps 1 self.old self.new ended.old ended.new }
+        ensures passes { PassesLine (Some packet.now) lost.now self.old self.new }
+        ensures ended { ended.new.gaps.items ≡ ended.old.gaps.items
+            ++ over_new self.old.line lost.now (passed_over self.old.highest (Some packet.now)) }
     {
         self.compare(packet, lost, ended);
         self.highest = self.highest.max(packet.last());
@@ -296,14 +334,14 @@ impl LineGaps {
     #[inline(always)]
     fn pass_own(&mut self, packet: &HeardPacket, lost: &LostNumbers, ended: &mut EndedGaps)
         requires { length ended.old.gaps.items + 1 ≤ 51 }
-        ensures { EndsGaps 1 self.old self.new ended.old ended.new }
+        ensures ends { EndsGaps 1 self.old self.new ended.old ended.new }
+        ensures passes { PassesLine (of_line self.old.line (Some packet.now)) lost.now self.old
+            self.new }
+        ensures ended { ended.new.gaps.items ≡ ended.old.gaps.items
+            ++ over_new self.old.line lost.now
+            (passed_over self.old.highest (of_line self.old.line (Some packet.now))) }
     {
-        let is_own = match self.line {
-            GapLine::A => matches!(packet.line, LineId::A),
-            GapLine::B => matches!(packet.line, LineId::B),
-            GapLine::All => true,
-        };
-        if is_own {
+        if is_own(self.line, packet) {
             self.pass(packet, lost, ended);
         }
     }
@@ -319,7 +357,12 @@ impl LineGaps {
         ended: &mut EndedGaps,
     )
         requires { length ended.old.gaps.items + 16 ≤ 51 }
-        ensures { EndsGaps 16 self.old self.new ended.old ended.new }
+        ensures ends { EndsGaps 16 self.old self.new ended.old ended.new }
+        ensures open { self.new.open.items
+            ≡ kept_open is_filled lost.now self.old.open.items }
+        ensures ended { ended.new.gaps.items ≡ ended.old.gaps.items
+            ++ over_if is_filled self.old.line lost.now (pass_of packet.now) self.old.open.items }
+        ensures kept { KeepsLine self.old self.new }
     {
         if is_filled {
             let by = end_by_line(packet.line);
@@ -339,7 +382,10 @@ impl LineGaps {
         ended: &mut EndedGaps,
     )
         requires { length ended.old.gaps.items + 17 ≤ 51 }
-        ensures { EndsGaps 17 self.old self.new ended.old ended.new }
+        ensures ends { EndsGaps 17 self.old self.new ended.old ended.new }
+        ensures takes { TakesLine packet.now is_filled lost.now self.old self.new }
+        ensures ended { ended.new.gaps.items ≡ ended.old.gaps.items
+            ++ over_with packet.now is_filled lost.now self.old }
     {
         self.end_filled(packet, lost, is_filled, ended);
         self.pass_own(packet, lost, ended);
@@ -354,13 +400,29 @@ impl LineGaps {
         ended: &mut EndedGaps,
     )
         requires { length ended.old.gaps.items + 17 ≤ 51 }
-        ensures { EndsGaps 17 self.old self.new ended.old ended.new }
+        ensures ends { EndsGaps 17 self.old self.new ended.old ended.new }
+        ensures skips { SkipsLine number time lost.now self.old self.new }
+        ensures ended { ended.new.gaps.items ≡ ended.old.gaps.items
+            ++ over_skipped time lost.now self.old }
     {
         let by = GapEnd::Skip;
         self.end_over(lost, GapPass { by, time }, ended);
-        if !self.begun {
-            self.highest = self.highest.max(number.saturating_sub(1));
+        self.begin_at(number);
+    }
+
+    /// Has the line begin at a number, where no packet came yet.
+    fn begin_at(&mut self, number: u64)
+        ensures line { self.new.line ≡ self.old.line }
+        ensures begun { self.new.begun ≡ self.old.begun }
+        ensures highest { self.new.highest
+            ≡ (if self.old.begun then self.old.highest else max self.old.highest (number - 1)) }
+        ensures open { self.new.open ≡ self.old.open }
+        ensures sums { self.new.sums ≡ self.old.sums }
+    {
+        if self.begun {
+            return;
         }
+        self.highest = self.highest.max(number.saturating_sub(1));
     }
 
     /// Counts what the line didn't reach of the numbers up to this one, which packets of the venue
@@ -391,6 +453,8 @@ impl LineGaps {
         ensures sums { (rows : List EndedGap) → AreSumsOf rows self.old.sums
             → AreSumsOf (rows ++ map (gap_over self.old.line lost.now
             (record { by = Open; time = None })) self.old.open.items) self.new.sums }
+        ensures tail { self.new.sums.tail
+            ≡ count_after self.old.sums.tail (lost.now.highest - self.old.highest) }
         ensures kept { KeepsLine self.old self.new }
     {
         let pass = GapPass {
@@ -406,6 +470,10 @@ impl LineGaps {
     pub(crate) fn renew(&mut self)
         ensures sums { self.new.sums ≡ self.old.sums }
         ensures line { self.new.line ≡ self.old.line }
+        ensures begun { self.new.begun ≡ false }
+        ensures highest { self.new.highest ≡ 0 }
+        ensures open { self.new.open ≡ self.old.open }
+        ensures passed { HaveJust self.new.passed (λ n. false) }
     {
         self.begun = false;
         self.highest = 0;

@@ -1,9 +1,10 @@
 //! The numbers of a venue that are missing or were given up.
-ghost use Rattle.std.specs.Prelude.{◌≡◌, ◌≤◌, ◌<◌, ◌-◌, ℕ, Bool, ◌&&◌, ◌||◌, not, nat_le, nat_lt, max, [], ◌∷◌, List, Option, None, Ok};
+ghost use Rattle.std.specs.Prelude.{◌≡◌, ◌≤◌, ◌<◌, ◌-◌, ◌+◌, ℕ, Bool, true, ◌&&◌, ◌||◌, not, nat_le, nat_lt, max, [], ◌∷◌, List, Option, None, Ok};
 ghost use Rattle.feed_text.specs.SinkEvents.{SinkEvent, TimedEvent, timed_event, told_packet, told_skip};
 ghost use Rattle.line_arbiter.specs.declared.outcome.Outcome.TheVariants.{Taken};
-ghost use Rattle.line_gaps.specs.Runs.{HaveJust, is_in_run, is_in_runs, meets_runs};
-ghost use Rattle.line_gaps.specs.Missing.{CountsNumbers, FitsLost, KeepsKnown, is_learnt};
+ghost use Rattle.line_gaps.specs.Runs.{AreInOrder, HaveJust, is_in_run, is_in_runs, meets_runs};
+ghost use Rattle.line_gaps.specs.Gaps.{last_number_told};
+ghost use Rattle.line_gaps.specs.Missing.{CountsNumbers, FitsLost, KeepsDropped, KeepsKnown, is_learnt};
 
 use crate::gap_sums::raised;
 use crate::heard_packet::HeardPacket;
@@ -43,6 +44,8 @@ impl LostNumbers {
         ensures dropped { self.old.missing.dropped ≤ self.new.missing.dropped }
         ensures missing { (has : ℕ → Bool) → HaveJust self.old.missing has
             → HaveJust self.new.missing (λ n. has n && not (is_in_run n run)) }
+        ensures order { self.new.missing.dropped ≡ 0 → run.first ≤ run.last + 1
+            → AreInOrder self.old.missing.runs.items → AreInOrder self.new.missing.runs.items }
         ensures kept { KeepsKnown self.old self.new }
     {
         if !self.missing.meets(run) {
@@ -61,6 +64,9 @@ impl LostNumbers {
             → (n : ℕ) → is_in_runs n self.new.missing.runs.items
             ≡ (is_in_runs n self.old.missing.runs.items
             || is_learnt self.old.highest self.old.floor below n) }
+        ensures order { self.new.missing.dropped ≡ 0 → AreInOrder self.old.missing.runs.items
+            → ((n : ℕ) → is_in_runs n self.old.missing.runs.items ≡ true → n ≤ self.old.highest)
+            → AreInOrder self.new.missing.runs.items }
         ensures kept { KeepsKnown self.old self.new }
     {
         let first = (self.highest + 1).max(self.floor);
@@ -78,6 +84,9 @@ impl LostNumbers {
             → (n : ℕ) → is_in_runs n self.new.missing.runs.items
             ≡ (is_in_runs n self.old.missing.runs.items
             || is_learnt self.old.highest self.old.floor below n) }
+        ensures order { self.new.missing.dropped ≡ 0 → AreInOrder self.old.missing.runs.items
+            → ((n : ℕ) → is_in_runs n self.old.missing.runs.items ≡ true → n ≤ self.old.highest)
+            → AreInOrder self.new.missing.runs.items }
         ensures highest { self.new.highest ≡ max self.old.highest last }
         ensures floor { self.new.floor ≡ self.old.floor }
         ensures given_up { self.new.given_up ≡ self.old.given_up }
@@ -91,7 +100,12 @@ impl LostNumbers {
     /// Takes a packet whose messages came. Returns whether one of them was missing.
     #[inline(always)]
     pub fn take_messages(&mut self, packet: &HeardPacket) -> bool
-        ensures { (events : List TimedEvent) (venue bytes new repeated : ℕ)
+        ensures dropped { KeepsDropped self.old self.new }
+        ensures found { result ≡ meets_runs self.old.missing.runs.items (record {
+          first = packet.now.number;
+          last = last_number_told packet.now.number packet.now.count;
+        }) }
+        ensures fits { (events : List TimedEvent) (venue bytes new repeated : ℕ)
             → FitsLost events self.old
             → FitsLost (timed_event packet.now.time (told_packet venue packet.now.line
             packet.now.number packet.now.count bytes (Ok (Taken new repeated))) ∷ events)
@@ -105,7 +119,8 @@ impl LostNumbers {
     /// Takes a packet of which nothing came, but which tells of the numbers up to its last.
     #[inline(always)]
     pub fn take_numbers(&mut self, packet: &HeardPacket)
-        ensures { (events : List TimedEvent) (last : TimedEvent)
+        ensures dropped { KeepsDropped self.old self.new }
+        ensures fits { (events : List TimedEvent) (last : TimedEvent)
             → CountsNumbers events last packet.now → FitsLost events self.old
             → FitsLost (last ∷ events) self.new }
     {
@@ -130,7 +145,8 @@ impl LostNumbers {
     /// many.
     #[inline(never)]
     pub fn give_up(&mut self, number: u64) -> u64
-        ensures { (events : List TimedEvent) (time : Option ℕ) (venue : ℕ)
+        ensures dropped { KeepsDropped self.old self.new }
+        ensures fits { (events : List TimedEvent) (time : Option ℕ) (venue : ℕ)
             → FitsLost events self.old
             → FitsLost (timed_event time (told_skip venue number (Ok tt)) ∷ events) self.new }
     {
@@ -149,7 +165,8 @@ impl LostNumbers {
 
     /// Forgets all numbers, for a next session.
     pub fn renew(&mut self)
-        ensures { FitsLost [] self.new }
+        ensures dropped { KeepsDropped self.old self.new }
+        ensures fits { FitsLost [] self.new }
     {
         self.missing.clear();
         self.given_up.clear();

@@ -1,6 +1,6 @@
 //! Runs of numbers.
-ghost use Rattle.std.specs.Prelude.{◌≡◌, ◌≤◌, ℕ, Bool, ◌&&◌, ◌||◌, not, nat_lt, true, false, [], ◌∷◌, ◌++◌};
-ghost use Rattle.line_gaps.specs.Runs.{HaveJust, is_in_run, is_in_runs, meets_runs, sum_in};
+ghost use Rattle.std.specs.Prelude.{◌≡◌, ◌≤◌, ◌<◌, ◌+◌, ℕ, Bool, ◌&&◌, ◌||◌, not, nat_lt, max, min, true, false, [], ◌∷◌, ◌++◌};
+ghost use Rattle.line_gaps.specs.Runs.{AreInOrder, HaveJust, IsLeast, count_of, is_in_run, is_in_runs, meets_runs, sum_in};
 
 use crate::number_run::NumberRun;
 use arrayvec::ArrayVec;
@@ -19,7 +19,8 @@ pub struct NumberRuns {
 impl NumberRuns {
     /// No number.
     pub fn new() -> NumberRuns
-        ensures { HaveJust result (λ n. false) }
+        ensures none { HaveJust result (λ n. false) }
+        ensures empty { result.runs.items ≡ [] }
     {
         NumberRuns {
             runs: ArrayVec::new(),
@@ -39,6 +40,7 @@ impl NumberRuns {
     pub fn clear(&mut self)
         ensures dropped { self.new.dropped ≡ self.old.dropped }
         ensures none { HaveJust self.new (λ n. false) }
+        ensures empty { self.new.runs.items ≡ [] }
     {
         self.runs.clear();
     }
@@ -63,6 +65,10 @@ impl NumberRuns {
         ensures has { run.first ≤ run.last → self.new.dropped ≡ 0 → (n : ℕ)
             → is_in_runs n self.new.runs.items
             ≡ (is_in_runs n (self.old.runs.items ++ last ∷ []) || is_in_run n run) }
+        ensures order { self.new.dropped ≡ 0 → run.first ≤ run.last
+            → AreInOrder (self.old.runs.items ++ last ∷ [])
+            → ((n : ℕ) → is_in_runs n (self.old.runs.items ++ last ∷ []) ≡ true → n < run.first)
+            → AreInOrder self.new.runs.items }
     {
         if last.is_before(run) {
             self.push(NumberRun {
@@ -81,6 +87,9 @@ impl NumberRuns {
         ensures dropped { self.old.dropped ≤ self.new.dropped }
         ensures has { self.new.dropped ≡ 0 → (n : ℕ) → is_in_runs n self.new.runs.items
             ≡ (is_in_runs n self.old.runs.items || is_in_run n run) }
+        ensures order { self.new.dropped ≡ 0 → AreInOrder self.old.runs.items
+            → (run.first ≤ run.last → (n : ℕ) → is_in_runs n self.old.runs.items ≡ true
+            → n < run.first) → AreInOrder self.new.runs.items }
     {
         if run.last < run.first {
             return;
@@ -96,6 +105,9 @@ impl NumberRuns {
         ensures dropped { self.old.dropped ≤ self.new.dropped }
         ensures has { self.new.dropped ≡ 0 → (n : ℕ) → is_in_runs n self.new.runs.items
             ≡ (is_in_runs n self.old.runs.items || (is_in_run n run && nat_lt n number)) }
+        ensures order { self.new.dropped ≡ 0 → AreInOrder self.old.runs.items
+            → ((n : ℕ) → is_in_runs n self.old.runs.items ≡ true → n < run.first)
+            → AreInOrder self.new.runs.items }
     {
         if run.first < number {
             let last = run.last.min(number - 1);
@@ -111,6 +123,9 @@ impl NumberRuns {
         ensures dropped { self.old.dropped ≤ self.new.dropped }
         ensures has { self.new.dropped ≡ 0 → (n : ℕ) → is_in_runs n self.new.runs.items
             ≡ (is_in_runs n self.old.runs.items || (is_in_run n run && nat_lt number n)) }
+        ensures order { self.new.dropped ≡ 0 → AreInOrder self.old.runs.items
+            → ((n : ℕ) → is_in_runs n self.old.runs.items ≡ true → n < max run.first (number + 1))
+            → AreInOrder self.new.runs.items }
     {
         if number < run.last {
             let first = run.first.max(number + 1);
@@ -127,6 +142,8 @@ impl NumberRuns {
         ensures has { self.new.dropped ≡ 0 → (n : ℕ) → is_in_runs n self.new.runs.items
             ≡ (is_in_runs n self.old.runs.items
             || (is_in_runs n runs.now && not (is_in_run n cut))) }
+        ensures order { self.new.dropped ≡ 0 → self.old.runs.items ≡ []
+            → cut.first ≤ cut.last + 1 → AreInOrder runs.now → AreInOrder self.new.runs.items }
     {
         for run in runs {
             self.add_below(*run, cut.first);
@@ -140,6 +157,8 @@ impl NumberRuns {
         ensures dropped { self.old.dropped ≤ self.new.dropped }
         ensures has { (has : ℕ → Bool) → HaveJust self.old has
             → HaveJust self.new (λ n. has n && not (is_in_run n cut)) }
+        ensures order { self.new.dropped ≡ 0 → cut.first ≤ cut.last + 1
+            → AreInOrder self.old.runs.items → AreInOrder self.new.runs.items }
     {
         let mut left = NumberRuns {
             runs: ArrayVec::new(),
@@ -147,6 +166,25 @@ impl NumberRuns {
         };
         left.add_outside(self.runs.as_slice(), cut);
         *self = left;
+    }
+
+    /// Takes the numbers of a run out. Returns how many of them there were, where the runs are in
+    /// order.
+    #[inline(always)]
+    pub fn take_out(&mut self, run: NumberRun) -> u64
+        ensures count { result ≡ sum_in self.old.runs.items run }
+        ensures dropped { self.old.dropped ≤ self.new.dropped }
+        ensures has { (has : ℕ → Bool) → AreInOrder self.old.runs.items → HaveJust self.old has
+            → HaveJust self.new (λ n. has n && not (is_in_run n run)) }
+        ensures order { self.new.dropped ≡ 0 → run.first ≤ run.last + 1
+            → AreInOrder self.old.runs.items → AreInOrder self.new.runs.items }
+    {
+        let count = self.count_in(run);
+        if count == 0 {
+            return count;
+        }
+        self.cut(run);
+        count
     }
 
     /// Returns whether one of the numbers is in the run.
@@ -168,16 +206,23 @@ impl NumberRuns {
         count
     }
 
-    /// Returns how many numbers there are, where the runs are apart.
-    pub fn count(&self) -> u64 {
+    /// Returns how many of the numbers are at most this one, where the runs are in order.
+    pub fn count(&self, highest: u64) -> u64
+        ensures { AreInOrder self.now.runs.items
+            → result ≡ min (count_of (λ n. is_in_runs n self.now.runs.items)
+            (record { first = 0; last = highest })) 18446744073709551615 }
+    {
         self.count_in(NumberRun {
             first: 0,
-            last: u64::MAX,
+            last: highest,
         })
     }
 
     /// Returns the first number of the first run.
-    pub fn first(&self) -> Option<u64> {
+    pub fn first(&self) -> Option<u64>
+        ensures { AreInOrder self.now.runs.items
+            → IsLeast (λ n. is_in_runs n self.now.runs.items) result }
+    {
         match self.runs.as_slice().first() {
             Some(run) => Some(run.first),
             None => None,
@@ -189,6 +234,9 @@ impl NumberRuns {
         ensures dropped { self.old.dropped ≤ self.new.dropped }
         ensures has { self.new.dropped ≡ 0 → (n : ℕ) → is_in_runs n self.new.runs.items
             ≡ (is_in_runs n self.old.runs.items || (is_in_runs n runs.now && nat_lt n number)) }
+        ensures order { self.new.dropped ≡ 0 → AreInOrder self.old.runs.items → AreInOrder runs.now
+            → ((m n : ℕ) → is_in_runs m self.old.runs.items ≡ true → is_in_runs n runs.now ≡ true
+            → m < n) → AreInOrder self.new.runs.items }
     {
         for run in runs {
             self.add_below(*run, number);
@@ -201,6 +249,11 @@ impl NumberRuns {
         ensures has { (has other : ℕ → Bool) → HaveJust self.old has → HaveJust others.now other
             → others.now.dropped ≡ 0
             → HaveJust self.new (λ n. has n || (other n && nat_lt n number)) }
+        ensures order { self.new.dropped ≡ 0 → AreInOrder self.old.runs.items
+            → AreInOrder others.now.runs.items
+            → ((m n : ℕ) → is_in_runs m self.old.runs.items ≡ true
+            → is_in_runs n others.now.runs.items ≡ true → m < n)
+            → AreInOrder self.new.runs.items }
     {
         self.add_all_below(others.runs.as_slice(), number);
     }

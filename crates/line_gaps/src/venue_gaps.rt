@@ -1,12 +1,17 @@
 //! The gaps of a venue: those of line A, of line B, and of all lines together.
 
-ghost use Rattle.std.specs.Prelude.{◌≡◌, ℕ, List, [], ◌∷◌, IfOk, Ok, length, if◌then◌else◌};
+ghost use Rattle.std.specs.Prelude.{◌≡◌, ℕ, Bool, true, List, [], ◌∷◌, ◌++◌, Option, IfOk, Ok, length, if◌then◌else◌};
 ghost use Rattle.feed_types.specs.FullCounts.{count_after};
+ghost use Rattle.feed_text.specs.SinkEvents.{TimedEvent, timed_event, told_by, told_packet, told_renewal, told_skip};
+ghost use Rattle.line_arbiter.specs.declared.outcome.Outcome.TheVariants.{Ahead, Taken};
 ghost use Rattle.line_gaps.specs.Ends.{EndsVenue, recovered_on, sums_on};
-ghost use Rattle.line_gaps.specs.Missing.{CountsNumbers, FitsLost};
-ghost use Rattle.feed_text.specs.SinkEvents.{TimedEvent, timed_event, told_packet, told_skip};
-ghost use Rattle.line_arbiter.specs.declared.outcome.Outcome.TheVariants.{Taken};
+ghost use Rattle.line_gaps.specs.Gaps.{is_missing};
+ghost use Rattle.line_gaps.specs.LineSteps.{ClosesLine, TakesLine, over_closed, over_with};
+ghost use Rattle.line_gaps.specs.Missing.{CountsNumbers, FitsLost, IsWhole};
+ghost use Rattle.line_gaps.specs.OpenGaps.{closes_gaps};
+ghost use Rattle.line_gaps.specs.Runs.{IsLeast};
 ghost use Rattle.line_gaps.specs.Sums.{AreSumsOf};
+ghost use Rattle.line_gaps.specs.VenueFits.{EndsJust, FitsBut, FitsGaps, FitsSession, IsHeard, TakesInSession, TakesTimed, dropped_of, lost_by_both_of, missing_total, packet_event};
 
 use crate::ended_gaps::EndedGaps;
 use crate::gap_line::GapLine;
@@ -16,7 +21,7 @@ use crate::line_gaps::LineGaps;
 use crate::lost_numbers::LostNumbers;
 use feed_text::Event;
 use feed_types::{LineId, PerLine};
-use line_arbiter::Outcome;
+use line_arbiter::{LineFault, Outcome, RenewFault, SkipFault};
 use std::alloc::{AllocError, Global};
 
 /// Sums over the messages of a venue.
@@ -90,6 +95,7 @@ impl VenueGaps {
         ensures b { AreSumsOf [] result.b.sums }
         ensures all { AreSumsOf [] result.all.sums }
         ensures lost { FitsLost [] result.lost }
+        ensures fits { FitsGaps [] result }
     {
         VenueGaps {
             a: LineGaps::new(GapLine::A),
@@ -122,12 +128,18 @@ impl VenueGaps {
 
     /// Returns how many messages are missing now: packets tell of them, and they neither came nor
     /// were given up.
-    pub fn missing(&self) -> u64 {
-        self.lost.missing.count()
+    pub fn missing(&self) -> u64
+        ensures { (events : List TimedEvent) → FitsLost events self.now.lost
+            → self.now.lost.missing.dropped ≡ 0 → result ≡ missing_total events }
+    {
+        self.lost.missing.count(self.lost.highest)
     }
 
     /// Returns the number of the first message that is missing.
-    pub fn first_missing(&self) -> Option<u64> {
+    pub fn first_missing(&self) -> Option<u64>
+        ensures { (events : List TimedEvent) → FitsLost events self.now.lost
+            → self.now.lost.missing.dropped ≡ 0 → IsLeast (is_missing events) result }
+    {
         self.lost.missing.first()
     }
 
@@ -147,15 +159,23 @@ impl VenueGaps {
 
     /// Returns how many messages neither A nor B brought: those that are missing, that were given
     /// up after the first of their session came, and that recovery brought first.
-    pub fn lost_by_both(&self) -> u64 {
+    pub fn lost_by_both(&self) -> u64
+        ensures { (events : List TimedEvent) → FitsLost events self.now.lost
+            → self.now.lost.missing.dropped ≡ 0
+            → result ≡ lost_by_both_of self.now.sums (missing_total events) }
+    {
         let given_up = self.sums.given_up.saturating_sub(self.sums.before_join);
         raised(raised(given_up, self.sums.recovered), self.missing())
     }
 
     /// Returns how many runs of numbers were dropped, since there were more than are kept: where
     /// it is 0, all gaps and figures are exact.
-    pub fn dropped(&self) -> u64 {
-        raised(self.lost.missing.dropped, self.lost.given_up.dropped)
+    pub fn dropped(&self) -> u64
+        ensures { result ≡ dropped_of self.now }
+    {
+        let lost = raised(self.lost.missing.dropped, self.lost.given_up.dropped);
+        let lines = raised(self.a.passed.dropped, self.b.passed.dropped);
+        raised(raised(lost, lines), self.all.passed.dropped)
     }
 
     /// Begins all sums anew. What is open stays, as does what came.
@@ -165,6 +185,8 @@ impl VenueGaps {
         ensures all { AreSumsOf [] self.new.all.sums }
         ensures lost { self.new.lost ≡ self.old.lost }
         ensures far { self.new.far ≡ self.old.far }
+        ensures fits { (events : List TimedEvent) → FitsGaps events self.old
+            → FitsGaps events self.new }
     {
         self.a.sums = GapSums::new();
         self.b.sums = GapSums::new();
@@ -179,6 +201,13 @@ impl VenueGaps {
         ensures lost { self.new.lost ≡ self.old.lost }
         ensures far { self.new.far ≡ self.old.far }
         ensures ends { EndsVenue self.old self.new ended.old ended.new }
+        ensures a { TakesLine packet.now is_filled self.old.lost self.old.a self.new.a }
+        ensures b { TakesLine packet.now is_filled self.old.lost self.old.b self.new.b }
+        ensures all { TakesLine packet.now is_filled self.old.lost self.old.all self.new.all }
+        ensures ended { ended.new.gaps.items ≡ ended.old.gaps.items
+            ++ (over_with packet.now is_filled self.old.lost self.old.a
+            ++ (over_with packet.now is_filled self.old.lost self.old.b
+            ++ over_with packet.now is_filled self.old.lost self.old.all)) }
     {
         self.a.take(packet, &self.lost, is_filled, ended);
         self.b.take(packet, &self.lost, is_filled, ended);
@@ -195,6 +224,10 @@ impl VenueGaps {
             → FitsLost (timed_event packet.now.time (told_packet venue packet.now.line
             packet.now.number packet.now.count bytes (Ok (Taken new repeated))) ∷ events)
             self.new.lost }
+        ensures takes { (earlier : List TimedEvent) (venue bytes repeated : ℕ)
+            → FitsSession earlier self.old → TakesInSession earlier
+            (packet_event packet.now venue bytes (Ok (Taken new repeated))) self.old self.new
+            ended.old.gaps.items ended.new.gaps.items }
     {
         self.has_come = true;
         self.sums.bring(packet.line, new);
@@ -210,6 +243,11 @@ impl VenueGaps {
         ensures missing { (events : List TimedEvent) (last : TimedEvent)
             → CountsNumbers events last packet.now → FitsLost events self.old.lost
             → FitsLost (last ∷ events) self.new.lost }
+        ensures far { self.new.far ≡ self.old.far }
+        ensures takes { (earlier : List TimedEvent) (last : TimedEvent)
+            → CountsNumbers earlier last packet.now → IsHeard earlier last packet.now
+            → FitsBut earlier last self.old → TakesInSession earlier last self.old self.new
+            ended.old.gaps.items ended.new.gaps.items }
     {
         self.lost.take_numbers(packet);
         self.pass(packet, false, ended);
@@ -220,14 +258,20 @@ impl VenueGaps {
     #[inline(never)]
     fn take_far(&mut self, packet: &HeardPacket, ended: &mut EndedGaps)
         requires { ended.old.gaps.items ≡ [] }
-        ensures { EndsVenue self.old self.new ended.old ended.new }
+        ensures ends { EndsVenue self.old self.new ended.old ended.new }
+        ensures takes { (earlier : List TimedEvent) (venue bytes : ℕ) → FitsSession earlier self.old
+            → TakesInSession earlier (packet_event packet.now venue bytes (Ok Ahead)) self.old self.new
+            ended.old.gaps.items ended.new.gaps.items }
     {
         let earlier = self.far.on(packet.line);
         self.far.set(packet.line, Some(*packet));
-        if let Some(earlier) = earlier {
-            if packet.goes_on(&earlier) {
-                self.take_numbers(&earlier, ended);
+        match earlier {
+            Some(before) => {
+                if packet.goes_on(&before) {
+                    self.take_numbers(&before, ended);
+                }
             }
+            None => {}
         }
     }
 
@@ -235,12 +279,36 @@ impl VenueGaps {
     #[inline(always)]
     fn take_packet(&mut self, packet: &HeardPacket, outcome: &Outcome, ended: &mut EndedGaps)
         requires { ended.old.gaps.items ≡ [] }
-        ensures { EndsVenue self.old self.new ended.old ended.new }
+        ensures ends { EndsVenue self.old self.new ended.old ended.new }
+        ensures takes { (earlier : List TimedEvent) (venue bytes : ℕ) → FitsSession earlier self.old
+            → TakesInSession earlier (packet_event packet.now venue bytes (Ok outcome.now)) self.old
+            self.new ended.old.gaps.items ended.new.gaps.items }
     {
         match outcome {
             Outcome::Taken { new, .. } => self.take_messages(packet, *new, ended),
-            Outcome::Heartbeat | Outcome::Ended => self.take_numbers(packet, ended),
+            Outcome::Heartbeat => self.take_numbers(packet, ended),
+            Outcome::Ended => self.take_numbers(packet, ended),
             Outcome::Ahead => self.take_far(packet, ended),
+        }
+    }
+
+    /// Takes a packet with its answer.
+    #[inline(always)]
+    fn take_answered(
+        &mut self,
+        packet: &HeardPacket,
+        answer: &Result<Outcome, LineFault>,
+        ended: &mut EndedGaps,
+    )
+        requires { ended.old.gaps.items ≡ [] }
+        ensures ends { EndsVenue self.old self.new ended.old ended.new }
+        ensures takes { (earlier : List TimedEvent) (venue bytes : ℕ) → FitsSession earlier self.old
+            → TakesInSession earlier (packet_event packet.now venue bytes answer.now) self.old self.new
+            ended.old.gaps.items ended.new.gaps.items }
+    {
+        match answer {
+            Ok(outcome) => self.take_packet(packet, outcome, ended),
+            Err(_) => {}
         }
     }
 
@@ -252,6 +320,9 @@ impl VenueGaps {
         ensures missing { (events : List TimedEvent) (venue : ℕ) → FitsLost events self.old.lost
             → FitsLost (timed_event time (told_skip venue number (Ok tt)) ∷ events)
             self.new.lost }
+        ensures takes { (earlier : List TimedEvent) (venue : ℕ) → FitsSession earlier self.old
+            → TakesInSession earlier (timed_event time (told_skip venue number (Ok tt))) self.old self.new
+            ended.old.gaps.items ended.new.gaps.items }
     {
         let count = self.lost.give_up(number);
         self.sums.give_up(count, self.has_come);
@@ -260,11 +331,39 @@ impl VenueGaps {
         self.all.skip_to(number, time, &self.lost, ended);
     }
 
+    /// Takes a skip to a number with its answer.
+    fn take_skip(
+        &mut self,
+        number: u64,
+        time: Option<u64>,
+        answer: &Result<(), SkipFault>,
+        ended: &mut EndedGaps,
+    )
+        requires { ended.old.gaps.items ≡ [] }
+        ensures ends { EndsVenue self.old self.new ended.old ended.new }
+        ensures takes { (earlier : List TimedEvent) (venue : ℕ) → FitsSession earlier self.old
+            → TakesInSession earlier (timed_event time (told_skip venue number answer.now)) self.old
+            self.new ended.old.gaps.items ended.new.gaps.items }
+    {
+        match answer {
+            Ok(_) => self.skip_to(number, time, ended),
+            Err(_) => {}
+        }
+    }
+
     /// Ends the gaps that are open.
     #[inline(never)]
     fn close(&mut self, ended: &mut EndedGaps)
         requires { ended.old.gaps.items ≡ [] }
-        ensures { EndsVenue self.old self.new ended.old ended.new }
+        ensures ends { EndsVenue self.old self.new ended.old ended.new }
+        ensures lost { self.new.lost ≡ self.old.lost }
+        ensures far { self.new.far ≡ self.old.far }
+        ensures a { ClosesLine self.old.lost self.old.a self.new.a }
+        ensures b { ClosesLine self.old.lost self.old.b self.new.b }
+        ensures all { ClosesLine self.old.lost self.old.all self.new.all }
+        ensures ended { ended.new.gaps.items ≡ ended.old.gaps.items
+            ++ (over_closed self.old.lost self.old.a ++ (over_closed self.old.lost self.old.b
+            ++ over_closed self.old.lost self.old.all)) }
     {
         self.a.close(&self.lost, ended);
         self.b.close(&self.lost, ended);
@@ -277,6 +376,12 @@ impl VenueGaps {
         requires { ended.old.gaps.items ≡ [] }
         ensures ends { EndsVenue self.old self.new ended.old ended.new }
         ensures missing { FitsLost [] self.new.lost }
+        ensures fits { (events : List TimedEvent) → FitsSession events self.old
+            → FitsSession [] self.new }
+        ensures just { (earlier : List TimedEvent) (last : TimedEvent)
+            → closes_gaps last.event ≡ true → FitsSession earlier self.old
+            → IsWhole self.new.lost → EndsJust earlier last self.old self.new
+            ended.old.gaps.items ended.new.gaps.items }
     {
         self.close(ended);
         self.a.renew();
@@ -287,18 +392,36 @@ impl VenueGaps {
         self.has_come = false;
     }
 
+    /// Takes a renewal with its answer.
+    fn take_renewal(&mut self, answer: &Result<u64, RenewFault>, ended: &mut EndedGaps)
+        requires { ended.old.gaps.items ≡ [] }
+        ensures ends { EndsVenue self.old self.new ended.old ended.new }
+        ensures takes { (earlier : List TimedEvent) (time : Option ℕ) (venue : ℕ)
+            → FitsGaps earlier self.old
+            → TakesTimed earlier (timed_event time (told_renewal venue answer.now)) self.old
+            self.new ended.new.gaps.items }
+    {
+        match answer {
+            Ok(_) => self.renew(ended),
+            Err(_) => {}
+        }
+    }
+
     /// Takes an event of the venue, and appends the gaps that it ends.
     #[inline(always)]
     pub fn take(&mut self, time: Option<u64>, event: &Event<'_>, ended: &mut EndedGaps)
         requires { ended.old.gaps.items ≡ [] }
-        ensures { EndsVenue self.old self.new ended.old ended.new }
+        ensures ends { EndsVenue self.old self.new ended.old ended.new }
+        ensures takes { (earlier : List TimedEvent) → FitsGaps earlier self.old
+            → TakesTimed earlier (timed_event time (told_by event.now)) self.old self.new
+            ended.new.gaps.items }
     {
         match event {
             Event::Packet {
                 line,
                 number,
                 count,
-                answer: Ok(outcome),
+                answer,
                 ..
             } => {
                 let packet = HeardPacket {
@@ -307,23 +430,16 @@ impl VenueGaps {
                     count: *count,
                     time,
                 };
-                self.take_packet(&packet, outcome, ended);
+                self.take_answered(&packet, answer, ended);
             }
-            Event::Skip {
-                number,
-                answer: Ok(()),
-                ..
-            } => self.skip_to(*number, time, ended),
-            Event::Renewal { answer: Ok(_), .. } => self.renew(ended),
+            Event::Skip { number, answer, .. } => self.take_skip(*number, time, answer, ended),
+            Event::Renewal { answer, .. } => self.take_renewal(answer, ended),
             Event::Last { .. } => self.close(ended),
-            Event::Packet { answer: Err(_), .. }
-            | Event::Skip { answer: Err(_), .. }
-            | Event::Renewal { answer: Err(_), .. }
-            | Event::Refusal { .. }
-            | Event::Item { .. }
-            | Event::Best { .. }
-            | Event::Gap { .. }
-            | Event::Declaration { .. } => {}
+            Event::Refusal { .. } => {}
+            Event::Item { .. } => {}
+            Event::Best { .. } => {}
+            Event::Gap { .. } => {}
+            Event::Declaration { .. } => {}
         }
     }
 }

@@ -39,8 +39,10 @@ pub use feed::open_feed::OpenFeed;
 pub use feed::sharing::Shareable;
 pub use laws::settled_items_are_the_sessions;
 pub use run::attendant::{Attendant, Attended, OwnLog, RunView, Unattended};
+pub use run::beside::Beside;
 pub use run::line::{Line, LineEnd};
 pub use run::report::{RunReport, Stop};
+pub use run::rules::RunRules;
 pub use run::stop_handle::StopHandle;
 pub use run::whole::{
     FeedEnd, FeedReport, FeedTask, LineReport, LineTask, Subscription, WholeFault,

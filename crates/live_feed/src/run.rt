@@ -5,12 +5,15 @@ ghost use Rattle.std.specs.Prelude.{◌≡◌, ◌≤◌, [], map, IfOk, IfErr, 
 ghost use Rattle.live_feed.specs.run.Runs.{Pairwise, HasTaken, LineHasEnded, HasPolled};
 
 pub(crate) mod attendant;
+pub(crate) mod beside;
 mod consolidating;
 mod idle;
 pub(crate) mod line;
 mod line_threads;
 mod line_work;
+mod names;
 pub(crate) mod report;
+pub(crate) mod rules;
 mod signals;
 pub(crate) mod stop_handle;
 mod subscriber_threads;
@@ -24,6 +27,7 @@ use crate::run::consolidating::{join_consolidator, start_consolidator};
 use crate::run::line::{Line, LineEnd};
 use crate::run::line_threads::{LineThread, start_lines};
 use crate::run::report::{RunReport, Stop};
+use crate::run::rules::RunRules;
 use crate::run::signals::Signals;
 use crate::run::stop_handle::StopHandle;
 use crate::run::subscriber_threads::{LogThread, start_subscribers};
@@ -214,12 +218,13 @@ impl<G: Genuine + Send + Sync, N: FeedName + Send + Sync> OpenFeed<G, N> {
             attendant: Unattended,
             log: None,
         };
-        let (ran, _attended) = self.run_attended(rt, alloc, lines, subscribers, unattended);
+        let rules = RunRules::default();
+        let (ran, _attended) = self.run_attended(rt, alloc, lines, subscribers, unattended, rules);
         ran
     }
 
-    /// Runs as `run` does, with an attendant beside the run, in the calling thread. The run ends
-    /// once the attendant has returned, too.
+    /// Runs as `run` does, by these rules, with an attendant beside the run, in the calling thread.
+    /// The run ends once the attendant has returned, too.
     pub fn run_attended<
         S: LineSource<G> + Send,
         A: Attendant<G, N, OwnLog<N>>,
@@ -231,6 +236,7 @@ impl<G: Genuine + Send + Sync, N: FeedName + Send + Sync> OpenFeed<G, N> {
         lines: Vec<Line<G, N, S>>,
         subscribers: Vec<Subscriber<N>>,
         attended: Attended<N, A>,
+        rules: RunRules,
     ) -> RanOrBack<G, N, S, A>
         ensures back { IfErr result.0 (λ back. (back.0 ≡ lines) × (back.1 ≡ subscribers)) }
         ensures unattended { OnErr result.0 (result.1 ≡ attended) }
@@ -258,7 +264,7 @@ impl<G: Genuine + Send + Sync, N: FeedName + Send + Sync> OpenFeed<G, N> {
         ) else {
             return (Err((lines, subscribers)), attended);
         };
-        let signals = Signals::new(lines_count as u64);
+        let signals = Signals::new(lines_count as u64, rules);
         let (logs, strategies) = split_subscribers(subscribers, logs, strategies);
         let parts = Parts {
             lines: LinesToRun {

@@ -1,10 +1,12 @@
 //! The settings of `nbbo listen`.
 ghost use Rattle.std.specs.Prelude.{◌≡◌, ◌*◌, vec_len};
+ghost use Rattle.run_settings.specs.NextSessions.{FollowVenues};
 
 use crate::end_rule::EndRule;
 use crate::feed_settings::FeedSettings;
 use crate::formats::BestFormat;
 use crate::listen_stats::ListenStats;
+use crate::next_session::NextSession;
 use crate::sender::Senders;
 use std::net::SocketAddr;
 
@@ -13,16 +15,26 @@ use std::net::SocketAddr;
 pub struct ListenSettings {
     /// The feed that is listened to.
     pub feed: FeedSettings,
-    /// The address where each line is received: line A's and then line B's, those of venue 0 first.
-    pub lines: Vec<SocketAddr>,
+    /// The sessions that follow the feed's own, each of one of its venues, in the order in which
+    /// those of a venue follow one another.
+    pub next_sessions: Vec<NextSession>,
+    /// The address where each line is received, `None` for a line that isn't there: line A's and
+    /// then line B's, those of venue 0 first. Each venue has a line.
+    pub lines: Vec<Option<SocketAddr>>,
     /// The address that requests for missing messages go to, if there is one.
     pub request: Option<SocketAddr>,
+    /// For how many milliseconds a gap stands before its messages are asked for, if that is said.
+    pub request_after: Option<u32>,
     /// The senders whose datagrams are taken.
-    pub from: Senders,
+    pub senders: Senders,
+    /// How far past what the lines have brought a number may be, if that is said.
+    pub most_ahead: Option<u32>,
     /// Whether a gap before the first message in sequence is given up at once.
     pub join: bool,
     /// After how many milliseconds a gap is given up that stands so long, if after any number.
     pub skip_after: Option<u32>,
+    /// After how many milliseconds a line that brings nothing is reported, if that is said.
+    pub silent_after: Option<u32>,
     /// The most datagrams that a line reads, if there is any limit.
     pub datagrams: Option<u32>,
     /// Which ends of session end a line.
@@ -46,5 +58,8 @@ pub struct ListenSettings {
     pub stats: Option<ListenStats>,
     /// The address at which the counts are served to who asks for them, if at any.
     pub metrics: Option<SocketAddr>,
+    /// The name of the file into which what the lines bring is written, if into any.
+    pub record: Option<String>,
+    ghost next_of_venues: { FollowVenues (vec_len feed.sessions) next_sessions.items },
     ghost two_lines_each: { vec_len lines ≡ 2 * vec_len feed.sessions },
 }

@@ -154,13 +154,17 @@ due_of rule passed stood cursors (Some gap) =
 abbrev pub passed_then : ℕ → DueGap → ℕ
 passed_then passed due = if nat_le (due.number - 1) passed then due.next - 1 else passed
 
+-- how many messages are given up
+abbrev pub due_count : DueGap → ℕ
+due_count due = due.next - due.number
+
 -- the news of these messages of a venue
 abbrev pub news_of : (second venue : ℕ) → DueGap → GapNews
 news_of second venue due = record {
   second = second;
   venue = venue;
   change = GivenUp;
-  run = record { number = due.number; count = due.next - due.number };
+  run = record { number = due.number; count = due_count due };
 }
 
 -- Where it was answered that the messages are given up, the texts of these news, and nothing else;

@@ -1,6 +1,7 @@
 pub mod GapNews
 pub mod Gaps
 pub mod News
+pub mod OutputNews
 pub mod RunLines
 pub mod RunNews
 pub mod RunNewsLaws

@@ -1,10 +1,11 @@
 //! The gap of a venue as the thread beside the run sees it: since when it stands, what was told of
 //! it, and when it is given up.
-ghost use Rattle.std.specs.Prelude.{◌≡◌, None, false};
+ghost use Rattle.std.specs.Prelude.{◌≡◌, ◌+◌, None, false};
+ghost use Rattle.line_arbiter.specs.Counts.{shown};
 ghost use Rattle.feed_text.specs.Devices.{Writing};
 ghost use Rattle.feed_text.specs.StandardError.{SaysEach};
 ghost use Rattle.run_watches.specs.GapNews.{gap_texts_if};
-ghost use Rattle.run_watches.specs.Gaps.{GivesUpDue, LooksAt, TellsIfDone, TellsStanding, closed_run, due_of, gap_next, has_come, is_unanswered, lacking_of, news_of, passed_then, run_of, said_then, standing_at, stands, stood_of, told_still, told_then, unanswered_of};
+ghost use Rattle.run_watches.specs.Gaps.{GivesUpDue, LooksAt, TellsIfDone, TellsStanding, closed_run, due_count, due_of, gap_next, has_come, is_unanswered, lacking_of, news_of, passed_then, run_of, said_then, standing_at, stands, stood_of, told_still, told_then, unanswered_of};
 
 use crate::gap_news::{GapChange, GapNews, MissingRun, write_gap_news};
 use crate::gap_rule::GapRule;
@@ -38,6 +39,13 @@ pub struct DueGap {
     pub number: u64,
     /// The first message after them.
     pub next: u64,
+}
+
+/// How many messages are to be given up.
+fn due_count(due: &DueGap) -> u64
+    ensures { result ≡ due_count due.now }
+{
+    due.next.saturating_sub(due.number)
 }
 
 /// The gap that stands at a look that finds this one. At the look before the venue's lines had sent
@@ -189,6 +197,8 @@ pub struct GapWatch {
     has_told_unanswered: bool,
     /// Up to this number all messages were given up, and none was taken in sequence.
     passed: u64,
+    /// How many messages were given up.
+    given_up: u64,
 }
 
 impl GapWatch {
@@ -201,6 +211,7 @@ impl GapWatch {
           told = None;
           has_told_unanswered = false;
           passed = 0;
+          given_up = 0;
         } }
     {
         GapWatch {
@@ -210,7 +221,15 @@ impl GapWatch {
             told: None,
             has_told_unanswered: false,
             passed: 0,
+            given_up: 0,
         }
+    }
+
+    /// How many messages were given up.
+    pub fn given_up(&self) -> u64
+        ensures { result ≡ self.now.given_up }
+    {
+        self.given_up
     }
 
     /// Notes which gap stands at a look, and since when.
@@ -301,9 +320,11 @@ impl GapWatch {
         ensures { self.new ≡ record (self.old) {
           told = None;
           passed = passed_then self.old.passed due.now;
+          given_up = shown (self.old.given_up + due_count due.now);
         } }
     {
         self.told = None;
+        self.given_up = self.given_up.saturating_add(due_count(due));
         let last_before = due.number.saturating_sub(1);
         if last_before <= self.passed {
             self.passed = due.next.saturating_sub(1);
@@ -332,7 +353,7 @@ impl GapWatch {
             change: GapChange::GivenUp,
             run: MissingRun {
                 number: due.number,
-                count: due.next.saturating_sub(due.number),
+                count: due_count(due),
             },
         };
         write_gap_news(&news, errors);

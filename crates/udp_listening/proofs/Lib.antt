@@ -3,5 +3,4 @@ pub mod Following
 pub mod Lacks
 pub mod Noting
 pub mod Monitored
-pub mod Watching
 pub mod Wholes

@@ -1,3 +1,4 @@
+pub mod Lines
 pub mod Listening
 pub mod Monitors
 pub mod Reports

@@ -3,9 +3,10 @@ use Rattle.std.specs.Prelude.{◌≡◌, ℕ, false, true, None, Some, slice_get
 use Rattle.feed_types.specs.declared.config.FeedConfig.{FeedConfig}
 use Rattle.best_rows.specs.declared.style.RowStyle.{RowStyle}
 use Rattle.live_feed.specs.Lanes.{FeedSetting}
+use Rattle.run_settings.specs.FurtherOptions.{most_lead}
 use Rattle.run_settings.specs.Senders.{senders_of}
 use Rattle.run_settings.specs.declared.listen_settings.ListenSettings.{ListenSettings}
-use Rattle.udp_lines.specs.UdpLines.{UdpLineState}
+use Rattle.udp_listening.specs.Lines.{LineState}
 
 -- the most notices of a log: as many as the journal's entries, unless they are printed as they come
 -- and forgotten
@@ -36,13 +37,14 @@ feed_setting settings = record {
   kept = settings.kept;
 }
 
--- the line reads datagrams for the venue, of the senders and as many as the settings say, and ends
--- with an end of session as they say
-pub record IsSourceOf (settings : ListenSettings) (venue : ℕ) (line : UdpLineState) : Type 0 where
+-- the line reads datagrams for the venue, of the senders and as many as the settings say, withholds
+-- what is as far ahead as they say, and ends with an end of session as they say
+pub record IsSourceOf (settings : ListenSettings) (venue : ℕ) (line : LineState) : Type 0 where
   pub venue_is : line.venue ≡ venue
   pub session : slice_get settings.feed.sessions.items venue ≡ Some line.session
   pub rule : line.rule ≡ settings.end
-  pub senders : line.senders ≡ senders_of settings.from
+  pub senders : line.senders ≡ senders_of settings.senders
+  pub most_ahead : line.most_ahead ≡ most_lead settings
   pub left : line.left ≡ settings.datagrams
   pub whole : line.failed ≡ false
   pub unended : line.ended ≡ false

@@ -14,6 +14,7 @@ use crate::datagram::Datagram;
 use crate::faults::{FeedFault, GapFault, RenewalFault, TakeFault};
 use crate::locked_venue::LockedVenue;
 use crate::locks::{VenueLocks, lock_spinning};
+use crate::looked::Looked;
 use crate::seat::LineSeat;
 use crate::timing::{last_sent, note_time};
 use feed_steps::{FeedName, Unsent};
@@ -83,7 +84,7 @@ fn has_news(answer: &Result<Outcome, LineFault>) -> bool {
     matches!(answer, Ok(Outcome::Taken { new: 1.., .. }))
 }
 
-/// Takes a packet of the cell's venue. Most bring the next message alone.
+/// Takes a packet of the cell's venue. Most repeat what was sent, or bring the next message alone.
 fn take_one<G: Genuine, N: FeedName, W: Wait>(
     rt: &W,
     cell: &mut VenueCell<G, N>,
@@ -99,6 +100,9 @@ fn take_one<G: Genuine, N: FeedName, W: Wait>(
     ensures accepts { AcceptsTheirPacket G.Genuine seat.old.venue packet.now result }
     ensures early { HasSkippedPast G.Genuine cell.old packet.now result }
 {
+    if let Some(outcome) = cell.take_repeat(seat, packet) {
+        return Ok(outcome);
+    }
     if let Some(outcome) = cell.take_and_push(rt, seat, packet) {
         return Ok(outcome);
     }
@@ -129,20 +133,22 @@ fn take_in<G: Genuine, N: FeedName, W: Wait>(
     (answer, pushed)
 }
 
-/// Returns the request for the gap to send now, where the cell is of this venue.
+/// Returns the request for the gap to send now, where the cell is of this venue: for one that has
+/// been there for `wait_ms` milliseconds.
 #[tactic(auto, using(crate::proofs::CellMoves::at_venue, crate::proofs::CellMoves::at_another))]
 fn due_in<G: Genuine, N: FeedName>(
     cell: &mut VenueCell<G, N>,
     venue: VenueId,
     now_ms: u64,
+    wait_ms: u64,
 ) -> Option<Request>
-    ensures { IsDueAt G.Genuine N.lanes venue now_ms result }
+    ensures { IsDueAt G.Genuine N.lanes venue now_ms wait_ms result }
 {
     cell.show_lock_invariant();
     if cell.venue() != venue {
         return None;
     }
-    let request = cell.due(now_ms);
+    let request = cell.due_after(now_ms, wait_ms);
     cell.show_lock_invariant();
     request
 }
@@ -152,14 +158,15 @@ fn due_and_counted<G: Genuine, N: FeedName>(
     locked: &mut LockedVenue<G, N>,
     venue: VenueId,
     now_ms: u64,
+    wait_ms: u64,
 ) -> Option<Request>
-    ensures due { IsDueAt G.Genuine N.lanes venue now_ms result }
+    ensures due { IsDueAt G.Genuine N.lanes venue now_ms wait_ms result }
     ensures counted { locked.new ≡ record locked.old {
       cell = locked.new.cell;
       requests = requests_after result locked.old.requests;
     } }
 {
-    let request = due_in(&mut locked.cell, venue, now_ms);
+    let request = due_in(&mut locked.cell, venue, now_ms, wait_ms);
     if request.is_some() {
         locked.requests = locked.requests.saturating_add(1);
     }
@@ -221,15 +228,15 @@ fn skip_in<G: Genuine, N: FeedName, W: Wait>(
 impl<G: Genuine, N: FeedName> VenueLocks<G, N> {
     /// Takes a datagram that came on the seat's line, which is genuine at its venue, and answers
     /// what became of it: the packet's fault, else the line's, else the outcome. What is ready
-    /// then, after a fault too, is pushed, until nothing is or the lane is full. Stores in `gap`
-    /// whether there is a gap then, all under the venue's lock taken once; after a datagram that is
-    /// no packet it stores true. The datagram is read before the lock is taken.
+    /// then, after a fault too, is pushed, until nothing is or the lane is full. Stores in `looked`
+    /// what the line sees then, all under the venue's lock taken once. The datagram is read before
+    /// the lock is taken.
     pub fn take_and_look<W: Wait>(
         &self,
         rt: &W,
         seat: &mut LineSeat<G, N>,
         datagram: &Datagram,
-        gap: &mut bool,
+        looked: &mut Looked,
     ) -> Result<Outcome, TakeFault>
         requires { AreGenuineBytes G.Genuine seat.old.venue (bytes_of datagram.now) }
         ensures taken { TakesDatagram G.Genuine N.lanes (bytes_of datagram.now)
@@ -237,43 +244,59 @@ impl<G: Genuine, N: FeedName> VenueLocks<G, N> {
         ensures accepts { AcceptsTheirs G.Genuine seat.old.venue (bytes_of datagram.now) result }
     {
         match read_packet(datagram.bytes()) {
-            Ok(packet) => match self.take_packet(rt, seat, &packet, datagram.time(), gap) {
+            Ok(packet) => match self.take_packet(rt, seat, &packet, datagram.time(), looked) {
                 Ok(outcome) => Ok(outcome),
                 Err(fault) => {
-                    self.refuse(rt, seat, TakeFault::Line(fault));
+                    seat.refuse(TakeFault::Line(fault));
                     Err(TakeFault::Line(fault))
                 }
             },
             Err(fault) => {
-                let _pushed = self.flush_some(rt, seat.venue(), u64::MAX);
-                *gap = true;
-                self.refuse(rt, seat, TakeFault::Packet(fault));
+                let _pushed = self.take_unread(rt, seat, TakeFault::Packet(fault), looked);
                 Err(TakeFault::Packet(fault))
             }
         }
     }
 
-    /// Counts one more datagram of the seat that was refused with this fault, and has the venue's
-    /// status show it.
-    fn refuse<W: Wait>(&self, rt: &W, seat: &mut LineSeat<G, N>, fault: TakeFault)
-        ensures { seat.new ≡ seat_refusing fault seat.old }
+    /// Counts a datagram that is no packet, on the seat and at its venue, pushes what is ready
+    /// there, and stores in `looked` what the line sees then. Returns how many items were pushed.
+    fn take_unread<W: Wait>(
+        &self,
+        rt: &W,
+        seat: &mut LineSeat<G, N>,
+        fault: TakeFault,
+        looked: &mut Looked,
+    ) -> u64
+        ensures seat { seat.new ≡ seat_refusing fault seat.old }
+        ensures pushed { FlushesVenue G.Genuine N.lanes seat.old.venue (2 ^ 64 - 1) result }
     {
         seat.refuse(fault);
-        if let Some(lock) = self.get(seat.venue()) {
-            lock_spinning(rt, lock).cell.refuse(seat.line(), fault);
+        let venue = seat.venue();
+        let Some(lock) = self.get(venue) else {
+            return 0;
+        };
+        let mut locked = lock_spinning(rt, lock);
+        let (pushed, has_backlog) = flush_cell(rt, &mut locked.cell, venue, u64::MAX);
+        locked.cell.refuse(seat.line(), fault);
+        *looked = locked.look();
+        let is_new = self.set_backlog(venue, has_backlog);
+        drop(locked);
+        if pushed > 0 || is_new {
+            self.bells().ring_work();
         }
+        pushed
     }
 
     /// Takes a packet that was read, whose datagram was received at this time, under the lock of
-    /// the seat's venue, pushes what is ready, counts the packet, and stores in `gap` whether there
-    /// is a gap then.
+    /// the seat's venue, pushes what is ready, counts the packet, and stores in `looked` what the
+    /// line sees then.
     fn take_packet<W: Wait>(
         &self,
         rt: &W,
         seat: &mut LineSeat<G, N>,
         packet: &Packet<'_>,
         time: Option<u64>,
-        gap: &mut bool,
+        looked: &mut Looked,
     ) -> Result<Outcome, LineFault>
         requires { IsGenuinePacket G.Genuine seat.old.venue packet.now }
         ensures seat { seat.new ≡ seat_after seat.old packet.now result }
@@ -286,10 +309,13 @@ impl<G: Genuine, N: FeedName> VenueLocks<G, N> {
         let mut locked = lock_spinning(rt, lock);
         note_time(&locked.cell, self.bells().times(), time);
         let (answer, (pushed, has_backlog)) = take_in(rt, &mut locked.cell, seat, packet);
-        self.set_backlog(seat.venue(), has_backlog);
-        *gap = locked.cell.has_gap();
+        if let Err(fault) = answer {
+            locked.cell.refuse(seat.line(), TakeFault::Line(fault));
+        }
+        *looked = locked.look();
+        let is_new = self.set_backlog(seat.venue(), has_backlog);
         drop(locked);
-        if pushed > 0 || has_backlog || has_news(&answer) {
+        if pushed > 0 || is_new || has_news(&answer) {
             self.bells().ring_work();
         }
         answer
@@ -306,7 +332,7 @@ impl<G: Genuine, N: FeedName> VenueLocks<G, N> {
         };
         let mut locked = lock_spinning(rt, lock);
         let (pushed, has_backlog) = flush_cell(rt, &mut locked.cell, venue, most);
-        self.set_backlog(venue, has_backlog);
+        let _is_new = self.set_backlog(venue, has_backlog);
         drop(locked);
         if pushed > 0 {
             self.bells().ring_work();
@@ -316,9 +342,10 @@ impl<G: Genuine, N: FeedName> VenueLocks<G, N> {
 
     /// Gives up the messages of the venue that are missing below `number`, and goes on from it: its
     /// next item is `Skipped`, with the number before. What is ready is pushed before and after.
-    /// The refusals, in this order: UnknownVenue, ItemsReady (the lane is full), PastEnd,
-    /// NothingMissing, HeldBelow.
-    pub fn skip_to<W: Wait>(&self, rt: &W, venue: VenueId, number: u64) -> Result<(), GapFault>
+    /// Returns the skip's place among the datagrams and skips of the venue, in the order in which
+    /// they were taken, from 1. The refusals, in this order: UnknownVenue, ItemsReady (the lane is
+    /// full), PastEnd, NothingMissing, HeldBelow.
+    pub fn skip_to<W: Wait>(&self, rt: &W, venue: VenueId, number: u64) -> Result<u64, GapFault>
         ensures skipped { SkipsVenue G.Genuine N.lanes venue number result }
         ensures unknown { IsErrOf result GapFault.UnknownVenue
             ↔ (length N.lanes.venues ≤ venue) }
@@ -333,9 +360,13 @@ impl<G: Genuine, N: FeedName> VenueLocks<G, N> {
         self.bells()
             .times()
             .go_on_from(venue, from, last_sent(&locked.cell));
-        self.set_backlog(venue, has_backlog);
+        let answer = match answer {
+            Ok(()) => Ok(locked.next_place()),
+            Err(fault) => Err(fault),
+        };
+        let is_new = self.set_backlog(venue, has_backlog);
         drop(locked);
-        if pushed > 0 {
+        if pushed > 0 || is_new {
             self.bells().ring_work();
         }
         answer
@@ -375,21 +406,23 @@ impl<G: Genuine, N: FeedName> VenueLocks<G, N> {
         Ok(self.flush_some(rt, venue, u64::MAX))
     }
 
-    /// Returns the request for the venue's gap to send now, if any, and counts it. UnknownVenue
-    /// where there is no such venue.
+    /// Returns the request for the venue's gap to send now, if any, and counts it: for a gap that
+    /// has been there for `wait_ms` milliseconds. UnknownVenue where there is no such venue.
     #[tactic(auto, using(crate::proofs::CellMoves::at_one))]
     pub fn request_due<W: Wait>(
         &self,
         rt: &W,
         venue: VenueId,
         now_ms: u64,
+        wait_ms: u64,
     ) -> Result<Option<Request>, FeedFault>
-        ensures { AnswersAtVenue G.Genuine N.lanes venue (RequestsGap now_ms) None result }
+        ensures { AnswersAtVenue G.Genuine N.lanes venue (RequestsGap now_ms wait_ms) None result }
     {
         let Some(lock) = self.get(venue) else {
             return Err(FeedFault::UnknownVenue);
         };
-        Ok(due_and_counted(&mut lock_spinning(rt, lock), venue, now_ms))
+        let mut locked = lock_spinning(rt, lock);
+        Ok(due_and_counted(&mut locked, venue, now_ms, wait_ms))
     }
 
     /// Begins the venue's session of this ordinal and name, once End of the one before it was sent,

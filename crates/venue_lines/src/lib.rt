@@ -22,6 +22,7 @@ mod laws;
 mod line_counts;
 mod locked_venue;
 mod locks;
+mod looked;
 mod reading;
 mod seat;
 mod source;
@@ -41,6 +42,7 @@ pub use laws::{
 pub use line_counts::LineCounts;
 pub use locked_venue::LockedVenue;
 pub use locks::{VenueLock, VenueLocks};
+pub use looked::Looked;
 pub use seat::LineSeat;
 pub use source::{LineSource, SourceFault};
 pub use start::VenueStart;

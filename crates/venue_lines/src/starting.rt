@@ -74,6 +74,7 @@ fn locked<G: Genuine, N: FeedName>(
             cell,
             seated: PerLine::all(false),
             requests: 0,
+            places: 0,
         })));
     }
     venues

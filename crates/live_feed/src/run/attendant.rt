@@ -1,14 +1,19 @@
 //! Who stands beside a run.
 
-ghost use Rattle.std.specs.Prelude.{◌≡◌, ◌≤◌, ◌↔◌, length, Err, IsErrOf};
+ghost use Rattle.std.specs.Prelude.{◌≡◌, ◌≤◌, ◌↔◌, length, Err, IfOk, IfSome, IsErrOf};
+ghost use Rattle.live_feed.specs.subscriber.Logs.{Polls};
 ghost use Rattle.venue_lines.specs.Sections.{SkipsVenue};
 ghost use Rattle.venue_lines.specs.Statuses.{IsPossibleStatus};
 
+use crate::run::idle::{back_off, should_sleep};
 use crate::run::signals::Signals;
 use crate::subscriber::log::SubscriberLog;
+use crate::subscriber::logged::PollFault;
 use feed_steps::FeedName;
 use feed_types::{Genuine, VenueId};
+use filter_terms::Advice;
 use std::sync::Wait;
+use std::thread::Threads;
 use venue_lines::{FeedFault, GapFault, VenueLocks, VenueStatus};
 
 /// A run as the thread beside it sees it: whether it is over, and its venues. It shows nothing of
@@ -43,12 +48,41 @@ impl<'r, G: Genuine, N: FeedName> RunView<'r, G, N> {
 
     /// Gives up the messages of the venue that are missing below `number`, as
     /// [`crate::OpenFeed::skip_to`] does, with the same refusals.
-    pub fn skip_to<W: Wait>(&self, rt: &W, venue: VenueId, number: u64) -> Result<(), GapFault>
+    pub fn skip_to<W: Wait>(&self, rt: &W, venue: VenueId, number: u64) -> Result<u64, GapFault>
         ensures skipped { SkipsVenue G.Genuine N.lanes venue number result }
         ensures unknown { IsErrOf result GapFault.UnknownVenue
             ↔ (length N.lanes.venues ≤ venue) }
     {
         self.venues.skip_to(rt, venue, number)
+    }
+
+    /// Takes the next notice of the attendant's own subscriber as [`SubscriberLog::poll_holding`]
+    /// does, and waits where there is none: after a few looks the thread sleeps until one is
+    /// offered or the run is over. None where the run is over, and all that was offered in it was
+    /// taken.
+    pub fn await_notice<W: Wait>(
+        &self,
+        rt: &W,
+        log: &mut SubscriberLog<N>,
+    ) -> Result<Option<Advice>, PollFault>
+        ensures polls { Polls result log.old log.new }
+        ensures holds { IfOk result (λ polled. IfSome polled (λ advice. advice ≡ Advice.Hold)) }
+    {
+        let bell = self.venues.bells().notices(log.id());
+        let mut looks: u32 = 0;
+        for _ in rt.forever() {
+            let key = if should_sleep(looks) {
+                Some(bell.prepare_wait())
+            } else {
+                None
+            };
+            let last = self.is_over();
+            match log.poll_holding(rt) {
+                Ok(None) if !last => looks = back_off(rt, looks, key),
+                polled => return polled,
+            }
+        }
+        log.poll_holding(rt)
     }
 }
 
@@ -60,9 +94,15 @@ pub trait Attendant<G: Genuine, N: FeedName, L: Drop>: Drop {
     /// same attendant with the same subscriber, later on.
     ghost attends: { Self → L → Self → L → Type 0 };
 
-    /// Attends a run, and returns the attendant and its log. Where it returns before the run is
-    /// over, nobody polls its subscriber any more.
-    fn attend<W: Wait>(self, rt: &W, run: &RunView<'_, G, N>, log: L) -> (Self, L)
+    /// Attends a run, and returns the attendant and its log. The run's end waits until all notices
+    /// that its subscriber wants were offered, unless a poll of the log is refused, or the
+    /// attendant says that it polls no more ([`SubscriberLog::end_polls`]) or returns.
+    fn attend<R: Threads + Wait + Sync>(
+        self,
+        rt: &R,
+        run: &RunView<'_, G, N>,
+        log: L,
+    ) -> (Self, L)
         ensures { attends self log result.0 result.1 };
 }
 
@@ -78,9 +118,9 @@ impl<G: Genuine, N: FeedName> Attendant<G, N, OwnLog<N>> for Unattended {
 
     ghost attends = { λ _ log _ later. later ≡ log };
 
-    fn attend<W: Wait>(
+    fn attend<R: Threads + Wait + Sync>(
         self,
-        _rt: &W,
+        _rt: &R,
         _run: &RunView<'_, G, N>,
         log: OwnLog<N>,
     ) -> (Unattended, OwnLog<N>) {
@@ -110,9 +150,9 @@ impl<N: FeedName, A> Attended<N, A> {
     }
 
     /// Has the attendant attend the run.
-    pub(crate) fn attend<G: Genuine, W: Wait>(
+    pub(crate) fn attend<G: Genuine, R: Threads + Wait + Sync>(
         self,
-        rt: &W,
+        rt: &R,
         run: &RunView<'_, G, N>,
     ) -> Attended<N, A>
     where

@@ -11,6 +11,7 @@ use crate::feed::open_feed::OpenFeed;
 use crate::run::attendant::{Attendant, Attended, OwnLog};
 use crate::run::line::{Line, LineEnd};
 use crate::run::report::{RunReport, Stop};
+use crate::run::rules::RunRules;
 use crate::settle::fault::SettleFault;
 use crate::settle::settlement::Settlement;
 use crate::subscriber::Subscriber;
@@ -52,6 +53,8 @@ pub struct FeedTask<S> {
     pub attended: Option<Subscription>,
     /// The other subscribers, in the order of their ids.
     pub subscriptions: Vec<Subscription>,
+    /// The rules by which the lines go on.
+    pub rules: RunRules,
 }
 
 /// What is reported of a line.
@@ -216,6 +219,7 @@ fn begin<G: Genuine, N: FeedName, S: LineSource<G>, W: Wait>(
         lines,
         attended,
         subscriptions,
+        rules: _,
     } = task;
     let log = attended_log(rt, alloc, feed, attended)?;
     let subscribers = all_subscribed(rt, alloc, feed, subscriptions)?;
@@ -329,12 +333,13 @@ impl<G: Genuine + Send + Sync> LiveFeed<G> {
         let Ok(feed) = self.open::<N>(alloc) else {
             return unrun(WholeFault::NoMemory, attendant);
         };
+        let rules = task.rules;
         let (lines, log, subscribers) = match begin(rt, alloc, &feed, task) {
             Ok(begun) => begun,
             Err(fault) => return unrun(fault, attendant),
         };
         let attended = Attended { attendant, log };
-        let (ran, attended) = feed.run_attended(rt, alloc, lines, subscribers, attended);
+        let (ran, attended) = feed.run_attended(rt, alloc, lines, subscribers, attended, rules);
         let Attended { attendant, log } = attended;
         let Ok(report) = ran else {
             return unrun(WholeFault::NoMemory, attendant);

@@ -6,7 +6,7 @@ use Rattle.gap_rows.proofs.GapSteps.{is_none, is_one}
 use Rattle.gap_rows.proofs.gap_maker.take_at.Goals as goal
 
 pub returns-then-place-len : goal.returns-then-place-len
-returns-then-place-len c =
+returns-then-place-len c = λ e said.
     let vs = c.args.venues.now.items in
     let place = c.index-place.result in
     let within : place < length vs = omega (arith, c.if-place-len.true, c.len.ensures) in
@@ -14,7 +14,7 @@ returns-then-place-len c =
     let is = c.index-place.ensures.value in
     let old = c.index_mut.result.now in
     let new = c.take.new.self in
-    subst (λ (o : Option ℕ). EndsIn o vs (slice_set vs place new) c.take.new.ended.gaps.items)
+    subst (λ (o : Option ℕ). EndsIn e o vs (slice_set vs place new) c.take.new.ended.gaps.items)
     (sym (is_one (length vs) c.args.venue found))
     (record {
       before = old;
@@ -26,13 +26,14 @@ returns-then-place-len c =
       ended = c.take.new.ended;
       none_are = c.requires;
       gaps_are = refl;
-      ends = c.take.ensures;
+      ends = c.take.ensures.ends;
+      takes = λ earlier fits. rw said (c.take.ensures.takes earlier fits);
     })
 
 pub returns-else-place-len : goal.returns-else-place-len
-returns-else-place-len c =
+returns-else-place-len c = λ e said.
     let vs = c.args.venues.now.items in
     let past : length vs ≤ c.args.venue =
     omega (arith, c.if-place-len.false, c.len.ensures, c.index-place.ensures.value) in
-    subst (λ (o : Option ℕ). EndsIn o vs vs c.args.ended.now.gaps.items)
+    subst (λ (o : Option ℕ). EndsIn e o vs vs c.args.ended.now.gaps.items)
     (sym (is_none (length vs) c.args.venue past)) (record { same = refl; none = c.requires })

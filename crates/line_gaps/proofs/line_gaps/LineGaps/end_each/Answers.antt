@@ -24,6 +24,7 @@ loop-gap-preserved c =
           (rows ++ map over (take i gaps)) _ c.loop-gap-test.true was.kept.line refl refl)
           (said.sums (rows ++ map over (take i gaps)) (was.sums rows are));
       merged = said.merged ∙ was.merged;
+      tail = said.tail ∙ was.tail;
       same = said.«open» ∙ was.same;
       kept = record {
         line = said.kept.line ∙ was.kept.line;

@@ -13,6 +13,7 @@ invariant-loop-gap l = record {
       → AreSumsOf (rows ++ map (gap_over l.fn.self.line l.lost l.pass) (take l.gap-index l.gaps))
       l.self.sums;
   merged : l.self.sums.merged ≡ l.fn.self.sums.merged;
+  tail : l.self.sums.tail ≡ l.fn.self.sums.tail;
   same : l.self.«open» ≡ l.fn.self.«open»;
   kept : KeepsLine l.fn.self l.self;
 }

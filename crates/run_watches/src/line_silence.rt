@@ -1,0 +1,77 @@
+//! Since when a line has brought nothing.
+
+use crate::moment::Moment;
+use feed_types::LineId;
+use std::time::Duration;
+
+/// What is new of a line's silence.
+#[derive(Clone, Copy, Debug, PartialEq, Eq)]
+pub enum Silence {
+    /// It has brought nothing for this many milliseconds.
+    Begun(u64),
+    /// It has brought something again.
+    Over,
+}
+
+/// Since when a line has brought nothing, as it is seen at looks at the line.
+#[derive(Clone, Copy, Debug)]
+pub struct LineSilence {
+    /// After how many milliseconds a silence is told, if after any number.
+    after_ms: Option<u64>,
+    /// When the last datagram came that was seen, by the line's own clock.
+    seen_ms: Option<u64>,
+    /// Since when none has been seen, in milliseconds of the run.
+    since_ms: u64,
+    /// When the last datagram was seen, in nanoseconds from 1970 on.
+    heard: Option<u64>,
+    is_told: bool,
+}
+
+/// The nanoseconds of a time.
+fn nanoseconds(time: Duration) -> Option<u64> {
+    u64::try_from(time.as_nanos()).ok()
+}
+
+impl LineSilence {
+    /// The silence of a line from the beginning of a run on. It is told after so many milliseconds,
+    /// if after any number; that of line R, which brings replies alone, never is.
+    pub fn of(line: LineId, after_ms: Option<u32>) -> LineSilence {
+        let after_ms = match after_ms {
+            Some(after_ms) if line != LineId::Recovery => Some(u64::from(after_ms)),
+            _ => None,
+        };
+        LineSilence {
+            after_ms,
+            seen_ms: None,
+            since_ms: 0,
+            heard: None,
+            is_told: false,
+        }
+    }
+
+    /// When the last datagram was seen, in nanoseconds from 1970 on, where that is known.
+    pub fn heard(&self) -> Option<u64> {
+        self.heard
+    }
+
+    /// Looks at the line, whose last datagram came at `seen_ms` by its clock, and returns what is
+    /// new of its silence.
+    pub fn look(&mut self, moment: Moment, seen_ms: Option<u64>) -> Option<Silence> {
+        if seen_ms != self.seen_ms {
+            self.seen_ms = seen_ms;
+            self.since_ms = moment.elapsed_ms;
+            self.heard = moment.since_1970.and_then(nanoseconds);
+        }
+        let after_ms = self.after_ms?;
+        let is_silent = moment.elapsed_ms.saturating_sub(self.since_ms) >= after_ms;
+        if is_silent == self.is_told {
+            return None;
+        }
+        self.is_told = is_silent;
+        if is_silent {
+            Some(Silence::Begun(after_ms))
+        } else {
+            Some(Silence::Over)
+        }
+    }
+}
