@@ -134,7 +134,7 @@ pub took : {S : Type 0} (brings : S → SocketAddr → List ℕ → S → Type 0
     (l m n : UdpLineState S) (xs : List (List ℕ)) → HasBrought brings waits l [] m
     → n.venue ≡ m.venue → sorting_of n ≡ sorting_of m → n.socket ≡ m.socket → n.kept ≡ m.kept
     → n.waiting ≡ [] → m.waiting ≡ xs → HasBrought brings waits l xs n
-took brings waits l m n xs b venue sorting socket kept none here = record {
+took {S} brings waits l m n xs b venue sorting socket kept none here = record {
   venue = venue ∙ b.venue;
   sorting = sorting ∙ b.sorting;
   handed_on = b.handed_on;
@@ -147,3 +147,15 @@ took brings waits l m n xs b venue sorting socket kept none here = record {
       b.all ∙ here ∙ sym (append-nil xs)
       ∙ ap (λ (x : List (List ℕ)). xs ++ x) (sym none);
 }
+
+-- a line of which only the socket, what is kept and what waits has changed, twice
+pub moved_more : {S : Type 0} (l m n : UdpLineState S)
+    → m ≡ record l { socket = m.socket; kept = m.kept; waiting = m.waiting }
+    → n ≡ record m { socket = n.socket; kept = n.kept; waiting = n.waiting }
+    → n ≡ record l { socket = n.socket; kept = n.kept; waiting = n.waiting }
+moved_more {S} l m n a b =
+    b ∙ ap (λ (x : UdpLineState S). record x {
+      socket = n.socket;
+      kept = n.kept;
+      waiting = n.waiting;
+    }) a

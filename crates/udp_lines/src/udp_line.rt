@@ -307,6 +307,7 @@ impl<S: Drop, C: Drop> UdpLine<S, C> {
     fn mark_end(&self) {
         if let Some(session) = self.ender {
             self.intake
+                .check
                 .progress
                 .end(&session, session == self.intake.check.session);
         } else if is_none_left(self.to_read) {

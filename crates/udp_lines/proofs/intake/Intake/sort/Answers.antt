@@ -11,10 +11,11 @@ returns-in-Plausible-clause-met g c =
     let d = g.S.DatagramIn in
     let old = c.args.self.now in
     let bytes = take c.args.count old.line_socket.buffer.items in
-    let same : c.deref.result.now ≡ bytes = search (rules, c.deref.ensures.value) in
-    handed d.brings d.waits d.waits_not (sorting_by old) before old.line_socket.socket (kept_in old)
-    sender bytes c.deref.result.now c.datagram_of.result.all.items c.judge.new.self.highest heard is
-    c.judge.ensures.kept (c.judge.ensures.covers c.in-Plausible.is) same c.datagram_of.ensures
+    handed d.brings d.waits g.met.S.DatagramIn.waits_not (sorting_by old) before
+    old.line_socket.socket (kept_in old) sender bytes _ c.datagram_of.result.all.items
+    c.judge.new.self.highest heard is c.judge.ensures.kept
+    (c.judge.ensures.covers c.in-Plausible.is) (search (rules, c.deref.ensures.value))
+    c.datagram_of.ensures
 
 pub returns-clause-met : goal.returns-clause-met
 returns-clause-met g c =
@@ -23,23 +24,23 @@ returns-clause-met g c =
     let old = c.args.self.now in
     let new = c.match-judge.self in
     let bytes = take c.args.count old.line_socket.buffer.items in
-    let same : c.deref.result.now ≡ bytes = search (rules, c.deref.ensures.value) in
     elim c.match-judge.branch [
       | in-Unconfirmed w ↦
           let why = c.judge.ensures.held w.in-Unconfirmed.is in
-          held_back d.brings d.waits d.waits_not (sorting_by old) before old new sender bytes
-          c.deref.result.now heard is why.1 why.2 same (search (rules, w.self-is, w.hold.ensures))
+          held_back d.brings d.waits g.met.S.DatagramIn.waits_not (sorting_by old) before old new
+          sender bytes _ heard is why.1 why.2 (search (rules, c.deref.ensures.value))
+          (search (rules, w.self-is, w.hold.ensures))
           (search (rules, w.self-is, w.hold.ensures, w.datagram_of-end.ensures, why.0))
       | in-TooFar w ↦
           let why = c.judge.ensures.far w.in-TooFar.is in
-          kept_back d.brings d.waits d.waits_not (sorting_by old) before old new sender bytes
-          c.deref.result.now heard is (inl why.1) same
+          kept_back d.brings d.waits g.met.S.DatagramIn.waits_not (sorting_by old) before old new
+          sender bytes _ heard is (inl why.1) (search (rules, c.deref.ensures.value))
           (search (rules, w.self-is, w.withhold.ensures))
           (search (rules, w.self-is, w.withhold.ensures, why.0))
       | in-Barred w ↦
           let why = c.judge.ensures.barred w.in-Barred.is in
-          kept_back d.brings d.waits d.waits_not (sorting_by old) before old new sender bytes
-          c.deref.result.now heard is (inr (why.1, why.2)) same
-          (search (rules, w.self-is, w.withhold.ensures))
-          (search (rules, w.self-is, w.withhold.ensures, why.0))
+          kept_back d.brings d.waits g.met.S.DatagramIn.waits_not (sorting_by old) before old new
+          sender bytes _ heard is (inr (why.1, why.2)) (search (rules, c.deref.ensures.value))
+          (search (rules, w.self-is, w.withhold-in-Barred.ensures))
+          (search (rules, w.self-is, w.withhold-in-Barred.ensures, why.0))
     ]
