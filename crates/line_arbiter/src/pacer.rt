@@ -113,12 +113,7 @@ impl Pacer {
     /// Returns the request to send now as `due` does, but for a gap that hasn't been there for
     /// `wait_ms` milliseconds: since a call first was given one that begins with this number, and
     /// no call since then was given another one or none.
-    pub fn due_after(
-        &mut self,
-        gap: Option<Request>,
-        now_ms: u64,
-        wait_ms: u64,
-    ) -> Option<Request>
+    pub fn due_after(&mut self, gap: Option<Request>, now_ms: u64, wait_ms: u64) -> Option<Request>
         ensures { IsPaced self.old gap now_ms wait_ms result self.new }
     {
         let Some(request) = gap else {

@@ -2,5 +2,3 @@
 pub mod Runs
 -- a feed's whole life in one call
 pub mod Wholes
--- two attendants of one run
-pub mod Attending

@@ -39,7 +39,6 @@ pub use feed::open_feed::OpenFeed;
 pub use feed::sharing::Shareable;
 pub use laws::settled_items_are_the_sessions;
 pub use run::attendant::{Attendant, Attended, OwnLog, RunView, Unattended};
-pub use run::beside::Beside;
 pub use run::line::{Line, LineEnd};
 pub use run::report::{RunReport, Stop};
 pub use run::rules::RunRules;

@@ -5,7 +5,6 @@ ghost use Rattle.std.specs.Prelude.{◌≡◌, ◌≤◌, [], map, IfOk, IfErr, 
 ghost use Rattle.live_feed.specs.run.Runs.{Pairwise, HasTaken, LineHasEnded, HasPolled};
 
 pub(crate) mod attendant;
-pub(crate) mod beside;
 mod consolidating;
 mod idle;
 pub(crate) mod line;

@@ -243,9 +243,9 @@ impl<G: Genuine, N: FeedName> VenueCell<G, N> {
     {
         let outcome = self.lines.repeat(packet)?;
         let line = seat.line();
-        let accepted = AcceptedPacket::new(packet, outcome);
-        self.counted.count(line, &accepted);
-        seat.count(&accepted);
+        let repeated = AcceptedPacket::new(packet, outcome);
+        self.counted.count(line, &repeated);
+        seat.count(&repeated);
         Some(outcome)
     }
 

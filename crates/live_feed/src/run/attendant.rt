@@ -78,7 +78,8 @@ impl<'r, G: Genuine, N: FeedName> RunView<'r, G, N> {
             };
             let last = self.is_over();
             match log.poll_holding(rt) {
-                Ok(None) if !last => looks = back_off(rt, looks, key),
+                Ok(None) if last => return Ok(None),
+                Ok(None) => looks = back_off(rt, looks, key),
                 polled => return polled,
             }
         }
@@ -97,12 +98,7 @@ pub trait Attendant<G: Genuine, N: FeedName, L: Drop>: Drop {
     /// Attends a run, and returns the attendant and its log. The run's end waits until all notices
     /// that its subscriber wants were offered, unless a poll of the log is refused, or the
     /// attendant says that it polls no more ([`SubscriberLog::end_polls`]) or returns.
-    fn attend<R: Threads + Wait + Sync>(
-        self,
-        rt: &R,
-        run: &RunView<'_, G, N>,
-        log: L,
-    ) -> (Self, L)
+    fn attend<R: Threads + Wait + Sync>(self, rt: &R, run: &RunView<'_, G, N>, log: L) -> (Self, L)
         ensures { attends self log result.0 result.1 };
 }
 

@@ -166,6 +166,9 @@ fn run_consolidator<G: Genuine, N: FeedName, W: Wait>(
     feed: &OpenFeed<G, N>,
     signals: &Signals,
 ) -> Option<Stop> {
+    if !signals.has_spawn_failed() {
+        name_consolidator();
+    }
     let bells = feed.venues.bells();
     let mut stopped = None;
     let mut first = true;
@@ -210,13 +213,7 @@ where
     R: Threads + Wait + Sync,
 {
     feed.show_shareable();
-    let job = move || {
-        if !signals.has_spawn_failed() {
-            name_consolidator();
-        }
-        run_consolidator(rt, feed, signals)
-    };
-    match scope.spawn(job) {
+    match scope.spawn(move || run_consolidator(rt, feed, signals)) {
         Ok(handle) => Ok(handle),
         Err(refused) => {
             signals.note_spawn_failure();

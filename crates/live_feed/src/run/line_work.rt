@@ -56,36 +56,26 @@ fn request_due<G: Genuine, N: FeedName, S: LineSource<G>, W: Wait>(
 
 /// Waits until the source has its next answer, and returns true; or false where the run is to stop
 /// before that. An answer that is there is for the line, also where the run was stopped meanwhile:
-/// the source has received it, and nobody else will take it. Where there is a `gap` and gaps wait
-/// until they are asked for, what is due meanwhile is asked for.
+/// the source has received it, and nobody else will take it.
 fn is_next_there<G: Genuine, N: FeedName, S: LineSource<G>, W: Wait>(
     rt: &W,
     venues: &VenueLocks<G, N>,
     signals: &Signals,
-    venue: VenueId,
-    gap: bool,
     source: &mut S,
-) -> Result<bool, SourceFault>
+) -> bool
     ensures venue { S.venue_of source.new ≡ S.venue_of source.old }
     ensures brings { S.brings source.old [] source.new }
-    ensures sound { IfOk result (λ _. S.failures source.new ≡ S.failures source.old) }
-    ensures failed { IfErr result (λ fault. S.failures source.new
-        ≡ failures_after (S.failures source.old) fault) }
+    ensures sound { S.failures source.new ≡ S.failures source.old }
 {
-    let wait_ms = signals.rules().request_after_ms;
-    let asks = gap && wait_ms > 0;
     for _ in rt.forever() {
         if signals.is_stopped() || venues.bells().are_runs_ended() {
             break;
         }
         if source.await_next() {
-            return Ok(true);
-        }
-        if let Err(failed) = request_due(rt, venues, venue, asks, wait_ms, source) {
-            return Err(failed);
+            return true;
         }
     }
-    Ok(false)
+    false
 }
 
 /// Reads the line's datagrams, and takes each and asks for what is lacking then, until the source
@@ -109,13 +99,8 @@ pub(crate) fn work_line<G: Genuine, N: FeedName, S: LineSource<G>, W: Wait>(
     let mut looked = Looked::default();
     let wait_ms = signals.rules().request_after_ms;
     for _ in rt.forever() {
-        match is_next_there(rt, venues, signals, venue, looked.gap, &mut source) {
-            Ok(true) => {}
-            Ok(false) => break,
-            Err(failed) => {
-                fault = Some(failed);
-                break;
-            }
+        if !is_next_there(rt, venues, signals, &mut source) {
+            break;
         }
         match source.next() {
             Ok(Some(datagram)) => {

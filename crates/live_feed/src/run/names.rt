@@ -1,5 +1,7 @@
 //! The names of a run's threads, by which tools of the system tell them apart.
 
+ghost use Rattle.std.specs.Prelude.{◌<◌};
+
 use feed_types::{LineId, SubscriberId, VenueId};
 
 /// Returns the tens and the ones of a number below 100, as text.
@@ -41,9 +43,4 @@ pub(crate) fn name_subscriber(id: SubscriberId) {
 /// Names the calling thread, as the consolidator's.
 pub(crate) fn name_consolidator() {
     let _named = os::set_thread_name(b"consolidator");
-}
-
-/// Names the calling thread, as that of the first of two attendants.
-pub(crate) fn name_attendant() {
-    let _named = os::set_thread_name(b"attendant");
 }

@@ -11,7 +11,7 @@ use std::thread::{Promise, PromisedHandle, Threads};
 pub(crate) type ThreadOf<T, P> = Result<PromisedHandle<T, P>, T>;
 
 /// Waits for the thread, and returns its result.
-pub(crate) fn join_one<T: Drop, P: Promise<T>, R: Threads>(rt: &R, thread: ThreadOf<T, P>) -> T
+fn join_one<T: Drop, P: Promise<T>, R: Threads>(rt: &R, thread: ThreadOf<T, P>) -> T
     ensures { MatchResult thread
         (λ handle. P.kept_by handle.promise result)
         (λ here. result ≡ here) }

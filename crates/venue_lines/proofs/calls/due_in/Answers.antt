@@ -8,7 +8,8 @@ pub returns : goal.returns
 returns g c =
     let same = same_venue c.venue.result c.args.venue c.ne.result c.ne.ensures c.if-ne.false in
     let request = c.due_after-request.result in
-    at_venue g.G.Genuine g.N.FeedName.lanes c.args.venue (RequestsGap c.args.now_ms c.args.wait_ms request)
+    at_venue g.G.Genuine g.N.FeedName.lanes c.args.venue
+    (RequestsGap c.args.now_ms c.args.wait_ms request)
     (request ≡ None)
     c.args.cell.now c.due_after-request.new.self c.show_lock_invariant.ensures
     (sym c.venue.ensures ∙ same)

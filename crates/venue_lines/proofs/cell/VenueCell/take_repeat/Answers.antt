@@ -21,8 +21,8 @@ invariant_of-self g c =
     let venue = c.requires.venue ∙ ap (λ (v : CellState). v.arbiter.venue) (sym c.self.view_is) in
     let genuine = subst (λ (n : ℕ). IsGenuinePacket g.G.Genuine n c.args.packet.now)
     venue c.requires.genuine in
-    let brought = counted_on line line c.args.packet.now outcome c.new-accepted.result
-    c.self.inside.counted c.count.new.self c.count.ensures c.new-accepted.ensures refl in
+    let brought = counted_on line line c.args.packet.now outcome c.new-repeated.result
+    c.self.inside.counted c.count.new.self c.count.ensures c.new-repeated.ensures refl in
     let kept = stays c.self.inside.lines in
     packet_kept g.G.Genuine g.N.FeedName.lanes _ _ line c.args.packet.now (Ok outcome) k refl kept
     (packet_fits _ _ k.history line c.args.packet.now (Ok outcome) k.fits refl kept
@@ -37,8 +37,8 @@ returns-clause-packet g c = λ h fits.
     let packets = h.present.packets in
     let line = c.line-line.result in
     let outcome = c.in_ok-outcome.outcome in
-    let brought = counted_on line line c.args.packet.now outcome c.new-accepted.result
-    c.self.inside.counted c.count.new.self c.count.ensures c.new-accepted.ensures refl in
+    let brought = counted_on line line c.args.packet.now outcome c.new-repeated.result
+    c.self.inside.counted c.count.new.self c.count.ensures c.new-repeated.ensures refl in
     let new : CellState = record {
       arbiter = c.self.inside.lines;
       lane = c.self.inside.items;
