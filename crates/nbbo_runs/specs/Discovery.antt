@@ -1,5 +1,5 @@
 -- Runs that list the lines of a packet capture.
-use Rattle.std.specs.Prelude.{◌≡◌, ◌⊎◌, ℕ, zero, suc, List, [], ◌∷◌, ◌++◌, codes, length, Result, Ok, Err}
+use Rattle.std.specs.Prelude.{◌≡◌, ℕ, zero, suc, List, [], ◌∷◌, ◌++◌, codes, length, Result, Ok, Err}
 use Rattle.std.specs.Result.{result_and}
 use Rattle.clap.specs.Walk.{Text}
 use Rattle.packet_capture.specs.declared.fault.CaptureFault.{CaptureFault}
@@ -9,7 +9,7 @@ use Rattle.feed_text.specs.StandardError.{SaysEach}
 use Rattle.line_captures.specs.Conversions.{AnswersConversion}
 use Rattle.line_captures.specs.DropCounts.{dropped_of}
 use Rattle.line_discovery.specs.declared.survey.LineSurvey.{LineSurvey}
-use Rattle.line_discovery.specs.Surveys.{is_begun, new_survey, survey_parsing}
+use Rattle.line_discovery.specs.Surveys.{new_survey, survey_parsing}
 use Rattle.line_discovery.specs.SurveyTexts.{text_of_survey}
 use Rattle.line_discovery.specs.Tables.{up_to_most}
 use Rattle.command_words.specs.CommandLine.{AsksDiscovery}
@@ -21,18 +21,8 @@ use Rattle.nbbo_runs.specs.Streams.{Devices, Streams}
 use Rattle.nbbo_runs.specs.declared.survey_form.SurveyForm.{SurveyForm}
 use Rattle.nbbo_runs.specs.declared.terminals.Terminals.{Terminals}
 
--- The lines of a survey are printed in the form once a capture has begun in it; else nothing is.
-abbrev pub PrintsSurvey : {W : Type 0} (writing : Writing W) (form : SurveyForm)
-    (survey : LineSurvey) (before after : W)
-    → Result (Unit {0}) (ReplayStop CaptureFault) → Type 0
-PrintsSurvey writing form survey before after printed =
-    (is_begun survey
-    × PrintsText writing (λ text. text ≡ text_of_survey form.format form.times survey.counts)
-    before after printed)
-    ⊎ ((is_begun survey → ⊥) × (after ≡ before) × (printed ≡ Ok tt))
-
--- A packet capture was read to its end, or up to a fault, and its lines were printed. A fault of
--- printing comes before that of reading.
+-- A packet capture was read to its end, or up to a fault, and its lines were printed in the form. A
+-- fault of printing comes before that of reading.
 pub record Discovers {R W : Type 0} (reading : Reading R) (writing : Writing W)
     (form : SurveyForm) (from to : R) (start finish : LineSurvey) (before after : W)
     (outcome : Result (Unit {0}) (ReplayStop CaptureFault)) : Type 0 where
@@ -41,7 +31,8 @@ pub record Discovers {R W : Type 0} (reading : Reading R) (writing : Writing W)
   pub reads : AnswersConversion reading survey_parsing writing 0 1000000000 from to start finish
       before mid read
   pub printed : Result (Unit {0}) (ReplayStop CaptureFault)
-  pub prints : PrintsSurvey writing form finish mid after printed
+  pub prints : PrintsText writing
+      (λ text. text ≡ text_of_survey form.format form.times finish.counts) mid after printed
   pub ends : outcome ≡ result_and printed read
 
 -- that no datagram is a packet, by how many are
