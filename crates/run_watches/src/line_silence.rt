@@ -34,8 +34,8 @@ fn nanoseconds(time: Duration) -> Option<u64> {
     u64::try_from(time.as_nanos()).ok()
 }
 
-/// What is told of a line that has been silent for `silent_ms` milliseconds. A silence is told after
-/// `after_ms` of them, if after any number; `is_told` is whether one was.
+/// What is told of a line that has been silent for `silent_ms` milliseconds. A silence is told
+/// after `after_ms` of them, if after any number; `is_told` is whether one was.
 fn silence_told(after_ms: Option<u64>, is_told: bool, silent_ms: u64) -> Option<Silence>
     ensures { result ≡ silence_told after_ms is_told silent_ms }
 {
