@@ -1,10 +1,10 @@
 -- What has become of one datagram, and what a line has brought by it.
-use Rattle.std.proofs.Common.{◌≡◌, ◌∙◌, ◌≤◌, ◌++◌, ℕ, List, [], ◌∷◌, Option, Some, None, true, refl, sym, ap, subst}
+use Rattle.std.proofs.Common.{◌≡◌, ◌∙◌, ◌≤◌, ◌++◌, ℕ, List, [], ◌∷◌, Option, Some, None, refl, sym, ap, subst}
 use Rattle.std.specs.Prelude.{IsTrue, is_some}
 use Rattle.std.proofs.lemmas.List.{append-nil}
 use Rattle.std.specs.declared.net.socket_addr.SocketAddr.{SocketAddr}
 use Rattle.run_settings.specs.Senders.{IsTakenFrom}
-use Rattle.udp_lines.specs.Brought.{Fate, HandedOn, Foreign, Withheld, Held, Released, HasMet, Kept, SortingRule, one_counted, counted_with, listed}
+use Rattle.udp_lines.specs.Brought.{HandedOn, Foreign, Withheld, Held, Released, HasMet, Kept, SortingRule, one_counted, counted_with, listed}
 use Rattle.udp_lines.specs.EndsOfSessions.{SpellsEndOf}
 use Rattle.udp_lines.specs.Plausible.{Covers, IsWithheld}
 use Rattle.udp_lines.specs.Sockets.{HearsFrom, HearsOf}

@@ -1,5 +1,5 @@
 -- Whether a datagram ends a line, by the one packet that its bytes are.
-use Rattle.std.proofs.Common.{◌≡◌, ◌∙◌, ◌+◌, ◌≤◌, ◌++◌, List, ℕ, Option, Some, None, ap, append_assoc, arith, length, length-append, refl, sym, subst}
+use Rattle.std.proofs.Common.{◌≡◌, ◌∙◌, ◌≤◌, ◌++◌, List, ℕ, Option, Some, None, ap, append_assoc, arith, length, length-append, refl, sym, subst}
 use Rattle.std.specs.List.{flat_map}
 use Rattle.std.specs.Prelude.{IfSome, IsTrue, is_some}
 use Rattle.mold_packet.specs.Block.{block}

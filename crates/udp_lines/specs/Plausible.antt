@@ -1,5 +1,5 @@
 -- Which datagrams of a line are withheld, by their numbers and by the ends that they are.
-use Rattle.std.specs.Prelude.{◌≡◌, ◌⊎◌, ℕ, ◌+◌, ◌-◌, ◌^◌, ◌<◌, ◌≤◌, ◌&&◌, not, nat_le, nat_lt, Bool, List, length, take, min, Option, Some, None, IsTrue, if◌then◌else◌}
+use Rattle.std.specs.Prelude.{◌≡◌, ◌⊎◌, ℕ, ◌+◌, ◌-◌, ◌^◌, ◌≤◌, ◌&&◌, not, nat_le, nat_lt, Bool, List, length, take, min, Option, Some, IsTrue, if◌then◌else◌}
 use Rattle.mold_packet.specs.declared.request.Request.{Request}
 use Rattle.mold_packet.specs.Request.{SpellsRequest}
 use Rattle.run_settings.specs.declared.end_rule.EndRule.{EndRule}

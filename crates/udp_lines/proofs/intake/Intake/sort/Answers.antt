@@ -1,4 +1,4 @@
-use Rattle.std.proofs.Common.{◌≡◌, rules, refl, inl, inr}
+use Rattle.std.proofs.Common.{rules, inl, inr}
 use Rattle.std.specs.Prelude.{take}
 use Rattle.udp_lines.proofs.Meeting.{handed, held_back, kept_back}
 use Rattle.udp_lines.specs.UdpLines.{kept_in, sorting_by}
