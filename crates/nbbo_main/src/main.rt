@@ -34,9 +34,9 @@ use std::sync::ledger::{Blank, Ledger};
 use std::thread::Threads;
 use std::{env, io};
 use udp_listening::{
-    BindFault, ErrorsProgress, ListenSockets, ListenStreams, NO_MEMORY, OutputState, PatientOutput,
-    SocketTables, UnheldErrors, bind_metrics, bind_sockets, enlarge, listen_with, listening_line,
-    metrics_line, write_bind_fault,
+    BindFault, ErrorsProgress, ListenSockets, ListenStreams, NO_MEMORY, SocketTables, UnheldErrors,
+    bind_metrics, bind_sockets, enlarge, listen_with, listening_line, metrics_line,
+    write_bind_fault,
 };
 
 /// The descriptor of standard error.
@@ -63,15 +63,14 @@ fn unread(kind: ErrorKind) -> Refusal
 }
 
 /// Runs over the standard streams, and returns the status of the program. The blank pages count the
-/// calls of the input, and the failures of each; those of a run that listens are counted apart.
-fn run_streams<H, C: Ledger, R: Ledger, W: Ledger, E: Ledger, L: Ledger, M: Ledger>(
+/// calls of the input, and the failures of each; those of standard error while it listens apart.
+fn run_streams<H, C: Ledger, R: Ledger, W: Ledger, E: Ledger, L: Ledger>(
     rt: &HostRuntime,
     threads: &H,
     of_calls: Blank,
     of_reads: Blank,
     of_writes: Blank,
     of_errors: Blank,
-    of_rows: Blank,
     of_texts: Blank,
 ) -> u8
 where
@@ -88,11 +87,8 @@ where
     requires errors { of_errors.name ≡ E.name }
     requires error_parts { of_errors.parts ≡ E.parts }
     requires some_errors { 0 < of_errors.parts }
-    requires rows { of_rows.name ≡ L.name }
-    requires row_parts { of_rows.parts ≡ L.parts }
-    requires some_rows { 0 < of_rows.parts }
-    requires texts { of_texts.name ≡ M.name }
-    requires text_parts { of_texts.parts ≡ M.parts }
+    requires texts { of_texts.name ≡ L.name }
+    requires text_parts { of_texts.parts ≡ L.parts }
     requires some_texts { 0 < of_texts.parts }
 {
     let input: StreamIn<Stdin, C, R> = StreamIn::new(
@@ -102,12 +98,12 @@ where
     );
     let output: StreamOut<Stdout, W> = StreamOut::new(rt.stdout(), Count::new(of_writes));
     let mut errors: StreamOut<Stderr, E> = StreamOut::new(rt.stderr(), Count::new(of_errors));
-    let (next, _output) = run_words(rt, KeptStart::new(input), output, &mut errors);
+    let (next, output) = run_words(rt, KeptStart::new(input), output, &mut errors);
     match next {
         Next::Ended(status) => status,
         Next::Listens(settings) => {
-            let (of_rows, of_texts) = (Count::new(of_rows), Count::new(of_texts));
-            listen_live::<H, _, L, M>(rt, threads, &settings, of_rows, of_texts, errors)
+            let of_texts: Count<L> = Count::new(of_texts);
+            listen_live(rt, threads, &settings, output, errors, of_texts)
         }
     }
 }
@@ -222,43 +218,27 @@ fn tell_sockets<E: TextOut>(
     Ok(())
 }
 
-/// How the streams of a run that listens do, twice: for who writes on them, and for its monitor.
-#[derive(Drop)]
-struct StreamShares {
-    output: OutputState,
-    output_state: OutputState,
-    errors: ErrorsProgress,
-    errors_progress: ErrorsProgress,
-}
-
-impl StreamShares {
-    /// Returns those of streams on which nothing was written.
-    fn new(alloc: Global) -> Result<StreamShares, AllocError> {
-        let output_state = OutputState::new(alloc)?;
-        let errors_progress = ErrorsProgress::new(alloc, STDERR)?;
-        Ok(StreamShares {
-            output: output_state.share()?,
-            output_state,
-            errors: errors_progress.share()?,
-            errors_progress,
-        })
-    }
+/// Returns how standard error does, for who writes on it and for the run's monitor.
+fn errors_progress(alloc: Global) -> Result<(ErrorsProgress, ErrorsProgress), AllocError> {
+    let progress = ErrorsProgress::new(alloc, STDERR)?;
+    let share = progress.share()?;
+    Ok((progress, share))
 }
 
 /// Listens on the lines of the settings, and returns the status of the program.
-fn listen_live<H, E, L, M>(
+fn listen_live<H, W, E, L>(
     rt: &HostRuntime,
     threads: &H,
     settings: &ListenSettings,
-    of_rows: Count<L>,
-    of_texts: Count<M>,
+    output: W,
     mut errors: E,
+    of_texts: Count<L>,
 ) -> u8
 where
     H: Threads + Wait + Sync,
-    E: TextOut + Drop + Send,
+    W: TextOut + Drop,
+    E: TextOut + Drop,
     L: Ledger,
-    M: Ledger,
 {
     fill_streams(rt);
     let sockets = match bind_all(rt, settings) {
@@ -273,28 +253,31 @@ where
         write_stderr(NO_MEMORY, &mut errors);
         return 1;
     }
-    let Ok(shares) = StreamShares::new(rt.alloc()) else {
+    let Ok((progress, errors_progress)) = errors_progress(rt.alloc()) else {
         write_stderr(NO_MEMORY, &mut errors);
         return 1;
     };
-    let output = PatientOutput::new(rt.stdout(), shares.output);
     let streams = ListenStreams {
         input: rt.stdin(),
-        output: StreamOut::new(output, of_rows),
-        errors: UnheldErrors::new(errors, of_texts, shares.errors),
-        output_state: shares.output_state,
-        errors_progress: shares.errors_progress,
+        output,
+        errors: UnheldErrors::new(errors, of_texts, progress),
+        errors_progress,
     };
-    let (status, _output, _errors) =
-        listen_with(threads, rt, rt.alloc(), settings, sockets, streams);
+    let (status, _output, _errors) = listen_with(
+        threads,
+        rt,
+        rt.alloc(),
+        settings,
+        sockets,
+        streams,
+    );
     status
 }
 
 fn main(rt: HostRuntime) -> ExitCode {
-    ExitCode::from(run_streams::<HostRuntime, Brand, Brand, Brand, Brand, Brand, Brand>(
+    ExitCode::from(run_streams::<HostRuntime, Brand, Brand, Brand, Brand, Brand>(
         &rt,
         &rt,
-        Blank::new(1),
         Blank::new(1),
         Blank::new(1),
         Blank::new(1),

@@ -5,7 +5,6 @@ use Rattle.feed_types.specs.declared.line.LineId.{LineId}
 use Rattle.feed_text.specs.Devices.{Writing}
 use Rattle.best_rows.specs.declared.style.RowStyle.{RowStyle}
 use Rattle.live_feed.specs.Lanes.{FeedLanes}
-use Rattle.live_feed.specs.declared.run.beside.Beside.{Beside}
 use Rattle.live_feed.specs.declared.run.line.LineEnd.{LineEnd}
 use Rattle.live_feed.specs.declared.run.whole.FeedReport.{FeedReport}
 use Rattle.live_feed.specs.declared.run.whole.LineTask.{LineTask}
@@ -17,46 +16,40 @@ use Rattle.live_feed.specs.subscriber.Logs.{SubscriberLogState}
 use Rattle.live_feed.specs.venue.Seats.{SeatState, new_seat}
 use Rattle.udp_listening.specs.Listening.{HasListenedOn, IsFollowing, IsUnprinted}
 use Rattle.udp_listening.specs.SettledNotices.{HasNoted, settled_forgotten, settled_log}
-use Rattle.udp_listening.specs.Monitors.{FollowsRows, HasAttendedBoth, HasMonitored}
+use Rattle.udp_listening.specs.Monitors.{HasMonitored}
 use Rattle.run_settings.specs.declared.listen_settings.ListenSettings.{ListenSettings}
 use Rattle.udp_listening.specs.Reports.{IsListened, IsReportOfFeed, IsReportOfRun, any_lines, reported_line, seat_line, task_line}
 use Rattle.run_watches.specs.RunLines.{watched_run}
-use Rattle.udp_listening.specs.Lines.{run_lines}
+use Rattle.udp_listening.specs.Lines.{LineState, run_lines}
 use Rattle.run_watches.specs.RunNews.{SaysOfRun}
 use Rattle.udp_listening.specs.Settings.{feed_setting}
-use Rattle.udp_listening.specs.Lines.{LineState}
 use Rattle.udp_listening.specs.declared.console.Console.{Console}
 use Rattle.udp_listening.specs.declared.listen_report.ListenReport.{ListenReport}
 use Rattle.udp_listening.specs.declared.listen_sockets.BoundLine.{BoundLine}
 use Rattle.udp_listening.specs.declared.listening.ListenFault.{ListenFault}
-use Rattle.udp_listening.specs.declared.row_follower.RowFollower.{RowFollower}
 use Rattle.udp_listening.specs.declared.run_monitor.RunMonitor.{RunMonitor}
 use Rattle.run_watches.specs.RunNewsLaws.{nothing_of_run}
 use Rattle.udp_listening.proofs.Noting.{noted_new}
 use Rattle.udp_listening.proofs.Wholes.{settled_forgotten_of, settled_log_of}
 
--- who stands beside a run
-abbrev pub Pair : Type 0 → Type 0 → Type 0 → Type 0
-Pair C W E = Beside (RowFollower C W) (RunMonitor C E)
-
 -- What is printed of a log by the end: from whichever output on there was only the header.
-abbrev pub Shows : {C W E : Type 0} → Writing W → Pair C W E → Pair C W E
+abbrev pub Shows : {C W E : Type 0} → Writing W → RunMonitor C W E → RunMonitor C W E
     → List Logged → ℕ → Type 0
-Shows {C} {W} {E} writing before after log printed =
-    (style : RowStyle) (first : W) → IsUnprinted writing style first before.first.console
-    → IsFollowing writing style first log printed after.first.console
+Shows {C} {W} writing before after log printed =
+    (style : RowStyle) (first : W) → IsUnprinted writing style first before.console
+    → IsFollowing writing style first log printed after.console
 
 -- the one log of a run that was monitored, what was printed of it, and which symbols are left
 -- unchanged of those that the console had at first
 pub record Monitored {C W E : Type 0} (writing : Writing W) (telling : Writing E)
-    (before after : Pair C W E) (logs : List SubscriberLogState) : Type 0 where
+    (before after : RunMonitor C W E) (logs : List SubscriberLogState) : Type 0 where
   pub log : SubscriberLogState
   pub one : logs ≡ log ∷ []
   pub shows : Shows writing before after log.lines log.forgotten
-  pub says : SaysOfRun telling (watched_run before.second.watches) before.second.errors
-      after.second.errors
-  pub notes : (symbols : List (List ℕ)) → before.first.console.unchanged ≡ symbols
-      → HasNoted symbols log.lines log.forgotten after.first.console.unchanged
+  pub says : SaysOfRun telling (watched_run before.watches) before.console.errors
+      after.console.errors
+  pub notes : (symbols : List (List ℕ)) → before.console.unchanged ≡ symbols
+      → HasNoted symbols log.lines log.forgotten after.console.unchanged
 
 -- there are no other logs
 alone : (log : SubscriberLogState) (others : List SubscriberLogState) → length others ≡ 0
@@ -64,62 +57,46 @@ alone : (log : SubscriberLogState) (others : List SubscriberLogState) → length
 alone log [] none = refl
 alone log (other ∷ others) none = absurd (omega (arith, none))
 
--- what was printed of the one log
-followed : {C W E : Type 0} (writing : Writing W) (telling : Writing E)
-    (before after : Pair C W E) (log later : Option SubscriberLogState)
-    (others : List SubscriberLogState)
-    → IsBegun true log → FollowsRows writing before.first log after.first later
-    → length others ≡ 0
-    → SaysOfRun telling (watched_run before.second.watches) before.second.errors
-    after.second.errors
-    → Monitored writing telling before after (logs_with later others)
-followed writing telling before after None later others begun follows none said = absurd cc
-followed writing telling before after (Some log) None others begun follows none said =
-    absurd follows
-followed writing telling before after (Some log) (Some later) others begun follows none said =
-    record {
-      log = later;
-      one = alone later others none;
-      shows =
-          λ style first unprinted.
-          follows.0 style first
-          (subst (λ n. IsFollowing writing style first log.lines n before.first.console)
-          (sym begun.2) (unprinted log.lines));
-      says = said;
-      notes =
-          λ symbols same.
-          follows.1 symbols (noted_new symbols log before.first.console.unchanged begun.2 same);
-    }
-
 pub monitored : {C W E : Type 0} (writing : Writing W) (telling : Writing E)
-    (before after : Pair C W E) (log later : Option SubscriberLogState)
+    (before after : RunMonitor C W E) (log later : Option SubscriberLogState)
     (others : List SubscriberLogState)
-    → IsBegun true log → HasAttendedBoth writing telling before log after later
-    → length others ≡ 0
+    → IsBegun true log → HasMonitored writing telling before log after later → length others ≡ 0
     → Monitored writing telling before after (logs_with later others)
-monitored writing telling before after log later others begun attended none =
-    followed writing telling before after log later others begun attended.first_attends none
-    attended.second_attends.0
+monitored writing telling before after None later others begun attended none = absurd cc
+monitored writing telling before after (Some log) None others begun attended none = absurd attended
+monitored writing telling before after (Some log) (Some later) others begun attended none = record {
+  log = later;
+  one = alone later others none;
+  shows =
+      λ style first unprinted.
+      attended.0 style first
+      (subst (λ n. IsFollowing writing style first log.lines n before.console) (sym begun.2)
+      (unprinted log.lines));
+  says = attended.1;
+  notes =
+      λ symbols same.
+      attended.2 symbols (noted_new symbols log before.console.unchanged begun.2 same);
+}
 
 -- What a monitor has printed and said that attended a run, or none.
 pub record MonitoredIfRun {C W E : Type 0} (writing : Writing W) (telling : Writing E)
-    (before after : Pair C W E) : Type 0 where
+    (before after : RunMonitor C W E) : Type 0 where
   pub lines : List Logged
   pub printed : ℕ
   pub shows : Shows writing before after lines printed
-  pub says : SaysOfRun telling (watched_run before.second.watches) before.second.errors
-      after.second.errors
+  pub says : SaysOfRun telling (watched_run before.watches) before.console.errors
+      after.console.errors
 
 pub monitored_if_run : {C W E : Type 0} (writing : Writing W) (telling : Writing E)
-    (before after : Pair C W E)
-    → HasAttended (HasAttendedBoth writing telling) true before after
+    (before after : RunMonitor C W E)
+    → HasAttended (HasMonitored writing telling) true before after
     → MonitoredIfRun writing telling before after
 monitored_if_run writing telling before after (inl same) =
     subst (λ m. MonitoredIfRun writing telling before m) (sym same) (record {
       lines = [];
       printed = 0;
       shows = λ style first unprinted. unprinted [];
-      says = nothing_of_run telling (watched_run before.second.watches) before.second.errors;
+      says = nothing_of_run telling (watched_run before.watches) before.console.errors;
     })
 monitored_if_run writing telling before after (inr ran) =
     let m = monitored writing telling before after ran.0 ran.1 [] ran.2 ran.3 refl
@@ -156,9 +133,9 @@ module _ {G N C W E : Type 0} (settings : ListenSettings) (writing : Writing W)
     (telling : Writing E) (lanes : FeedLanes)
     (brings : LineState → List (List ℕ) → LineState → Type 0) (failures : LineState → ℕ)
     (tasks : List (LineTask LineState)) (count : ℕ) (none : count ≡ 0)
-    (before after : Pair C W E) (whole : FeedReport LineState)
+    (before after : RunMonitor C W E) (whole : FeedReport LineState)
     (w : IsWholeRun G N any_lines lanes (λ l. l.venue) brings failures
-    (HasAttendedBoth writing telling) tasks true count before after whole) where
+    (HasMonitored writing telling) tasks true count before after whole) where
   ended : Monitored writing telling before after (logs_with w.later w.others)
   ended = monitored writing telling before after w.log w.later w.others w.begun w.attended
       (w.all ∙ none)
@@ -167,13 +144,13 @@ module _ {G N C W E : Type 0} (settings : ListenSettings) (writing : Writing W)
   seated = lines_of (HasTaken any_lines lanes) brings failures tasks w.ends w.lines
 
   -- the forgotten notices of the settled log were noted
-  pub noted_of : (symbols : List (List ℕ)) → before.first.console.unchanged ≡ symbols
+  pub noted_of : (symbols : List (List ℕ)) → before.console.unchanged ≡ symbols
       → HasNoted symbols (settled_log whole.settlement) (settled_forgotten whole.settlement)
-      after.first.console.unchanged
+      after.console.unchanged
   noted_of symbols same =
       let log = settled_log_of ended.log ended.one w.settled in
       let forgotten = settled_forgotten_of ended.log ended.one w.settled in
-      subst (λ (x : List Logged × ℕ). HasNoted symbols x.0 x.1 after.first.console.unchanged)
+      subst (λ (x : List Logged × ℕ). HasNoted symbols x.0 x.1 after.console.unchanged)
       (λ i. (sym log i, sym forgotten i)) (ended.notes symbols same)
 
   -- the report is that of the run
@@ -193,14 +170,14 @@ module _ {G N C W E : Type 0} (settings : ListenSettings) (writing : Writing W)
 
   -- and of its settled log the forgotten rows were printed
   pub printed_of : (report : ListenReport) → IsReportOfFeed settings whole report
-      → HasListenedOn writing before.first.console (Ok report) after.first.console
+      → HasListenedOn writing before.console (Ok report) after.console
   printed_of report tells =
       λ style first unprinted.
       let log = settled_log_of ended.log ended.one w.settled in
       let forgotten = settled_forgotten_of ended.log ended.one w.settled in
       subst (λ (s : SettlementState). IsFollowing writing style first (settled_log s)
-      (settled_forgotten s) after.first.console) (sym tells.settlement)
-      (subst (λ (x : List Logged × ℕ). IsFollowing writing style first x.0 x.1 after.first.console)
+      (settled_forgotten s) after.console) (sym tells.settlement)
+      (subst (λ (x : List Logged × ℕ). IsFollowing writing style first x.0 x.1 after.console)
       (λ i. (sym log i, sym forgotten i)) (ended.shows style first unprinted))
 
 -- a report of a run is one of the settings' feed, where the run's lanes and lines are theirs
@@ -219,7 +196,7 @@ listened_if_run settings sockets lanes lines (Ok report) setting venues same run
 listened_if_run settings sockets lanes lines (Err fault) setting venues same run = tt
 
 -- what was printed, by cases on whether there is a report
-pub listened_by : {C W : Type 0} (writing : Writing W) (before after : Console C W)
+pub listened_by : {W E : Type 0} (writing : Writing W) (before after : Console W E)
     (P : ListenReport → Type 0) (outcome : Result ListenReport ListenFault)
     → ((report : ListenReport) → P report → HasListenedOn writing before (Ok report) after)
     → ((fault : ListenFault) → HasListenedOn writing before (Err fault) after)

@@ -1,9 +1,7 @@
 -- The lines of a run, by the sockets that receive them.
-use Rattle.std.specs.Prelude.{ℕ, List, [], ◌∷◌, flat_map, is_some, ltb, vec_len, if◌then◌else◌}
+use Rattle.std.specs.Prelude.{ℕ, List, [], ◌∷◌, flat_map, ltb, vec_len, if◌then◌else◌}
 use Rattle.feed_types.specs.declared.line.LineId.{LineId}
-use Rattle.run_settings.specs.FurtherOptions.{has_further_options}
 use Rattle.run_settings.specs.declared.listen_settings.ListenSettings.{ListenSettings}
-use Rattle.run_watches.specs.RunLines.{WatchedLines, WatchedRun, told_gaps}
 use Rattle.std.specs.declared.net.udp.UdpSocket.{UdpSocket}
 use Rattle.udp_lines.specs.UdpLines.{UdpLineState}
 use Rattle.udp_listening.specs.declared.listen_sockets.BoundLine.{BoundLine}
@@ -20,19 +18,3 @@ line_below venues bound =
 -- the lines that are run over these sockets, in their order: those of the settings' venues
 abbrev pub run_lines : ListenSettings → List BoundLine → List (ℕ × LineId)
 run_lines settings sockets = flat_map (line_below (vec_len settings.feed.sessions)) sockets
-
--- these lines, of which more is told where the settings have further options
-abbrev pub socket_lines : ListenSettings → List BoundLine → WatchedLines
-socket_lines settings sockets = record {
-  tells_more = has_further_options settings;
-  lines = run_lines settings sockets;
-}
-
--- the run of the settings over these sockets
-abbrev pub socket_run : ListenSettings → List BoundLine → WatchedRun
-socket_run settings sockets = record {
-  lines = socket_lines settings sockets;
-  gaps = told_gaps settings;
-  follows = settings.follow;
-  counted = is_some settings.stats;
-}

@@ -1,35 +1,21 @@
--- Who stands beside a run, before and after it.
+-- The monitor of a run, before and after it.
 use Rattle.std.specs.Prelude.{◌≡◌, Option, Some, None}
 use Rattle.feed_text.specs.Devices.{Writing}
-use Rattle.live_feed.specs.declared.run.beside.Beside.{Beside}
-use Rattle.live_feed.specs.run.Attending.{AttendBoth}
 use Rattle.live_feed.specs.subscriber.Logs.{SubscriberLogState}
 use Rattle.udp_listening.specs.Listening.{KeepsFollowing, KeepsNoting}
 use Rattle.run_watches.specs.RunLines.{watched_run}
 use Rattle.run_watches.specs.RunNews.{SaysOfRun}
-use Rattle.udp_listening.specs.declared.row_follower.RowFollower.{RowFollower}
 use Rattle.udp_listening.specs.declared.run_monitor.RunMonitor.{RunMonitor}
 
--- The follower of rows has attended a run, with a subscriber's log: it has printed what that has
--- forgotten, and noted the symbols of that. Without a log it has done nothing.
-abbrev pub FollowsRows : {C W : Type 0} → Writing W → RowFollower C W → Option SubscriberLogState
-    → RowFollower C W → Option SubscriberLogState → Type 0
-FollowsRows writing before None after later = (after ≡ before) × (later ≡ None)
-FollowsRows writing before (Some log) after None = ⊥
-FollowsRows writing before (Some log) after (Some longer) =
+-- The monitor has attended a run, with a subscriber's log: it has printed what that has forgotten,
+-- said all that is said of the run, and noted the symbols of what the log has forgotten. Without a
+-- log it has done nothing.
+abbrev pub HasMonitored : {C W E : Type 0} → Writing W → Writing E
+    → RunMonitor C W E → Option SubscriberLogState
+    → RunMonitor C W E → Option SubscriberLogState → Type 0
+HasMonitored writing telling before None after later = (after ≡ before) × (later ≡ None)
+HasMonitored writing telling before (Some log) after None = ⊥
+HasMonitored writing telling before (Some log) after (Some longer) =
     KeepsFollowing writing log before.console longer after.console
+    × SaysOfRun telling (watched_run before.watches) before.console.errors after.console.errors
     × KeepsNoting log before.console longer after.console
-
--- The monitor has attended a run: it has said all that is said of it, and left a log as it was.
-abbrev pub HasMonitored : {C E : Type 0} → Writing E → RunMonitor C E → Option SubscriberLogState
-    → RunMonitor C E → Option SubscriberLogState → Type 0
-HasMonitored telling before log after later =
-    SaysOfRun telling (watched_run before.watches) before.errors after.errors × (later ≡ log)
-
--- Both have attended a run, the first with a subscriber's log.
-abbrev pub HasAttendedBoth : {C W E : Type 0} → Writing W → Writing E
-    → Beside (RowFollower C W) (RunMonitor C E) → Option SubscriberLogState
-    → Beside (RowFollower C W) (RunMonitor C E) → Option SubscriberLogState → Type 0
-HasAttendedBoth writing telling before log after later =
-    AttendBoth (FollowsRows writing) (HasMonitored telling) None
-    before.first before.second log after.first after.second later

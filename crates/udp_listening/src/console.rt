@@ -5,7 +5,6 @@ ghost use Rattle.best_rows.specs.NoticeRows.{AreRowsOf};
 ghost use Rattle.udp_listening.specs.Listening.{IsUnprinted, KeepsFollowing, KeepsNoting};
 ghost use Rattle.udp_listening.specs.SettledNotices.{notices_of};
 
-use crate::row_marks::RowMarks;
 use crate::timed_rows::put_timed;
 use crate::unchanged::note_log;
 use best_rows::{RowStyle, header_line};
@@ -14,7 +13,6 @@ use live_feed::{FeedName, SubscriberLog};
 use run_notes::AbsentList;
 use std::alloc::Global;
 use std::sync::Wait;
-use std::time::Clock;
 
 /// The most notices that are taken before their lines are written.
 pub const MOST: usize = 1_024;
@@ -31,54 +29,78 @@ pub enum LiveOutput {
     Failed,
 }
 
-/// Standard output, and whether lines are printed while the run goes on. What was printed of a log
-/// it has forgotten.
+/// Standard output and standard error, and whether lines are printed while the run goes on. What
+/// was printed of a log it has forgotten.
 #[derive(Drop)]
-pub struct Console<C, W> {
+pub struct Console<W, E> {
     pub output: W,
+    pub errors: E,
     pub live_output: LiveOutput,
     /// How rows are written.
     pub style: RowStyle,
-    /// Where it is marked how far the rows are, if anywhere.
-    pub marks: Option<RowMarks<C>>,
+    /// How many changes of the national best were taken of the log.
+    pub changes: u64,
     /// Of the symbols of which it is told at the end, those of which no change is among what the
     /// log has forgotten.
     pub unchanged: AbsentList,
 }
 
-/// Polls once, and returns whether a notice was taken.
+/// Polls once, and returns whether a notice was taken. Where that is refused, a run isn't to wait
+/// for the subscriber until its lane was found empty again.
 fn has_polled<N: FeedName, R: Wait>(rt: &R, log: &mut SubscriberLog<N>) -> bool
     ensures lines { IsPrefix log.old.lines log.new.lines }
     ensures forgotten { log.new.forgotten ≡ log.old.forgotten }
 {
     match log.poll_holding(rt) {
-        Ok(polled) => polled.is_some(),
-        Err(_) => false,
-    }
-}
-
-/// Takes the notices that the log's subscriber is offered, 1,024 at most.
-fn poll_some<N: FeedName, R: Wait>(rt: &R, log: &mut SubscriberLog<N>)
-    ensures lines { IsPrefix log.old.lines log.new.lines }
-    ensures forgotten { log.new.forgotten ≡ log.old.forgotten }
-{
-    for _ in 0..MOST {
-        if !has_polled(rt, log) {
-            break;
+        Ok(Some(_)) => true,
+        Ok(None) => {
+            log.begin_polls();
+            false
+        }
+        Err(_) => {
+            log.end_polls();
+            false
         }
     }
 }
 
-impl<C: Clock, W: TextOut> Console<C, W> {
+/// Takes the notices that the log's subscriber is offered, 1,024 at most, and returns whether there
+/// were any.
+fn poll_some<N: FeedName, R: Wait>(rt: &R, log: &mut SubscriberLog<N>) -> bool
+    ensures lines { IsPrefix log.old.lines log.new.lines }
+    ensures forgotten { log.new.forgotten ≡ log.old.forgotten }
+{
+    let mut has_taken = false;
+    for _ in 0..MOST {
+        if !has_polled(rt, log) {
+            break;
+        }
+        has_taken = true;
+    }
+    has_taken
+}
+
+/// The number of the last change in the log that isn't forgotten, if there is one.
+fn last_number<N: FeedName>(log: &SubscriberLog<N>) -> Option<u64> {
+    match log.log().last() {
+        Some(last) => Some(last.notice.number),
+        None => None,
+    }
+}
+
+impl<W: TextOut, E> Console<W, E> {
     /// Prints what stands before the first row. At the end it is told of no symbol that it never
     /// had a best.
     pub fn new(
         alloc: Global,
         output: W,
+        errors: E,
         live_output: LiveOutput,
         style: RowStyle,
-    ) -> Console<C, W>
+    ) -> Console<W, E>
         requires { live_output ≢ LiveOutput.Failed }
+        ensures errors { result.errors ≡ errors }
+        ensures changes { result.changes ≡ 0 }
         ensures unprinted { IsUnprinted (record { adds = W.adds; failures = W.failures })
             style output result }
     {
@@ -89,37 +111,17 @@ impl<C: Clock, W: TextOut> Console<C, W> {
         };
         Console {
             output,
+            errors,
             live_output,
             style,
-            marks: None,
+            changes: 0,
             unchanged: AbsentList::none(alloc),
-        }
-    }
-
-    /// Marks that all that the log has was taken.
-    fn mark_taken<N: FeedName>(&self, log: &SubscriberLog<N>) {
-        if let Some(marks) = &self.marks {
-            marks.take(log);
-        }
-    }
-
-    /// Marks that a write begins.
-    fn mark_write(&self) {
-        if let Some(marks) = &self.marks {
-            marks.begin_write();
-        }
-    }
-
-    /// Marks that the write of the log's rows has ended.
-    fn mark_written<N: FeedName>(&self, log: &SubscriberLog<N>) {
-        if let Some(marks) = &self.marks {
-            marks.end_write(log);
         }
     }
 
     /// Takes what the log's subscriber is offered, 1,024 notices at most, and where lines are
     /// printed as they come prints those of the log that aren't printed yet, with their times, and
-    /// has the log forget them.
+    /// has the log forget them. Returns whether it took anything.
     ///
     /// Where memory for the lines is refused they are printed at the end, with all that follow, and
     /// without times.
@@ -128,17 +130,19 @@ impl<C: Clock, W: TextOut> Console<C, W> {
         rt: &R,
         text: &mut LineBuffer,
         log: &mut SubscriberLog<N>,
-    )
+    ) -> bool
         ensures log { IsPrefix log.old.lines log.new.lines }
         ensures shows { KeepsFollowing (record { adds = W.adds; failures = W.failures })
             log.old self.old log.new self.new }
         ensures notes { KeepsNoting log.old self.old log.new self.new }
+        ensures errors { self.new.errors ≡ self.old.errors }
     {
-        poll_some(rt, log);
-        self.mark_taken(log);
+        let has_taken = poll_some(rt, log);
+        self.changes = last_number(log).unwrap_or(self.changes);
         if self.live_output == LiveOutput::On {
             self.print_rest(text, log);
         }
+        has_taken
     }
 
     /// Prints the rows of the log that aren't printed yet, with their times, and has the log forget
@@ -149,6 +153,7 @@ impl<C: Clock, W: TextOut> Console<C, W> {
         ensures shows { KeepsFollowing (record { adds = W.adds; failures = W.failures })
             log.old self.old log.new self.new }
         ensures notes { KeepsNoting log.old self.old log.new self.new }
+        ensures errors { self.new.errors ≡ self.old.errors }
     {
         if log.log().is_empty() {
             return;
@@ -170,12 +175,10 @@ impl<C: Clock, W: TextOut> Console<C, W> {
         ensures shows { KeepsFollowing (record { adds = W.adds; failures = W.failures })
             log.old self.old log.new self.new }
         ensures notes { KeepsNoting log.old self.old log.new self.new }
+        ensures errors { self.new.errors ≡ self.old.errors }
     {
         let count = log.log().len();
-        self.mark_write();
-        let written = write_all(text, &mut self.output);
-        self.mark_written(log);
-        match written {
+        match write_all(text, &mut self.output) {
             Ok(()) => {
                 note_log(&mut self.unchanged, log.log());
                 log.forget(count);

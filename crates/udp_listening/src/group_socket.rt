@@ -8,6 +8,7 @@ use std::os::fd::AsRawFd;
 
 /// The bytes of an address of version four, and of version six, as the system's calls take it.
 const V4_BYTES: u32 = 16;
+
 const V6_BYTES: u32 = 28;
 
 /// Returns the address as the system's calls take it, and how many of the bytes count.

@@ -11,9 +11,6 @@ use crate::listen_report::ListenReport;
 use crate::listen_sockets::ListenSockets;
 use crate::listen_streams::ListenStreams;
 use crate::listening::{ListenFault, Listened, feed_of, run_feed};
-use crate::output_state::OutputState;
-use crate::row_follower::RowFollower;
-use crate::row_marks::RowMarks;
 use crate::run_monitor::RunMonitor;
 use crate::run_time::RunTime;
 use crate::sources::lines_over;
@@ -22,11 +19,9 @@ use crate::unchanged::noted_symbols;
 use best_rows::RowStyle;
 use feed_text::{Lack, TextOut, write_all, write_stderr};
 use feed_types::{LineId, VenueId};
-use live_feed::{Beside, Stop};
+use live_feed::Stop;
 use run_settings::ListenSettings;
-use run_watches::{
-    GapWatches, ListenCounts, MetricsServer, OutputWatch, RowProgress, RunWatches,
-};
+use run_watches::{GapWatches, ListenCounts, MetricsServer, OutputWatch, RowProgress, RunWatches};
 use std::alloc::{AllocError, Global};
 use std::marker::Brand;
 use std::rt::Clock;
@@ -106,28 +101,33 @@ fn fault_line(fault: ListenFault) -> &'static str
 
 /// Prints the end of listening, and returns the status of the program: 0, or 1 where a line failed,
 /// the run stopped early, or not all was printed.
-fn print_end<C: Clock, W: TextOut, E: TextOut>(
+fn print_end<W: TextOut, E: TextOut>(
     alloc: Global,
     outcome: &Result<ListenReport, ListenFault>,
-    console: &mut Console<C, W>,
-    errors: &mut E,
+    console: &mut Console<W, E>,
 ) -> u8
     ensures { PrintsEnd
         (record { adds = W.adds; failures = W.failures })
         (record { adds = E.adds; failures = E.failures })
         console.old.style outcome.now console.old.live_output
-        console.old.output console.new.output errors.old errors.new result }
+        console.old.output console.new.output console.old.errors console.new.errors result }
 {
     match outcome {
         Ok(report) => {
             if console.live_output == LiveOutput::Failed {
-                print_failed_report(report, errors)
+                print_failed_report(report, &mut console.errors)
             } else {
                 let style = console.style;
-                print_report(alloc, style, report, &mut console.output, errors)
+                print_report(
+                    alloc,
+                    style,
+                    report,
+                    &mut console.output,
+                    &mut console.errors,
+                )
             }
         }
-        Err(fault) => fail(fault_line(*fault), errors),
+        Err(fault) => fail(fault_line(*fault), &mut console.errors),
     }
 }
 
@@ -170,26 +170,23 @@ fn style_of(settings: &ListenSettings) -> RowStyle
     }
 }
 
-/// What the monitor of a run shares with the thread of its rows, and the clock of each.
+/// How far the rows of a run are, twice, and its clock.
 #[derive(Drop)]
 struct RunShares<C> {
-    marks: RowMarks<C>,
-    progress: RowProgress,
-    state: OutputState,
+    rows: RowProgress,
+    watched: RowProgress,
     clock: C,
 }
 
-/// Returns what is shared in a run by this clock, whose output has this state.
+/// Returns what is shared in a run by this clock, of which no row is printed.
 fn shares_of<C: Clock + Clone + Drop>(
     alloc: Global,
     clock: &C,
-    state: &OutputState,
 ) -> Result<RunShares<C>, AllocError> {
-    let progress = RowProgress::new(alloc)?;
+    let rows = RowProgress::new(alloc)?;
     Ok(RunShares {
-        marks: RowMarks::new(progress.share()?, clock.clone()?),
-        progress,
-        state: state.share()?,
+        watched: rows.share()?,
+        rows,
         clock: clock.clone()?,
     })
 }
@@ -206,8 +203,6 @@ fn shares_of<C: Clock + Clone + Drop>(
 /// at the end what was counted of the lines; where the settings have further options also with
 /// which sessions lines ended, what the system dropped, and which symbols never came, or where not
 /// all entries are kept never had a best.
-///
-/// The rows have a thread of their own, so that who doesn't read them holds up nothing else.
 pub fn listen_with<R, C, W, E>(
     rt: &R,
     clock: &C,
@@ -219,8 +214,8 @@ pub fn listen_with<R, C, W, E>(
 where
     R: Threads + Wait + Sync,
     C: Clock + Clone + Drop + Send,
-    W: TextOut + Drop + Send,
-    E: TextOut + Drop + Send,
+    W: TextOut + Drop,
+    E: TextOut + Drop,
     ensures { Listens
         (record { adds = W.adds; failures = W.failures })
         (record { adds = E.adds; failures = E.failures })
@@ -231,40 +226,32 @@ where
         input,
         output,
         errors,
-        output_state,
         errors_progress,
     } = streams;
-    let mut errors = errors;
-    let mut console = Console::new(alloc, output, live_output_of(settings), style_of(settings));
+    let live_output = live_output_of(settings);
+    let mut console = Console::new(alloc, output, errors, live_output, style_of(settings));
     let (Ok(feed), Ok(lines), Ok(gaps), Ok(unchanged), Ok(shares)) = (
         feed_of(alloc, settings),
         lines_over(alloc, settings, sockets.lines, sockets.tables, clock),
         GapWatches::of(alloc, settings),
         noted_symbols(alloc, settings),
-        shares_of(alloc, clock, &output_state),
+        shares_of(alloc, clock),
     ) else {
-        let status = print_end(alloc, &Err(ListenFault::NoMemory), &mut console, &mut errors);
-        return (status, console.output, errors);
+        let status = print_end(alloc, &Err(ListenFault::NoMemory), &mut console);
+        return (status, console.output, console.errors);
     };
     console.unchanged = unchanged;
-    console.marks = Some(shares.marks);
     let counts = ListenCounts::of(alloc, settings);
     let metrics = MetricsServer::of(alloc, sockets.metrics);
-    let of_output = OutputWatch::new(settings.follow, shares.progress, errors_progress);
+    let of_output = OutputWatch::new(settings.follow, shares.watched, errors_progress);
     let watches = RunWatches::new(lines.watches, gaps, of_output, counts, metrics);
     let time = RunTime::new(settings, input, shares.clock);
-    let follower = RowFollower::new(alloc, console, shares.state);
-    let monitor = RunMonitor::new(time, errors, watches, output_state, settings.follow);
-    let attendants = Beside {
-        first: follower,
-        second: monitor,
-    };
+    let monitor = RunMonitor::new(alloc, time, console, watches, shares.rows);
     let Listened {
         outcome,
         mut console,
-        mut errors,
-    } = run_feed::<Brand, R, C, W, E>(rt, alloc, settings, feed, lines.tasks, attendants);
-    let ended = print_end(alloc, &outcome, &mut console, &mut errors);
+    } = run_feed::<Brand, R, C, W, E>(rt, alloc, settings, feed, lines.tasks, monitor);
+    let ended = print_end(alloc, &outcome, &mut console);
     let status = complete_status(settings.complete, &outcome, ended);
-    (status, console.output, errors)
+    (status, console.output, console.errors)
 }

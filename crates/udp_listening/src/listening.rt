@@ -9,7 +9,6 @@ ghost use Rattle.udp_listening.specs.Settings.{IsFeedOf, feed_setting, most_logg
 
 use crate::console::{Console, MOST};
 use crate::listen_report::{ListenReport, report_of};
-use crate::row_follower::RowFollower;
 use crate::run_monitor::RunMonitor;
 use crate::sources::UdpSource;
 use best_rows::has_times;
@@ -17,7 +16,7 @@ use feed_text::TextOut;
 use feed_types::{Anything, FeedConfig};
 use filter_terms::{Filter, Strategy, Terms};
 use live_feed::{
-    Beside, CoreFault, FeedEnd, FeedName, FeedTask, JournalFault, LineTask, LiveFeed, RunRules,
+    CoreFault, FeedEnd, FeedName, FeedTask, JournalFault, LineTask, LiveFeed, RunRules,
     SettleFault, Subscription, WholeFault,
 };
 use run_notes::AbsentList;
@@ -74,11 +73,10 @@ fn config_of(settings: &ListenSettings) -> FeedConfig<'_>
 
 /// How many changes at most wait to be printed, where they are printed as they come: those that the
 /// journal has room for, which are twice as many as the subscriber may be behind and one for each
-/// symbol; those in the subscriber's lane; and those that it has taken, the one that it has waited
-/// for among them.
+/// symbol; those in the subscriber's lane; and those that it has taken.
 fn most_unprinted(settings: &ListenSettings) -> usize {
     let kept = settings.kept.unwrap_or(0) as usize;
-    kept * 2 + settings.feed.symbols.len() + LANE as usize + MOST + 1
+    kept * 2 + settings.feed.symbols.len() + LANE as usize + MOST
 }
 
 /// The feed of the settings, to which nothing came yet, with a venue for each session. Where best
@@ -112,25 +110,13 @@ pub fn feed_of(alloc: Global, settings: &ListenSettings) -> Result<LiveFeed<Anyt
     }
 }
 
-/// Who stands beside a run: who prints its rows, and who watches it.
-pub type RunAttendants<C, W, E> = Beside<RowFollower<C, W>, RunMonitor<C, E>>;
-
 /// The end of listening: a report, or why there is none, and where the program prints.
 #[derive(Drop)]
-pub struct Listened<C, W, E> {
+pub struct Listened<W, E> {
     /// The report, or why there is none.
     pub outcome: Result<ListenReport, ListenFault>,
-    /// Standard output.
-    pub console: Console<C, W>,
-    /// Standard error.
-    pub errors: E,
-}
-
-/// How the lines of the settings are run.
-fn rules_of(settings: &ListenSettings) -> RunRules {
-    RunRules {
-        request_after_ms: u64::from(settings.request_wait()),
-    }
+    /// Where the program prints.
+    pub console: Console<W, E>,
 }
 
 /// The fault of listening where the feed has no report.
@@ -143,30 +129,37 @@ fn fault_of(fault: WholeFault) -> ListenFault {
     }
 }
 
+/// How the lines of the settings are run.
+fn rules_of(settings: &ListenSettings) -> RunRules {
+    RunRules {
+        request_after_ms: u64::from(settings.request_wait()),
+    }
+}
+
 /// Runs the settings' feed over these lines until all have ended, with one subscriber, which wants
-/// every change, and settles it. The first attendant polls that subscriber.
+/// every change, and settles it. The calling thread has the monitor, which polls that subscriber.
 pub fn run_feed<N, R, C, W, E>(
     rt: &R,
     alloc: Global,
     settings: &ListenSettings,
     feed: LiveFeed<Anything>,
     lines: Vec<LineTask<UdpSource<C>>>,
-    attendants: RunAttendants<C, W, E>,
-) -> Listened<C, W, E>
+    monitor: RunMonitor<C, W, E>,
+) -> Listened<W, E>
 where
     N: FeedName + Send + Sync,
     R: Threads + Wait + Sync,
     C: Clock + Drop + Send,
-    W: TextOut + Drop + Send,
-    E: TextOut + Drop + Send,
+    W: TextOut + Drop,
+    E: TextOut + Drop,
     requires lanes { feed ≡ N.lanes }
-    requires unchanged { attendants.first.console.unchanged ≡ noted_symbols settings.now }
+    requires unchanged { monitor.console.unchanged ≡ noted_symbols settings.now }
     ensures listened { HasListenedOn (record { adds = W.adds; failures = W.failures })
-        attendants.first.console result.outcome result.console }
+        monitor.console result.outcome result.console }
     ensures run { IfOk result.outcome
         (IsReportOfRun settings.now N.lanes (map task_line lines.items)) }
     ensures says { SaysOfRun (record { adds = E.adds; failures = E.failures })
-        (watched_run attendants.second.watches) attendants.second.errors result.errors }
+        (watched_run monitor.watches) monitor.console.errors result.console.errors }
 {
     let subscription = Subscription {
         filter: Filter::of(Terms::All),
@@ -180,18 +173,15 @@ where
     };
     let FeedEnd {
         outcome,
-        attendant,
-    } = feed.run_whole::<N, UdpSource<C>, RunAttendants<C, W, E>, R>(rt, alloc, task, attendants);
-    let Beside { first, second } = attendant;
-    let mut console = first.console;
-    let unchanged = mem::replace(&mut console.unchanged, AbsentList::none(alloc));
+        mut attendant,
+    } = feed.run_whole::<N, UdpSource<C>, RunMonitor<C, W, E>, R>(rt, alloc, task, monitor);
+    let unchanged = mem::replace(&mut attendant.console.unchanged, AbsentList::none(alloc));
     let outcome = match outcome {
         Ok(whole) => report_of(alloc, settings, whole, unchanged),
         Err(fault) => Err(fault_of(fault)),
     };
     Listened {
         outcome,
-        console,
-        errors: second.errors,
+        console: attendant.console,
     }
 }

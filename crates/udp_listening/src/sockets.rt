@@ -120,10 +120,15 @@ fn request_address(server: SocketAddr) -> SocketAddr {
 /// the group and no reply.
 fn has_group(settings: &ListenSettings, venue: VenueId) -> bool {
     let first = 2 * venue.index();
-    settings.lines.iter().skip(first).take(2).any(|line| match line {
-        Some(address) => address.ip().is_multicast(),
-        None => false,
-    })
+    settings
+        .lines
+        .iter()
+        .skip(first)
+        .take(2)
+        .any(|line| match line {
+            Some(address) => address.ip().is_multicast(),
+            None => false,
+        })
 }
 
 /// Opens a socket for the venue's requests to the server, from which those of its lines go, too,

@@ -1,8 +1,8 @@
 //! The sources of a feed's lines.
 ghost use Rattle.std.specs.Prelude.{◌≡◌, ◌++◌, ◌<◌, [], IfOk, OnOk, is_some, length, map, vec_len};
 ghost use Rattle.run_settings.specs.FurtherOptions.{has_further_options};
-ghost use Rattle.run_watches.specs.RunLines.{line_at, watched, watched_lines};
-ghost use Rattle.udp_listening.specs.Lines.{line_below, run_lines, socket_lines};
+ghost use Rattle.run_watches.specs.RunLines.{heard_lines, watched, watched_lines};
+ghost use Rattle.udp_listening.specs.Lines.{line_below, run_lines};
 ghost use Rattle.udp_listening.specs.Reports.{task_line};
 ghost use Rattle.udp_listening.specs.Settings.{IsSourceOf};
 
@@ -200,7 +200,7 @@ pub fn lines_over<C: Clock + Clone + Drop>(
     ensures tasks { IfOk result (λ lines. map task_line lines.tasks.items
         ≡ run_lines settings.now sockets.items) }
     ensures watches { IfOk result (λ lines. watched_lines lines.watches
-        ≡ socket_lines settings.now sockets.items) }
+        ≡ heard_lines settings.now (run_lines settings.now sockets.items)) }
 {
     let mut made = LinesMade::none(alloc, settings.feed.sessions.len())?;
     for bound in sockets {

@@ -25,7 +25,7 @@ report_of-outcome-requires g c =
     let s = c.in-Ok.whole.settlement in
     subst (λ left. HasNoted symbols (settled_log s) (settled_forgotten s) left)
     (sym c.replace-unchanged.ensures.value)
-    (noted_of c.args.settings.now out w _ _ _ _ _ c.new.ensures.len c.args.attendants
+    (noted_of c.args.settings.now out w _ _ _ _ _ c.new.ensures.len c.args.monitor
     ran.result.attendant c.in-Ok.whole (IfOk-at_ok _ c.in-Ok.is ran.ensures.whole) symbols
     c.requires.unchanged)
 
@@ -40,7 +40,7 @@ returns-clause-says g c =
       failures = g.E.TextOut.failures;
     } in
     let ran = c.run_whole-outcome in
-    (monitored_if_run out w c.args.attendants ran.result.attendant ran.ensures.attendant).says
+    (monitored_if_run out w c.args.monitor ran.result.attendant ran.ensures.attendant).says
 
 pub returns-clause-listened : goal.returns-clause-listened
 returns-clause-listened g c =
@@ -53,17 +53,17 @@ returns-clause-listened g c =
       failures = g.E.TextOut.failures;
     } in
     let ran = c.run_whole-outcome in
-    let before = c.args.attendants in
+    let before = c.args.monitor in
     let after = ran.result.attendant in
     let told = monitored_if_run out w before after ran.ensures.attendant in
-    let shown = record (after.first.console) { unchanged = c.replace-unchanged.new.dest } in
-    let failed : (fault : ListenFault) → HasListenedOn out before.first.console (Err fault) shown
+    let shown = record (after.console) { unchanged = c.replace-unchanged.new.dest } in
+    let failed : (fault : ListenFault) → HasListenedOn out before.console (Err fault) shown
     = λ fault style first unprinted.
     (told.lines, told.printed, told.shows style first unprinted) in
     elim c.match-outcome.branch [
       | in-Ok w' ↦
-          subst (λ o. HasListenedOn out before.first.console o shown) (sym w'.outcome-is)
-          (listened_by out before.first.console shown
+          subst (λ o. HasListenedOn out before.console o shown) (sym w'.outcome-is)
+          (listened_by out before.console shown
           (IsReportOfFeed c.args.settings.now w'.in-Ok.whole)
           w'.report_of-outcome.result
           (λ report tells.
@@ -71,7 +71,7 @@ returns-clause-listened g c =
           w'.in-Ok.whole (IfOk-at_ok _ w'.in-Ok.is ran.ensures.whole) report tells)
           failed w'.report_of-outcome.ensures)
       | in-Err w' ↦
-          subst (λ o. HasListenedOn out before.first.console o shown) (sym w'.outcome-is)
+          subst (λ o. HasListenedOn out before.console o shown) (sym w'.outcome-is)
           (failed w'.fault_of.result)
     ]
 
@@ -93,7 +93,7 @@ returns-clause-run g c =
           subst (λ o. IfOk o run) (sym w'.outcome-is)
           (told_by w'.report_of-outcome.result
           (λ report tells.
-          run_of c.args.settings.now out w _ _ _ _ _ c.new.ensures.len c.args.attendants
+          run_of c.args.settings.now out w _ _ _ _ _ c.new.ensures.len c.args.monitor
           ran.result.attendant
           w'.in-Ok.whole (IfOk-at_ok _ w'.in-Ok.is ran.ensures.whole) report tells)
           w'.report_of-outcome.ensures)

@@ -1,0 +1,16 @@
+use Rattle.std.proofs.Common.{◌≡◌}
+use Rattle.udp_listening.specs.Listening.{KeepsFollowing, KeepsNoting}
+use Rattle.run_watches.specs.RunLines.{watched_run}
+use Rattle.run_watches.specs.RunNews.{SaysRunNews}
+use Rattle.udp_listening.proofs.run_monitor.RunMonitor.follow_run.Given as goal
+
+abbrev pub invariant-loop : goal.invariant-loop
+invariant-loop g l =
+    (goal.iterator-loop g).can_next l.iterator' × (goal.iterator-loop g).is_finite l.iterator'
+    × KeepsFollowing (record { adds = g.W.TextOut.adds; failures = g.W.TextOut.failures })
+    l.initial.log l.initial.monitor.console l.log l.monitor.console
+    × (watched_run l.monitor.watches ≡ watched_run l.initial.monitor.watches)
+    × SaysRunNews (record { adds = g.E.TextOut.adds; failures = g.E.TextOut.failures })
+    (watched_run l.initial.monitor.watches) l.initial.monitor.console.errors
+    l.monitor.console.errors
+    × KeepsNoting l.initial.log l.initial.monitor.console l.log l.monitor.console
