@@ -1,6 +1,5 @@
 -- Which ends of session end a line that is listened to.
-use Rattle.std.specs.Prelude.{ℕ, Bool, false, List, Option, Some, None, Result, codes, if◌then◌else◌}
-use Rattle.std.specs.Option.{option_map_or}
+use Rattle.std.specs.Prelude.{ℕ, List, Option, Some, None, Result, codes, if◌then◌else◌}
 use Rattle.std.specs.Str.{bytes_eq}
 use Rattle.run_settings.specs.declared.end_rule.EndRule.{EndRule}
 use Rattle.run_settings.specs.declared.end_rule.EndRule.TheVariants.{AnySession, OwnSession, NoSession}
@@ -18,7 +17,3 @@ end_rule_named name =
 -- a line ends by the rule that is named, or by an end of any session
 abbrev pub end_rule_in : Option (List ℕ) → Result EndRule Refusal
 end_rule_in = named_or end_rule_named AnySession BadEnd
-
--- a line ends with its venue's own sessions alone, so that others may follow the first one
-abbrev pub is_own : Option (List ℕ) → Bool
-is_own name = option_map_or (λ n. bytes_eq n (codes "own")) name false

@@ -1,16 +1,13 @@
 -- The settings that the values of the options of listen give.
-use Rattle.std.specs.Prelude.{◌≡◌, ℕ, List, Bool, true, false, Option, Some, None, Result, Ok, Err, codes, if◌then◌else◌, length, option_map, string_bytes, unwrap_or}
+use Rattle.std.specs.Prelude.{◌≡◌, ℕ, List, Bool, true, false, Option, Some, None, Result, Ok, Err, codes, if◌then◌else◌, length, unwrap_or}
 use Rattle.clap.specs.Walk.{Row, first_of, one_of}
 use Rattle.run_settings.specs.declared.listen_settings.ListenSettings.{ListenSettings}
-use Rattle.run_settings.specs.declared.next_session.NextSession.{NextSession}
 use Rattle.command_words.specs.Addresses.{ReadsLines, ReadsMetrics, ReadsRequest}
-use Rattle.command_words.specs.EndRules.{end_rule_in, is_own}
+use Rattle.command_words.specs.EndRules.{end_rule_in}
 use Rattle.command_words.specs.FeedRequests.{IsFeed}
 use Rattle.command_words.specs.ListenFormats.{listen_format_in}
-use Rattle.command_words.specs.NextSessions.{ReadsNextSessions}
 use Rattle.command_words.specs.OptionValues.{is_flag_set, lines_in, list_in, number_given, symbol_words_in}
 use Rattle.command_words.specs.Readings.{Gives, Then, Yields}
-use Rattle.command_words.specs.Recordings.{ReadsRecord}
 use Rattle.command_words.specs.SenderLists.{ReadsNamedSenders}
 use Rattle.command_words.specs.Sessions.{ReadsSessions}
 use Rattle.command_words.specs.StatsFormats.{listen_stats_in}
@@ -60,15 +57,11 @@ pub record HasListenOptions (rows : List Row) (settings : ListenSettings) : Type
   pub complete_is : settings.complete ≡ is_flag_set (one_of (codes "complete") rows)
   pub follow_is : settings.follow ≡ is_followed rows
 
--- others may follow a venue's first session, where ends of its own sessions alone end its lines
-abbrev pub is_chained : List Row → Bool
-is_chained rows = is_own (first_of (codes "end") rows)
-
 -- The feed that is listened to, its lines, and where requests go. They are looked at in this order:
 -- sessions, lines, address of requests, symbols.
 abbrev pub ReadsReception : List Row → Result Reception Refusal → Type 0
 ReadsReception rows =
-    Then (ReadsSessions (is_chained rows) (list_in rows))
+    Then (ReadsSessions false (list_in rows))
     (λ sessions. Then (ReadsLines (lines_in rows) (length sessions))
     (λ lines. Then (ReadsRequest lines (first_of (codes "request") rows))
     (λ request. Then (ReadsSymbols (symbol_words_in rows))
@@ -88,8 +81,8 @@ ReadsListenRules rows =
     (λ senders. Yields (λ rules.
     (rules.end ≡ end) × (rules.kept ≡ kept) × (rules.senders ≡ senders)))))
 
--- Where metrics are served, which counts and which form of best lines are printed, and into which
--- file what the lines bring is written, in this order.
+-- Where metrics are served, and which counts and which form of best lines are printed, in this
+-- order.
 abbrev pub ReadsListenOutputs : List Row → Result ListenOutputs Refusal → Type 0
 ReadsListenOutputs rows =
     Then (ReadsMetrics (first_of (codes "metrics") rows))
@@ -97,14 +90,12 @@ ReadsListenOutputs rows =
     (first_of (codes "stats-format") rows)))
     (λ stats. Then (Gives (listen_format_in (is_followed rows) (first_of (codes "format") rows)
     (first_of (codes "times") rows)))
-    (λ format. Then (ReadsRecord (first_of (codes "record") rows))
-    (λ record_to. Yields (λ outputs.
-    (outputs.metrics ≡ metrics) × (outputs.stats ≡ stats) × (outputs.format ≡ format)
-    × (option_map (λ name. string_bytes name) outputs.record_to ≡ record_to))))))
+    (λ format. Yields (λ outputs.
+    (outputs.metrics ≡ metrics) × (outputs.stats ≡ stats) × (outputs.format ≡ format)))))
 
 -- The settings have these parts.
 pub record HasParts (reception : Reception) (rules : ListenRules) (outputs : ListenOutputs)
-    (next : List NextSession) (settings : ListenSettings) : Type 0 where
+    (settings : ListenSettings) : Type 0 where
   pub feed_is : settings.feed ≡ reception.feed
   pub lines_are : settings.lines ≡ reception.lines
   pub request_is : settings.request ≡ reception.request
@@ -114,17 +105,13 @@ pub record HasParts (reception : Reception) (rules : ListenRules) (outputs : Lis
   pub metrics_are : settings.metrics ≡ outputs.metrics
   pub stats_are : settings.stats ≡ outputs.stats
   pub format_is : settings.format ≡ outputs.format
-  pub record_is : settings.record ≡ outputs.record_to
-  pub next_are : settings.next_sessions.items ≡ next
 
 -- The settings of listen by the values of its options: the feed is looked at first, then the rules,
--- the outputs, and last the sessions that follow others.
+-- and then the outputs.
 abbrev pub ReadsListening : List Row → Result ListenSettings Refusal → Type 0
 ReadsListening rows =
     Then (ReadsReception rows)
     (λ reception. Then (ReadsListenRules rows)
     (λ rules. Then (ReadsListenOutputs rows)
-    (λ outputs. Then (ReadsNextSessions (is_chained rows) (list_in rows)
-    (length reception.feed.sessions.items))
-    (λ next. Yields (λ settings. HasListenOptions rows settings
-    × HasParts reception rules outputs next settings)))))
+    (λ outputs. Yields (λ settings. HasListenOptions rows settings
+    × HasParts reception rules outputs settings))))

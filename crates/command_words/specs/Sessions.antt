@@ -1,7 +1,6 @@
 -- The list of sessions on the command line, this project's own format: the names of the venues'
--- first sessions in order, separated by commas. Of a packet capture, and where ends of a venue's
--- own sessions alone end its lines, it also has the sessions that follow a venue's first one, each
--- after a slash.
+-- first sessions in order, separated by commas. Of a packet capture it also has the sessions that
+-- follow a venue's first one, each after a slash.
 use Rattle.std.specs.Prelude.{ℕ, ◌-◌, Bool, ◌&&◌, nat_le, ◌==◌, if◌then◌else◌, List, ◌++◌, length, map, replicate, Result, Ok, Err}
 use Rattle.std.specs.List.{before_first, list_all, slice_split}
 use Rattle.command_words.specs.Readings.{Gives, OrNoMemory}

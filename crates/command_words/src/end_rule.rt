@@ -1,6 +1,6 @@
 //! The rules for ends of session by their names.
 ghost use Rattle.std.specs.Prelude.{◌≡◌, option_map};
-ghost use Rattle.command_words.specs.EndRules.{end_rule_in, end_rule_named, is_own};
+ghost use Rattle.command_words.specs.EndRules.{end_rule_in, end_rule_named};
 
 use crate::refusal::Refusal;
 use run_settings::EndRule;
@@ -27,15 +27,5 @@ pub fn read_end_rule(name: Option<&str>) -> Result<EndRule, Refusal>
     match name {
         None => Ok(EndRule::AnySession),
         Some(name) => end_rule_named(name).ok_or(Refusal::BadEnd),
-    }
-}
-
-/// Returns whether the rule is named by which a line ends with its venue's own sessions alone.
-pub fn is_own(name: Option<&str>) -> bool
-    ensures { result ≡ is_own (option_map (λ name. name.now) name.entry) }
-{
-    match name {
-        Some(name) => name == "own",
-        None => false,
     }
 }

@@ -1,6 +1,5 @@
 //! What is wrong with a list of sessions or of lines on a refused command line.
 
-use crate::end_rule::is_own;
 use crate::limits::text;
 use crate::option_values::{given_text, text_of};
 use crate::quoting::{joined, quoted};
@@ -164,23 +163,14 @@ pub fn lines_explained(alloc: Global, options: &ArgMatches<'_>) -> Option<String
     .ok()
 }
 
-/// Returns whether others may follow a session in the list of a command.
-fn is_chained(command: &str, options: &ArgMatches<'_>) -> bool {
-    if command == "listen" {
-        is_own(given_text(options, "end"))
-    } else {
-        given_text(options, "lines").is_some()
-    }
-}
-
 /// Returns what is wrong with a list of sessions.
 pub fn sessions_explained(
     alloc: Global,
     command: &str,
     options: &ArgMatches<'_>,
 ) -> Option<String> {
-    let list = text_of(options, "sessions");
-    let text = bad_session_in(alloc, list, is_chained(command, options))?;
+    let chained = command != "listen" && given_text(options, "lines").is_some();
+    let text = bad_session_in(alloc, text_of(options, "sessions"), chained)?;
     quoted(alloc, "--sessions: ", text, RIGHT_SESSION).ok()
 }
 

@@ -122,12 +122,11 @@ Status:
      or none that the lines can send to (port 0, IP address 0.0.0.0 or [::], another version of IP
      than a line's); 'bad end': --end is neither any nor own nor none; '--kept without --follow':
      without it all changes are kept; 'bad sender': --senders or --from isn't IP addresses, with or
-     without a port; '--senders with --from', which are the same; 'bad file for --record': its name
-     is empty; 'bad next session': with --end own, after a slash no name, or one twice; 'bad
-     metrics address': --metrics isn't an IP address and a port; 'bad format': --stats-format is
-     neither table nor json, or --stats isn't given, or --format is neither text nor csv nor json;
-     '--format without --follow'; 'bad time style': --times is neither seconds nor utc;
-     '--times of lines of text', which have none
+     without a port; '--senders with --from', which are the same; 'bad metrics address': --metrics
+     isn't an IP address and a port; 'bad format': --stats-format is neither table nor json, or
+     --stats isn't given, or --format is neither text nor csv nor json; '--format without --follow';
+     'bad time style': --times is neither seconds nor utc; '--times of lines of text', which have
+     none
   3  with --complete: as 0, and a venue lacks messages
 
 While it runs standard error says when a line ends or fails, and at its first request that can't

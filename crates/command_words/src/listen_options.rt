@@ -13,11 +13,7 @@ const SESSIONS: CommandOption<'static> = CommandOption {
     long_help: text!("\
 The first session of each venue, venue 0's first: 1 to " MAX_VENUES " names parted by commas. A
 name has 1 to 10 characters of printable ASCII (bytes 20 to 7e) and is filled on the
-right with spaces to ten bytes. Write --sessions=LIST where the list begins with '-'.
-With --end own the sessions that follow a venue's first one stand after it, each after a slash,
-as in NORTH/NORTH2,SOUTH: up to " MAX_SESSIONS " of a venue, each once. The next session begins
-with the first packet of its name that comes after the end of the one before, and the venue's
-lines end with the last one"),
+right with spaces to ten bytes. Write --sessions=LIST where the list begins with '-'"),
 };
 
 /// `--lines LIST`.
@@ -122,18 +118,6 @@ const SILENT_AFTER: CommandOption<'static> = CommandOption {
 After how many milliseconds standard error has a line for a line that brings nothing, from the
 start, too, and another when it is heard again: 1 to " MAX_COUNT ". By default it has none, with a
 further option, as of --request-after, it has them after " USUAL_SILENCE),
-};
-
-/// `--record FILE`.
-const RECORD: CommandOption<'static> = CommandOption {
-    name: "record",
-    value: "FILE",
-    form: OptionForm::Text,
-    help: "Writes what the lines bring into this file, for 'nbbo replay'",
-    long_help: "\
-Writes what the lines bring into this file, which is made anew: a capture as 'nbbo replay' reads
-it without --lines, in which the datagrams of each venue stand in the order in which they were
-taken. What couldn't be kept is counted, and standard error has the count at the end",
 };
 
 /// `--join` of a command that listens.
@@ -362,7 +346,6 @@ pub const LISTEN_OPTIONS: &[CommandOption<'static>] = &[
     SECONDS,
     UNTIL_INPUT_ENDS,
     SILENT_AFTER,
-    RECORD,
     FOLLOW,
     KEPT,
     FORMAT,

@@ -1,13 +1,11 @@
-//! What a run of `listen` tells of itself: its metrics, its counts, its best lines, its recording.
-ghost use Rattle.std.specs.Prelude.{◌≡◌, codes, option_map, string_bytes};
+//! What a run of `listen` tells of itself: its metrics, its counts, its best lines.
+ghost use Rattle.std.specs.Prelude.{◌≡◌, codes};
 ghost use Rattle.clap.specs.Matches.{found_of};
 ghost use Rattle.clap.specs.Walk.{first_of, one_of, rows_of};
 ghost use Rattle.command_words.specs.Addresses.{ReadsMetrics};
 ghost use Rattle.command_words.specs.ListenFormats.{listen_format_in};
 ghost use Rattle.command_words.specs.ListenRequests.{ReadsListenOutputs, is_followed};
 ghost use Rattle.command_words.specs.OptionValues.{number_given};
-ghost use Rattle.command_words.specs.Readings.{mapped};
-ghost use Rattle.command_words.specs.Recordings.{ReadsRecord};
 ghost use Rattle.command_words.specs.StatsFormats.{listen_stats_in};
 
 use crate::addresses::read_metrics;
@@ -15,12 +13,10 @@ use crate::listen_format::read_listen_format;
 use crate::listen_parts::ListenOutputs;
 use crate::option_values::{given_text, number_of};
 use crate::reception::is_followed;
-use crate::recording::read_record;
 use crate::refusal::Refusal;
 use crate::stats_format::read_listen_stats;
 use clap::ArgMatches;
 use run_settings::{BestFormat, ListenStats};
-use std::alloc::Global;
 use std::net::SocketAddr;
 
 /// Returns the address at which metrics are served that the option gives, if it is given.
@@ -55,26 +51,16 @@ fn listen_format_of(listen: &ArgMatches<'_>) -> Result<BestFormat, Refusal>
     )
 }
 
-/// Returns the name of the file of the recording that the option gives, if it is given.
-fn record_of(alloc: Global, listen: &ArgMatches<'_>) -> Result<Option<String>, Refusal>
-    ensures { ReadsRecord (first_of (codes "record") (rows_of (found_of listen.now)))
-        (mapped (λ name. option_map (λ n. string_bytes n) name) result) }
-{
-    read_record(alloc, given_text(listen, "record"))
-}
-
 /// Returns what the options of `listen` say is told.
-pub fn listen_outputs_of(alloc: Global, listen: &ArgMatches<'_>) -> Result<ListenOutputs, Refusal>
+pub fn listen_outputs_of(listen: &ArgMatches<'_>) -> Result<ListenOutputs, Refusal>
     ensures { ReadsListenOutputs (rows_of (found_of listen.now)) result }
 {
     let metrics = metrics_of(listen)?;
     let stats = listen_stats_of(listen)?;
     let format = listen_format_of(listen)?;
-    let record_to = record_of(alloc, listen)?;
     Ok(ListenOutputs {
         metrics,
         stats,
         format,
-        record_to,
     })
 }

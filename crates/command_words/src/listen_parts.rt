@@ -35,6 +35,4 @@ pub struct ListenOutputs {
     pub stats: Option<ListenStats>,
     /// The form of best lines.
     pub format: BestFormat,
-    /// The name of the file of the recording, if there is one.
-    pub record_to: Option<String>,
 }

@@ -1,15 +1,14 @@
 //! What a run of `listen` receives: its feed, its lines, and where it asks for what is missing.
-ghost use Rattle.std.specs.Prelude.{◌≡◌, ◌*◌, ◌≤◌, IfOk, codes, unwrap_or, vec_len};
+ghost use Rattle.std.specs.Prelude.{◌≡◌, ◌*◌, ◌≤◌, IfOk, codes, false, unwrap_or, vec_len};
 ghost use Rattle.clap.specs.Matches.{found_of};
 ghost use Rattle.clap.specs.Walk.{first_of, one_of, rows_of};
 ghost use Rattle.command_words.specs.Addresses.{ReadsLines, ReadsRequest};
-ghost use Rattle.command_words.specs.ListenRequests.{ReadsReception, is_chained, is_followed, usual_journal};
+ghost use Rattle.command_words.specs.ListenRequests.{ReadsReception, is_followed, usual_journal};
 ghost use Rattle.command_words.specs.OptionValues.{lines_in, list_in, number_given};
 ghost use Rattle.command_words.specs.Readings.{mapped};
 ghost use Rattle.command_words.specs.Sessions.{ReadsSessions};
 
 use crate::addresses::{read_lines, read_request};
-use crate::end_rule::is_own;
 use crate::feed_words::{symbols_of, window_of};
 use crate::limits::DEFAULT_COUNT;
 use crate::listen_parts::Reception;
@@ -26,14 +25,6 @@ pub fn is_followed(listen: &ArgMatches<'_>) -> bool
     ensures { result ≡ is_followed (rows_of (found_of listen.now)) }
 {
     flag_of(listen, "follow")
-}
-
-/// Returns whether others may follow a venue's first session: where ends of the venue's own
-/// sessions alone end its lines.
-pub fn is_chained(listen: &ArgMatches<'_>) -> bool
-    ensures { result ≡ is_chained (rows_of (found_of listen.now)) }
-{
-    is_own(given_text(listen, "end"))
 }
 
 /// Returns the number of entries for which there is room where the words don't say: as many as
@@ -55,12 +46,11 @@ fn journal_of(listen: &ArgMatches<'_>) -> u32
 
 /// Returns the first session of each venue that the option names.
 fn sessions_of(alloc: Global, listen: &ArgMatches<'_>) -> Result<Vec<[u8; 10]>, Refusal>
-    ensures reads { ReadsSessions (is_chained (rows_of (found_of listen.now)))
-        (list_in (rows_of (found_of listen.now)))
+    ensures reads { ReadsSessions false (list_in (rows_of (found_of listen.now)))
         (mapped (λ sessions. sessions.items) result) }
     ensures count { IfOk result (λ sessions. (1 ≤ vec_len sessions) × (vec_len sessions ≤ 16)) }
 {
-    read_sessions(alloc, text_of(listen, "sessions"), is_chained(listen))
+    read_sessions(alloc, text_of(listen, "sessions"), false)
 }
 
 /// Returns the lines that the option gives, two for each of `venues` venues.

@@ -21,8 +21,7 @@ has_further_options settings =
     || (settings.follow || is_some settings.stats || is_some settings.metrics)
     || (are_named settings.senders || passes_ends settings.end)
     || (is_some settings.request_after || is_some settings.silent_after)
-    || (is_some settings.record || is_some settings.buffer)
-    || is_some settings.most_ahead
+    || (is_some settings.most_ahead || is_some settings.buffer)
 
 -- for how many milliseconds a gap stands before its messages are asked for
 abbrev pub request_wait : ListenSettings → ℕ

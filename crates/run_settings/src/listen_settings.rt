@@ -1,12 +1,10 @@
 //! The settings of `nbbo listen`.
 ghost use Rattle.std.specs.Prelude.{◌≡◌, ◌*◌, vec_len};
-ghost use Rattle.run_settings.specs.NextSessions.{FollowVenues};
 
 use crate::end_rule::EndRule;
 use crate::feed_settings::FeedSettings;
 use crate::formats::BestFormat;
 use crate::listen_stats::ListenStats;
-use crate::next_session::NextSession;
 use crate::sender::Senders;
 use std::net::SocketAddr;
 
@@ -15,9 +13,6 @@ use std::net::SocketAddr;
 pub struct ListenSettings {
     /// The feed that is listened to.
     pub feed: FeedSettings,
-    /// The sessions that follow the feed's own, each of one of its venues, in the order in which
-    /// those of a venue follow one another.
-    pub next_sessions: Vec<NextSession>,
     /// The address where each line is received, `None` for a line that isn't there: line A's and
     /// then line B's, those of venue 0 first. Each venue has a line.
     pub lines: Vec<Option<SocketAddr>>,
@@ -58,8 +53,5 @@ pub struct ListenSettings {
     pub stats: Option<ListenStats>,
     /// The address at which the counts are served to who asks for them, if at any.
     pub metrics: Option<SocketAddr>,
-    /// The name of the file into which what the lines bring is written, if into any.
-    pub record: Option<String>,
-    ghost next_of_venues: { FollowVenues (vec_len feed.sessions) next_sessions.items },
     ghost two_lines_each: { vec_len lines ≡ 2 * vec_len feed.sessions },
 }

@@ -1,6 +1,22 @@
-use Rattle.std.proofs.Common.{rules, inl, inr}
+use Rattle.std.proofs.Common.{rules, inl, inr, refl}
 use Rattle.std.proofs.lemmas.Result.{err_from_is_err_and}
 use Rattle.command_words.proofs.listen_words.listening_of.Goals as goal
+
+pub returns-in_err-reception : goal.returns-in_err-reception
+returns-in_err-reception c =
+    let residual = c.from_residual in
+    let p = err_from_is_err_and residual.result residual.ensures.1 in
+    rw (p.1, p.2) (inl (search rules))
+
+pub returns-in_err-rules : goal.returns-in_err-rules
+returns-in_err-rules c =
+    let residual = c.from_residual-in_err-rules in
+    let p = err_from_is_err_and residual.result residual.ensures.1 in
+    rw (p.1, p.2) (inr (
+      c.in_ok-reception.reception,
+      c.in_ok-reception.ensures,
+      inl (search rules),
+    ))
 
 pub returns-in_err-outputs : goal.returns-in_err-outputs
 returns-in_err-outputs c =
@@ -12,16 +28,42 @@ returns-in_err-outputs c =
       inr (c.in_ok-rules.rules, c.in_ok-rules.ensures, inl (search rules)),
     ))
 
-pub returns-in_err-next_sessions : goal.returns-in_err-next_sessions
-returns-in_err-next_sessions c =
-    let residual = c.from_residual-in_err-next_sessions in
-    let p = err_from_is_err_and residual.result residual.ensures.1 in
-    rw (p.1, p.2) (inr (
-      c.in_ok-reception.reception,
-      c.in_ok-reception.ensures,
-      inr (
-        c.in_ok-rules.rules,
-        c.in_ok-rules.ensures,
-        inr (c.in_ok-outputs.outputs, c.in_ok-outputs.ensures, inl (search rules)),
+pub returns : goal.returns
+returns c = (
+  c.in_ok-reception.reception,
+  c.in_ok-reception.ensures,
+  (
+    c.in_ok-rules.rules,
+    c.in_ok-rules.ensures,
+    (
+      c.in_ok-outputs.outputs,
+      c.in_ok-outputs.ensures,
+      (
+        record {
+          request_after_is = search rules;
+          most_ahead_is = search rules;
+          join_is = search rules;
+          skip_after_is = search rules;
+          silent_after_is = search rules;
+          datagrams_are = search rules;
+          buffer_is = search rules;
+          seconds_are = search rules;
+          until_is = search rules;
+          complete_is = search rules;
+          follow_is = search rules;
+        },
+        record {
+          feed_is = refl;
+          lines_are = refl;
+          request_is = refl;
+          end_is = refl;
+          kept_is = refl;
+          senders_are = refl;
+          metrics_are = refl;
+          stats_are = refl;
+          format_is = refl;
+        },
       ),
-    ))
+    ),
+  ),
+)

@@ -2,6 +2,16 @@ use Rattle.std.proofs.Common.{rules, inl, inr, refl}
 use Rattle.std.proofs.lemmas.Result.{err_from_is_err_and}
 use Rattle.command_words.proofs.reception.reception_of.Goals as goal
 
+pub returns-in_err-request : goal.returns-in_err-request
+returns-in_err-request c =
+    let residual = c.from_residual-in_err-request in
+    let p = err_from_is_err_and residual.result residual.ensures.1 in
+    rw (p.1, p.2) (inr (
+      c.in_ok-sessions.sessions.items,
+      c.in_ok-sessions.ensures.reads,
+      inr (c.in_ok-lines.lines.items, search rules, inl (search rules)),
+    ))
+
 pub returns-in_err-symbols : goal.returns-in_err-symbols
 returns-in_err-symbols c =
     let residual = c.from_residual-in_err-symbols in
