@@ -6,6 +6,8 @@ pub mod Seats
 pub mod Cells
 pub mod Sections
 pub mod Datagrams
+-- sessions that are joined at their first packet
+pub mod Joins
 -- what the sources of lines bring
 pub mod Sources
 pub mod Statuses

@@ -200,7 +200,7 @@ fn renew_in<G: Genuine, N: FeedName>(
 /// Gives up the messages that are missing below the number, where the cell is of this venue; what
 /// is ready is pushed before and after. Returns the answer, how many items were pushed, and whether
 /// something may be ready still.
-fn skip_in<G: Genuine, N: FeedName, W: Wait>(
+pub(crate) fn skip_in<G: Genuine, N: FeedName, W: Wait>(
     rt: &W,
     cell: &mut VenueCell<G, N>,
     venue: VenueId,
@@ -228,23 +228,30 @@ fn skip_in<G: Genuine, N: FeedName, W: Wait>(
 impl<G: Genuine, N: FeedName> VenueLocks<G, N> {
     /// Takes a datagram that came on the seat's line, which is genuine at its venue, and answers
     /// what became of it: the packet's fault, else the line's, else the outcome. What is ready
-    /// then, after a fault too, is pushed, until nothing is or the lane is full. Stores in `looked`
-    /// what the line sees then, all under the venue's lock taken once. The datagram is read before
-    /// the lock is taken.
+    /// then, after a fault too, is pushed, until nothing is or the lane is full. Where `join` is
+    /// true, and no message of the venue's session was taken or given up before a packet of it that
+    /// begins past its first message, what comes before the packet is given up first. Stores in
+    /// `looked` what the line sees then, all under the venue's lock taken once. The datagram is
+    /// read before the lock is taken.
     pub fn take_and_look<W: Wait>(
         &self,
         rt: &W,
         seat: &mut LineSeat<G, N>,
         datagram: &Datagram,
+        join: bool,
         looked: &mut Looked,
     ) -> Result<Outcome, TakeFault>
         requires { AreGenuineBytes G.Genuine seat.old.venue (bytes_of datagram.now) }
         ensures taken { TakesDatagram G.Genuine N.lanes (bytes_of datagram.now)
             seat.old result seat.new }
         ensures accepts { AcceptsTheirs G.Genuine seat.old.venue (bytes_of datagram.now) result }
+        ensures joined { IfSome looked.new.joined (λ number. (IsTrue join)
+            × HasNumber (bytes_of datagram.now) number × (1 < number)
+            × SkipsVenue G.Genuine N.lanes seat.old.venue number (Ok number)) }
     {
+        *looked = Looked::default();
         match read_packet(datagram.bytes()) {
-            Ok(packet) => match self.take_packet(rt, seat, &packet, datagram.time(), looked) {
+            Ok(packet) => match self.take_packet(rt, seat, &packet, datagram.time(), join, looked) {
                 Ok(outcome) => Ok(outcome),
                 Err(fault) => {
                     seat.refuse(TakeFault::Line(fault));

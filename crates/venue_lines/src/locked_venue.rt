@@ -56,6 +56,7 @@ impl<G: Genuine, N: FeedName> LockedVenue<G, N> {
         Looked {
             gap: self.cell.has_gap(),
             place: self.next_place(),
+            joined: None,
         }
     }
 }

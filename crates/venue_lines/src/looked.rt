@@ -9,4 +9,7 @@ pub struct Looked {
     /// lock took them, from 1. Each has one, refused datagrams too, but for a refused skip. 0 where
     /// there is no such venue.
     pub place: u64,
+    /// The number of the packet at which the venue's session was joined, where that was this
+    /// datagram's: what comes before it was given up, in the datagram's own place.
+    pub joined: Option<u64>,
 }
