@@ -12,6 +12,7 @@ ghost use Rattle.venue_lines.specs.Datagrams.{AreGenuineBytes, AcceptsTheirs, Is
 use crate::cell::VenueCell;
 use crate::datagram::Datagram;
 use crate::faults::{FeedFault, GapFault, RenewalFault, TakeFault};
+use crate::joining::join_in;
 use crate::locked_venue::LockedVenue;
 use crate::locks::{VenueLocks, lock_spinning};
 use crate::looked::Looked;
@@ -285,7 +286,7 @@ impl<G: Genuine, N: FeedName> VenueLocks<G, N> {
         let mut locked = lock_spinning(rt, lock);
         let (pushed, has_backlog) = flush_cell(rt, &mut locked.cell, venue, u64::MAX);
         locked.cell.refuse(seat.line(), fault);
-        *looked = locked.look();
+        *looked = locked.look(None);
         let is_new = self.set_backlog(venue, has_backlog);
         drop(locked);
         if pushed > 0 || is_new {
@@ -293,35 +294,70 @@ impl<G: Genuine, N: FeedName> VenueLocks<G, N> {
         }
     }
 
+    /// Joins the session of the venue's cell at the packet, where nothing of it was taken before,
+    /// and returns the packet's number where that was done, and how many items were pushed.
+    fn join_session<W: Wait>(
+        &self,
+        rt: &W,
+        cell: &mut VenueCell<G, N>,
+        venue: VenueId,
+        packet: &Packet<'_>,
+    ) -> (Option<u64>, u64)
+        ensures { IfSome result.0 (λ number. (number ≡ packet.now.number) × (1 < number)
+            × SkipsVenue G.Genuine N.lanes venue number (Ok number)) }
+    {
+        let before = last_sent(cell);
+        let (joined, pushed) = join_in(rt, cell, venue, packet);
+        if joined.is_some() {
+            let from = before.saturating_add(pushed);
+            self.bells()
+                .times()
+                .go_on_from(venue, from, last_sent(cell));
+        }
+        (joined, pushed)
+    }
+
     /// Takes a packet that was read, whose datagram was received at this time, under the lock of
-    /// the seat's venue, pushes what is ready, counts the packet, and stores in `looked` what the
-    /// line sees then.
+    /// the seat's venue, at which the venue's session is joined where that is asked for and nothing
+    /// of it was taken before; pushes what is ready, counts the packet, and stores in `looked` what
+    /// the line sees then.
     fn take_packet<W: Wait>(
         &self,
         rt: &W,
         seat: &mut LineSeat<G, N>,
         packet: &Packet<'_>,
         time: Option<u64>,
+        join: bool,
         looked: &mut Looked,
     ) -> Result<Outcome, LineFault>
         requires { IsGenuinePacket G.Genuine seat.old.venue packet.now }
+        requires new { looked.old.joined ≡ None }
         ensures seat { seat.new ≡ seat_after seat.old packet.now result }
         ensures answer { IsAnsweredAt G.Genuine N.lanes seat.old packet.now result }
         ensures accepts { AcceptsTheirPacket G.Genuine seat.old.venue packet.now result }
+        ensures joined { IfSome looked.new.joined (λ number. IsTrue join
+            × (number ≡ packet.now.number) × (1 < number)
+            × SkipsVenue G.Genuine N.lanes seat.old.venue number (Ok number)) }
     {
-        let Some(lock) = self.get(seat.venue()) else {
+        let venue = seat.venue();
+        let Some(lock) = self.get(venue) else {
             return Err(LineFault::OtherSession);
         };
         let mut locked = lock_spinning(rt, lock);
+        let (joined, skipped) = if join {
+            self.join_session(rt, &mut locked.cell, venue, packet)
+        } else {
+            (None, 0)
+        };
         note_time(&locked.cell, self.bells().times(), time);
         let (answer, (pushed, has_backlog)) = take_in(rt, &mut locked.cell, seat, packet);
         if let Err(fault) = answer {
             locked.cell.refuse(seat.line(), TakeFault::Line(fault));
         }
-        *looked = locked.look();
-        let is_new = self.set_backlog(seat.venue(), has_backlog);
+        *looked = locked.look(joined);
+        let is_new = self.set_backlog(venue, has_backlog);
         drop(locked);
-        if pushed > 0 || is_new || has_news(&answer) {
+        if pushed > 0 || skipped > 0 || is_new || has_news(&answer) {
             self.bells().ring_work();
         }
         answer

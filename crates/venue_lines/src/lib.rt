@@ -18,6 +18,7 @@ mod counted_line;
 mod counted_lines;
 mod datagram;
 mod faults;
+mod joining;
 mod laws;
 mod line_counts;
 mod locked_venue;

@@ -47,16 +47,18 @@ impl<G: Genuine, N: FeedName> LockedVenue<G, N> {
         self.places
     }
 
-    /// Returns what a line sees once its datagram, the next one of the venue, was taken.
+    /// Returns what a line sees once its datagram, the next one of the venue, was taken, at which
+    /// the session was joined at this number, if it was.
     #[inline(always)]
-    pub(crate) fn look(&mut self) -> Looked
+    pub(crate) fn look(&mut self, joined: Option<u64>) -> Looked
         ensures cell { self.new.cell ≡ self.old.cell }
         ensures place { result.place ≡ self.new.places }
+        ensures joined { result.joined ≡ joined }
     {
         Looked {
             gap: self.cell.has_gap(),
             place: self.next_place(),
-            joined: None,
+            joined,
         }
     }
 }
