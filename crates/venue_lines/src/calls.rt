@@ -6,7 +6,7 @@ ghost use Rattle.feed_steps.specs.Premises.{IsGenuinePacket};
 ghost use Rattle.venue_lines.specs.Seats.{new_seat, seat_after, seat_refusing};
 ghost use Rattle.venue_lines.specs.Cells.{CellFitsHistory};
 ghost use Rattle.venue_lines.specs.Brought.{requests_after};
-ghost use Rattle.venue_lines.specs.Sections.{AcceptsTheirPacket, HasSkippedPast, AnswersAtVenue, IsDueAt, FlushesVenue, RenewsVenue, SkipsVenue, KeepsButPushed, Pushes, PushesReady, RequestsGap, TakesPacket};
+ghost use Rattle.venue_lines.specs.Sections.{AcceptsTheirPacket, HasSkippedPast, AnswersAtVenue, IsDueAt, FlushesVenue, RenewsVenue, SkipsVenue, KeepsButPushed, Pushes, RequestsGap, TakesPacket};
 ghost use Rattle.venue_lines.specs.Datagrams.{AreGenuineBytes, AcceptsTheirs, IsAnsweredAt, TakesDatagram, bytes_of};
 
 use crate::cell::VenueCell;
@@ -260,28 +260,28 @@ impl<G: Genuine, N: FeedName> VenueLocks<G, N> {
                 }
             },
             Err(fault) => {
-                self.take_unread(rt, seat, TakeFault::Packet(fault), looked);
+                let _pushed = self.take_unread(rt, seat, TakeFault::Packet(fault), looked);
                 Err(TakeFault::Packet(fault))
             }
         }
     }
 
     /// Counts a datagram that is no packet, on the seat and at its venue, pushes what is ready
-    /// there, and stores in `looked` what the line sees then.
+    /// there, and stores in `looked` what the line sees then. Returns how many items were pushed.
     fn take_unread<W: Wait>(
         &self,
         rt: &W,
         seat: &mut LineSeat<G, N>,
         fault: TakeFault,
         looked: &mut Looked,
-    )
+    ) -> u64
         ensures seat { seat.new ≡ seat_refusing fault seat.old }
-        ensures pushed { PushesReady G.Genuine N.lanes seat.old.venue }
+        ensures pushed { FlushesVenue G.Genuine N.lanes seat.old.venue (2 ^ 64 - 1) result }
     {
         seat.refuse(fault);
         let venue = seat.venue();
         let Some(lock) = self.get(venue) else {
-            return;
+            return 0;
         };
         let mut locked = lock_spinning(rt, lock);
         let (pushed, has_backlog) = flush_cell(rt, &mut locked.cell, venue, u64::MAX);
@@ -292,6 +292,7 @@ impl<G: Genuine, N: FeedName> VenueLocks<G, N> {
         if pushed > 0 || is_new {
             self.bells().ring_work();
         }
+        pushed
     }
 
     /// Joins the session of the venue's cell at the packet, where nothing of it was taken before,

@@ -9,7 +9,7 @@ use Rattle.venue_lines.proofs.CellMoves.{counted_on, packet_fits, packet_kept, t
 use Rattle.venue_lines.proofs.cell.VenueCell.take_repeat.Goals as goal
 
 stays : (s : State) → KeepsItsPlace s s
-stays s = record { session = (keeping_all_but_sent_is_reflexive {s}).session; sent = refl }
+stays s = record { session = (keeping_all_but_sent_is_reflexive {s = s}).session; sent = refl }
 
 pub invariant_of-self : goal.invariant_of-self
 invariant_of-self g c =
