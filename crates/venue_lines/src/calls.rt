@@ -1,12 +1,13 @@
 //! The calls of a feed that take only a venue's lock.
 
-ghost use Rattle.std.specs.Prelude.{◌≡◌, ◌≤◌, ◌↔◌, ◌-◌, ◌^◌, None, IfOk, IsErrOf, length};
+ghost use Rattle.std.specs.Prelude.{◌≡◌, ◌≤◌, ◌<◌, ◌↔◌, ◌-◌, ◌^◌, None, Ok, IfOk, IfSome, IsErrOf, IsTrue, length};
 ghost use Rattle.line_arbiter.specs.Histories.{History};
 ghost use Rattle.feed_steps.specs.Premises.{IsGenuinePacket};
 ghost use Rattle.venue_lines.specs.Seats.{new_seat, seat_after, seat_refusing};
 ghost use Rattle.venue_lines.specs.Cells.{CellFitsHistory};
 ghost use Rattle.venue_lines.specs.Brought.{requests_after};
 ghost use Rattle.venue_lines.specs.Sections.{AcceptsTheirPacket, HasSkippedPast, AnswersAtVenue, IsDueAt, FlushesVenue, RenewsVenue, SkipsVenue, KeepsButPushed, Pushes, RequestsGap, TakesPacket};
+ghost use Rattle.venue_lines.specs.Joins.{HasNumber};
 ghost use Rattle.venue_lines.specs.Datagrams.{AreGenuineBytes, AcceptsTheirs, IsAnsweredAt, TakesDatagram, bytes_of};
 
 use crate::cell::VenueCell;
@@ -246,11 +247,10 @@ impl<G: Genuine, N: FeedName> VenueLocks<G, N> {
         ensures taken { TakesDatagram G.Genuine N.lanes (bytes_of datagram.now)
             seat.old result seat.new }
         ensures accepts { AcceptsTheirs G.Genuine seat.old.venue (bytes_of datagram.now) result }
-        ensures joined { IfSome looked.new.joined (λ number. (IsTrue join)
-            × HasNumber (bytes_of datagram.now) number × (1 < number)
+        ensures joined { IfSome looked.new.joined (λ number. IsTrue join × (1 < number)
+            × HasNumber (bytes_of datagram.now) number
             × SkipsVenue G.Genuine N.lanes seat.old.venue number (Ok number)) }
     {
-        *looked = Looked::default();
         match read_packet(datagram.bytes()) {
             Ok(packet) => match self.take_packet(rt, seat, &packet, datagram.time(), join, looked) {
                 Ok(outcome) => Ok(outcome),
@@ -277,10 +277,12 @@ impl<G: Genuine, N: FeedName> VenueLocks<G, N> {
     ) -> u64
         ensures seat { seat.new ≡ seat_refusing fault seat.old }
         ensures pushed { FlushesVenue G.Genuine N.lanes seat.old.venue (2 ^ 64 - 1) result }
+        ensures joined { looked.new.joined ≡ None }
     {
         seat.refuse(fault);
         let venue = seat.venue();
         let Some(lock) = self.get(venue) else {
+            *looked = Looked::nothing();
             return 0;
         };
         let mut locked = lock_spinning(rt, lock);
@@ -304,7 +306,7 @@ impl<G: Genuine, N: FeedName> VenueLocks<G, N> {
         venue: VenueId,
         packet: &Packet<'_>,
     ) -> (Option<u64>, u64)
-        ensures { IfSome result.0 (λ number. (number ≡ packet.now.number) × (1 < number)
+        ensures { IfSome result.0 (λ number. (1 < number) × (number ≡ packet.now.number)
             × SkipsVenue G.Genuine N.lanes venue number (Ok number)) }
     {
         let before = last_sent(cell);
@@ -332,16 +334,16 @@ impl<G: Genuine, N: FeedName> VenueLocks<G, N> {
         looked: &mut Looked,
     ) -> Result<Outcome, LineFault>
         requires { IsGenuinePacket G.Genuine seat.old.venue packet.now }
-        requires new { looked.old.joined ≡ None }
         ensures seat { seat.new ≡ seat_after seat.old packet.now result }
         ensures answer { IsAnsweredAt G.Genuine N.lanes seat.old packet.now result }
         ensures accepts { AcceptsTheirPacket G.Genuine seat.old.venue packet.now result }
-        ensures joined { IfSome looked.new.joined (λ number. IsTrue join
-            × (number ≡ packet.now.number) × (1 < number)
+        ensures joined { IfSome looked.new.joined (λ number. IsTrue join × (1 < number)
+            × (number ≡ packet.now.number)
             × SkipsVenue G.Genuine N.lanes seat.old.venue number (Ok number)) }
     {
         let venue = seat.venue();
         let Some(lock) = self.get(venue) else {
+            *looked = Looked::nothing();
             return Err(LineFault::OtherSession);
         };
         let mut locked = lock_spinning(rt, lock);

@@ -71,7 +71,7 @@ impl<G: Genuine, N: FeedName> OpenFeed<G, N> {
         ensures accepts { AcceptsTheirs G.Genuine seat.old.venue (bytes_of datagram.now) result }
     {
         self.venues
-            .take_and_look(rt, seat, datagram, &mut Looked::default())
+            .take_and_look(rt, seat, datagram, false, &mut Looked::nothing())
     }
 
     /// Pushes what is ready of the venue, until nothing is or the lane is full, and returns how

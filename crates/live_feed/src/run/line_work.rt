@@ -5,6 +5,7 @@ ghost use Rattle.live_feed.specs.run.Runs.{HasTaken, LineHasEnded};
 ghost use Rattle.venue_lines.specs.Sources.{failures_after};
 
 use crate::run::line::{Line, LineEnd};
+use crate::run::rules::RunRules;
 use crate::run::signals::Signals;
 use feed_steps::FeedName;
 use feed_types::{Genuine, VenueId};
@@ -106,8 +107,11 @@ pub(crate) fn work_line<G: Genuine, N: FeedName, S: LineSource<G>, W: Wait>(
     let venue = seat.venue();
     let mut datagrams: u64 = 0;
     let mut fault = None;
-    let mut looked = Looked::default();
-    let wait_ms = signals.rules().request_after_ms;
+    let mut looked = Looked::nothing();
+    let RunRules {
+        request_after_ms: wait_ms,
+        join,
+    } = signals.rules();
     for _ in rt.forever() {
         match is_next_there(rt, venues, signals, venue, looked.gap, &mut source) {
             Ok(true) => {}
@@ -120,7 +124,7 @@ pub(crate) fn work_line<G: Genuine, N: FeedName, S: LineSource<G>, W: Wait>(
         match source.next() {
             Ok(Some(datagram)) => {
                 datagrams = datagrams.saturating_add(1);
-                let _answer = venues.take_and_look(rt, &mut seat, &datagram, &mut looked);
+                let _answer = venues.take_and_look(rt, &mut seat, &datagram, join, &mut looked);
                 source.recycle(datagram, looked.place);
             }
             Ok(None) => break,

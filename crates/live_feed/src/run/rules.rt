@@ -7,4 +7,7 @@ pub struct RunRules {
     /// that has to wait is also asked for where nothing comes any more. At 0 it is asked for at
     /// once, when a datagram shows it.
     pub request_after_ms: u64,
+    /// Whether a venue's session is joined at the first packet of it: where that begins past the
+    /// first message, what comes before is given up first.
+    pub join: bool,
 }
