@@ -1,0 +1,2 @@
+pub mod FormTable
+pub mod ReadBack
