@@ -202,7 +202,7 @@ impl OrderBook {
     }
 
     /// Counts what was odd about a message, and shows the best of the book side that it changed.
-    #[inline(always)]
+    /// Returns the quotation, where it differs then.
     fn finish(&mut self, step: &Step) -> Item
         requires { IfSome step.now.side (λ side. side < length self.old.keys * 2) }
         ensures shown { MatchOption step.now.side (self.new.rows ≡ self.old.rows)
@@ -258,21 +258,32 @@ impl OrderBook {
         ensures told { IfOk result (λ item. TellsOfOne self.old.rows self.new.rows item) }
         ensures keys { self.new.keys ≡ self.old.keys }
     {
-        let step = match *event {
-            OrderEvent::Add(order) => add_order(&mut self.orders, &self.places, &order)?,
-            OrderEvent::Reduce { reference, shares } => self.orders.take(reference, shares),
-            OrderEvent::Delete { reference } => self.orders.delete(reference),
-            OrderEvent::Replace(other) => self.orders.replace(&other)?,
-            OrderEvent::RoundLot { symbol, shares, .. } => return Ok(self.take_lot(symbol, shares)),
+        match *event {
+            OrderEvent::Add(order) => {
+                let step = add_order(&mut self.orders, &self.places, &order)?;
+                Ok(self.finish(&step))
+            }
+            OrderEvent::Reduce { reference, shares } => {
+                let step = self.orders.take(reference, shares);
+                Ok(self.finish(&step))
+            }
+            OrderEvent::Delete { reference } => {
+                let step = self.orders.delete(reference);
+                Ok(self.finish(&step))
+            }
+            OrderEvent::Replace(other) => {
+                let step = self.orders.replace(&other)?;
+                Ok(self.finish(&step))
+            }
+            OrderEvent::RoundLot { symbol, shares, .. } => Ok(self.take_lot(symbol, shares)),
             OrderEvent::Halt {
                 symbol,
                 kind,
                 halted,
                 ..
-            } => return Ok(self.take_halt(symbol, kind, halted)),
-            OrderEvent::Other => return Ok(Item::Other),
-        };
-        Ok(self.finish(&step))
+            } => Ok(self.take_halt(symbol, kind, halted)),
+            OrderEvent::Other => Ok(Item::Other),
+        }
     }
 
     /// Returns what the book shows of the symbol at a place: its quotation, with the best bid and
