@@ -7,7 +7,7 @@ use Rattle.itch_book.specs.Bests.{IsBestLevel, IsBestOf, whole_lots}
 use Rattle.itch_book.specs.Orders.{book_rank}
 
 level-eq : (x y : Level) → x.rank ≡ y.rank → x.shares ≡ y.shares → x ≡ y
-level-eq x y a b = λ i. record { rank = a i; shares = b i; }
+level-eq x y a b = λ i. record { rank = a i; shares = b i }
 
 one_level : (lot : ℕ) (depth : ℕ → ℕ) (x y : Level) → IsBestLevel lot depth x
     → IsBestLevel lot depth y → x ≡ y

@@ -68,7 +68,8 @@ Holds-without old new orders id h each sums = record {
 
 pub Holds-set : (old new orders : List (ℕ × Order)) (id : ℕ) (was order : Order) → Holds old orders
     → live_order old id ≡ Some was
-    → ((other : ℕ) → live_order new other ≡ cond (nat_eq id other) (Some order) (live_order old other))
+    → ((other : ℕ) → live_order new other ≡ cond (nat_eq id other) (Some order)
+    (live_order old other))
     → ((f : Order → ℕ) → sum_by f (values_of new) + unwrap_or (option_map f (live_order old id)) 0
     ≡ sum_by f (values_of old) + f order)
     → Holds new (set_value (nat_eq id) orders order)
@@ -95,13 +96,15 @@ Holds-set old new orders id was order h there each sums =
 
 pub Holds-with : (old new orders : List (ℕ × Order)) (id : ℕ) (order : Order) → Holds old orders
     → live_order old id ≡ None → (order.shares == 0) ≡ false
-    → ((other : ℕ) → live_order new other ≡ cond (nat_eq id other) (Some order) (live_order old other))
+    → ((other : ℕ) → live_order new other ≡ cond (nat_eq id other) (Some order)
+    (live_order old other))
     → ((f : Order → ℕ) → sum_by f (values_of new) ≡ sum_by f (values_of old) + f order)
     → Holds new (with_order id order orders)
 Holds-with old new orders id order h none some each sums =
     let absent : live_order orders id ≡ None = sym (h.each id) ∙ none in
     let one_more : with_order id order orders ≡ (id, order) ∷ orders =
-    ap (λ o. cond (is_some o) orders (cond (order.shares == 0) orders ((id, order) ∷ orders))) absent
+    ap (λ o. cond (is_some o) orders (cond (order.shares == 0) orders
+    ((id, order) ∷ orders))) absent
     ∙ ap (λ b. cond b orders ((id, order) ∷ orders)) some in
     subst (λ os. Holds new os) (sym one_more) (record {
       each = λ q. each q
@@ -114,7 +117,8 @@ Holds-with old new orders id order h none some each sums =
     })
 
 -- where there is one of its number nothing changes
-pub with_order-there : (table orders : List (ℕ × Order)) (id : ℕ) (order : Order) → Holds table orders
+pub with_order-there : (table orders : List (ℕ × Order)) (id : ℕ) (order : Order)
+    → Holds table orders
     → is_some (live_order table id) ≡ true → with_order id order orders ≡ orders
 with_order-there table orders id order h there =
     let rest = cond (order.shares == 0) orders ((id, order) ∷ orders) in

@@ -52,7 +52,8 @@ kept_set table new sides at levels kept h within own others = record {
 
 -- the levels of an order's side have its shares
 pub kept_take : (table : List (ℕ × Order)) (sides : List (List Level)) (id : ℕ) (o : Order)
-    (levels : List Level) (shares : ℕ) → AreKept (state_of table sides) → live_order table id ≡ Some o
+    (levels : List Level) (shares : ℕ) → AreKept (state_of table sides)
+    → live_order table id ≡ Some o
     → levels ≡ get_or sides o.side levels → shares ≤ o.shares
     → level_depth levels (o.rank + 1) + shares ≤ level_depth levels o.rank
 kept_take table sides id o levels shares kept there read few =
@@ -123,15 +124,18 @@ pub kept_reduced : (table new : List (ℕ × Order)) (sides : List (List Level))
     → AreKept (state_of table sides) → live_order table id ≡ Some o
     → levels ≡ get_or sides o.side levels
     → less.side ≡ o.side → less.rank ≡ o.rank → less.shares + shares ≡ o.shares
-    → ((other : ℕ) → live_order new other ≡ cond (nat_eq id other) (Some less) (live_order table other))
+    → ((other : ℕ) → live_order new other ≡ cond (nat_eq id other) (Some less)
+    (live_order table other))
     → ((f : Order → ℕ) → sum_by f (values_of new) + unwrap_or (option_map f (live_order table id)) 0
     ≡ sum_by f (values_of table) + f less)
     → ((r : ℕ) → level_depth left r + cond (nat_le r o.rank) shares 0 ≡ level_depth levels r)
     → AreKept (state_of new (set sides o.side left))
-kept_reduced table new sides id o less levels left shares kept there read side_is rank_is are each sums
+kept_reduced table new sides id o less levels left shares kept there read side_is rank_is are
+    each sums
     taken =
     let inside = kept.within id o there in
-    let gone : (f : Order → ℕ) → sum_by f (values_of new) + f o ≡ sum_by f (values_of table) + f less =
+    let gone : (f : Order → ℕ) → sum_by f (values_of new) + f o ≡ sum_by f
+    (values_of table) + f less =
     λ f. ap (λ x. sum_by f (values_of new) + unwrap_or (option_map f x) 0) (sym there) ∙ sums f in
     kept_set table new sides o.side left kept inside
     (λ q x found. one_of id q less x (live_order table q) (λ y. y.side < length sides)
@@ -159,7 +163,8 @@ kept_reduced table new sides id o less levels left shares kept there read side_i
 pub kept_put : (table new : List (ℕ × Order)) (sides : List (List Level)) (id : ℕ) (o : Order)
     (levels more : List Level) → AreKept (state_of table sides) → o.side < length sides
     → levels ≡ get_or sides o.side levels
-    → ((other : ℕ) → live_order new other ≡ cond (nat_eq id other) (Some o) (live_order table other))
+    → ((other : ℕ) → live_order new other ≡ cond (nat_eq id other) (Some o)
+    (live_order table other))
     → ((f : Order → ℕ) → sum_by f (values_of new) ≡ sum_by f (values_of table) + f o)
     → ((r : ℕ) → level_depth more r ≡ level_depth levels r + cond (nat_le r o.rank) o.shares 0)
     → AreKept (state_of new (set sides o.side more))

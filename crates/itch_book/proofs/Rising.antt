@@ -7,7 +7,7 @@ use Rattle.std.proofs.lemmas.List.{get_or_default}
 use Rattle.std.proofs.lemmas.List.Sums.{sum_by-cons, sum_by-le-sum_by, sum_by-remove, sum_by-insert, sum_by-set, sum_by-drop_more}
 use Rattle.itch_book.specs.declared.level.Level.{Level}
 use Rattle.itch_book.specs.Bests.{IsBestLevel, whole_lots}
-use Rattle.itch_book.specs.Levels.{AreRising, HasShares, IsAt, LiesBetween, level_depth, shares_down_to}
+use Rattle.itch_book.specs.Levels.{AreRising, HasShares, IsLevelAt, LiesBetween, level_depth, shares_down_to}
 
 -- what holds of all holds of the one at a place
 pub all_at : (P : Level → Type 0) (xs : List Level) (k : ℕ) (d : Level) → AllByRecursion P xs
@@ -270,7 +270,8 @@ has_at xs at rank shares up between some h below d = elim (cases_eq (get_or xs a
       (e, omega (arith, split, h))
       )
   | inr ne ↦ absurd (none_is xs at rank shares some h (apart_from xs at rank up between
-      (λ other l same. ne (ap (λ (x : Level). x.rank) (get_or_default xs at d other below) ∙ same))))
+      (λ other l same. ne (ap (λ (x : Level). x.rank)
+      (get_or_default xs at d other below) ∙ same))))
 ]
 
 pub has_shares : (xs : List Level) (at rank shares : ℕ) → AreRising xs → LiesBetween xs rank at
@@ -363,7 +364,7 @@ before_place xs at rank z up some within lower k d l = elim (cases_eq k (at - 1)
 
 -- the levels from a place on, at which there is none of the rank
 pub after_place : (xs : List Level) (at rank : ℕ) → AreRising xs → LiesBetween xs rank at
-    → (IsAt xs at rank → ⊥)
+    → (IsLevelAt xs at rank → ⊥)
     → (k : ℕ) (d : Level) → at ≤ k → k < length xs → rank < (get_or xs k d).rank
 after_place xs at rank up between apart k d from l = elim (cases_eq at k) [
   | inl e ↦ (

@@ -16,23 +16,25 @@ use Rattle.itch_book.specs.declared.oddity.Oddities.{Oddities}
 use Rattle.itch_book.specs.declared.order.Order.{Order}
 use Rattle.itch_book.specs.declared.row.SymbolRow.{SymbolRow}
 use Rattle.itch_book.specs.Bests.{IsBestOf, depth, order_shares}
-use Rattle.itch_book.specs.Books.{FitsEvents, FitsRow, OrderBookState, SessionOrders, ShowsBest, halt_after, halt_of, is_place, is_same_kind, lot_after, lot_of, session_after, session_of}
+use Rattle.itch_book.specs.Books.{FitsEvents, FitsRow, OrderBookState, SessionOrders, ShowsBest, halt_after, halt_of, is_place, is_same_kind, lot_after, lot_of, session_orders_after, session_orders_of}
 use Rattle.itch_book.specs.Inside.{Holds, IsHaltShown, IsLotShown, IsSideShown}
 use Rattle.itch_book.specs.Oddities.{no_oddities, oddities_after, oddity_of}
-use Rattle.itch_book.specs.Orders.{book_side, orders_after, place_in}
+use Rattle.itch_book.specs.Orders.{book_side, orders_after, place_among}
 use Rattle.itch_book.specs.Rows.{showing, shown_price, shown_size, with_halt, with_lot}
 use Rattle.itch_book.proofs.Kept.{best_same}
 
-pub abbrev book_of : List ℕ → List (ℕ × Order) → List SymbolRow → Oddities → OrderBookState
+abbrev pub book_of : List ℕ → List (ℕ × Order) → List SymbolRow → Oddities → OrderBookState
 book_of keys table rows oddities =
     record { keys = keys; table = table; rows = rows; oddities = oddities }
 
 -- ---- one more message
 
 pub session_push : (keys : List ℕ) (events : List OrderEvent) (e : OrderEvent)
-    → session_of keys (events ++ e ∷ []) ≡ session_after keys (session_of keys events) e
+    → session_orders_of keys (events ++ e ∷ []) ≡ session_orders_after keys
+    (session_orders_of keys events) e
 session_push keys events e =
-    fold_push (λ (before : SessionOrders) (event : OrderEvent). session_after keys before event)
+    fold_push (λ (before : SessionOrders)
+    (event : OrderEvent). session_orders_after keys before event)
     (record { live = []; oddities = no_oddities }) events e
 
 lot_push : (keys : List ℕ) (place : ℕ) (events : List OrderEvent) (e : OrderEvent)
@@ -51,10 +53,10 @@ halt_push keys place kind events e =
 record RowAfter (keys : List ℕ) (events : List OrderEvent) (e : OrderEvent) (place : ℕ)
     (row : SymbolRow) : Type 0 where
   symbol : key_of row.quote.symbol ≡ get_or keys place 0
-  bid : ShowsBest (orders_after keys (session_of keys events).live e) (place * 2) row.lot
+  bid : ShowsBest (orders_after keys (session_orders_of keys events).live e) (place * 2) row.lot
       row.quote.bid_price row.quote.bid_size
-  offer : ShowsBest (orders_after keys (session_of keys events).live e) (place * 2 + 1) row.lot
-      row.quote.offer_price row.quote.offer_size
+  offer : ShowsBest (orders_after keys (session_orders_of keys events).live e) (place * 2 + 1)
+      row.lot row.quote.offer_price row.quote.offer_size
   lot : row.lot ≡ lot_after keys place (lot_of keys place events) e
   trading : row.trading_halt ≡ halt_after keys place Trading (halt_of keys place Trading events) e
   operational : row.operational_halt
@@ -95,14 +97,14 @@ shows_same before after side lot price size same h = record {
 -- a row of whose orders the message says nothing
 row_stays : (keys : List ℕ) (events : List OrderEvent) (e : OrderEvent) (place : ℕ)
     (row : SymbolRow) → LeavesSymbols keys e → FitsRow keys events place row
-    → ((r : ℕ) → depth (session_of keys events).live (place * 2) r
-    ≡ depth (orders_after keys (session_of keys events).live e) (place * 2) r)
-    → ((r : ℕ) → depth (session_of keys events).live (place * 2 + 1) r
-    ≡ depth (orders_after keys (session_of keys events).live e) (place * 2 + 1) r)
+    → ((r : ℕ) → depth (session_orders_of keys events).live (place * 2) r
+    ≡ depth (orders_after keys (session_orders_of keys events).live e) (place * 2) r)
+    → ((r : ℕ) → depth (session_orders_of keys events).live (place * 2 + 1) r
+    ≡ depth (orders_after keys (session_orders_of keys events).live e) (place * 2 + 1) r)
     → RowAfter keys events e place row
 row_stays keys events e place row leaves h bids offers =
-    let before = (session_of keys events).live in
-    let after = orders_after keys (session_of keys events).live e in
+    let before = (session_orders_of keys events).live in
+    let after = orders_after keys (session_orders_of keys events).live e in
     record {
       symbol = h.symbol;
       bid = shows_same before after (place * 2) row.lot row.quote.bid_price row.quote.bid_size bids
@@ -145,19 +147,20 @@ showing_offer place best row =
 now_best : (orders : List (ℕ × Order)) (side lot : ℕ) (best : Option Level)
     → IsBestOf lot (depth orders side) best
     → ShowsBest orders side lot (shown_price side best) (shown_size best)
-now_best orders side lot best is = record { best = best; is_best = is; price = refl; size = refl; }
+now_best orders side lot best is = record { best = best; is_best = is; price = refl; size = refl }
 
 row_bid : (keys : List ℕ) (events : List OrderEvent) (e : OrderEvent) (place : ℕ)
     (row : SymbolRow) (best : Option Level) → LeavesSymbols keys e
     → FitsRow keys events place row
-    → IsBestOf row.lot (depth (orders_after keys (session_of keys events).live e) (place * 2)) best
-    → ((r : ℕ) → depth (session_of keys events).live (place * 2 + 1) r
-    ≡ depth (orders_after keys (session_of keys events).live e) (place * 2 + 1) r)
+    → IsBestOf row.lot (depth (orders_after keys (session_orders_of keys events).live e)
+    (place * 2)) best
+    → ((r : ℕ) → depth (session_orders_of keys events).live (place * 2 + 1) r
+    ≡ depth (orders_after keys (session_orders_of keys events).live e) (place * 2 + 1) r)
     → RowAfter keys events e place (showing (place * 2) best row)
 unfolding with_bid
 row_bid keys events e place row best leaves h is offers =
-    let before = (session_of keys events).live in
-    let after = orders_after keys (session_of keys events).live e in
+    let before = (session_orders_of keys events).live in
+    let after = orders_after keys (session_orders_of keys events).live e in
     subst (λ r. RowAfter keys events e place r) (sym (showing_bid place best row)) (record {
       symbol = h.symbol;
       bid = now_best after (place * 2) row.lot best is;
@@ -173,15 +176,16 @@ row_bid keys events e place row best leaves h is offers =
 row_offer : (keys : List ℕ) (events : List OrderEvent) (e : OrderEvent) (place : ℕ)
     (row : SymbolRow) (best : Option Level) → LeavesSymbols keys e
     → FitsRow keys events place row
-    → IsBestOf row.lot (depth (orders_after keys (session_of keys events).live e) (place * 2 + 1))
+    → IsBestOf row.lot (depth (orders_after keys (session_orders_of keys events).live e)
+    (place * 2 + 1))
     best
-    → ((r : ℕ) → depth (session_of keys events).live (place * 2) r
-    ≡ depth (orders_after keys (session_of keys events).live e) (place * 2) r)
+    → ((r : ℕ) → depth (session_orders_of keys events).live (place * 2) r
+    ≡ depth (orders_after keys (session_orders_of keys events).live e) (place * 2) r)
     → RowAfter keys events e place (showing (place * 2 + 1) best row)
 unfolding with_offer
 row_offer keys events e place row best leaves h is bids =
-    let before = (session_of keys events).live in
-    let after = orders_after keys (session_of keys events).live e in
+    let before = (session_orders_of keys events).live in
+    let after = orders_after keys (session_orders_of keys events).live e in
     subst (λ r. RowAfter keys events e place r) (sym (showing_offer place best row)) (record {
       symbol = h.symbol;
       bid = shows_same before after (place * 2) row.lot row.quote.bid_price row.quote.bid_size bids
@@ -197,12 +201,12 @@ row_offer keys events e place row best leaves h is bids =
 row_shows : (keys : List ℕ) (events : List OrderEvent) (e : OrderEvent) (place side : ℕ)
     (row : SymbolRow) (best : Option Level) → LeavesSymbols keys e
     → FitsRow keys events place row → place ≡ side / 2
-    → IsBestOf row.lot (depth (orders_after keys (session_of keys events).live e) side) best
-    → ((s r : ℕ) → (side ≡ s → ⊥) → depth (session_of keys events).live s r
-    ≡ depth (orders_after keys (session_of keys events).live e) s r)
+    → IsBestOf row.lot (depth (orders_after keys (session_orders_of keys events).live e) side) best
+    → ((s r : ℕ) → (side ≡ s → ⊥) → depth (session_orders_of keys events).live s r
+    ≡ depth (orders_after keys (session_orders_of keys events).live e) s r)
     → RowAfter keys events e place (showing side best row)
 row_shows keys events e place side row best leaves h at is others =
-    let after = orders_after keys (session_of keys events).live e in
+    let after = orders_after keys (session_orders_of keys events).live e in
     elim (cases_eq (side % 2) 0) [
       | inl even ↦ (
           let same : side ≡ place * 2 = omega (arith, at, even) in
@@ -237,23 +241,24 @@ rows_touched : (keys : List ℕ) (events : List OrderEvent) (e : OrderEvent)
     (table new : List (ℕ × Order)) (rows after : List SymbolRow) (touched : Option ℕ)
     (place : ℕ) (d : SymbolRow)
     → FitsRow keys events place (get_or rows place d) → LeavesSymbols keys e
-    → Holds table (session_of keys events).live
-    → Holds new (orders_after keys (session_of keys events).live e)
+    → Holds table (session_orders_of keys events).live
+    → Holds new (orders_after keys (session_orders_of keys events).live e)
     → ((side r : ℕ) → (touched ≡ Some side → ⊥) → depth new side r ≡ depth table side r)
     → MatchOption touched (after ≡ rows) (λ side. IsSideShown new side rows after)
     → place < length rows
     → RowAfter keys events e place (get_or after place d)
 rows_touched keys events e table new rows after None place d fits leaves h k others shown inside =
-    let live = (session_of keys events).live in
-    let all = orders_after keys (session_of keys events).live e in
+    let live = (session_orders_of keys events).live in
+    let all = orders_after keys (session_orders_of keys events).live e in
     subst (λ (rs : List SymbolRow). RowAfter keys events e place (get_or rs place d)) (sym shown)
     (row_stays keys events e place (get_or rows place d) leaves fits
     (λ r. depth_stays table new live all None (place * 2) r h k others (none-some (place * 2)))
     (λ r. depth_stays table new live all None (place * 2 + 1) r h k others
     (none-some (place * 2 + 1))))
-rows_touched keys events e table new rows after (Some side) place d fits leaves h k others shown inside =
-    let live = (session_of keys events).live in
-    let all = orders_after keys (session_of keys events).live e in
+rows_touched keys events e table new rows after
+    (Some side) place d fits leaves h k others shown inside =
+    let live = (session_orders_of keys events).live in
+    let all = orders_after keys (session_orders_of keys events).live e in
     let row = get_or rows place d in
     let off : (s : ℕ) → (side ≡ s → ⊥) → Some side ≡ Some s → ⊥ =
     λ s apart q. apart (same_Some side s q) in
@@ -288,22 +293,25 @@ pub fits_orders : (keys : List ℕ) (events : List OrderEvent) (e : OrderEvent)
     (table new : List (ℕ × Order)) (rows after : List SymbolRow) (before now : Oddities)
     (touched : Option ℕ) → FitsEvents (book_of keys table rows before) events
     → LeavesSymbols keys e
-    → Holds new (orders_after keys (session_of keys events).live e)
-    → now ≡ oddities_after before (oddity_of keys (session_of keys events).live e)
+    → Holds new (orders_after keys (session_orders_of keys events).live e)
+    → now ≡ oddities_after before (oddity_of keys (session_orders_of keys events).live e)
     → ((side r : ℕ) → (touched ≡ Some side → ⊥) → depth new side r ≡ depth table side r)
     → MatchOption touched (after ≡ rows) (λ side. IsSideShown new side rows after)
     → length rows ≡ length keys
     → FitsEvents (book_of keys new after now) (events ++ e ∷ [])
-fits_orders keys events e table new rows after before now touched fits leaves k counted others shown len =
+fits_orders keys events e table new rows after before now touched fits leaves k counted others
+    shown len =
     record {
       orders = subst (λ (s : SessionOrders). Holds new s.live) (sym (session_push keys events e)) k;
       oddities = counted
-          ∙ ap (λ (o : Oddities). oddities_after o (oddity_of keys (session_of keys events).live e))
+          ∙ ap (λ (o : Oddities). oddities_after o (oddity_of keys
+          (session_orders_of keys events).live e))
           fits.oddities
           ∙ ap (λ (s : SessionOrders). s.oddities) (sym (session_push keys events e));
       rows = λ place d inside. fits_row keys events e place (get_or after place d)
           (rows_touched keys events e table new rows after touched place d
-          (fits.rows place d inside) leaves fits.orders k others shown (omega (arith, inside, len)));
+          (fits.rows place d inside) leaves fits.orders k others shown (omega
+          (arith, inside, len)));
     }
 
 -- ---- a message of none
@@ -311,13 +319,13 @@ fits_orders keys events e table new rows after before now touched fits leaves k 
 pub fits_rows : (keys : List ℕ) (events : List OrderEvent) (e : OrderEvent)
     (table : List (ℕ × Order)) (rows after : List SymbolRow) (oddities : Oddities)
     → FitsEvents (book_of keys table rows oddities) events
-    → session_after keys (session_of keys events) e ≡ session_of keys events
+    → session_orders_after keys (session_orders_of keys events) e ≡ session_orders_of keys events
     → ((place : ℕ) (d : SymbolRow) → place < length keys
     → FitsRow keys events place (get_or rows place d)
     → RowAfter keys events e place (get_or after place d))
     → FitsEvents (book_of keys table after oddities) (events ++ e ∷ [])
 fits_rows keys events e table rows after oddities fits same each =
-    let pushed : session_of keys (events ++ e ∷ []) ≡ session_of keys events =
+    let pushed : session_orders_of keys (events ++ e ∷ []) ≡ session_orders_of keys events =
     session_push keys events e ∙ same in
     record {
       orders = subst (λ (s : SessionOrders). Holds table s.live) (sym pushed) fits.orders;
@@ -329,8 +337,9 @@ fits_rows keys events e table rows after oddities fits same each =
 pub fits_still : (keys : List ℕ) (events : List OrderEvent) (e : OrderEvent)
     (table : List (ℕ × Order)) (rows : List SymbolRow) (oddities : Oddities)
     → FitsEvents (book_of keys table rows oddities) events
-    → session_after keys (session_of keys events) e ≡ session_of keys events
-    → orders_after keys (session_of keys events).live e ≡ (session_of keys events).live
+    → session_orders_after keys (session_orders_of keys events) e ≡ session_orders_of keys events
+    → orders_after keys (session_orders_of keys events).live e ≡
+    (session_orders_of keys events).live
     → LeavesSymbols keys e
     → FitsEvents (book_of keys table rows oddities) (events ++ e ∷ [])
 fits_still keys events e table rows oddities fits same orders leaves =
@@ -346,9 +355,9 @@ no_lot : (found : Option ℕ) (place shares lot : ℕ) → is_place found place 
 no_lot found place shares lot e = ap (λ b. cond (b && not (shares == 0)) shares lot) e
 
 pub leaves_lot_none : (keys : List ℕ) (symbol : List ℕ) (shares locate : ℕ)
-    → place_in keys symbol ≡ None → LeavesSymbols keys (event.RoundLot symbol shares locate)
+    → place_among keys symbol ≡ None → LeavesSymbols keys (event.RoundLot symbol shares locate)
 leaves_lot_none keys symbol shares locate none = record {
-  lot = λ place lot. no_lot (place_in keys symbol) place shares lot
+  lot = λ place lot. no_lot (place_among keys symbol) place shares lot
       (ap (λ o. is_place o place) none);
   halt = λ place kind halted. refl;
 }
@@ -360,22 +369,22 @@ and_false false = refl
 pub leaves_lot_zero : (keys : List ℕ) (symbol : List ℕ) (shares locate : ℕ) → shares ≡ 0
     → LeavesSymbols keys (event.RoundLot symbol shares locate)
 leaves_lot_zero keys symbol shares locate zero = record {
-  lot = λ place lot. ap (λ b. cond (is_place (place_in keys symbol) place && not b) shares lot)
+  lot = λ place lot. ap (λ b. cond (is_place (place_among keys symbol) place && not b) shares lot)
       (eq-eqb shares 0 zero)
-      ∙ ap (λ b. cond b shares lot) (and_false (is_place (place_in keys symbol) place));
+      ∙ ap (λ b. cond b shares lot) (and_false (is_place (place_among keys symbol) place));
   halt = λ place kind halted. refl;
 }
 
 row_lot : (keys : List ℕ) (events : List OrderEvent) (symbol : List ℕ) (lot locate place : ℕ)
     (row : SymbolRow) (bid offer : Option Level) → FitsRow keys events place row
-    → place_in keys symbol ≡ Some place → (lot == 0) ≡ false
-    → IsBestOf lot (depth (session_of keys events).live (place * 2)) bid
-    → IsBestOf lot (depth (session_of keys events).live (place * 2 + 1)) offer
+    → place_among keys symbol ≡ Some place → (lot == 0) ≡ false
+    → IsBestOf lot (depth (session_orders_of keys events).live (place * 2)) bid
+    → IsBestOf lot (depth (session_orders_of keys events).live (place * 2 + 1)) offer
     → RowAfter keys events (event.RoundLot symbol lot locate) place
     (showing (place * 2 + 1) offer (showing (place * 2) bid (with_lot lot row)))
 unfolding with_bid with_offer
 row_lot keys events symbol lot locate place row bid offer h at some is_bid is_offer =
-    let live = (session_of keys events).live in
+    let live = (session_orders_of keys events).live in
     let e = event.RoundLot symbol lot locate in
     let both : showing (place * 2 + 1) offer (showing (place * 2) bid (with_lot lot row))
     ≡ with_offer (place * 2 + 1) offer (with_bid (place * 2) bid (with_lot lot row)) =
@@ -397,13 +406,13 @@ row_lot keys events symbol lot locate place row bid offer h at some is_bid is_of
 pub fits_lot : (keys : List ℕ) (events : List OrderEvent) (symbol : List ℕ)
     (lot locate place : ℕ) (table : List (ℕ × Order)) (rows after : List SymbolRow)
     (oddities : Oddities) → FitsEvents (book_of keys table rows oddities) events
-    → place_in keys symbol ≡ Some place → (lot == 0) ≡ false
+    → place_among keys symbol ≡ Some place → (lot == 0) ≡ false
     → IsLotShown table place lot rows after → length rows ≡ length keys
     → FitsEvents (book_of keys table after oddities)
     (events ++ event.RoundLot symbol lot locate ∷ [])
 fits_lot keys events symbol lot locate place table rows after oddities fits at some shown len =
     let e = event.RoundLot symbol lot locate in
-    let live = (session_of keys events).live in
+    let live = (session_orders_of keys events).live in
     fits_rows keys events e table rows after oddities fits refl (λ other d inside h.
     subst (λ (rs : List SymbolRow). RowAfter keys events e other (get_or rs other d))
     (sym (shown.rows d))
@@ -422,14 +431,14 @@ fits_lot keys events symbol lot locate place table rows after oddities fits at s
           let shows = showing (place * 2 + 1) shown.offer (showing (place * 2) shown.bid
           (with_lot lot (get_or rows place d))) in
           let row = get_or rows other d in
-          let elsewhere : is_place (place_in keys symbol) other ≡ false =
+          let elsewhere : is_place (place_among keys symbol) other ≡ false =
           ap (λ o. is_place o other) at ∙ ne_eqb place other (λ q. apart (sym q)) in
           subst (λ r. RowAfter keys events e other r)
           (sym (get_or-set_other rows place other shows d apart)) (record {
             symbol = h.symbol;
             bid = h.bid;
             offer = h.offer;
-            lot = h.lot ∙ sym (no_lot (place_in keys symbol) other lot (lot_of keys other events)
+            lot = h.lot ∙ sym (no_lot (place_among keys symbol) other lot (lot_of keys other events)
                 elsewhere);
             trading = h.trading;
             operational = h.operational;
@@ -441,7 +450,7 @@ fits_lot keys events symbol lot locate place table rows after oddities fits at s
 -- ---- a halt
 
 pub leaves_halt_none : (keys : List ℕ) (symbol : List ℕ) (kind : HaltKind) (now : Bool)
-    (locate : ℕ) → place_in keys symbol ≡ None
+    (locate : ℕ) → place_among keys symbol ≡ None
     → LeavesSymbols keys (event.Halt symbol kind now locate)
 leaves_halt_none keys symbol kind now locate none = record {
   lot = λ place lot. refl;
@@ -451,18 +460,19 @@ leaves_halt_none keys symbol kind now locate none = record {
 
 row_halt : (keys : List ℕ) (events : List OrderEvent) (symbol : List ℕ) (kind : HaltKind)
     (now : Bool) (locate place : ℕ) (row : SymbolRow) → FitsRow keys events place row
-    → place_in keys symbol ≡ Some place
+    → place_among keys symbol ≡ Some place
     → RowAfter keys events (event.Halt symbol kind now locate) place (with_halt kind now row)
 row_halt keys events symbol Trading now locate place row h at = record {
   symbol = h.symbol;
   bid = h.bid;
   offer = h.offer;
   lot = h.lot;
-  trading = sym (ap (λ o. cond (is_place o place && true) now (halt_of keys place Trading events)) at
+  trading = sym (ap (λ o. cond (is_place o place && true) now
+      (halt_of keys place Trading events)) at
       ∙ ap (λ b. cond (b && true) now (halt_of keys place Trading events))
       (eq-eqb place place refl));
   operational = h.operational ∙ sym (ap (λ b. cond b now (halt_of keys place Operational events))
-      (and_false (is_place (place_in keys symbol) place)));
+      (and_false (is_place (place_among keys symbol) place)));
   automated = h.automated;
 }
 row_halt keys events symbol Operational now locate place row h at = record {
@@ -471,7 +481,7 @@ row_halt keys events symbol Operational now locate place row h at = record {
   offer = h.offer;
   lot = h.lot;
   trading = h.trading ∙ sym (ap (λ b. cond b now (halt_of keys place Trading events))
-      (and_false (is_place (place_in keys symbol) place)));
+      (and_false (is_place (place_among keys symbol) place)));
   operational = sym (ap (λ o. cond (is_place o place && true) now
       (halt_of keys place Operational events)) at
       ∙ ap (λ b. cond (b && true) now (halt_of keys place Operational events))
@@ -482,7 +492,7 @@ row_halt keys events symbol Operational now locate place row h at = record {
 pub fits_halt : (keys : List ℕ) (events : List OrderEvent) (symbol : List ℕ) (kind : HaltKind)
     (now : Bool) (locate place : ℕ) (table : List (ℕ × Order)) (rows after : List SymbolRow)
     (oddities : Oddities) → FitsEvents (book_of keys table rows oddities) events
-    → place_in keys symbol ≡ Some place → IsHaltShown place kind now rows after
+    → place_among keys symbol ≡ Some place → IsHaltShown place kind now rows after
     → length rows ≡ length keys
     → FitsEvents (book_of keys table after oddities)
     (events ++ event.Halt symbol kind now locate ∷ [])
@@ -504,7 +514,7 @@ fits_halt keys events symbol kind now locate place table rows after oddities fit
           let shows = with_halt kind now (get_or rows place d) in
           let row = get_or rows other d in
           let elsewhere : (k : HaltKind) (was : Bool)
-          → cond (is_place (place_in keys symbol) other && is_same_kind kind k) now was ≡ was =
+          → cond (is_place (place_among keys symbol) other && is_same_kind kind k) now was ≡ was =
           λ k was. ap (λ b. cond (b && is_same_kind kind k) now was)
           (ap (λ o. is_place o other) at ∙ ne_eqb place other (λ q. apart (sym q))) in
           subst (λ r. RowAfter keys events e other r)

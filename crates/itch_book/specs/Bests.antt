@@ -1,7 +1,7 @@
 -- The protected side of a symbol: the best price at which the shares displayed there and at better
--- prices reach a round lot, and those shares in whole round lots. So a round lot at one price counts
--- there, and odd lots are put together at the least aggressive of their prices. A greater rank is a
--- better price.
+-- prices reach a round lot, and those shares in whole round lots. So a round lot at one price
+-- counts there, and odd lots are put together at the least aggressive of their prices. A greater
+-- rank is a better price.
 use Rattle.std.specs.Prelude.{◌≡◌, ℕ, ◌-◌, ◌%◌, ◌<◌, ◌≤◌, ◌==◌, ◌&&◌, nat_le, List, sum_by, Option, MatchOption, if◌then◌else◌}
 use Rattle.std.specs.Map.{values_of}
 use Rattle.itch_book.specs.declared.level.Level.{Level}

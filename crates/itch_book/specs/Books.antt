@@ -15,7 +15,7 @@ use Rattle.itch_book.specs.declared.row.SymbolRow.{SymbolRow}
 use Rattle.itch_book.specs.Bests.{IsBestOf, depth}
 use Rattle.itch_book.specs.Inside.{Holds}
 use Rattle.itch_book.specs.Oddities.{no_oddities, oddities_after, oddity_of}
-use Rattle.itch_book.specs.Orders.{book_side, orders_after, place_in}
+use Rattle.itch_book.specs.Orders.{book_side, orders_after, place_among}
 use Rattle.itch_book.specs.Rows.{Tells, shown_price, shown_size}
 
 -- the live orders that messages leave, and the numbers of odd ones among these messages
@@ -23,15 +23,15 @@ pub record SessionOrders : Type 0 where
   pub live : List (ℕ × Order)
   pub oddities : Oddities
 
-abbrev pub session_after : List ℕ → SessionOrders → OrderEvent → SessionOrders
-session_after keys before event = record {
+abbrev pub session_orders_after : List ℕ → SessionOrders → OrderEvent → SessionOrders
+session_orders_after keys before event = record {
   live = orders_after keys before.live event;
   oddities = oddities_after before.oddities (oddity_of keys before.live event);
 }
 
-abbrev pub session_of : List ℕ → List OrderEvent → SessionOrders
-session_of keys events =
-    fold (λ before event. session_after keys before event)
+abbrev pub session_orders_of : List ℕ → List OrderEvent → SessionOrders
+session_orders_of keys events =
+    fold (λ before event. session_orders_after keys before event)
     (record { live = []; oddities = no_oddities }) events
 
 -- a symbol's place is this one
@@ -42,7 +42,7 @@ is_place (Some found) place = found == place
 -- a symbol's round lot: the last one of its directory that isn't 0, 100 where none came
 abbrev pub lot_after : List ℕ → ℕ → ℕ → OrderEvent → ℕ
 lot_after keys place lot (RoundLot symbol shares locate) =
-    if is_place (place_in keys symbol) place && not (shares == 0) then shares else lot
+    if is_place (place_among keys symbol) place && not (shares == 0) then shares else lot
 lot_after keys place lot (Add order) = lot
 lot_after keys place lot (Reduce reference shares) = lot
 lot_after keys place lot (Delete reference) = lot
@@ -62,7 +62,7 @@ is_same_kind Operational Operational = true
 -- whether a kind of halt holds of a symbol: by the last message of that kind, no where none came
 abbrev pub halt_after : List ℕ → ℕ → HaltKind → Bool → OrderEvent → Bool
 halt_after keys place kind halted (Halt symbol other now locate) =
-    if is_place (place_in keys symbol) place && is_same_kind other kind then now else halted
+    if is_place (place_among keys symbol) place && is_same_kind other kind then now else halted
 halt_after keys place kind halted (Add order) = halted
 halt_after keys place kind halted (Reduce reference shares) = halted
 halt_after keys place kind halted (Delete reference) = halted
@@ -85,16 +85,17 @@ pub record ShowsBest (orders : List (ℕ × Order)) (side lot price size : ℕ) 
 pub record FitsRow (keys : List ℕ) (events : List OrderEvent) (place : ℕ) (row : SymbolRow)
     : Type 0 where
   pub symbol : key_of row.quote.symbol ≡ slice_index_or keys place 0
-  pub bid : ShowsBest (session_of keys events).live (book_side place Bid) row.lot
+  pub bid : ShowsBest (session_orders_of keys events).live (book_side place Bid) row.lot
       row.quote.bid_price row.quote.bid_size
-  pub offer : ShowsBest (session_of keys events).live (book_side place Offer) row.lot
+  pub offer : ShowsBest (session_orders_of keys events).live (book_side place Offer) row.lot
       row.quote.offer_price row.quote.offer_size
   pub lot : row.lot ≡ lot_of keys place events
   pub trading : row.trading_halt ≡ halt_of keys place Trading events
   pub operational : row.operational_halt ≡ halt_of keys place Operational events
   pub automated : (row.quote.bid_auto ≡ true) × (row.quote.offer_auto ≡ true)
 
--- the symbols by their keys, the table of orders, the symbols' rows, and the numbers of odd messages
+-- the symbols by their keys, the table of orders, the symbols' rows, and the numbers of odd
+-- messages
 pub record OrderBookState : Type 0 where
   pub keys : List ℕ
   pub table : List (ℕ × Order)
@@ -103,8 +104,8 @@ pub record OrderBookState : Type 0 where
 
 -- the book is what these messages make
 pub record FitsEvents (book : OrderBookState) (events : List OrderEvent) : Type 0 where
-  pub orders : Holds book.table (session_of book.keys events).live
-  pub oddities : book.oddities ≡ (session_of book.keys events).oddities
+  pub orders : Holds book.table (session_orders_of book.keys events).live
+  pub oddities : book.oddities ≡ (session_orders_of book.keys events).oddities
   pub rows : (place : ℕ) (d : SymbolRow) → place < length book.keys
       → FitsRow book.keys events place (slice_index_or book.rows place d)
 

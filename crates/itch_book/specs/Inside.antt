@@ -19,8 +19,8 @@ pub record Holds (table orders : List (ℕ × Order)) : Type 0 where
   pub distinct : IsDistinct nat_eq (keys_of orders)
 
 -- the row of a symbol of which nothing is known
-abbrev pub empty_row : List ℕ → SymbolRow
-empty_row symbol = record {
+abbrev pub unknown_row : List ℕ → SymbolRow
+unknown_row symbol = record {
   quote = record {
     symbol = symbol;
     bid_auto = true;

@@ -28,11 +28,11 @@ pub record LiesBetween (levels : List Level) (rank place : ℕ) : Type 0 where
       → rank ≤ (slice_index_or levels k d).rank
 
 -- the level at a place has this rank
-pub record IsAt (levels : List Level) (place rank : ℕ) : Type 0 where
+pub record IsLevelAt (levels : List Level) (place rank : ℕ) : Type 0 where
   pub below : place < length levels
   pub rank_is : (d : Level) → (slice_index_or levels place d).rank ≡ rank
 
 -- and at least these shares
 pub record HasShares (levels : List Level) (place rank shares : ℕ) : Type 0 where
-  pub at : IsAt levels place rank
+  pub at : IsLevelAt levels place rank
   pub enough : (d : Level) → shares ≤ (slice_index_or levels place d).shares

@@ -7,7 +7,7 @@ use Rattle.itch_book.specs.declared.order.Order.{Order}
 use Rattle.itch_book.specs.declared.oddity.Oddity.{Oddity}
 use Rattle.itch_book.specs.declared.oddity.Oddity.TheVariants.{LiveReference, NoShares, UnknownOrder, TooManyShares}
 use Rattle.itch_book.specs.declared.oddity.Oddities.{Oddities}
-use Rattle.itch_book.specs.Orders.{live_order, place_in, without_order}
+use Rattle.itch_book.specs.Orders.{live_order, place_among, without_order}
 
 -- of a new order: one of its reference is there, or it has no shares
 abbrev pub add_oddity : Option Order → ℕ → Option Oddity
@@ -36,7 +36,7 @@ other_oddity (Some order) there shares = add_oddity there shares
 
 abbrev pub oddity_of : List ℕ → List (ℕ × Order) → OrderEvent → Option Oddity
 oddity_of keys orders (Add order) =
-    placed_oddity (place_in keys order.symbol) (live_order orders order.reference) order.shares
+    placed_oddity (place_among keys order.symbol) (live_order orders order.reference) order.shares
 oddity_of keys orders (Reduce reference shares) =
     less_oddity (live_order orders reference) shares
 oddity_of keys orders (Delete reference) = gone_oddity (live_order orders reference)

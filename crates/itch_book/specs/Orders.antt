@@ -12,8 +12,8 @@ use Rattle.itch_messages.specs.declared.event.OrderEvent.TheVariants.{Add, Reduc
 use Rattle.itch_book.specs.declared.order.Order.{Order}
 
 -- where a symbol is among the book's, if it is one of them
-abbrev pub place_in : List ℕ → List ℕ → Option ℕ
-place_in keys symbol = position (nat_eq (key_of symbol)) keys
+abbrev pub place_among : List ℕ → List ℕ → Option ℕ
+place_among keys symbol = position (nat_eq (key_of symbol)) keys
 
 -- a symbol's side by number: of the symbol at a place the bids, or the offers
 abbrev pub book_side : ℕ → Side → ℕ
@@ -78,7 +78,7 @@ with_other other orders = replaced_from (live_order orders other.reference) othe
 -- the live orders after one more message
 abbrev pub orders_after : List ℕ → List (ℕ × Order) → OrderEvent → List (ℕ × Order)
 orders_after keys orders (Add order) =
-    with_added (place_in keys order.symbol) order orders
+    with_added (place_among keys order.symbol) order orders
 orders_after keys orders (Reduce reference shares) = with_less reference shares orders
 orders_after keys orders (Delete reference) = without_order reference orders
 orders_after keys orders (Replace other) = with_other other orders

@@ -18,8 +18,8 @@ shown_size None = 0
 shown_size (Some level) = level.shares
 
 -- halted by either kind of halt
-abbrev pub is_halted : SymbolRow → Bool
-is_halted row = row.trading_halt || row.operational_halt
+abbrev pub shows_halt : SymbolRow → Bool
+shows_halt row = row.trading_halt || row.operational_halt
 
 -- a row that shows this best of a book side
 abbrev pub showing : ℕ → Option Level → SymbolRow → SymbolRow
@@ -47,8 +47,8 @@ with_halt Operational halted row = record row { operational_halt = halted }
 abbrev pub Tells : SymbolRow → SymbolRow → Item → Type 0
 Tells old new (Quote quote) = (quote ≡ new.quote) × (old.quote ≡ new.quote → ⊥)
 Tells old new (Halt symbol halted) =
-    (old.quote ≡ new.quote) × (symbol ≡ new.quote.symbol) × (halted ≡ is_halted new)
-    × (is_halted old ≡ is_halted new → ⊥)
-Tells old new Other = (old.quote ≡ new.quote) × (is_halted old ≡ is_halted new)
+    (old.quote ≡ new.quote) × (symbol ≡ new.quote.symbol) × (halted ≡ shows_halt new)
+    × (shows_halt old ≡ shows_halt new → ⊥)
+Tells old new Other = (old.quote ≡ new.quote) × (shows_halt old ≡ shows_halt new)
 Tells old new End = ⊥
 Tells old new Skipped = ⊥

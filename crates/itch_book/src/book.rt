@@ -6,10 +6,10 @@ ghost use Rattle.itch_messages.specs.declared.event.OrderEvent.{OrderEvent};
 ghost use Rattle.itch_book.specs.declared.order.Order.{Order};
 ghost use Rattle.itch_book.specs.declared.row.SymbolRow.{SymbolRow};
 ghost use Rattle.itch_book.specs.Bests.{depth};
-ghost use Rattle.itch_book.specs.Books.{FitsEvents, FitsRow, TellsOfOne, session_of};
-ghost use Rattle.itch_book.specs.Inside.{Holds, IsSideShown, IsLotShown, IsHaltShown, empty_row};
+ghost use Rattle.itch_book.specs.Books.{FitsEvents, FitsRow, TellsOfOne, session_orders_of};
+ghost use Rattle.itch_book.specs.Inside.{Holds, IsSideShown, IsLotShown, IsHaltShown, unknown_row};
 ghost use Rattle.itch_book.specs.Oddities.{oddities_after, placed_oddity};
-ghost use Rattle.itch_book.specs.Orders.{book_side, live_order, place_in, with_added};
+ghost use Rattle.itch_book.specs.Orders.{book_side, live_order, place_among, with_added};
 
 use crate::fault::BookFault;
 use crate::oddity::{NO_ODDITIES, Oddities};
@@ -79,9 +79,9 @@ fn add_order(
     requires { length orders.old.sides ≡ length places.now * 2 }
     ensures orders { OnOk result ((all : List (ℕ × Order)) → Holds orders.old.table all
         → Holds orders.new.table
-        (with_added (place_in places.now order.now.symbol) order.now all)) }
+        (with_added (place_among places.now order.now.symbol) order.now all)) }
     ensures oddity { IfOk result (λ step. step.oddity
-        ≡ placed_oddity (place_in places.now order.now.symbol)
+        ≡ placed_oddity (place_among places.now order.now.symbol)
         (live_order orders.old.table order.now.reference) order.now.shares) }
     ensures others { IfOk result (λ step. (side r : ℕ) → (step.side ≡ Some side → ⊥)
         → depth orders.new.table side r ≡ depth orders.old.table side r) }
@@ -157,7 +157,7 @@ fn show_halt(rows: &mut [SymbolRow], place: u32, kind: HaltKind, halted: bool) -
 
 /// Makes the rows of symbols of which nothing is known.
 fn empty_rows(alloc: Global, symbols: &[SymbolName]) -> Result<Vec<SymbolRow>, AllocError>
-    ensures { IfOk result (λ rows. rows.items ≡ map empty_row symbols.now) }
+    ensures { IfOk result (λ rows. rows.items ≡ map unknown_row symbols.now) }
 {
     let mut rows = Vec::with_capacity(alloc, symbols.len())?;
     for symbol in symbols {
@@ -299,7 +299,7 @@ impl OrderBook {
     /// Returns the numbers of messages that changed no order, or took more than there was.
     pub fn oddities(&self) -> Oddities
         ensures { (events : List OrderEvent) → FitsEvents self.now events
-            → result ≡ (session_of self.now.keys events).oddities }
+            → result ≡ (session_orders_of self.now.keys events).oddities }
     {
         self.oddities
     }

@@ -1,7 +1,7 @@
 //! The levels of one side of a symbol.
 
 ghost use Rattle.std.specs.Prelude.{◌≡◌, ℕ, ◌+◌, ◌<◌, ◌≤◌, [], MatchBool, MatchOption, OnOk, OnErr, length, slice_index_or, nat_le, if◌then◌else◌};
-ghost use Rattle.itch_book.specs.Levels.{AreRising, HasShares, IsAt, level_depth, LiesBetween};
+ghost use Rattle.itch_book.specs.Levels.{AreRising, HasShares, IsLevelAt, level_depth, LiesBetween};
 ghost use Rattle.itch_book.specs.Bests.{IsBestLevel, whole_lots};
 
 use crate::level::Level;
@@ -54,7 +54,7 @@ fn place_of(levels: &[Level], rank: u32) -> usize
 /// Returns whether the level at a place has the rank.
 #[inline(always)]
 fn is_at(levels: &[Level], at: usize, rank: u32) -> bool
-    ensures { MatchBool result (IsAt levels.now at rank) (IsAt levels.now at rank → ⊥) }
+    ensures { MatchBool result (IsLevelAt levels.now at rank) (IsLevelAt levels.now at rank → ⊥) }
 {
     at < levels.len() && levels[at].rank == rank
 }
@@ -140,8 +140,8 @@ impl Levels {
         }
     }
 
-    /// Returns the best rank down to which there are at least `lot` shares, and those in whole lots,
-    /// if there is one.
+    /// Returns the best rank down to which there are at least `lot` shares, and those in whole
+    /// lots, if there is one.
     pub(crate) fn best(&self, lot: u32) -> Option<Level>
         requires { 1 ≤ lot }
         ensures { MatchOption result ((r : ℕ) → level_depth self.now r < lot)

@@ -6,18 +6,11 @@ ghost use Rattle.std.specs.Option.{option_map, unwrap_or};
 ghost use Rattle.itch_book.specs.declared.order.Order.{Order};
 ghost use Rattle.itch_book.specs.Orders.{live_order};
 
+use crate::fault::BookFault;
 use crate::order::Order;
 use std::alloc::{AllocError, Global};
 use std::collections::HashMap;
 use std::marker::Model;
-
-/// Why an order can't be put in.
-#[derive(Clone, Copy, Debug, PartialEq, Eq)]
-pub(crate) enum TableFault {
-    NoMemory,
-    /// There are as many as there may be.
-    Full,
-}
 
 /// The live orders by their references.
 #[derive(Drop)]
@@ -60,7 +53,7 @@ impl OrderTable {
 
     /// Puts an order in of a reference of which there is none. Where that is refused nothing
     /// changes.
-    pub(crate) fn put(&mut self, reference: u64, order: Order) -> Result<(), TableFault>
+    pub(crate) fn put(&mut self, reference: u64, order: Order) -> Result<(), BookFault>
         requires { live_order self.old reference ≡ None }
         ensures orders { OnOk result ((other : ℕ) → live_order self.new other
             ≡ (if nat_eq reference other then Some order else live_order self.old other)) }
@@ -69,11 +62,11 @@ impl OrderTable {
         ensures refused { OnErr result (self.new ≡ self.old) }
     {
         if self.live.len() >= self.most {
-            return Err(TableFault::Full);
+            return Err(BookFault::TooManyOrders);
         }
         match self.live.insert(reference, order) {
             Ok(_) => Ok(()),
-            Err(_) => Err(TableFault::NoMemory),
+            Err(_) => Err(BookFault::NoMemory),
         }
     }
 

@@ -12,7 +12,7 @@ use crate::level::Level;
 use crate::levels::{LevelFault, Levels};
 use crate::oddity::Oddity;
 use crate::order::{Order, book_rank};
-use crate::order_table::{OrderTable, TableFault};
+use crate::order_table::OrderTable;
 use crate::step::Step;
 use itch_messages::Replacement;
 use std::alloc::{AllocError, Global};
@@ -84,16 +84,11 @@ impl Orders {
             Err(LevelFault::NoMemory) => return Err(BookFault::NoMemory),
             Err(LevelFault::TooManyShares) => return Err(BookFault::TooManyShares),
         }
-        match self.table.put(reference, order) {
-            Ok(()) => Ok(None),
-            Err(fault) => {
-                side.take(order.rank, order.shares);
-                match fault {
-                    TableFault::NoMemory => Err(BookFault::NoMemory),
-                    TableFault::Full => Err(BookFault::TooManyOrders),
-                }
-            }
+        if let Err(fault) = self.table.put(reference, order) {
+            side.take(order.rank, order.shares);
+            return Err(fault);
         }
+        Ok(None)
     }
 
     /// Takes the order of this reference out. Returns it, if there was one.

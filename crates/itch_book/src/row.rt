@@ -1,7 +1,7 @@
 //! What the book keeps of a symbol beside its orders.
 
 ghost use Rattle.std.specs.Prelude.{◌≡◌, ◌+◌, ◌*◌, ◌≤◌};
-ghost use Rattle.itch_book.specs.Rows.{Tells, is_halted, shown_price, shown_size, showing, with_lot, with_halt};
+ghost use Rattle.itch_book.specs.Rows.{Tells, shows_halt, shown_price, shown_size, showing, with_lot, with_halt};
 
 use crate::level::Level;
 use crate::order::book_rank;
@@ -42,7 +42,7 @@ fn size_of(best: &Option<Level>) -> u64
 impl SymbolRow {
     /// Returns whether the symbol is halted by either kind of halt.
     fn is_halted(&self) -> bool
-        ensures { result ≡ is_halted self.now }
+        ensures { result ≡ shows_halt self.now }
     {
         self.trading_halt || self.operational_halt
     }

@@ -2,7 +2,7 @@
 
 ghost use Rattle.std.specs.Prelude.{◌≡◌, ◌<◌, ◌≤◌, length, map, IfOk, IfSome};
 ghost use Rattle.feed_types.specs.Symbols.{key_of};
-ghost use Rattle.itch_book.specs.Orders.{place_in};
+ghost use Rattle.itch_book.specs.Orders.{place_among};
 
 use crate::fault::BookFault;
 use feed_types::SymbolName;
@@ -51,7 +51,7 @@ impl SymbolPlaces {
     /// Returns the place of a symbol, if it is one of the book's.
     #[inline(always)]
     pub(crate) fn place_of(&self, symbol: SymbolName) -> Option<u32>
-        ensures value { result ≡ place_in self.now symbol }
+        ensures value { result ≡ place_among self.now symbol }
         ensures within { IfSome result (λ place. place < length self.now) }
         ensures few { length self.now ≤ 65536 }
     {

@@ -8,7 +8,7 @@ use Rattle.feed_types.specs.declared.item.Item.{Item}
 use Rattle.feed_types.specs.declared.item.Item.TheVariants as item
 use Rattle.quote_payload.specs.Payload.{symbol_at, type_at, version1_of, version2_of, state_at, item_of}
 use Rattle.itch_messages.specs.declared.event.OrderEvent.TheVariants as event
-use Rattle.itch_messages.specs.Events.{is_form, event_by, event_of}
+use Rattle.itch_messages.specs.Events.{is_form, event_by, order_event_of}
 use Rattle.itch_messages.specs.Forms.{telling_forms, silent_forms, is_one_of}
 
 is_form-same : (P : ℕ → ℕ → Type 0) (wanted size kind len : ℕ) → is_form wanted size kind len ≡ true
@@ -48,16 +48,119 @@ pub no_quotation : (message : List ℕ)
 unfolding item_of
 no_quotation message h =
     of_each_form (λ (kind len : ℕ). item_by kind len message ≡ item.Other)
-    (telling_forms ++ silent_forms) (type_at message) (length message)
-    (refl, (refl, (refl, (refl, (refl, (refl, (refl, (refl, (refl, (refl, (refl, (refl, (refl,
-    (refl, (refl, (refl, (refl, (refl, (refl, (refl, (refl, (refl, (refl,
-    tt))))))))))))))))))))))) h
+    (telling_forms ++ silent_forms) (type_at message) (length message) (
+      refl,
+      (
+        refl,
+        (
+          refl,
+          (
+            refl,
+            (
+              refl,
+              (
+                refl,
+                (
+                  refl,
+                  (
+                    refl,
+                    (
+                      refl,
+                      (
+                        refl,
+                        (
+                          refl,
+                          (
+                            refl,
+                            (
+                              refl,
+                              (
+                                refl,
+                                (
+                                  refl,
+                                  (
+                                    refl,
+                                    (
+                                      refl,
+                                      (
+                                        refl,
+                                        (
+                                          refl,
+                                          (
+                                            refl,
+                                            (
+                                              refl,
+                                              (
+                                                refl,
+                                                (
+                                                  refl,
+                                                  tt,
+                                                ),
+                                              ),
+                                            ),
+                                          ),
+                                        ),
+                                      ),
+                                    ),
+                                  ),
+                                ),
+                              ),
+                            ),
+                          ),
+                        ),
+                      ),
+                    ),
+                  ),
+                ),
+              ),
+            ),
+          ),
+        ),
+      ),
+    ) h
 
 pub silent_event : (message : List ℕ) → is_one_of silent_forms message ≡ true
-    → event_of message ≡ event.Other
-unfolding event_of
+    → order_event_of message ≡ event.Other
+unfolding order_event_of
 silent_event message h =
     of_each_form (λ (kind len : ℕ). event_by kind len message ≡ event.Other) silent_forms
-    (type_at message) (length message)
-    (refl, (refl, (refl, (refl, (refl, (refl, (refl, (refl, (refl, (refl, (refl, (refl, (refl,
-    tt))))))))))))) h
+    (type_at message) (length message) (
+      refl,
+      (
+        refl,
+        (
+          refl,
+          (
+            refl,
+            (
+              refl,
+              (
+                refl,
+                (
+                  refl,
+                  (
+                    refl,
+                    (
+                      refl,
+                      (
+                        refl,
+                        (
+                          refl,
+                          (
+                            refl,
+                            (
+                              refl,
+                              tt,
+                            ),
+                          ),
+                        ),
+                      ),
+                    ),
+                  ),
+                ),
+              ),
+            ),
+          ),
+        ),
+      ),
+    ) h

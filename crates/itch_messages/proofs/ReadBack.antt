@@ -15,15 +15,15 @@ use Rattle.itch_messages.specs.declared.event.NewOrder.{NewOrder}
 use Rattle.itch_messages.specs.declared.event.Replacement.{Replacement}
 use Rattle.itch_messages.specs.declared.event.OrderEvent.{OrderEvent}
 use Rattle.itch_messages.specs.declared.event.OrderEvent.TheVariants as event
-use Rattle.itch_messages.specs.Events.{add_of, added_on, event_by, event_of, halt_on, halted_by_action, halted_by_state, side_of_byte}
+use Rattle.itch_messages.specs.Events.{add_of, added_on, event_by, order_event_of, halt_on, halted_by_action, halted_by_state, side_of_byte}
 use Rattle.itch_messages.specs.Encoded.{IsInRange, delete_bytes, halt_byte, head_bytes, less_bytes, order_bytes, replacement_bytes, side_byte, symbol_bytes}
 
 -- ---- forms without a symbol
 
-pub event_of-delete : (locate reference : ℕ) → reference < 2 ^ 64
-    → event_of (delete_bytes locate reference) ≡ event.Delete reference
-unfolding event_of
-event_of-delete locate reference r = ap event.Delete (from_be_bytes-to_be_bytes_8 reference r)
+pub order_event_of-delete : (locate reference : ℕ) → reference < 2 ^ 64
+    → order_event_of (delete_bytes locate reference) ≡ event.Delete reference
+unfolding order_event_of
+order_event_of-delete locate reference r = ap event.Delete (from_be_bytes-to_be_bytes_8 reference r)
 
 less : (reference shares : ℕ) → reference < 2 ^ 64 → shares < 2 ^ 32
     → event.Reduce (from_be_bytes w64 (to_be_bytes w64 reference))
@@ -33,23 +33,23 @@ less reference shares r s =
     (from_be_bytes-to_be_bytes_8 reference r)
     ∙ ap (λ (n : ℕ). event.Reduce reference n) (from_be_bytes-to_be_bytes_4 shares s)
 
-pub event_of-cancel : (locate reference shares : ℕ) → reference < 2 ^ 64 → shares < 2 ^ 32
-    → event_of (less_bytes 0x58 locate reference shares) ≡ event.Reduce reference shares
-unfolding event_of
-event_of-cancel locate reference shares r s = less reference shares r s
+pub order_event_of-cancel : (locate reference shares : ℕ) → reference < 2 ^ 64 → shares < 2 ^ 32
+    → order_event_of (less_bytes 0x58 locate reference shares) ≡ event.Reduce reference shares
+unfolding order_event_of
+order_event_of-cancel locate reference shares r s = less reference shares r s
 
-pub event_of-executed : (locate reference shares : ℕ) → reference < 2 ^ 64 → shares < 2 ^ 32
-    → event_of (less_bytes 0x45 locate reference shares ++ replicate 8 0)
+pub order_event_of-executed : (locate reference shares : ℕ) → reference < 2 ^ 64 → shares < 2 ^ 32
+    → order_event_of (less_bytes 0x45 locate reference shares ++ replicate 8 0)
     ≡ event.Reduce reference shares
-unfolding event_of
-event_of-executed locate reference shares r s = less reference shares r s
+unfolding order_event_of
+order_event_of-executed locate reference shares r s = less reference shares r s
 
-pub event_of-executed_at : (locate reference shares price : ℕ) → reference < 2 ^ 64
+pub order_event_of-executed_at : (locate reference shares price : ℕ) → reference < 2 ^ 64
     → shares < 2 ^ 32
-    → event_of (less_bytes 0x43 locate reference shares ++ replicate 8 0 ++ (0x59 ∷ [])
+    → order_event_of (less_bytes 0x43 locate reference shares ++ replicate 8 0 ++ (0x59 ∷ [])
     ++ to_be_bytes w32 price) ≡ event.Reduce reference shares
-unfolding event_of
-event_of-executed_at locate reference shares price r s = less reference shares r s
+unfolding order_event_of
+order_event_of-executed_at locate reference shares price r s = less reference shares r s
 
 replacement-eq : (x y : Replacement) → x.reference ≡ y.reference
     → x.new_reference ≡ y.new_reference → x.shares ≡ y.shares → x.price ≡ y.price → x ≡ y
@@ -60,11 +60,11 @@ replacement-eq x y a b c d = λ i. record {
   price = d i;
 }
 
-pub event_of-replace : (locate : ℕ) (other : Replacement) → other.reference < 2 ^ 64
+pub order_event_of-replace : (locate : ℕ) (other : Replacement) → other.reference < 2 ^ 64
     → other.new_reference < 2 ^ 64 → other.shares < 2 ^ 32 → other.price < 2 ^ 32
-    → event_of (replacement_bytes locate other) ≡ event.Replace other
-unfolding event_of
-event_of-replace locate other r n s p =
+    → order_event_of (replacement_bytes locate other) ≡ event.Replace other
+unfolding order_event_of
+order_event_of-replace locate other r n s p =
     ap event.Replace (replacement-eq _ other
     (from_be_bytes-to_be_bytes_8 other.reference r)
     (from_be_bytes-to_be_bytes_8 other.new_reference n)
@@ -142,27 +142,30 @@ order_len : (kind : ℕ) (order : NewOrder) (rest : List ℕ) → length order.s
 unfolding order_with
 order_len kind order rest eight = omega (arith, length-append order.symbol rest)
 
-pub event_of-add : (order : NewOrder) → IsInRange order
-    → event_of (order_bytes 0x41 order) ≡ event.Add order
-unfolding event_of order_with
-event_of-add order ranges =
+pub order_event_of-add : (order : NewOrder) → IsInRange order
+    → order_event_of (order_bytes 0x41 order) ≡ event.Add order
+unfolding order_event_of order_with
+order_event_of-add order ranges =
     let rest = to_be_bytes w32 order.price in
     ap (λ (n : ℕ). event_by 0x41 n (order_with 0x41 order rest))
     (order_len 0x41 order rest (eight_bytes order.symbol ranges.symbol))
     ∙ add_of-order 0x41 order rest ranges (from_be_bytes-to_be_bytes_4 order.price ranges.price)
 
-pub event_of-attributed_add : (order : NewOrder) (attribution : List ℕ) → length attribution ≡ 4
-    → IsInRange order → event_of (order_bytes 0x46 order ++ attribution) ≡ event.Add order
-unfolding event_of order_with
-event_of-attributed_add order attribution four ranges =
+pub order_event_of-attributed_add : (order : NewOrder) (attribution : List ℕ)
+    → length attribution ≡ 4
+    → IsInRange order → order_event_of (order_bytes 0x46 order ++ attribution) ≡ event.Add order
+unfolding order_event_of order_with
+order_event_of-attributed_add order attribution four ranges =
     let rest = to_be_bytes w32 order.price ++ attribution in
     let message = order_with 0x46 order rest in
-    let more : length rest ≡ 4 + length attribution = refl in
-    ap event_of (append_assoc (order_with 0x46 order []) (to_be_bytes w32 order.price) attribution)
+    let price : length (to_be_bytes w32 order.price) ≡ 4 = refl in
+    ap order_event_of (append_assoc (order_with 0x46 order []) (to_be_bytes w32 order.price)
+    attribution)
     ∙ ap (λ (n : ℕ). event_by 0x46 n message) (omega (
       arith,
       order_len 0x46 order rest (eight_bytes order.symbol ranges.symbol),
-      more,
+      length-append (to_be_bytes w32 order.price) attribution,
+      price,
       four,
     ))
     ∙ add_of-order 0x46 order rest ranges (from_be_bytes-to_be_bytes_4 order.price ranges.price)
@@ -176,11 +179,12 @@ symbol_len kind locate symbol rest eight = omega (arith, length-append symbol re
 abbrev lot_rest : ℕ → List ℕ
 lot_rest lot = replicate 2 0x20 ++ to_be_bytes w32 lot ++ replicate 14 0x20
 
-pub event_of-directory : (locate lot : ℕ) (symbol : List ℕ) → is_symbol_field symbol ≡ true
+pub order_event_of-directory : (locate lot : ℕ) (symbol : List ℕ) → is_symbol_field symbol ≡ true
     → lot < 2 ^ 32 → locate < 2 ^ 16
-    → event_of (symbol_bytes 0x52 locate symbol (lot_rest lot)) ≡ event.RoundLot symbol lot locate
-unfolding event_of
-event_of-directory locate lot symbol good small l =
+    → order_event_of (symbol_bytes 0x52 locate symbol (lot_rest lot))
+    ≡ event.RoundLot symbol lot locate
+unfolding order_event_of
+order_event_of-directory locate lot symbol good small l =
     let rest = lot_rest lot in
     let eight = eight_bytes symbol good in
     let message = symbol_bytes 0x52 locate symbol rest in
@@ -208,12 +212,12 @@ action_back false = refl
 abbrev state_rest : Bool → List ℕ
 state_rest halted = (halt_byte halted ∷ []) ++ replicate 5 0x20
 
-pub event_of-trading_action : (locate : ℕ) (symbol : List ℕ) (halted : Bool)
+pub order_event_of-trading_action : (locate : ℕ) (symbol : List ℕ) (halted : Bool)
     → is_symbol_field symbol ≡ true → locate < 2 ^ 16
-    → event_of (symbol_bytes 0x48 locate symbol (state_rest halted))
+    → order_event_of (symbol_bytes 0x48 locate symbol (state_rest halted))
     ≡ event.Halt symbol Trading halted locate
-unfolding event_of
-event_of-trading_action locate symbol halted good l =
+unfolding order_event_of
+order_event_of-trading_action locate symbol halted good l =
     let rest = state_rest halted in
     let eight = eight_bytes symbol good in
     let message = symbol_bytes 0x48 locate symbol rest in
@@ -228,12 +232,12 @@ event_of-trading_action locate symbol halted good l =
     ∙ ap (λ (b : Bool). if b then read symbol else event.Other) good
     ∙ ap (event.Halt symbol Trading halted) (from_be_bytes-to_be_bytes_2 locate l)
 
-pub event_of-operational_halt : (locate : ℕ) (symbol : List ℕ) (halted : Bool)
+pub order_event_of-operational_halt : (locate : ℕ) (symbol : List ℕ) (halted : Bool)
     → is_symbol_field symbol ≡ true → locate < 2 ^ 16
-    → event_of (symbol_bytes 0x68 locate symbol (0x51 ∷ halt_byte halted ∷ []))
+    → order_event_of (symbol_bytes 0x68 locate symbol (0x51 ∷ halt_byte halted ∷ []))
     ≡ event.Halt symbol Operational halted locate
-unfolding event_of
-event_of-operational_halt locate symbol halted good l =
+unfolding order_event_of
+order_event_of-operational_halt locate symbol halted good l =
     let rest = 0x51 ∷ halt_byte halted ∷ [] in
     let eight = eight_bytes symbol good in
     let message = symbol_bytes 0x68 locate symbol rest in

@@ -117,5 +117,5 @@ event_by kind len message =
     symbol_event_by kind len message))))))
 
 -- the event that a message is
-unfoldable pub event_of : List ℕ → OrderEvent
-event_of message = event_by (type_at message) (length message) message
+unfoldable pub order_event_of : List ℕ → OrderEvent
+order_event_of message = event_by (type_at message) (length message) message

@@ -11,8 +11,8 @@ pub enum HaltKind {
     Operational,
 }
 
-/// A new order, as it is displayed. The reference is the venue's number of the order, and the locate
-/// its number of the symbol in the session. The price is in ten-thousandths of a dollar.
+/// A new order, as it is displayed. The reference is the venue's number of the order, and the
+/// locate its number of the symbol in the session. The price is in ten-thousandths of a dollar.
 #[derive(Clone, Copy, Debug, PartialEq, Eq)]
 pub struct NewOrder {
     pub symbol: SymbolName,
@@ -38,9 +38,14 @@ pub enum OrderEvent {
     /// A new order is displayed.
     Add(NewOrder),
     /// These shares of an order were executed or cancelled.
-    Reduce { reference: u64, shares: u32 },
+    Reduce {
+        reference: u64,
+        shares: u32,
+    },
     /// An order was cancelled.
-    Delete { reference: u64 },
+    Delete {
+        reference: u64,
+    },
     /// An order was cancelled, and another is displayed in its place.
     Replace(Replacement),
     /// The number of shares in a round lot of the symbol.

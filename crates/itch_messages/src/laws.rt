@@ -2,7 +2,7 @@
 
 ghost use Rattle.std.specs.Prelude.{◌≡◌, ◌++◌, ℕ, List, IsTrue};
 ghost use Rattle.quote_payload.specs.Payload.{item_of};
-ghost use Rattle.itch_messages.specs.Events.{event_of};
+ghost use Rattle.itch_messages.specs.Events.{order_event_of};
 ghost use Rattle.itch_messages.specs.Forms.{telling_forms, silent_forms, is_one_of};
 
 use crate::event::OrderEvent;
@@ -17,5 +17,5 @@ pub fn no_form_is_a_quotation()
 /// A message of the standard that isn't of orders, their lots or their halts says nothing of them.
 pub fn silent_forms_say_nothing()
     ensures { (message : List ℕ) → IsTrue (is_one_of silent_forms message)
-        → event_of message ≡ OrderEvent.Other }
+        → order_event_of message ≡ OrderEvent.Other }
 {}

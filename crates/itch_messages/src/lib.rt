@@ -5,9 +5,9 @@
 //! fails, and no call takes memory. The forms that say nothing of orders, and all else, are
 //! [`OrderEvent::Other`].
 //!
-//! Contract: [`read_event`] returns `event_of` of the bytes, for every byte string, and what a
-//! writer wrote is the event that it was given. Begin at `specs/Events.antt`, which is the table of
-//! the forms; crates above cite `event_of` and never look into it.
+//! Contract: [`read_event`] returns `order_event_of` of the bytes, for every byte string, and what
+//! a writer wrote is the event that it was given. Begin at `specs/Events.antt`, which is the table
+//! of the forms; crates above cite `order_event_of` and never look into it.
 #![tactic(auto)]
 
 mod event;

@@ -4,7 +4,7 @@
 ghost use Rattle.std.specs.Prelude.{◌≡◌, ◌+◌, ◌≤◌, IsTrue, SomeIff, length, slice_index};
 ghost use Rattle.feed_types.specs.Symbols.{is_symbol_field};
 ghost use Rattle.quote_payload.specs.Payload.{type_at, u32_at, u64_at};
-ghost use Rattle.itch_messages.specs.Events.{locate_at, name_field_at, side_of_byte, halted_by_state, halted_by_action, add_of, reduce_of, delete_of, replace_of, round_lot_of, trading_halt_of, operational_halt_of, is_form, symbol_event_by, event_of};
+ghost use Rattle.itch_messages.specs.Events.{locate_at, name_field_at, side_of_byte, halted_by_state, halted_by_action, add_of, reduce_of, delete_of, replace_of, round_lot_of, trading_halt_of, operational_halt_of, is_form, symbol_event_by, order_event_of};
 
 use crate::event::{HaltKind, NewOrder, OrderEvent, Replacement};
 use crate::form::{
@@ -190,6 +190,7 @@ fn read_operational_halt(message: &[u8]) -> OrderEvent
 /// Returns whether the message is of this type and length.
 #[inline(always)]
 fn has_form(message: &[u8], kind: u8, len: usize) -> bool
+    requires { 1 ≤ len }
     ensures form { result ≡ is_form kind len (type_at message.now) (length message.now) }
     ensures len { IsTrue result → length message.now ≡ len }
 {
@@ -217,20 +218,25 @@ fn read_symbol_event(message: &[u8]) -> OrderEvent
 ///
 /// | Type | Length | Event | Fields, by offset |
 /// |---|---|---|---|
-/// | `A`, `F` | 36, 40 | an order is there | 11 reference (8), 19 `B` or `S`, 20 shares (4), 24 symbol (8), 32 price (4) |
-/// | `E`, `C`, `X` | 31, 36, 23 | these shares of it are gone | 11 reference (8), 19 shares (4) |
+/// | `A`, `F` | 36, 40 | an order | 11 reference (8), 19 side (1), 20 shares (4), 24 symbol (8) |
+/// | | | | 32 price (4) |
+/// | `E`, `C`, `X` | 31, 36, 23 | less of it | 11 reference (8), 19 shares (4) |
 /// | `D` | 19 | it is gone | 11 reference (8) |
-/// | `U` | 35 | another is there in its place | 11 reference (8), 19 the other's (8), 27 shares (4), 31 price (4) |
-/// | `R` | 39 | the symbol's round lot | 11 symbol (8), 21 shares (4) |
-/// | `H` | 25 | it is halted, or trades | 11 symbol (8), 19 `H`, `P` or `Q` where it is halted, `T` where it trades |
-/// | `h` | 21 | the venue halts it, or no more | 11 symbol (8), 20 `H` where it does, `T` where it doesn't |
+/// | `U` | 35 | another in its place | 11 reference (8), 19 the other's (8), 27 shares (4) |
+/// | | | | 31 price (4) |
+/// | `R` | 39 | a round lot | 11 symbol (8), 21 shares (4) |
+/// | `H` | 25 | a halt, or its end | 11 symbol (8), 19 state (1) |
+/// | `h` | 21 | the venue's own | 11 symbol (8), 20 action (1) |
+///
+/// A side is `B` or `S`. The states `H`, `P` and `Q` halt the symbol, and `T` trades it; the action
+/// `H` halts it, and `T` ends that.
 ///
 /// Everything else is [`OrderEvent::Other`]: another type, another length, a symbol that isn't a
 /// name of 1 to 8 bytes and then spaces, another side, state or action.
 #[inline(always)]
-#[tactic(auto, unfolding(crate::specs::Events::event_of))]
+#[tactic(auto, unfolding(crate::specs::Events::order_event_of))]
 pub fn read_event(message: &[u8]) -> OrderEvent
-    ensures { result ≡ event_of message.now }
+    ensures { result ≡ order_event_of message.now }
 {
     if has_form(message, ADD, ADD_LEN) {
         return read_add(message);

@@ -3,7 +3,7 @@
 ghost use Rattle.std.specs.Prelude.{◌≡◌, ◌+◌, ◌≤◌, ◌++◌, [], ◌∷◌, IsTrue, length, take, replicate};
 ghost use Rattle.std.specs.Int.{w32, w64, to_be_bytes};
 ghost use Rattle.feed_types.specs.Symbols.{is_symbol_field};
-ghost use Rattle.itch_messages.specs.Events.{event_of};
+ghost use Rattle.itch_messages.specs.Events.{order_event_of};
 ghost use Rattle.itch_messages.specs.Encoded.{IsInRange, head_bytes, side_byte, halt_byte, order_bytes, less_bytes, delete_bytes, replacement_bytes, symbol_bytes};
 
 use crate::event::{HaltKind, NewOrder, OrderEvent, Replacement};
@@ -106,7 +106,7 @@ fn symbol_message<const N: usize, const LEN: usize>(
 /// Returns a new order as a message of type `A`.
 pub fn write_add(order: &NewOrder) -> [u8; 36]
     ensures bytes { result ≡ order_bytes 0x41 order.now }
-    ensures event { event_of result ≡ OrderEvent.Add order.now }
+    ensures event { order_event_of result ≡ OrderEvent.Add order.now }
 {
     order_message(ADD, order)
 }
@@ -115,7 +115,7 @@ pub fn write_add(order: &NewOrder) -> [u8; 36]
 /// participant.
 pub fn write_attributed_add(order: &NewOrder, attribution: [u8; 4]) -> [u8; 40]
     ensures bytes { result ≡ order_bytes 0x46 order.now ++ attribution }
-    ensures event { event_of result ≡ OrderEvent.Add order.now }
+    ensures event { order_event_of result ≡ OrderEvent.Add order.now }
 {
     join(order_message(ATTRIBUTED_ADD, order), attribution)
 }
@@ -124,7 +124,7 @@ pub fn write_attributed_add(order: &NewOrder, attribution: [u8; 4]) -> [u8; 40]
 /// without a match number.
 pub fn write_executed(locate: u16, reference: u64, shares: u32) -> [u8; 31]
     ensures bytes { result ≡ less_bytes 0x45 locate reference shares ++ replicate 8 0 }
-    ensures event { event_of result ≡ OrderEvent.Reduce reference shares }
+    ensures event { order_event_of result ≡ OrderEvent.Reduce reference shares }
 {
     join(less_message(EXECUTED, locate, reference, shares), [0; 8])
 }
@@ -134,7 +134,7 @@ pub fn write_executed(locate: u16, reference: u64, shares: u32) -> [u8; 31]
 pub fn write_executed_at(locate: u16, reference: u64, shares: u32, price: u32) -> [u8; 36]
     ensures bytes { result ≡ less_bytes 0x43 locate reference shares
         ++ replicate 8 0 ++ (0x59 ∷ []) ++ to_be_bytes w32 price }
-    ensures event { event_of result ≡ OrderEvent.Reduce reference shares }
+    ensures event { order_event_of result ≡ OrderEvent.Reduce reference shares }
 {
     let front: [u8; 31] = join(less_message(EXECUTED_AT, locate, reference, shares), [0; 8]);
     let front: [u8; 32] = join(front, [b'Y']);
@@ -144,7 +144,7 @@ pub fn write_executed_at(locate: u16, reference: u64, shares: u32, price: u32) -
 /// Returns a cancellation of these shares of an order as a message of type `X`.
 pub fn write_cancel(locate: u16, reference: u64, shares: u32) -> [u8; 23]
     ensures bytes { result ≡ less_bytes 0x58 locate reference shares }
-    ensures event { event_of result ≡ OrderEvent.Reduce reference shares }
+    ensures event { order_event_of result ≡ OrderEvent.Reduce reference shares }
 {
     less_message(CANCEL, locate, reference, shares)
 }
@@ -152,7 +152,7 @@ pub fn write_cancel(locate: u16, reference: u64, shares: u32) -> [u8; 23]
 /// Returns a cancellation of a whole order as a message of type `D`.
 pub fn write_delete(locate: u16, reference: u64) -> [u8; 19]
     ensures bytes { result ≡ delete_bytes locate reference }
-    ensures event { event_of result ≡ OrderEvent.Delete reference }
+    ensures event { order_event_of result ≡ OrderEvent.Delete reference }
 {
     join(head(DELETE, locate), reference.to_be_bytes())
 }
@@ -160,7 +160,7 @@ pub fn write_delete(locate: u16, reference: u64) -> [u8; 19]
 /// Returns a replacement of an order as a message of type `U`.
 pub fn write_replace(locate: u16, other: &Replacement) -> [u8; 35]
     ensures bytes { result ≡ replacement_bytes locate other.now }
-    ensures event { event_of result ≡ OrderEvent.Replace other.now }
+    ensures event { order_event_of result ≡ OrderEvent.Replace other.now }
 {
     let Replacement {
         reference,
@@ -179,7 +179,7 @@ pub fn write_replace(locate: u16, other: &Replacement) -> [u8; 35]
 pub fn write_directory(locate: u16, symbol: SymbolName, round_lot: u32) -> [u8; 39]
     ensures bytes { result ≡ symbol_bytes 0x52 locate symbol
         (replicate 2 0x20 ++ to_be_bytes w32 round_lot ++ replicate 14 0x20) }
-    ensures event { event_of result ≡ OrderEvent.RoundLot symbol round_lot locate }
+    ensures event { order_event_of result ≡ OrderEvent.RoundLot symbol round_lot locate }
 {
     let rest: [u8; 6] = join([b' '; 2], round_lot.to_be_bytes());
     let rest: [u8; 20] = join(rest, [b' '; 14]);
@@ -191,7 +191,7 @@ pub fn write_directory(locate: u16, symbol: SymbolName, round_lot: u32) -> [u8; 
 pub fn write_trading_action(locate: u16, symbol: SymbolName, halted: bool) -> [u8; 25]
     ensures bytes { result ≡ symbol_bytes 0x48 locate symbol
         ((halt_byte halted ∷ []) ++ replicate 5 0x20) }
-    ensures event { event_of result ≡ OrderEvent.Halt symbol HaltKind.Trading halted locate }
+    ensures event { order_event_of result ≡ OrderEvent.Halt symbol HaltKind.Trading halted locate }
 {
     let rest: [u8; 6] = join([halt_code(halted)], [b' '; 5]);
     symbol_message(TRADING_ACTION, locate, symbol, rest)
@@ -202,7 +202,8 @@ pub fn write_trading_action(locate: u16, symbol: SymbolName, halted: bool) -> [u
 pub fn write_operational_halt(locate: u16, symbol: SymbolName, halted: bool) -> [u8; 21]
     ensures bytes { result ≡ symbol_bytes 0x68 locate symbol
         (0x51 ∷ halt_byte halted ∷ []) }
-    ensures event { event_of result ≡ OrderEvent.Halt symbol HaltKind.Operational halted locate }
+    ensures event { order_event_of result
+        ≡ OrderEvent.Halt symbol HaltKind.Operational halted locate }
 {
     symbol_message(OPERATIONAL_HALT, locate, symbol, [b'Q', halt_code(halted)])
 }

@@ -1,11 +1,13 @@
 use Rattle.std.proofs.Common.{◌∙◌, ap, arith}
-use Rattle.itch_messages.specs.Events.{event_of}
-use Rattle.itch_messages.proofs.ReadBack.{event_of-executed}
+use Rattle.itch_messages.specs.Events.{order_event_of}
+use Rattle.itch_messages.proofs.ReadBack.{order_event_of-executed}
 use Rattle.itch_messages.proofs.writing.write_executed.Goals as goal
 
 pub returns-clause-bytes : goal.returns-clause-bytes
 returns-clause-bytes c = cc
 
 pub returns-clause-event : goal.returns-clause-event
-returns-clause-event c = ap event_of (returns-clause-bytes c) ∙ event_of-executed c.args.locate
+returns-clause-event c =
+    ap order_event_of (returns-clause-bytes c)
+    ∙ order_event_of-executed c.args.locate
     c.args.reference c.args.shares (omega arith) (omega arith)

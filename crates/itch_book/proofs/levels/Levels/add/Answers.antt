@@ -1,7 +1,7 @@
 use Rattle.std.proofs.Common.{sym, subst, arith}
 use Rattle.std.specs.Prelude.{is_ok}
 use Rattle.std.proofs.lemmas.Bool.{cond_both}
-use Rattle.itch_book.specs.Levels.{AreRising, IsAt, LiesBetween}
+use Rattle.itch_book.specs.Levels.{AreRising, IsLevelAt, LiesBetween}
 use Rattle.itch_book.proofs.Rising.{AreRising-insert, AreRising-set, after_place}
 use Rattle.itch_book.proofs.levels.Levels.add.Goals as goal
 
@@ -18,9 +18,9 @@ invariant_of-self-2 c =
     let at = c.place_of-at.result in
     let between : LiesBetween xs c.args.rank at =
     subst (λ ys. LiesBetween ys c.args.rank at) c.as_slice.ensures.value c.place_of-at.ensures in
-    let apart : IsAt xs at c.args.rank → ⊥ =
+    let apart : IsLevelAt xs at c.args.rank → ⊥ =
     λ here. c.if-is_at.ensures
-    (subst (λ ys. IsAt ys at c.args.rank) (sym c.as_slice-2.ensures.value) here) in
+    (subst (λ ys. IsLevelAt ys at c.args.rank) (sym c.as_slice-2.ensures.value) here) in
     rw c.insert.ensures.items
     (cond_both (is_ok c.insert.result) _ _ AreRising
     (λ done. AreRising-insert xs at (record { rank = c.args.rank; shares = c.into.result })

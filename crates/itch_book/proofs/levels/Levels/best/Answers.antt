@@ -7,7 +7,8 @@ pub overflow_add-shares : goal.overflow_add-shares
 overflow_add-shares c =
     let xs = c.self.inside.worst_first.items in
     let within = rw (← c.self.view_is) at c.loop-at.invariant.within in
-    let few = shares_at xs (c.loop-at.at - 1) c.index.result.now c.self.invariant (omega (arith, within)) in
+    let few = shares_at xs (c.loop-at.at - 1) c.index.result.now c.self.invariant (omega
+    (arith, within)) in
     omega (
       arith,
       few,
@@ -20,7 +21,8 @@ pub returns-then-shares-from : goal.returns-then-shares-from
 returns-then-shares-from c =
     rw (← c.self.view_is)
     (best_here c.self.inside.worst_first.items c.loop-at.at c.args.lot c.loop-at.shares
-    c.in_whole_lots.result c.index.result.now c.index-then-shares-from.result.now c.self.invariant c.loop-at-test.true
+    c.in_whole_lots.result c.index.result.now c.index-then-shares-from.result.now
+    c.self.invariant c.loop-at-test.true
     (rw (← c.self.view_is) at c.loop-at.invariant.within)
     (rw (← c.self.view_is) at c.loop-at.invariant.passed)
     c.loop-at.invariant.short c.index.ensures c.index-then-shares-from.ensures

@@ -7,12 +7,12 @@ use Rattle.itch_book.proofs.order_table.OrderTable.put.Goals as goal
 
 pub returns-clause-sums : goal.returns-clause-sums
 returns-clause-sums c f =
-    let e = c.in_ok-insert.ensures in
-    let none : c.in_ok-insert.field-0 ≡ None = e.old ∙ (rw (← c.self.view_is) at c.requires) in
+    let e = c.in-Ok.ensures in
+    let none : c.in-Ok.field-0 ≡ None = e.old ∙ (rw (← c.self.view_is) at c.requires) in
     let was = ap (λ (o : Option Order). unwrap_or (option_map f o) 0) none in
     rw (← c.self.view_is) (omega (
       arith,
       was,
       sum_by_puts_entry f nat_eq c.self.inside.live c.insert.new.self c.args.reference c.args.order
-          c.in_ok-insert.field-0 e.old e.entries,
+          c.in-Ok.field-0 e.old e.entries,
     ))

@@ -9,7 +9,8 @@ returns-clause-sums c f =
     let es = c.self.inside.live.entries in
     rw (← c.self.view_is) (omega (
       arith,
-      sum_by_values_permutation f (remove_entry (nat_eq c.args.reference) es) c.remove.new.self.entries
+      sum_by_values_permutation f (remove_entry (nat_eq c.args.reference) es)
+          c.remove.new.self.entries
           c.remove.ensures.entries,
       sum_by-remove_entry f (nat_eq c.args.reference) es,
     ))

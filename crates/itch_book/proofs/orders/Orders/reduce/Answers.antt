@@ -61,7 +61,9 @@ returns-else-order-shares-clause-orders c orders h =
     sym (held.each c.args.reference) ∙ sym c.in_ok-order.ensures in
     subst (λ os. Holds c.set.new.self os)
     (sym (ap (λ o. reduced_from o c.args.reference c.args.shares orders) found
-    ∙ ap (λ b. cond b (without_order c.args.reference orders) (set_value (nat_eq c.args.reference) orders less))
+    ∙ ap (λ b. cond b (without_order c.args.reference orders)
+    (set_value (nat_eq c.args.reference) orders less))
     (lt-leb c.in_ok-order.order.shares c.args.shares c.if-order-shares.false)))
-    (Holds-set c.self.inside.table c.set.new.self orders c.args.reference c.in_ok-order.order less held
+    (Holds-set c.self.inside.table c.set.new.self orders c.args.reference c.in_ok-order.order less
+    held
     (sym c.in_ok-order.ensures) c.set.ensures.orders c.set.ensures.sums)

@@ -8,7 +8,8 @@ pub returns-in_err-order-clause-orders : goal.returns-in_err-order-clause-orders
 returns-in_err-order-clause-orders c orders h =
     let held = rw (← c.self.view_is) at h in
     rw (← c.self.view_is) (subst (λ os. Holds c.self.inside.table os)
-    (sym (without_none c.self.inside.table orders c.args.reference held (sym c.in_err-order.ensures)))
+    (sym (without_none c.self.inside.table orders c.args.reference held
+    (sym c.in_err-order.ensures)))
     held)
 
 pub take-requires : goal.take-requires
