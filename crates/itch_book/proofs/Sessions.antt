@@ -1,9 +1,11 @@
 -- A book after one more message.
 use Rattle.std.proofs.Common.{◌≡◌, ℕ, ◌+◌, ◌*◌, ◌-◌, ◌/◌, ◌%◌, ◌<◌, ◌≤◌, Bool, true, false, cond, List, [], ◌∷◌, ◌++◌, length, get_or, set, refl, sym, ap, ◌∙◌, subst, arith, inl, inr}
-use Rattle.std.specs.Prelude.{◌==◌, ◌&&◌, not, MatchOption, Option, Some, None}
+use Rattle.std.specs.Prelude.{◌==◌, ◌&&◌, not, nat_eq, map, MatchOption, Option, Some, None}
+use Rattle.std.specs.List.{IsDistinct}
+use Rattle.std.specs.Map.{keys_of}
 use Rattle.std.proofs.lemmas.Bool.{cases_eq, eq-eqb, ne_eqb}
 use Rattle.std.proofs.lemmas.Option.{none-some, same_Some}
-use Rattle.std.proofs.lemmas.List.{get_or-set_same, get_or-set_other}
+use Rattle.std.proofs.lemmas.List.{get_or-set_same, get_or-set_other, get_or-map, length-map}
 use Rattle.std.proofs.lemmas.List.Sums.{fold_push}
 use Rattle.feed_types.specs.Symbols.{key_of}
 use Rattle.feed_types.specs.declared.line.Side.TheVariants.{Bid, Offer}
@@ -17,7 +19,7 @@ use Rattle.itch_book.specs.declared.order.Order.{Order}
 use Rattle.itch_book.specs.declared.row.SymbolRow.{SymbolRow}
 use Rattle.itch_book.specs.Bests.{IsBestOf, depth, order_shares}
 use Rattle.itch_book.specs.Books.{FitsEvents, FitsRow, OrderBookState, SessionOrders, ShowsBest, halt_after, halt_of, is_place, is_same_kind, lot_after, lot_of, session_orders_after, session_orders_of}
-use Rattle.itch_book.specs.Inside.{Holds, IsHaltShown, IsLotShown, IsSideShown}
+use Rattle.itch_book.specs.Inside.{Holds, IsHaltShown, IsLotShown, IsSideShown, unknown_row}
 use Rattle.itch_book.specs.Oddities.{no_oddities, oddities_after, oddity_of}
 use Rattle.itch_book.specs.Orders.{book_side, orders_after, place_among}
 use Rattle.itch_book.specs.Rows.{showing, shown_price, shown_size, with_halt, with_lot}
@@ -225,9 +227,6 @@ row_shows keys events e place side row best leaves h at is others =
     ]
 
 -- ---- a message of an order
-
-none_touched : (touched : Option ℕ) → touched ≡ None → (side : ℕ) → touched ≡ Some side → ⊥
-none_touched touched e side on = none-some side (sym e ∙ on)
 
 -- how many shares there are on a side that wasn't touched
 depth_stays : (table new live all : List (ℕ × Order)) (touched : Option ℕ) (side r : ℕ)
@@ -530,3 +529,44 @@ fits_halt keys events symbol kind now locate place table rows after oddities fit
           })
           )
     ]))
+
+-- ---- no message
+
+shows_none : (side lot : ℕ) → 1 ≤ lot → ShowsBest [] side lot 0 0
+shows_none side lot some = record {
+  best = None;
+  is_best = λ rank. omega (arith, some);
+  price = refl;
+  size = refl;
+}
+
+distinct_none : IsDistinct nat_eq (keys_of {K = ℕ} {X = Order} [])
+unfolding IsDistinct
+distinct_none = tt
+
+row_none : (keys : List ℕ) (symbol : List ℕ) (place : ℕ) → key_of symbol ≡ get_or keys place 0
+    → FitsRow keys [] place (unknown_row symbol)
+row_none keys symbol place at = record {
+  symbol = at;
+  bid = shows_none (place * 2) 100 (omega arith);
+  offer = shows_none (place * 2 + 1) 100 (omega arith);
+  lot = refl;
+  trading = refl;
+  operational = refl;
+  automated = (refl, refl);
+}
+
+pub fits_none : (symbols : List (List ℕ))
+    → FitsEvents (book_of (map key_of symbols) [] (map unknown_row symbols) no_oddities) []
+fits_none symbols = record {
+  orders = record { each = λ id. refl; sums = λ f. refl; distinct = distinct_none };
+  oddities = refl;
+  rows = λ place d inside. (
+      let below : place < length symbols = omega (arith, inside, length-map symbols key_of) in
+      let symbol = get_or symbols place d.quote.symbol in
+      subst (λ r. FitsRow (map key_of symbols) [] place r)
+      (sym (get_or-map unknown_row symbols place d.quote.symbol d below))
+      (row_none (map key_of symbols) symbol place
+      (sym (get_or-map key_of symbols place d.quote.symbol 0 below)))
+      );
+}
