@@ -159,15 +159,18 @@ order_event_of-attributed_add order attribution four ranges =
     let rest = to_be_bytes w32 order.price ++ attribution in
     let message = order_with 0x46 order rest in
     let price : length (to_be_bytes w32 order.price) ≡ 4 = refl in
-    ap order_event_of (append_assoc (order_with 0x46 order []) (to_be_bytes w32 order.price)
-    attribution)
-    ∙ ap (λ (n : ℕ). event_by 0x46 n message) (omega (
+    let front = head_bytes 0x46 order.locate ++ to_be_bytes w64 order.reference
+    ++ (side_byte order.side ∷ []) ++ to_be_bytes w32 order.shares ++ order.symbol in
+    let whole : order_bytes 0x46 order ++ attribution ≡ message =
+    append_assoc front (to_be_bytes w32 order.price) attribution in
+    let len : length message ≡ 40 = omega (
       arith,
       order_len 0x46 order rest (eight_bytes order.symbol ranges.symbol),
       length-append (to_be_bytes w32 order.price) attribution,
       price,
       four,
-    ))
+    ) in
+    ap order_event_of whole ∙ ap (λ (n : ℕ). event_by 0x46 n message) len
     ∙ add_of-order 0x46 order rest ranges (from_be_bytes-to_be_bytes_4 order.price ranges.price)
 
 -- ---- forms of a symbol
