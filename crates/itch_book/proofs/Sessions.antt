@@ -92,8 +92,8 @@ shows_same : (before after : List (ℕ × Order)) (side lot price size : ℕ)
 shows_same before after side lot price size same h = record {
   best = h.best;
   is_best = best_same lot (depth before side) (depth after side) h.best same h.is_best;
-  price = h.price;
-  size = h.size;
+  price_is = h.price_is;
+  size_is = h.size_is;
 }
 
 -- a row of whose orders the message says nothing
@@ -149,7 +149,8 @@ showing_offer place best row =
 now_best : (orders : List (ℕ × Order)) (side lot : ℕ) (best : Option Level)
     → IsBestOf lot (depth orders side) best
     → ShowsBest orders side lot (shown_price side best) (shown_size best)
-now_best orders side lot best is = record { best = best; is_best = is; price = refl; size = refl }
+now_best orders side lot best is =
+    record { best = best; is_best = is; price_is = refl; size_is = refl }
 
 row_bid : (keys : List ℕ) (events : List OrderEvent) (e : OrderEvent) (place : ℕ)
     (row : SymbolRow) (best : Option Level) → LeavesSymbols keys e
@@ -536,8 +537,8 @@ shows_none : (side lot : ℕ) → 1 ≤ lot → ShowsBest [] side lot 0 0
 shows_none side lot some = record {
   best = None;
   is_best = λ rank. omega (arith, some);
-  price = refl;
-  size = refl;
+  price_is = refl;
+  size_is = refl;
 }
 
 distinct_none : IsDistinct nat_eq (keys_of {K = ℕ} {X = Order} [])

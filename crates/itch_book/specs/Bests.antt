@@ -21,10 +21,10 @@ abbrev pub whole_lots : ℕ → ℕ → ℕ
 whole_lots lot shares = shares - shares % lot
 
 -- the best rank down to which there is a round lot, by how many shares there are down to each
-pub record IsBestLevel (lot : ℕ) (depth : ℕ → ℕ) (best : Level) : Type 0 where
-  pub reaches : lot ≤ depth best.rank
-  pub best : (rank : ℕ) → best.rank < rank → depth rank < lot
-  pub shares : best.shares ≡ whole_lots lot (depth best.rank)
+pub record IsBestLevel (lot : ℕ) (depth : ℕ → ℕ) (level : Level) : Type 0 where
+  pub reaches : lot ≤ depth level.rank
+  pub best : (rank : ℕ) → level.rank < rank → depth rank < lot
+  pub shares : level.shares ≡ whole_lots lot (depth level.rank)
 
 -- the best, or none where all orders together show less than a round lot
 abbrev pub IsBestOf : ℕ → (ℕ → ℕ) → Option Level → Type 0

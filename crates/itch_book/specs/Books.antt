@@ -1,5 +1,5 @@
 -- A book and the messages that were applied to it.
-use Rattle.std.specs.Prelude.{◌≡◌, ℕ, ◌<◌, ◌==◌, ◌&&◌, not, Bool, true, false, List, [], fold, length, slice_index_or, Option, Some, None, ⊥, if◌then◌else◌}
+use Rattle.std.specs.Prelude.{◌≡◌, ℕ, ◌<◌, ◌==◌, ◌&&◌, not, Bool, true, false, List, [], fold, length, slice_index_or, Option, Some, None, if◌then◌else◌}
 use Rattle.feed_types.specs.Symbols.{key_of}
 use Rattle.feed_types.specs.declared.item.Item.{Item}
 use Rattle.feed_types.specs.declared.line.Side.{Side}
@@ -78,8 +78,8 @@ halt_of keys place kind events =
 pub record ShowsBest (orders : List (ℕ × Order)) (side lot price size : ℕ) : Type 0 where
   pub best : Option Level
   pub is_best : IsBestOf lot (depth orders side) best
-  pub price : price ≡ shown_price side best
-  pub size : size ≡ shown_size best
+  pub price_is : price ≡ shown_price side best
+  pub size_is : size ≡ shown_size best
 
 -- a symbol's row is what the messages make of it
 pub record FitsRow (keys : List ℕ) (events : List OrderEvent) (place : ℕ) (row : SymbolRow)

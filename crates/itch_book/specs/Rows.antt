@@ -1,5 +1,5 @@
 -- What a book keeps of a symbol beside its orders, and what a change of it tells.
-use Rattle.std.specs.Prelude.{◌≡◌, ℕ, ◌%◌, ◌==◌, ◌||◌, Bool, List, Option, Some, None, ⊥, if◌then◌else◌}
+use Rattle.std.specs.Prelude.{◌≡◌, ℕ, ◌%◌, ◌==◌, ◌||◌, Bool, List, Option, Some, None, if◌then◌else◌}
 use Rattle.feed_types.specs.declared.item.Item.{Item}
 use Rattle.feed_types.specs.declared.item.Item.TheVariants.{Quote, Halt, Other, End, Skipped}
 use Rattle.itch_messages.specs.declared.event.HaltKind.{HaltKind}
