@@ -26,8 +26,12 @@ QUIET_SECONDS = 0.1
 STALLED_SECONDS = 60
 ENDING_SECONDS = 3
 MOST_SAID = 1 << 20
-# What standard error has where something is amiss.
-AMISS = re.compile(r"lack|gave up|fail|full|couldn't|can't|no memory|no thread|behind|--datagrams")
+# What standard error has of gaps that stand for a while, and close.
+STANDS = re.compile(
+    r'^nbbo: second \d+ venue \d+ (lacks|no longer lacks|has no reply to requests for) \d+ messages? from \d+\n', re.M
+)
+# What it has where something is amiss.
+AMISS = re.compile(r"lack|gave up|fail|full|couldn't|can't|no memory|no thread|behind|withh|held back|--datagrams")
 
 
 class WrongRun(Exception):
@@ -108,6 +112,10 @@ class LongRun:
     def said(self) -> str:
         """What standard error has. The program writes on where it was: nothing is sought in the file."""
         return os.pread(self.told.fileno(), MOST_SAID, 0).decode()
+
+    def is_amiss(self) -> bool:
+        """Whether standard error says that something is amiss, but for gaps that have closed."""
+        return AMISS.search(STANDS.sub('', self.said())) is not None
 
     # What is sent.
 
@@ -206,7 +214,7 @@ class LongRun:
                     line.send(end(PER_PACKET * self.sent[place // 2] + 1, session_of(place // 2)))
             time.sleep(QUIET_SECONDS)
         printed = self.follower.printed(STALLED_SECONDS)
-        if self.child.poll() != 0 or printed is None or AMISS.search(self.said()):
+        if self.child.poll() != 0 or printed is None or self.is_amiss():
             raise WrongRun(f'status {self.child.poll()}, standard error: {self.said()!r}')
         self.compare(printed)
 

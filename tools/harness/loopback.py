@@ -4,6 +4,7 @@ import errno
 import ipaddress
 import socket
 import time
+from collections import Counter
 from collections.abc import Callable, Collection
 from pathlib import Path
 from typing import NamedTuple
@@ -75,8 +76,11 @@ def open_sockets(ports: Collection[int] | None = None) -> list[OpenSocket]:
 
 
 def waiting_bytes() -> dict[int, int]:
-    """The local UDP ports that are open, each with how many bytes wait to be read."""
-    return {one.port: one.waiting for one in open_sockets()}
+    """The local UDP ports that are open, each with how many bytes wait to be read at all its addresses."""
+    waiting: Counter[int] = Counter()
+    for one in open_sockets():
+        waiting[one.port] += one.waiting
+    return waiting
 
 
 def is_of_this_machine(host: str) -> bool:

@@ -1,12 +1,11 @@
 -- The lines of a list, by the texts that it is cut into.
-use Rattle.std.proofs.Common.{Err, inl, inr, ◌≡◌, ◌<◌, ℕ, ◌+◌, ◌*◌, ◌∙◌, sym, ap, subst, List, [], ◌∷◌, ◌++◌, length, map, take, zero, suc, refl, arith}
+use Rattle.std.proofs.Common.{Err, Option, inl, inr, ◌≡◌, ◌<◌, ℕ, ◌+◌, ◌*◌, ◌∙◌, sym, ap, subst, List, [], ◌∷◌, ◌++◌, length, map, take, zero, suc, refl, arith}
 use Rattle.std.specs.Prelude.{◌≢◌}
 use Rattle.std.specs.Borrow.{Bor}
 use Rattle.std.specs.List.{slice_index_or}
-use Rattle.std.specs.Net.Grammar.{IsSocketText}
 use Rattle.std.specs.declared.net.socket_addr.SocketAddr.{SocketAddr}
 use Rattle.std.proofs.lemmas.List.{length-map, map-append, take_more}
-use Rattle.command_words.specs.Addresses.{AreSpelled, NameLines, ReadsLines}
+use Rattle.command_words.specs.Addresses.{AreSpelled, NameLines, SpellsLine}
 use Rattle.command_words.specs.Readings.{Finds, OrNoMemory}
 use Rattle.command_words.specs.Sessions.{names_in}
 use Rattle.command_words.specs.declared.refusal.Refusal.{Refusal}
@@ -57,34 +56,35 @@ module _ {X : Type 0} (Spells : List ℕ → X → Type 0) where
 
 -- a list of another length names no lines
 pub other_length : (texts : List (Bor (List ℕ))) (list : List ℕ) (venues : ℕ)
-    → AreNamesOf texts list → length texts ≢ 2 * venues → ReadsLines list venues (Err BadLines)
+    → AreNamesOf texts list → length texts ≢ 2 * venues
+    → OrNoMemory (Finds (NameLines list venues) BadLines) (Err BadLines)
 other_length texts list venues cut other = inr (
   refl,
   λ lines named.
-      let all = AreSpelled-length IsSocketText (names_in list) lines named.spelled in
+      let all = AreSpelled-length SpellsLine (names_in list) lines named.spelled in
       let n : length (names_in list) ≡ length texts = ap length (sym cut)
       ∙ length-map texts (λ text. text.now) in
       other (sym n ∙ sym all ∙ named.two_each),
 )
 
 pub NameLines-all : (texts : List (Bor (List ℕ))) (list : List ℕ) (venues : ℕ)
-    (lines : List SocketAddr) → AreNamesOf texts list → length texts ≡ 2 * venues
-    → AreSpelled IsSocketText (texts_at texts) lines → NameLines list venues lines
+    (lines : List (Option SocketAddr)) → AreNamesOf texts list → length texts ≡ 2 * venues
+    → AreSpelled SpellsLine (texts_at texts) lines → NameLines list venues lines
 NameLines-all texts list venues lines cut count all = record {
-  spelled = subst (λ (ts : List (List ℕ)). AreSpelled IsSocketText ts lines) cut all;
-  two_each = AreSpelled-length IsSocketText (texts_at texts) lines all
+  spelled = subst (λ (ts : List (List ℕ)). AreSpelled SpellsLine ts lines) cut all;
+  two_each = AreSpelled-length SpellsLine (texts_at texts) lines all
       ∙ length-map texts (λ text. text.now) ∙ count;
 }
 
 -- the refusal of the texts is that of the list that is cut into them
 pub none_spelled : (texts : List (Bor (List ℕ))) (list : List ℕ) (venues : ℕ) (refusal : Refusal)
     → AreNamesOf texts list
-    → OrNoMemory (Finds (AreSpelled IsSocketText (texts_at texts)) BadLines) (Err refusal)
-    → ReadsLines list venues (Err refusal)
+    → OrNoMemory (Finds (AreSpelled SpellsLine (texts_at texts)) BadLines) (Err refusal)
+    → OrNoMemory (Finds (NameLines list venues) BadLines) (Err refusal)
 none_spelled texts list venues refusal cut (inl memory) = inl memory
 none_spelled texts list venues refusal cut (inr (is, none)) = inr (
   is,
   λ lines named.
-      none lines (subst (λ (ts : List (List ℕ)). AreSpelled IsSocketText ts lines) (sym cut)
+      none lines (subst (λ (ts : List (List ℕ)). AreSpelled SpellsLine ts lines) (sym cut)
       named.spelled),
 )

@@ -27,7 +27,7 @@ use Rattle.command_words.specs.TimeStyles.{time_style_in}
 use Rattle.command_words.specs.declared.task.Task.{Task}
 use Rattle.command_words.specs.declared.task.Task.TheVariants.{Run, Convert, Discover, Listen}
 use Rattle.command_words.specs.declared.refusal.Refusal.{Refusal}
-use Rattle.command_words.specs.declared.refusal.Refusal.TheVariants.{Shown, Usage, NotText, BadSession, TooManySessions, BadNextSession, BadLines, BadRequest, BadFormat, BadPeriod, EveryWithoutLines, GapsWithEvery, BestsWithoutEvery, SkipAfterWithoutLines, SkipGapsWithSkipAfter, BadTime, ToBeforeFrom, SpanOfLines, SpanWithoutLines, BadTimeStyle, TimesOfText, TimesWithoutLines, BadEnd, KeptUnfollowed, FormatUnfollowed, BadSender, BadMetrics, BadSymbol, TooManySymbols, DuplicateSymbol, NoMemory}
+use Rattle.command_words.specs.declared.refusal.Refusal.TheVariants.{Shown, Usage, NotText, BadSession, TooManySessions, BadNextSession, BadLines, BadRequest, BadFormat, BadPeriod, EveryWithoutLines, GapsWithEvery, BestsWithoutEvery, SkipAfterWithoutLines, SkipGapsWithSkipAfter, BadTime, ToBeforeFrom, SpanOfLines, SpanWithoutLines, BadTimeStyle, TimesOfText, TimesWithoutLines, BadEnd, KeptUnfollowed, FormatUnfollowed, BadSender, SendersWithFrom, BadMetrics, BadSymbol, TooManySymbols, DuplicateSymbol, NoMemory}
 
 -- a text that was asked for: help, or the version
 abbrev pub IsAsked : ErrorKind → Type 0
@@ -161,6 +161,7 @@ refusal_text BadEnd = codes "nbbo: bad end\n"
 refusal_text KeptUnfollowed = codes "nbbo: --kept without --follow\n"
 refusal_text FormatUnfollowed = codes "nbbo: --format without --follow\n"
 refusal_text BadSender = codes "nbbo: bad sender\n"
+refusal_text SendersWithFrom = codes "nbbo: --senders with --from\n"
 refusal_text BadMetrics = codes "nbbo: bad metrics address\n"
 refusal_text BadSymbol = codes "nbbo: bad symbol\n"
 refusal_text TooManySymbols = codes "nbbo: too many symbols\n"

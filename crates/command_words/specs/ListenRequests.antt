@@ -8,10 +8,13 @@ use Rattle.command_words.specs.FeedRequests.{IsFeed}
 use Rattle.command_words.specs.ListenFormats.{listen_format_in}
 use Rattle.command_words.specs.OptionValues.{is_flag_set, lines_in, list_in, number_given, symbol_words_in}
 use Rattle.command_words.specs.Readings.{Gives, Then, Yields}
-use Rattle.command_words.specs.SenderLists.{ReadsSenders}
+use Rattle.command_words.specs.SenderLists.{ReadsNamedSenders}
 use Rattle.command_words.specs.Sessions.{ReadsSessions}
 use Rattle.command_words.specs.StatsFormats.{listen_stats_in}
 use Rattle.command_words.specs.Symbols.{ReadsSymbols}
+use Rattle.command_words.specs.declared.listen_parts.ListenOutputs.{ListenOutputs}
+use Rattle.command_words.specs.declared.listen_parts.ListenRules.{ListenRules}
+use Rattle.command_words.specs.declared.listen_parts.Reception.{Reception}
 use Rattle.command_words.specs.declared.refusal.Refusal.{Refusal}
 use Rattle.command_words.specs.declared.refusal.Refusal.TheVariants.{KeptUnfollowed}
 
@@ -40,8 +43,12 @@ kept_by false number (Some text) = Err KeptUnfollowed
 
 -- The settings have the values of the options that are never refused.
 pub record HasListenOptions (rows : List Row) (settings : ListenSettings) : Type 0 where
+  pub request_after_is : settings.request_after
+      ≡ number_given (one_of (codes "request-after") rows)
+  pub most_ahead_is : settings.most_ahead ≡ number_given (one_of (codes "most-ahead") rows)
   pub join_is : settings.join ≡ is_flag_set (one_of (codes "join") rows)
   pub skip_after_is : settings.skip_after ≡ number_given (one_of (codes "skip-after") rows)
+  pub silent_after_is : settings.silent_after ≡ number_given (one_of (codes "silent-after") rows)
   pub datagrams_are : settings.datagrams
       ≡ datagrams_by (is_followed rows) (number_given (one_of (codes "datagrams") rows))
   pub buffer_is : settings.buffer ≡ number_given (one_of (codes "buffer") rows)
@@ -50,25 +57,61 @@ pub record HasListenOptions (rows : List Row) (settings : ListenSettings) : Type
   pub complete_is : settings.complete ≡ is_flag_set (one_of (codes "complete") rows)
   pub follow_is : settings.follow ≡ is_followed rows
 
--- The settings of listen by the values of its options, which are looked at in this order.
-abbrev pub ReadsListening : List Row → Result ListenSettings Refusal → Type 0
-ReadsListening rows =
+-- The feed that is listened to, its lines, and where requests go. They are looked at in this order:
+-- sessions, lines, address of requests, symbols.
+abbrev pub ReadsReception : List Row → Result Reception Refusal → Type 0
+ReadsReception rows =
     Then (ReadsSessions false (list_in rows))
     (λ sessions. Then (ReadsLines (lines_in rows) (length sessions))
     (λ lines. Then (ReadsRequest lines (first_of (codes "request") rows))
     (λ request. Then (ReadsSymbols (symbol_words_in rows))
-    (λ symbols. Then (Gives (end_rule_in (first_of (codes "end") rows)))
+    (λ symbols. Yields (λ reception.
+    IsFeed rows (unwrap_or (number_given (one_of (codes "journal") rows))
+    (usual_journal (is_followed rows))) sessions symbols reception.feed
+    × (reception.lines.items ≡ lines) × (reception.request ≡ request))))))
+
+-- Which ends end a line, how many changes are kept, and whose datagrams are taken, in this order.
+abbrev pub ReadsListenRules : List Row → Result ListenRules Refusal → Type 0
+ReadsListenRules rows =
+    Then (Gives (end_rule_in (first_of (codes "end") rows)))
     (λ end. Then (Gives (kept_by (is_followed rows) (number_given (one_of (codes "kept") rows))
     (first_of (codes "kept") rows)))
-    (λ kept. Then (ReadsSenders (first_of (codes "from") rows))
-    (λ senders. Then (ReadsMetrics (first_of (codes "metrics") rows))
+    (λ kept. Then (ReadsNamedSenders (first_of (codes "senders") rows)
+    (first_of (codes "from") rows))
+    (λ senders. Yields (λ rules.
+    (rules.end ≡ end) × (rules.kept ≡ kept) × (rules.senders ≡ senders)))))
+
+-- Where metrics are served, and which counts and which form of best lines are printed, in this
+-- order.
+abbrev pub ReadsListenOutputs : List Row → Result ListenOutputs Refusal → Type 0
+ReadsListenOutputs rows =
+    Then (ReadsMetrics (first_of (codes "metrics") rows))
     (λ metrics. Then (Gives (listen_stats_in (number_given (one_of (codes "stats") rows))
     (first_of (codes "stats-format") rows)))
     (λ stats. Then (Gives (listen_format_in (is_followed rows) (first_of (codes "format") rows)
     (first_of (codes "times") rows)))
-    (λ format. Yields (λ settings. HasListenOptions rows settings
-    × IsFeed rows (unwrap_or (number_given (one_of (codes "journal") rows))
-    (usual_journal (is_followed rows))) sessions symbols settings.feed
-    × (settings.lines.items ≡ lines) × (settings.request ≡ request) × (settings.end ≡ end)
-    × (settings.kept ≡ kept) × (settings.from ≡ senders) × (settings.metrics ≡ metrics)
-    × (settings.stats ≡ stats) × (settings.format ≡ format))))))))))))
+    (λ format. Yields (λ outputs.
+    (outputs.metrics ≡ metrics) × (outputs.stats ≡ stats) × (outputs.format ≡ format)))))
+
+-- The settings have these parts.
+pub record HasParts (reception : Reception) (rules : ListenRules) (outputs : ListenOutputs)
+    (settings : ListenSettings) : Type 0 where
+  pub feed_is : settings.feed ≡ reception.feed
+  pub lines_are : settings.lines ≡ reception.lines
+  pub request_is : settings.request ≡ reception.request
+  pub end_is : settings.end ≡ rules.end
+  pub kept_is : settings.kept ≡ rules.kept
+  pub senders_are : settings.senders ≡ rules.senders
+  pub metrics_are : settings.metrics ≡ outputs.metrics
+  pub stats_are : settings.stats ≡ outputs.stats
+  pub format_is : settings.format ≡ outputs.format
+
+-- The settings of listen by the values of its options: the feed is looked at first, then the rules,
+-- and then the outputs.
+abbrev pub ReadsListening : List Row → Result ListenSettings Refusal → Type 0
+ReadsListening rows =
+    Then (ReadsReception rows)
+    (λ reception. Then (ReadsListenRules rows)
+    (λ rules. Then (ReadsListenOutputs rows)
+    (λ outputs. Yields (λ settings. HasListenOptions rows settings
+    × HasParts reception rules outputs settings))))

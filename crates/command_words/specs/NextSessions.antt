@@ -1,6 +1,6 @@
--- The sessions that follow a venue's first one in the list of --sessions, of a packet capture: each
--- stands after a slash, as in NORTH/NORTH2,SOUTH.
-use Rattle.std.specs.Prelude.{ℕ, ◌+◌, Bool, ◌&&◌, nat_le, ◌==◌, if◌then◌else◌, List, [], ◌∷◌, ◌++◌, count_by, drop, length, map, take, Option, None, Some, Result, Ok, Err}
+-- The sessions that follow a venue's first one in the list of --sessions, where it may have such:
+-- each stands after a slash, as in NORTH/NORTH2,SOUTH.
+use Rattle.std.specs.Prelude.{ℕ, ◌+◌, Bool, ◌&&◌, nat_le, ◌==◌, if◌then◌else◌, List, [], ◌∷◌, ◌++◌, count_by, drop, length, map, take, true, false, Result, Ok, Err}
 use Rattle.std.specs.List.{list_all, slice_split}
 use Rattle.std.specs.Str.{bytes_eq}
 use Rattle.run_settings.specs.declared.next_session.NextSession.{NextSession}
@@ -42,9 +42,10 @@ next_sessions_from venue (text ∷ texts) =
     (λ sessions. mapped (λ more. next_session_of venue sessions ++ more) (next_sessions_from
     (venue + 1) texts))
 
--- Where --lines is given, the next sessions of the first `venues` venues of the list; else none.
-abbrev pub ReadsNextSessions : (lines : Option (List ℕ)) → List ℕ → (venues : ℕ)
+-- The next sessions of the first `venues` venues of the list, where others may follow a session;
+-- else none.
+abbrev pub ReadsNextSessions : (chained : Bool) → List ℕ → (venues : ℕ)
     → Result (List NextSession) Refusal → Type 0
-ReadsNextSessions None list venues = Gives (Ok [])
-ReadsNextSessions (Some lines) list venues =
+ReadsNextSessions false list venues = Gives (Ok [])
+ReadsNextSessions true list venues =
     OrNoMemory (Gives (next_sessions_from 0 (take venues (names_in list))))

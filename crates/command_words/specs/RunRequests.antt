@@ -64,7 +64,7 @@ ReadsRunOf rows feed gaps plain =
     (λ input. Then (ReadsSpan output (first_of (codes "from") rows) (first_of (codes "to") rows)
     (first_of (codes "lines") rows))
     (λ span. Then (ReadsSkips rows)
-    (λ skips. Then (ReadsNextSessions (first_of (codes "lines") rows) (list_in rows)
+    (λ skips. Then (ReadsNextSessions (is_some (first_of (codes "lines") rows)) (list_in rows)
     (length feed.sessions.items))
     (λ next. Yields (IsRunAsked feed gaps output input span skips next))))))
 

@@ -9,9 +9,10 @@ use Rattle.run_settings.specs.declared.sender.Sender.{Sender}
 use Rattle.run_settings.specs.declared.sender.Senders.{Senders}
 use Rattle.run_settings.specs.declared.sender.Senders.TheVariants.{Any, These}
 use Rattle.command_words.specs.Addresses.{AreSpelled}
+use Rattle.command_words.specs.Readings.{Gives}
 use Rattle.command_words.specs.Sessions.{names_in}
 use Rattle.command_words.specs.declared.refusal.Refusal.{Refusal}
-use Rattle.command_words.specs.declared.refusal.Refusal.TheVariants.{BadSender, NoMemory}
+use Rattle.command_words.specs.declared.refusal.Refusal.TheVariants.{BadSender, NoMemory, SendersWithFrom}
 
 -- the text spells this address and port
 pub record SpellsPort (text : List ℕ) (address : IpAddr) (port : ℕ) : Type 0 where
@@ -46,3 +47,9 @@ abbrev pub ReadsSenders : Option (List ℕ) → Result Senders Refusal → Type 
 ReadsSenders list (Ok senders) = NameSenders list senders
 ReadsSenders list (Err refusal) =
     (refusal ≡ NoMemory) ⊎ ((refusal ≡ BadSender) × NamesNoSenders list)
+
+-- the senders by the texts of --senders and of its other name, --from, of which one may be given
+abbrev pub ReadsNamedSenders : (senders from : Option (List ℕ)) → Result Senders Refusal → Type 0
+ReadsNamedSenders (Some senders) (Some from) = Gives (Err SendersWithFrom)
+ReadsNamedSenders (Some senders) None = ReadsSenders (Some senders)
+ReadsNamedSenders None from = ReadsSenders from

@@ -18,8 +18,8 @@ stats_format_named name =
 abbrev pub stats_format_in : Option (List ℕ) → Result StatsFormat Refusal
 stats_format_in = named_or stats_format_named Table BadFormat
 
--- A run that listens prints counts every so many seconds, where that is said, in the form that is
--- named, or as lines and a table. Where it isn't said none are printed, and no form may be named.
+-- A run that listens prints counts at an interval in seconds, where one is given, in the form that
+-- is named, or as lines and a table. Where none is given it prints none, and no form may be named.
 abbrev pub listen_stats_in : (seconds : Option ℕ) → Option (List ℕ)
     → Result (Option ListenStats) Refusal
 listen_stats_in None None = Ok None

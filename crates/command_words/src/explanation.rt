@@ -3,46 +3,47 @@
 //! It is told beside the refusal's own text, and no clause speaks of it.
 
 use crate::command_line::parsed;
-use crate::option_values::{flag_of, given_text, text_of};
+use crate::explained_lists::{lines_explained, next_explained, sessions_explained};
+use crate::option_values::{flag_of, given_text};
+use crate::quoting::{joined, quoted};
 use crate::refusal::Refusal;
-use crate::sessions::first_name;
 use crate::time_words::read_time;
 use clap::ArgMatches;
 use feed_types::SymbolName;
 use std::alloc::{AllocError, Global};
-use std::net::SocketAddr;
 
 /// The commands with options, of which the words are explained.
 const COMMANDS: [&str; 5] = ["replay", "stats", "listen", "convert", "lines"];
 
-/// The options of `replay` and `listen` that have a value, beside those for which the refusal has
-/// one line alone.
-const FURTHER_OPTIONS: [&str; 7] = [
-    "skip-after",
+/// The options of `replay` that have a value, beside those for which the refusal has one line
+/// alone.
+const REPLAY_OPTIONS: [&str; 5] = ["skip-after", "from", "to", "format", "times"];
+
+/// The flags of `replay`, but for that of gap lines.
+const REPLAY_FLAGS: [&str; 3] = ["join", "skip-gaps", "best-only"];
+
+/// The options of `listen` that have a value, beside those for which the refusal has one line
+/// alone.
+const LISTEN_OPTIONS: [&str; 15] = [
+    "request-after",
+    "senders",
     "from",
-    "to",
+    "most-ahead",
+    "skip-after",
+    "buffer",
+    "end",
+    "seconds",
+    "silent-after",
+    "kept",
     "format",
     "times",
     "stats",
+    "stats-format",
     "metrics",
 ];
 
-/// The flags of `replay` and `listen`, but for that of gap lines.
-const FURTHER_FLAGS: [&str; 4] = ["join", "skip-gaps", "best-only", "follow"];
-
-/// Returns the parts as one text.
-fn joined(alloc: Global, parts: &[&str]) -> Result<String, AllocError> {
-    let mut text = String::new(alloc);
-    for part in parts {
-        text.push_str(*part)?;
-    }
-    Ok(text)
-}
-
-/// Returns that this word isn't what an option takes, and what that is.
-fn quoted(alloc: Global, option: &str, word: &str, right: &str) -> Result<String, AllocError> {
-    joined(alloc, &["nbbo: ", option, "'", word, "' ", right, "\n"])
-}
+/// The flags of `listen`.
+const LISTEN_FLAGS: [&str; 4] = ["join", "complete", "until-input-ends", "follow"];
 
 /// Returns the options of the command that the words ask for, and its name.
 fn command_of<'m, 'a>(matches: &'m ArgMatches<'a>) -> Option<(&'static str, &'m ArgMatches<'a>)> {
@@ -54,112 +55,33 @@ fn command_of<'m, 'a>(matches: &'m ArgMatches<'a>) -> Option<(&'static str, &'m 
     None
 }
 
+/// Returns whether one of these options or flags is given.
+fn has_any(matches: &ArgMatches<'_>, options: &[&str], flags: &[&str]) -> bool {
+    options
+        .iter()
+        .any(|name| given_text(matches, *name).is_some())
+        || flags.iter().any(|name| flag_of(matches, *name))
+}
+
 /// Returns whether the command has options for which a refusal has one line alone.
-fn is_plain(command: &str, options: &ArgMatches<'_>) -> bool {
-    if command == "replay" && given_text(options, "lines").is_some() {
-        return false;
+fn is_plain(command: &str, matches: &ArgMatches<'_>) -> bool {
+    if command == "listen" {
+        return !has_any(matches, LISTEN_OPTIONS.as_slice(), LISTEN_FLAGS.as_slice());
     }
-    (command == "replay" || command == "listen")
-        && !FURTHER_OPTIONS
-            .iter()
-            .any(|name| given_text(options, name).is_some())
-        && !FURTHER_FLAGS.iter().any(|name| flag_of(options, name))
+    command == "replay"
+        && given_text(matches, "lines").is_none()
+        && !has_any(matches, REPLAY_OPTIONS.as_slice(), REPLAY_FLAGS.as_slice())
 }
 
-/// Returns how many texts stand between the commas of a list.
-fn count_in(list: &str) -> usize {
-    let mut count: usize = 1;
-    for byte in list.as_bytes() {
-        if *byte == b',' {
-            count = count.saturating_add(1);
-        }
-    }
-    count
-}
-
-/// Returns whether a text is no IP address and port.
-fn is_no_address(text: &str) -> bool {
-    SocketAddr::parse_ascii(text.as_bytes()).is_err()
-}
-
-/// Returns whether a text is no session.
-fn is_no_session(text: &str) -> bool {
-    let bytes = text.as_bytes();
-    bytes.is_empty() || bytes.len() > 10 || bytes.iter().any(|&b| b < 0x20 || b > 0x7e)
-}
-
-/// Returns the first text of a list that is no IP address and port.
-fn bad_address_in(alloc: Global, list: &str) -> Option<&str> {
-    let texts: Vec<&str> = list.split(',').collect(alloc).ok()?;
-    for text in texts.as_slice() {
-        if is_no_address(*text) {
-            return Some(*text);
-        }
-    }
-    None
-}
-
-/// Returns the first name of a list that is no session's, where others may follow each after
-/// slashes, or may not.
-fn bad_session_in(alloc: Global, list: &str, chained: bool) -> Option<&str> {
-    let texts: Vec<&str> = list.split(',').collect(alloc).ok()?;
-    for text in texts.as_slice() {
-        let name = first_name(*text, chained);
-        if is_no_session(name) {
-            return Some(name);
-        }
-    }
-    None
-}
-
-/// Returns the first text of a list that stood there before.
-fn second_in(alloc: Global, list: &str) -> Option<&str> {
-    let texts: Vec<&str> = list.split(',').collect(alloc).ok()?;
-    for place in 0..texts.len() {
-        if texts[..place].contains(&texts[place]) {
-            return Some(texts[place]);
-        }
-    }
-    None
-}
-
-/// Returns what is wrong with a list of lines for these sessions.
-fn lines_explained(alloc: Global, options: &ArgMatches<'_>) -> Option<String> {
-    let lines = text_of(options, "lines");
-    let addresses = count_in(lines);
-    if let Some(sessions) = given_text(options, "sessions") {
-        let sessions = count_in(sessions);
-        if addresses != sessions.saturating_mul(2) {
-            let addresses = addresses.to_string(alloc).ok()?;
-            let sessions = sessions.to_string(alloc).ok()?;
-            let parts = [
-                "nbbo: --lines: ",
-                addresses.as_str(),
-                " addresses for ",
-                sessions.as_str(),
-                " sessions, which have two each\n",
-            ];
-            return joined(alloc, &parts).ok();
-        }
-    }
-    match bad_address_in(alloc, lines) {
-        Some(text) => quoted(alloc, "--lines: ", text, "is no IP address and port").ok(),
-        None => quoted(
-            alloc,
-            "--lines: ",
-            second_in(alloc, lines)?,
-            "stands there twice",
-        )
-        .ok(),
-    }
-}
-
-/// Returns what is wrong with a list of sessions.
-fn sessions_explained(alloc: Global, command: &str, options: &ArgMatches<'_>) -> Option<String> {
-    let chained = command != "listen" && given_text(options, "lines").is_some();
-    let text = bad_session_in(alloc, text_of(options, "sessions"), chained)?;
-    let right = "is no session: 1 to 10 characters of printable ASCII";
-    quoted(alloc, "--sessions: ", text, right).ok()
+/// Returns what is wrong with a list of senders, by the name by which it is given.
+fn senders_explained(alloc: Global, options: &ArgMatches<'_>) -> Option<String> {
+    let right = "isn't IP addresses, with or without a port";
+    let name = if given_text(options, "senders").is_some() {
+        "senders"
+    } else {
+        "from"
+    };
+    value_explained(alloc, options, name, right)
 }
 
 /// Returns what is wrong with the words for symbols.
@@ -244,9 +166,9 @@ fn explained(
     let address = "is no IP address and port";
     let asked = "is no IP address and port that each line can send to";
     let period = "is no period: as 100ms or 1s, from 1ms to 3600s";
-    let senders = "isn't IP addresses, with or without a port";
     match refusal {
         Refusal::BadSession => sessions_explained(alloc, command, options),
+        Refusal::BadNextSession => next_explained(alloc, options),
         Refusal::BadLines => lines_explained(alloc, options),
         Refusal::BadSymbol => symbols_explained(alloc, options),
         Refusal::DuplicateSymbol => double_explained(alloc, options),
@@ -260,7 +182,7 @@ fn explained(
             value_explained(alloc, options, "end", "is neither any nor own nor none")
         }
         Refusal::BadRequest => value_explained(alloc, options, "request", asked),
-        Refusal::BadSender => value_explained(alloc, options, "from", senders),
+        Refusal::BadSender => senders_explained(alloc, options),
         Refusal::BadMetrics => value_explained(alloc, options, "metrics", address),
         _ => None,
     }

@@ -26,6 +26,9 @@ macro_rules! text {
     ([$($part:tt)*] DEFAULT_WINDOW $($rest:tt)*) => { text!([$($part)* 4096] $($rest)*) };
     ([$($part:tt)*] DEFAULT_COUNT $($rest:tt)*) => { text!([$($part)* 1000000] $($rest)*) };
     ([$($part:tt)*] DEFAULT_KEPT $($rest:tt)*) => { text!([$($part)* 65536] $($rest)*) };
+    ([$($part:tt)*] USUAL_WAIT $($rest:tt)*) => { text!([$($part)* 10] $($rest)*) };
+    ([$($part:tt)*] USUAL_LEAD $($rest:tt)*) => { text!([$($part)* 1000000] $($rest)*) };
+    ([$($part:tt)*] USUAL_SILENCE $($rest:tt)*) => { text!([$($part)* 3000] $($rest)*) };
     ([$($part:tt)*] $next:tt $($rest:tt)*) => { text!([$($part)* $next] $($rest)*) };
     ($($part:tt)*) => { text!([] $($part)*) };
 }

@@ -40,8 +40,9 @@ Printed lines, once all lines have ended; with --follow each best line as it com
                                  or offer of the symbol. BID and OFFER are none or V:PRICExSIZE;
                                  STATE is empty, one-sided, normal, locked or crossed
   venue V sent SENT wins A B R   for each venue: how many items came in sequence, and how many
-                                 messages each line brought first. R is 0: replies to requests
-                                 come on line A or B. With --format csv or json rows stand alone
+                                 messages each line brought first. R is 0 where replies to requests
+                                 come on line A or B: see --request. With --format csv or json rows
+                                 stand alone
 
 An example to try, from the folder of the program's sources. Start this in the background:
   ./nbbo listen --sessions NORTH,SOUTH --lines \
@@ -55,9 +56,11 @@ Multicast groups are not joined by the program, but by the system: as root, once
 interface that it comes by:
   ip address add 239.1.1.1/32 dev eth0 autojoin
 Then --lines 239.1.1.1:26400,.. receives what is sent to that group and port, and nothing else.
+For more than 20 groups, as root, beforehand:
+  sysctl -w net.ipv4.igmp_max_memberships=64
 
 What a sender does at the end: messages that are missing are asked for after a datagram has come,
-and once more with one that comes 250 ms or more later. So that what both lines lost of the last
+and once more 250 ms or more later. So that what both lines lost of the last
 messages is asked for and can be sent again, it sends heartbeats for some seconds, one in each at
 least, before it sends the end of session. What is missing all the same is told.
 
@@ -79,6 +82,7 @@ Status:
        line V L went on after N ends of session
                         which by --end don't end it
        line V L passed over N datagrams of senders not in --from
+                        or --senders, which is the same
        line V L ended by --datagrams
                         the line has read as many datagrams as it may
        venue V lacks COUNT messages from NUMBER
@@ -91,6 +95,15 @@ Status:
                         at the line's socket, for want of room mostly: see --buffer
        line V L ended with session NAME
                         with an end of that session, of the venue's or of another: see --end
+       line V L had no datagram
+                        none of a sender that is taken
+       line V L brings session NAME, which isn't its venue's
+                        the first other session that came
+       line V L withheld N datagrams that aren't plausible
+                        more than --most-ahead messages past what the venue's lines have brought,
+                        or ends of session that no other line has brought: see --most-ahead
+       line V L held back N requests
+                        of more than a hundred in a second
        symbol S never came, N more symbols never came
                         no item in sequence was of it
        symbol S never had a best, N more symbols never had a best
@@ -106,18 +119,20 @@ Status:
        no thread        a thread could not be started; what was taken was printed
        bind failed      an address of --lines, or that of --metrics, isn't of this machine, or is
                         in use; nothing was read
-       write failed     standard output can't be written
+       write failed     standard output can't be written, or with --follow nobody read it for five
+                        seconds after --seconds or the end of standard input
        no memory        memory was refused
   2  the command line was refused; standard error says why. 'bad session', 'too many sessions',
      'bad symbol', 'too many symbols' and 'duplicate symbol' as of 'nbbo replay'; 'bad lines': not
-     two addresses for each session; 'bad request address': it is none, or none that the lines
-     can send to (port 0, IP address 0.0.0.0 or [::], another version of IP than a line's);
-     'bad end': --end is neither any nor own nor none; '--kept without --follow': without it all
-     changes are kept; 'bad sender': --from isn't IP addresses, with or without a port; 'bad
-     metrics address': --metrics isn't an IP address and a port; 'bad format': --stats-format is
-     neither table nor json, or --stats isn't given, or --format is neither text nor csv nor json;
-     '--format without --follow'; 'bad time style': --times is neither seconds nor utc;
-     '--times of lines of text', which have none
+     two addresses for each session, or a venue without a line; 'bad request address': it is none,
+     or none that the lines can send to (port 0, IP address 0.0.0.0 or [::], another version of IP
+     than a line's); 'bad end': --end is neither any nor own nor none; '--kept without --follow':
+     without it all changes are kept; 'bad sender': --senders or --from isn't IP addresses, with or
+     without a port; '--senders with --from', which are the same; 'bad metrics address': --metrics
+     isn't an IP address and a port; 'bad format': --stats-format is neither table nor json, or
+     --stats isn't given, or --format is neither text nor csv nor json; '--format without --follow';
+     'bad time style': --times is neither seconds nor utc; '--times of lines of text', which have
+     none
   3  with --complete: as 0, and a venue lacks messages
 
 While it runs standard error says when a line ends or fails, and at its first request that can't
@@ -131,7 +146,18 @@ stood for a second, and when its messages have come, and at the first gap for wh
 nothing came in two seconds after they were asked for:
   nbbo: second N line V L ended with session NAME
   nbbo: second N venue V lacks COUNT messages from NUMBER
-.. no longer lacks COUNT .., has no reply to requests for COUNT ..";
+.. no longer lacks COUNT .., has no reply to requests for COUNT .. With such an option it says, too,
+when a line has brought nothing for as long as --silent-after says, and when it is heard again, at
+the first datagram of another session, the first that is withheld, and the first request that is
+held back:
+  nbbo: second N line V L has brought nothing for MS ms
+.. has brought nothing for MS ms, its group isn't joined, is heard again, brings session NAME, which
+isn't its venue's, withholds datagrams that aren't plausible, holds requests back. With --follow it
+says when nobody reads standard output for a second, and how many changes of those that were taken
+for it wait. Standard error itself is not waited for: where it was full, it has how many texts are
+missing once it takes some again:
+  nbbo: second N output isn't read, COUNT changes wait
+.. output is read again, standard error wasn't read, COUNT texts are missing";
 
 /// The texts of `listen`.
 const TEXTS: CommandTexts<'static> = CommandTexts {

@@ -2,7 +2,19 @@
 
 use crate::limits::text;
 use crate::option_table::{CommandOption, OptionForm};
-use crate::options::{SESSIONS, SYMBOLS, TIMES, WINDOW};
+use crate::options::{SYMBOLS, TIMES, WINDOW};
+
+/// `--sessions LIST` of a command that listens.
+const SESSIONS: CommandOption<'static> = CommandOption {
+    name: "sessions",
+    value: "LIST",
+    form: OptionForm::Required,
+    help: text!("The first session of each venue, 1 to " MAX_VENUES " names parted by commas"),
+    long_help: text!("\
+The first session of each venue, venue 0's first: 1 to " MAX_VENUES " names parted by commas. A
+name has 1 to 10 characters of printable ASCII (bytes 20 to 7e) and is filled on the
+right with spaces to ten bytes. Write --sessions=LIST where the list begins with '-'"),
+};
 
 /// `--lines LIST`.
 const LINES: CommandOption<'static> = CommandOption {
@@ -15,7 +27,8 @@ Where the lines are received: two addresses for each venue, line A's and then li
 B's, venue 0's first, parted by commas. An address is an IP address of this machine
 and a port, as 127.0.0.1:7001 or [::1]:7001; with 0.0.0.0 all of its addresses. For a
 line whose datagrams come by multicast it is the group's, which the system has to have
-joined before: see below",
+joined before: see below. A '-' stands in place of a line that isn't there, of one of the
+two of a venue; write --lines=LIST where the list begins with it",
 };
 
 /// `--request ADDR`.
@@ -26,26 +39,87 @@ const REQUEST: CommandOption<'static> = CommandOption {
     help: "Where messages that are missing are asked for",
     long_help: "\
 Where messages that are missing are asked for: the address of a retransmission server.
-A request goes there from the socket of the line that found the gap, at once, and again
-while the gap stands, with the venue's next datagram that comes 250 ms or more later,
-from the line that it came on. A reply is read on the line that asked. The port isn't 0,
-nor the IP address 0.0.0.0 or [::], and it is of each line's version of IP. A request that
-can't be sent, as where a firewall refuses it or there is no route, ends nothing: standard
-error says so of each line, at the first one, and at the end how many there were. Without
-this option nothing is asked for",
+A request goes there from the socket of the line that found the gap, at once or as
+--request-after says, and again while the gap stands, from any line of the venue, 250 ms or
+more later. A reply is read on the line that asked. Where a line of the venue is a multicast
+group, requests leave from a socket of the venue's own, and replies come there, as line R. The
+port isn't 0, nor the IP address 0.0.0.0 or [::], and it is of each line's version of IP. A
+request that can't be sent, as where a firewall refuses it or there is no route, ends nothing:
+standard error says so of each line, at the first one, and at the end how many there were.
+Without this option nothing is asked for",
 };
 
-/// `--from LIST`.
+/// `--request-after MS`.
+const REQUEST_AFTER: CommandOption<'static> = CommandOption {
+    name: "request-after",
+    value: "MS",
+    form: OptionForm::FromZero,
+    help: text!(
+        "For how many milliseconds a gap stands before it is asked for, 0 to " MAX_COUNT " [default: 0, with a further option " USUAL_WAIT "]"
+    ),
+    long_help: text!("\
+With --request: for how many milliseconds a gap stands before its messages are asked for, 0
+to " MAX_COUNT ", so that the other line can bring them first. By default 0, with a further option
+" USUAL_WAIT ". A further option is one other than --sessions, --lines, --request, --window, --journal,
+--datagrams and --end any"),
+};
+
+/// The long help of the list of senders.
+const SENDERS_HELP: &str = "\
+Whose datagrams are taken: IP addresses, or IP addresses with a port, parted by commas, as
+10.0.0.7,10.0.0.8:26400 or [::1]:7001. What others send comes to nothing, replies to
+requests, too: standard error says so of each line, at the first datagram, and at the end
+how many there were. Without this option the datagrams of any sender are taken";
+
+/// `--senders LIST`.
+const SENDERS: CommandOption<'static> = CommandOption {
+    name: "senders",
+    value: "LIST",
+    form: OptionForm::Text,
+    help: "Whose datagrams are taken: IP addresses, with or without a port",
+    long_help: SENDERS_HELP,
+};
+
+/// `--from LIST`, the other name of `--senders`.
 const FROM: CommandOption<'static> = CommandOption {
     name: "from",
     value: "LIST",
     form: OptionForm::Text,
-    help: "Whose datagrams are taken: IP addresses, with or without a port",
+    help: "The same as --senders",
     long_help: "\
-Whose datagrams are taken: IP addresses, or IP addresses with a port, parted by commas, as
-10.0.0.7,10.0.0.8:26400 or [::1]:7001. What others send comes to nothing, replies to
-requests, too: standard error says so of each line, at the first datagram, and at the end
-how many there were. Without this option the datagrams of any sender are taken",
+The same as --senders. One of the two is given at most",
+};
+
+/// `--most-ahead N`.
+const MOST_AHEAD: CommandOption<'static> = CommandOption {
+    name: "most-ahead",
+    value: "N",
+    form: OptionForm::FromOne,
+    help: text!(
+        "How far ahead of a venue's lines a number may be, 1 to " MAX_COUNT " [default: no limit, with a further option " USUAL_LEAD "]"
+    ),
+    long_help: text!("\
+How many messages past the highest number that the lines of its venue have brought the number
+of a datagram may be, 1 to " MAX_COUNT ". One that is further is withheld: it changes nothing, and
+standard error says so once of each line, and at the end how many there were. The third of a
+line in a row is taken. Before the venue's lines have brought any message the first one waits,
+and is taken with the second that agrees. An end of the venue's session is withheld, too, until
+another line brings the same one, or this line a third time in a row. By default nothing is
+withheld, with a further option, as of --request-after, the number is " USUAL_LEAD),
+};
+
+/// `--silent-after MS`.
+const SILENT_AFTER: CommandOption<'static> = CommandOption {
+    name: "silent-after",
+    value: "MS",
+    form: OptionForm::FromOne,
+    help: text!(
+        "After how many milliseconds a line that brings nothing is reported, 1 to " MAX_COUNT " [default: never, with a further option " USUAL_SILENCE "]"
+    ),
+    long_help: text!("\
+After how many milliseconds standard error has a line for a line that brings nothing, from the
+start, too, and another when it is heard again: 1 to " MAX_COUNT ". By default it has none, with a
+further option, as of --request-after, it has them after " USUAL_SILENCE),
 };
 
 /// `--join` of a command that listens.
@@ -53,11 +127,11 @@ const JOIN: CommandOption<'static> = CommandOption {
     name: "join",
     value: "",
     form: OptionForm::Flag,
-    help: "Gives up at once what is missing before the first message in sequence",
+    help: "Joins a session that is under way at its first packet",
     long_help: "\
-Joins a session that is under way: messages that are missing before the first one in
-sequence are given up at once. Without this option they are waited for, as those of any
-other gap",
+Joins a session that is under way at the first packet of it, whatever the window: messages
+that are missing before it are given up. Without this option they are waited for, as those
+of any other gap",
 };
 
 /// `--skip-after MS`.
@@ -110,9 +184,9 @@ const END: CommandOption<'static> = CommandOption {
     long_help: "\
 Which ends of session end a line: 'any', an end of whichever session, by default; 'own',
 one of the venue's session alone, as --sessions names it, so that neither yesterday's end,
-where it is still sent, nor another feed's ends the line; or 'none', none. After an end that
-doesn't end it the line goes on: standard error says so of each line, at the first one, and
-at the end how many there were",
+where it is still sent, nor another feed's ends the line; or 'none', none, and then an end isn't
+taken at all. After an end that doesn't end it the line goes on: standard error says so of each
+line, at the first one, and at the end how many there were. See also --most-ahead",
 };
 
 /// `--buffer BYTES`.
@@ -199,7 +273,7 @@ const FORMAT: CommandOption<'static> = CommandOption {
     long_help: "\
 With --follow: the format of the best lines: 'text', as without this option, or 'csv' or 'json',
 rows as of 'nbbo replay --best-only --format', and no lines of venues. Each row ends with the time
-at which the datagram was received that caused the change, by this machine's clock: where messages
+at which the datagram was read that caused the change, by this machine's clock: where messages
 were missing before it, the one that brought the last of them, or where they were given up the
 last one of the venue before that. It is empty or null where the clock can't be read, and in rows
 that are left for the end since memory was refused",
@@ -218,11 +292,13 @@ Every how many seconds standard error has a line of counts for each venue: 1 to
       A packets P messages M new W repeated X ahead Y refused Z NUMBER:COUNT.. B packets ..
 S is the number of the last item in sequence, K how far the session is known to go, G how
 many messages are between, and L how many of the first gap are missing. Since the line
-before, R requests were due, and P packets came on line A, or B. Those that were taken had
+before, R requests were sent, and P packets came on line A, or B. Those that were taken had
 M messages: W that came first, and X that had come before. Y packets went past the window
 and Z were refused, COUNT of them by the refusal of this NUMBER in 'nbbo replay --help'.
-Where the system dropped datagrams at the line's socket, 'dropped N' stands after these, and
-in the table, too: how many, as Linux tells it in /proc/net/udp"),
+What else there was stands after these, and in the table, too: of a venue 'gave up N' messages;
+of a line 'dropped N' datagrams by the system at its socket, as Linux tells it in /proc/net/udp,
+'withheld N', 'other_senders N' that were passed over, 'unsent N' requests that couldn't be sent,
+and 'held_back N'. A venue with a socket of its own for requests has R after B"),
 };
 
 /// `--stats-format FORMAT`.
@@ -236,8 +312,9 @@ The form of what --stats prints: 'table', as without this option, or 'json', an 
 line of its own for each venue and period, with the same names; \"time\" is when it was
 printed, in seconds since 1970 in UTC, \"time_ns\" the same in nanoseconds, and both are null
 where the system has no time. At the end there is one for each venue of the whole run, which
-has \"total\":true in place of \"second\". A line has a member \"dropped\" where the system
-dropped datagrams",
+has \"total\":true in place of \"second\". What stands in a table only where there was any is a
+member only then: \"given_up\", and of a line \"dropped\", \"withheld\", \"other_senders\",
+\"unsent\" and \"held_back\"",
 };
 
 /// `--metrics ADDR`.
@@ -259,7 +336,10 @@ pub const LISTEN_OPTIONS: &[CommandOption<'static>] = &[
     SESSIONS,
     LINES,
     REQUEST,
+    REQUEST_AFTER,
+    SENDERS,
     FROM,
+    MOST_AHEAD,
     JOIN,
     SKIP_AFTER,
     WINDOW,
@@ -270,6 +350,7 @@ pub const LISTEN_OPTIONS: &[CommandOption<'static>] = &[
     COMPLETE,
     SECONDS,
     UNTIL_INPUT_ENDS,
+    SILENT_AFTER,
     FOLLOW,
     KEPT,
     FORMAT,

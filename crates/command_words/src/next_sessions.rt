@@ -1,5 +1,5 @@
 //! The sessions that follow a venue's first one on the command line.
-ghost use Rattle.std.specs.Prelude.{◌≡◌, ◌==◌, ◌≤◌, ◌++◌, IfOk, OnOk, count_by, length, map, option_map, take};
+ghost use Rattle.std.specs.Prelude.{◌≡◌, ◌==◌, ◌≤◌, ◌++◌, IfOk, OnOk, count_by, length, map, take};
 ghost use Rattle.std.specs.List.{slice_split};
 ghost use Rattle.std.specs.Str.{bytes_eq};
 ghost use Rattle.run_settings.specs.NextSessions.{FollowVenues};
@@ -88,7 +88,7 @@ fn push_next(
     push_all(next, venue, others)
 }
 
-/// Returns the sessions that follow the first ones of so many venues, by the texts of these.
+/// Returns the sessions that follow those of the first `venues` texts, by these texts.
 fn next_from(alloc: Global, texts: &[&str], venues: usize) -> Result<Vec<NextSession>, Refusal>
     requires { venues ≤ 16 }
     ensures reads { OrNoMemory
@@ -109,24 +109,22 @@ fn next_from(alloc: Global, texts: &[&str], venues: usize) -> Result<Vec<NextSes
     Ok(next)
 }
 
-/// Returns the sessions that follow the first ones of `venues` venues in a list, where a list of
-/// lines is given; else none.
+/// Returns the sessions that follow the first ones of `venues` venues in a list, where others may
+/// follow a session; else none.
 pub fn read_next_sessions(
     alloc: Global,
     list: &str,
-    lines: Option<&str>,
+    chained: bool,
     venues: usize,
 ) -> Result<Vec<NextSession>, Refusal>
     requires { venues ≤ 16 }
-    ensures reads { ReadsNextSessions (option_map (λ list. list.now) lines.entry) list.now venues
+    ensures reads { ReadsNextSessions chained list.now venues
         (mapped (λ next. next.items) result) }
     ensures venues { IfOk result (λ next. FollowVenues venues next.items) }
 {
-    match lines {
-        None => Ok(Vec::new(alloc)),
-        Some(_) => {
-            let texts: Vec<&str> = list.split(',').collect(alloc)?;
-            next_from(alloc, texts.as_slice(), venues)
-        }
+    if !chained {
+        return Ok(Vec::new(alloc));
     }
+    let texts: Vec<&str> = list.split(',').collect(alloc)?;
+    next_from(alloc, texts.as_slice(), venues)
 }

@@ -3,20 +3,8 @@
 use crate::limits::text;
 use crate::option_table::{CommandOption, OptionForm};
 
-/// `--sessions LIST`.
-pub const SESSIONS: CommandOption<'static> = CommandOption {
-    name: "sessions",
-    value: "LIST",
-    form: OptionForm::Required,
-    help: text!("The first session of each venue, 1 to " MAX_VENUES " names parted by commas"),
-    long_help: text!("\
-The first session of each venue, venue 0's first: 1 to " MAX_VENUES " names parted by commas. A
-name has 1 to 10 characters of printable ASCII (bytes 20 to 7e) and is filled on the
-right with spaces to ten bytes. Write --sessions=LIST where the list begins with '-'"),
-};
-
 /// `--sessions LIST` of a command that reads captures.
-pub const CAPTURED_SESSIONS: CommandOption<'static> = CommandOption {
+pub const SESSIONS: CommandOption<'static> = CommandOption {
     name: "sessions",
     value: "LIST",
     form: OptionForm::Required,
@@ -36,7 +24,9 @@ Says that the input is a packet capture (pcap or pcapng), and where the lines' d
 go in it: two addresses for each venue, line A's and then line B's, venue 0's first,
 parted by commas and each once. An address is an IP address, of a machine or a group,
 and a port, as 239.1.1.1:26400 or [ff02::1]:26400. One of zeros, as 0.0.0.0:26400, takes
-what goes to that port at any address; a datagram goes to the first line that takes it";
+what goes to that port at any address; a datagram goes to the first line that takes it.
+A '-' stands in place of a line that isn't there, of one of the two of a venue; write
+--lines=LIST where the list begins with it";
 
 /// `--lines LIST` of a command that also reads captures of the project's own format.
 pub const CAPTURED_LINES: CommandOption<'static> = CommandOption {

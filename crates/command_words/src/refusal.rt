@@ -28,7 +28,7 @@ pub enum Refusal {
     /// The sessions that follow others are no names, more than 64 of a venue, or one of a venue is
     /// named twice.
     BadNextSession,
-    /// The lines aren't two addresses for each session.
+    /// The lines aren't two addresses for each session, or neither line of a session is there.
     BadLines,
     /// The text for the address of requests is no address, or one to which no request can be sent.
     BadRequest,
@@ -70,6 +70,8 @@ pub enum Refusal {
     FormatUnfollowed,
     /// The list of senders isn't addresses, with or without a port.
     BadSender,
+    /// The list of senders is given by both of its names.
+    SendersWithFrom,
     /// The text for the address of metrics is no address.
     BadMetrics,
     /// A symbol is empty, has more than eight bytes, or has a byte outside of `21` to `7e`.
@@ -101,6 +103,7 @@ impl Refusal {
             Refusal::BadTimeStyle | Refusal::TimesOfText | Refusal::TimesWithoutLines => 2,
             Refusal::GapsWithEvery | Refusal::BadEnd | Refusal::KeptUnfollowed => 2,
             Refusal::FormatUnfollowed | Refusal::BadSender | Refusal::BadMetrics => 2,
+            Refusal::SendersWithFrom => 2,
             Refusal::BadSymbol | Refusal::TooManySymbols | Refusal::DuplicateSymbol => 2,
         }
     }
@@ -136,6 +139,7 @@ impl Refusal {
             Refusal::KeptUnfollowed => "nbbo: --kept without --follow\n",
             Refusal::FormatUnfollowed => "nbbo: --format without --follow\n",
             Refusal::BadSender => "nbbo: bad sender\n",
+            Refusal::SendersWithFrom => "nbbo: --senders with --from\n",
             Refusal::BadMetrics => "nbbo: bad metrics address\n",
             Refusal::BadSymbol => "nbbo: bad symbol\n",
             Refusal::TooManySymbols => "nbbo: too many symbols\n",

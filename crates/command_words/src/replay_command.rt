@@ -8,8 +8,8 @@ use crate::command_texts::{CommandTexts, command_with};
 use crate::limits::text;
 use crate::option_table::{CommandOption, OptionForm};
 use crate::options::{
-    CAPTURED_LINES, CAPTURED_SESSIONS, FROM_TIME, JOIN, JOURNAL, SKIP_AFTER, SKIP_GAPS, SYMBOLS,
-    TIMES, TO_TIME, WINDOW,
+    CAPTURED_LINES, FROM_TIME, JOIN, JOURNAL, SESSIONS, SKIP_AFTER, SKIP_GAPS, SYMBOLS, TIMES,
+    TO_TIME, WINDOW,
 };
 use clap::Command;
 use std::alloc::{AllocError, Global};
@@ -79,8 +79,8 @@ With --lines standard error says at the end, where the count isn't 0:
                                  cut when they were captured, packets with wrong lengths
   frames that can't be read      of a link type, or with an IPv6 extension header, that this
                                  program doesn't know
-  frames out of time order       earlier than one before them. Figures and rows that go by time
-                                 need frames in order, which mergecap or reordercap makes
+  frames out of time order       earlier than one before them: rows and figures by time need
+                                 frames in order of time, which mergecap or reordercap makes
   frames that the capture says were dropped before packets
   frames that the capture says its interfaces dropped
   frames that the capture says its system dropped
@@ -211,7 +211,7 @@ integer of nanoseconds; empty or null where the packet capture has none. Without
 
 /// The options of `replay`, in the order in which its help has them.
 const OPTIONS: &[CommandOption<'static>] = &[
-    CAPTURED_SESSIONS,
+    SESSIONS,
     CAPTURED_LINES,
     WINDOW,
     JOURNAL,

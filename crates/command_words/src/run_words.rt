@@ -1,5 +1,5 @@
 //! The runs that the options of `replay` and of `stats` give.
-ghost use Rattle.std.specs.Prelude.{◌≡◌, ◌≤◌, IfOk, codes, option_map, unwrap_or};
+ghost use Rattle.std.specs.Prelude.{◌≡◌, ◌≤◌, IfOk, codes, is_some, option_map, unwrap_or};
 ghost use Rattle.clap.specs.Matches.{found_of};
 ghost use Rattle.clap.specs.Walk.{first_of, one_of, rows_of};
 ghost use Rattle.run_settings.specs.Lists.{AreOfVenues};
@@ -82,16 +82,13 @@ fn next_sessions_of(
     venues: usize,
 ) -> Result<Vec<NextSession>, Refusal>
     requires { venues ≤ 16 }
-    ensures reads { ReadsNextSessions (first_of (codes "lines") (rows_of (found_of run.now)))
+    ensures reads { ReadsNextSessions
+        (is_some (first_of (codes "lines") (rows_of (found_of run.now))))
         (list_in (rows_of (found_of run.now))) venues (mapped (λ next. next.items) result) }
     ensures venues { IfOk result (λ next. FollowVenues venues next.items) }
 {
-    read_next_sessions(
-        alloc,
-        text_of(run, "sessions"),
-        given_text(run, "lines"),
-        venues,
-    )
+    let chained = given_text(run, "lines").is_some();
+    read_next_sessions(alloc, text_of(run, "sessions"), chained, venues)
 }
 
 /// Returns the input for `venues` venues that the options give: with `--lines` a packet capture.

@@ -3,7 +3,7 @@ ghost use Rattle.std.specs.Prelude.{MatchOption, map, option_map};
 ghost use Rattle.run_settings.specs.declared.sender.Sender.{Sender};
 ghost use Rattle.command_words.specs.Addresses.{AreSpelled};
 ghost use Rattle.command_words.specs.Readings.{Finds, OrNoMemory, mapped};
-ghost use Rattle.command_words.specs.SenderLists.{IsSenderText, ReadsSenders};
+ghost use Rattle.command_words.specs.SenderLists.{IsSenderText, ReadsNamedSenders, ReadsSenders};
 ghost use Rattle.command_words.specs.declared.refusal.Refusal.TheVariants.{BadSender};
 
 use crate::refusal::Refusal;
@@ -50,7 +50,7 @@ fn spelled_senders(alloc: Global, texts: &[&str]) -> Result<Vec<Sender>, Refusal
 }
 
 /// Returns the senders that a list names, if there is one; without it any.
-pub fn read_senders(alloc: Global, list: Option<&str>) -> Result<Senders, Refusal>
+fn read_senders(alloc: Global, list: Option<&str>) -> Result<Senders, Refusal>
     ensures { ReadsSenders (option_map (λ list. list.now) list.entry) result }
 {
     let Some(list) = list else {
@@ -60,5 +60,21 @@ pub fn read_senders(alloc: Global, list: Option<&str>) -> Result<Senders, Refusa
     match spelled_senders(alloc, texts.as_slice()) {
         Ok(senders) => Ok(Senders::These(senders)),
         Err(refusal) => Err(refusal),
+    }
+}
+
+/// Returns the senders that a list names, which is given by one of its two names, if by any.
+pub fn read_named_senders(
+    alloc: Global,
+    senders: Option<&str>,
+    from: Option<&str>,
+) -> Result<Senders, Refusal>
+    ensures { ReadsNamedSenders (option_map (λ list. list.now) senders.entry)
+        (option_map (λ list. list.now) from.entry) result }
+{
+    match (senders, from) {
+        (Some(_), Some(_)) => Err(Refusal::SendersWithFrom),
+        (Some(list), None) => read_senders(alloc, Some(list)),
+        (None, list) => read_senders(alloc, list),
     }
 }

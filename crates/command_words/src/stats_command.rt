@@ -8,8 +8,7 @@ use crate::command_texts::{CommandTexts, command_with};
 use crate::limits::text;
 use crate::option_table::{CommandOption, OptionForm};
 use crate::options::{
-    CAPTURED_LINES, CAPTURED_SESSIONS, FROM_TIME, JOIN, SKIP_AFTER, SKIP_GAPS, TIMES, TO_TIME,
-    WINDOW,
+    CAPTURED_LINES, FROM_TIME, JOIN, SESSIONS, SKIP_AFTER, SKIP_GAPS, TIMES, TO_TIME, WINDOW,
 };
 use clap::Command;
 use std::alloc::{AllocError, Global};
@@ -79,9 +78,10 @@ multiple of its length from 1970 on (UTC); the line's datagrams; the bytes of th
 packets; the messages in these that were taken, or had come before; those that the line brought
 first; and how many messages the numbers of its packets passed over. A period without a frame has no
 row, and none comes twice: the last 16 periods are kept, a late frame counts in its own, and in the
-oldest of them where it is later still. A frame without a time counts in no period. The rows of the
-last periods are printed at the end of a whole capture alone. In csv the columns are time,
-venue, line, packets, bytes, messages, first and missing; JSON has also time_ns.
+oldest of them where it is later still. How many are, standard error reports as 'frames earlier than
+the 16 periods that are kept'. A frame without a time counts in no period. The rows of the last
+periods are printed at the end of a whole capture alone. In csv the columns are time, venue, line,
+packets, bytes, messages, first and missing; JSON has also time_ns.
 
 With --every and --bests a row has the time at which the period began, the symbol and the venue; in
 which share of the period's time the best bid was the venue's, and in which the best offer; in which
@@ -118,7 +118,9 @@ In JSON the counts are one object; null stands where nothing is known:
                    of each line: lost late
   in_time          with --lines, the most messages in a second and in a millisecond, and when these
                    began, as --times says: busiest_second busiest_millisecond
-                   busiest_second_began busiest_millisecond_began; and in 'venues' of each venue
+                   busiest_second_began busiest_millisecond_began; how many datagrams came after 16
+                   later seconds, or milliseconds, and so count in the oldest of these:
+                   late_for_second late_for_millisecond; and in 'venues' of each venue
     a_first        and b_first, by the line that was first in time: messages mean_ns p50_ns p90_ns
                    p99_ns p999_ns longest_ns
     last_packets   of A, B and recovery, as --times says
@@ -223,7 +225,7 @@ words, each once, of 1 to 8 characters of printable ASCII without a space (bytes
 
 /// The options of `stats`, in the order in which its help has them.
 const OPTIONS: &[CommandOption<'static>] = &[
-    CAPTURED_SESSIONS,
+    SESSIONS,
     CAPTURED_LINES,
     WINDOW,
     JOIN,

@@ -59,7 +59,7 @@ fn number_in(digits: &str) -> Option<u64>
     }
 }
 
-/// Returns the nanoseconds of so many seconds and nanoseconds, if they have 64 bits.
+/// Returns the nanoseconds of `seconds` seconds and `rest` nanoseconds, if they have 64 bits.
 fn nanoseconds_in(seconds: u64, rest: u64) -> Option<u64>
     ensures { SomeIff result (seconds * 1000000000 + rest < 2 ^ 64)
         (seconds * 1000000000 + rest) }

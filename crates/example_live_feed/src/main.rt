@@ -10,8 +10,9 @@ ghost use Rattle.live_feed.specs.settle.Settlements.{IsServed};
 
 use live_feed::{
     Advice, Anything, Attendant, Datagram, FeedConfig, FeedEnd, FeedName, FeedTask, Filter, Limits,
-    LineId, LineSource, LineTask, LiveFeed, National, Notice, OwnLog, Request, RunView, Settlement,
-    SourceFault, Strategy, SubscriberId, Subscription, SymbolName, Terms, Unattended, VenueId,
+    LineId, LineSource, LineTask, LiveFeed, National, Notice, OwnLog, Request, RunRules, RunView,
+    Settlement, SourceFault, Strategy, SubscriberId, Subscription, SymbolName, Terms, Unattended,
+    Unwatched, VenueId,
 };
 use std::alloc::{AllocError, Global};
 use std::collections::VecDeque;
@@ -220,11 +221,15 @@ where
         lines: lines_of(alloc)?,
         attended: None,
         subscriptions: Vec::from_array(alloc, subscriptions).ok()?,
+        rules: RunRules::default(),
     };
     let FeedEnd {
         outcome,
         attendant: _,
-    } = closed.run_whole::<N, Recorded, Unattended, R>(rt, alloc, task, Unattended);
+        watcher: _,
+    } = closed.run_whole::<N, Recorded, Unattended, Unwatched, R>(
+        rt, alloc, task, Unattended, Unwatched,
+    );
     match outcome {
         Ok(report) => Some(report.settlement),
         Err(_) => None,
@@ -241,12 +246,12 @@ struct Look {
 /// An attendant that looks at the venue of each notice. It has a subscriber of its own, to which
 /// all notices are offered.
 #[derive(Drop)]
-struct Watcher {
+struct Observer {
     /// The last look at each venue.
     looks: [Option<Look>; 2],
 }
 
-impl Watcher {
+impl Observer {
     /// Looks at the venue that leads the offers of the notice.
     fn look<N, W>(&mut self, rt: &W, run: &RunView<'_, Anything, N>, notice: &Notice)
     where
@@ -270,41 +275,37 @@ impl Watcher {
     }
 }
 
-impl<N: FeedName> Attendant<Anything, N, OwnLog<N>> for Watcher {
+impl<N: FeedName> Attendant<Anything, N, OwnLog<N>> for Observer {
     ghost use Rattle.std.specs.Prelude.{◌≡◌, is_some};
 
     // Its subscriber is there as before.
     ghost attends = { λ _ log _ later. is_some later ≡ is_some log };
 
-    fn attend<W: Wait>(
+    fn attend<R: Threads + Wait + Sync>(
         self,
-        rt: &W,
+        rt: &R,
         run: &RunView<'_, Anything, N>,
         log: OwnLog<N>,
-    ) -> (Watcher, OwnLog<N>) {
-        let mut watcher = self;
+    ) -> (Observer, OwnLog<N>) {
+        let mut observer = self;
         let Some(mut log) = log else {
-            return (watcher, None);
+            return (observer, None);
         };
         for _ in rt.forever() {
-            let is_over = run.is_over();
-            if let Ok(Some(_)) = log.poll_holding(rt) {
-                if let Some(logged) = log.log().last() {
-                    watcher.look(rt, run, &logged.notice);
-                }
-            } else if is_over {
+            let Ok(Some(_)) = run.await_notice(rt, &mut log) else {
                 break;
-            } else {
-                thread::yield_now();
+            };
+            if let Some(logged) = log.log().last() {
+                observer.look(rt, run, &logged.notice);
             }
         }
-        (watcher, Some(log))
+        (observer, Some(log))
     }
 }
 
 /// Runs the feed, whose lanes N names, until all lines have ended, with an attendant beside it, and
 /// returns this. None where memory was refused.
-fn watch_feed<N, R>(rt: &R, alloc: Global, closed: LiveFeed<Anything>) -> Option<Watcher>
+fn observe_feed<N, R>(rt: &R, alloc: Global, closed: LiveFeed<Anything>) -> Option<Observer>
 where
     N: FeedName + Send + Sync,
     R: Threads + Wait + Sync,
@@ -318,9 +319,12 @@ where
         lines: lines_of(alloc)?,
         attended: Some(own),
         subscriptions: Vec::new(alloc),
+        rules: RunRules::default(),
     };
-    let watcher = Watcher { looks: [None; 2] };
-    let end = closed.run_whole::<N, Recorded, Watcher, R>(rt, alloc, task, watcher);
+    let observer = Observer { looks: [None; 2] };
+    let end = closed.run_whole::<N, Recorded, Observer, Unwatched, R>(
+        rt, alloc, task, observer, Unwatched,
+    );
     Some(end.attendant)
 }
 
@@ -379,9 +383,9 @@ fn settled<R: Threads + Wait + Sync>(rt: &R, alloc: Global) -> Option<Settlement
 }
 
 /// Runs the feed of both venues again, with an attendant. None where memory was refused.
-fn watched<R: Threads + Wait + Sync>(rt: &R, alloc: Global) -> Option<Watcher> {
+fn observed<R: Threads + Wait + Sync>(rt: &R, alloc: Global) -> Option<Observer> {
     let closed = new_feed(alloc)?;
-    watch_feed::<Brand, R>(rt, alloc, closed)
+    observe_feed::<Brand, R>(rt, alloc, closed)
 }
 
 /// Prints the logs of both subscribers.
@@ -396,10 +400,10 @@ fn main(rt: HostRuntime) -> io::Result<()> {
         Some(settlement) => print_settled(&rt, &settlement)?,
         None => println!(rt; "no memory for the run")?,
     }
-    let Some(watcher) = watched(&rt, alloc) else {
+    let Some(observer) = observed(&rt, alloc) else {
         return println!(rt; "no memory for the second run");
     };
-    for (place, look) in watcher.looks.iter().enumerate() {
+    for (place, look) in observer.looks.iter().enumerate() {
         print_look(&rt, place, *look)?;
     }
     Ok(())

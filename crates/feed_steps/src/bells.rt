@@ -1,6 +1,7 @@
 //! Where the threads of a feed sleep, how they are woken, and what ends its runs.
 
 use crate::times::FeedTimes;
+use crossbeam_utils::CachePadded;
 use crossbeam_utils::sync::EventCount;
 use feed_types::SubscriberId;
 use std::array;
@@ -20,8 +21,9 @@ pub struct Bells {
     full: [AtomicBool; 32],
     /// By id, whether a thread takes notices out of the subscriber's lane.
     polled: [AtomicBool; 32],
-    /// The lines of runs are to read no further datagram.
-    ended: AtomicBool,
+    /// The lines of runs are to read no further datagram. Each reads it before each datagram, so it
+    /// lies on a cache line of its own.
+    ended: CachePadded<AtomicBool>,
     times: FeedTimes,
 }
 
@@ -33,7 +35,7 @@ impl Bells {
             notices: array::from_fn(|_| EventCount::new()),
             full: array::from_fn(|_| AtomicBool::new(false)),
             polled: array::from_fn(|_| AtomicBool::new(false)),
-            ended: AtomicBool::new(false),
+            ended: CachePadded::new(AtomicBool::new(false)),
             times,
         }
     }
@@ -103,10 +105,10 @@ impl Bells {
     }
 
     /// Notes whether a thread takes notices out of the subscriber's lane from now on. Where none
-    /// does, the consolidators are woken: one may wait for it.
+    /// does any more, the consolidators are woken: one may wait for it.
     pub fn set_polled(&self, id: SubscriberId, is_polled: bool) {
-        self.polled[id.index()].store(is_polled, Ordering::SeqCst);
-        if !is_polled {
+        let was_polled = self.polled[id.index()].swap(is_polled, Ordering::SeqCst);
+        if was_polled && !is_polled {
             self.ring_work();
         }
     }

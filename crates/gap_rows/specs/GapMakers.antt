@@ -24,7 +24,7 @@ abbrev pub shown_in : SinkEvent → Option ℕ
 shown_in (told_before event) = None
 shown_in event = venue_in event
 
--- the venue, if it is one of so many
+-- the venue, if it is one of the first `count`
 abbrev pub one_of : ℕ → Option ℕ → Option ℕ
 one_of count None = None
 one_of count (Some venue) = if nat_lt venue count then Some venue else None

@@ -94,7 +94,7 @@ gap_of session window sent packets =
       count = missing_count window sent packets;
     })
 
--- how many taken messages are still to be sent
+-- how many taken messages are still to be sent, with the Skipped of a skip
 abbrev pub held_count : ℕ → List Input → ℕ
 held_count sent packets =
     count_by (λ m. is_some (carried packets m)) (range_with_len (sent + 1) (top_of packets - sent))

@@ -33,7 +33,9 @@ const EARLIER_SESSIONS: usize = MAX_SESSIONS - 1;
 /// The cursors of a venue's present session. Numbers count from 1.
 #[derive(Clone, Copy, Debug, PartialEq, Eq)]
 pub struct ArbiterStatus {
-    /// The number of the last item advanced past, 0 at first. End has a number of its own.
+    /// The number of the last item advanced past, 0 at first. End has a number of its own. After a
+    /// skip it is two below the number that the session goes on from, until Skipped was advanced
+    /// past.
     pub sent: u64,
     /// The greatest number up to which every message was taken.
     pub front: u64,
@@ -41,7 +43,8 @@ pub struct ArbiterStatus {
     pub known: u64,
     /// The announced end, one more than the last message's number.
     pub end: Option<u64>,
-    /// The number of messages that were taken and not yet advanced past, at most the window.
+    /// The number of messages that were taken and not yet advanced past, and Skipped while it is
+    /// ready; at most the window.
     pub held: u32,
 }
 
@@ -345,6 +348,7 @@ impl<G: Genuine> Arbiter<G> {
     }
 
     /// Returns the cursors of the present session.
+    #[inline(always)]
     pub fn status(&self) -> ArbiterStatus
         ensures cursors { ShowsCursors self.now result }
         ensures packets { (packets : List Input) → Fits self.now packets

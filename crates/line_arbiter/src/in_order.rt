@@ -6,7 +6,9 @@
 
 ghost use Rattle.std.specs.Prelude.{◌≡◌, ◌∷◌, ◌++◌, List, [], Ok, IfSome, IsTrue, MatchBool, MatchOption, length};
 ghost use Rattle.mold_packet.specs.Content.{IsContent, last_number};
+ghost use Rattle.feed_types.specs.Prefix.{IsPrefix};
 ghost use Rattle.line_arbiter.specs.Packets.{Input, arrival_of};
+ghost use Rattle.line_arbiter.specs.Streams.{stream_of};
 ghost use Rattle.line_arbiter.specs.InOrder.{BringsNext, IsNext, IsNextPacket, IsSent, outcome_of_next};
 ghost use Rattle.line_arbiter.specs.Outcomes.{IsOutcome};
 ghost use Rattle.feed_types.specs.declared.line.LineId.{LineId};
@@ -105,6 +107,9 @@ impl<G: Genuine> Arbiter<G> {
         ensures fits { (packets : List Input) (line : LineId) → Fits self.now packets
             → IfSome result (λ outcome. Fits self.now
             (packets ++ arrival_of line packet.now (Ok outcome) ∷ [])) }
+        ensures grows { (packets : List Input) (line : LineId) → Fits self.now packets
+            → IfSome result (λ outcome. IsPrefix (stream_of packets)
+            (stream_of (packets ++ arrival_of line packet.now (Ok outcome) ∷ []))) }
         ensures content { IsContent packet.now }
     {
         // For the prover alone: the ranges of the packet.

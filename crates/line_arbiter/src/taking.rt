@@ -72,6 +72,7 @@ impl<G: Genuine> Arbiter<G> {
         ensures step { (line : LineId) → MessagesStep line self.now self.now
             packet.now (Ok result) }
         ensures outcome { result ≡ Outcome.Taken 0 (length packet.now.messages) }
+        ensures sound { IsSound self.now }
     {
         // For the prover alone: what an arbiter keeps.
         let _held = &self.held;

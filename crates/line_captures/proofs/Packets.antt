@@ -4,7 +4,6 @@ use Rattle.std.proofs.lemmas.List.{drop-append-le}
 use Rattle.feed_types.specs.declared.line.LineId.{LineId}
 use Rattle.feed_types.specs.declared.line.LineId.TheVariants.{A, B, Recovery}
 use Rattle.feed_types.specs.Text.{line_letter}
-use Rattle.packet_capture.specs.declared.fault.CaptureFault.{CaptureFault}
 use Rattle.packet_capture.specs.declared.stop.Stop.{Stop}
 use Rattle.packet_capture.specs.declared.stop.Stop.TheVariants as stops
 use Rattle.packet_capture.specs.Captures.{Context, PieceContent, IsPiece, StopsReading, frames_in, list_of}
@@ -14,6 +13,7 @@ use Rattle.feed_text.specs.declared.record_format.Step.{Step}
 use Rattle.feed_text.specs.declared.record_format.Step.TheVariants.{Came, Passed, Wants, Bad}
 use Rattle.feed_text.specs.Formats.{TimedRecord, TakesPiece, StepsTo, timed_record}
 use Rattle.run_settings.specs.declared.captured_line.CapturedLine.{CapturedLine}
+use Rattle.line_captures.specs.declared.bad_piece.BadPiece.{BadPiece}
 use Rattle.line_captures.specs.Counts.{CountsPieces}
 use Rattle.run_settings.specs.Lists.{AreOfVenues}
 use Rattle.line_captures.specs.Records.{AreOfFrame, IsOfLine}
@@ -86,7 +86,7 @@ piece_read law s t bytes p rs is lines venues counts timed =
     }
 
 pub step_read : Lasts → (s t : PacketState) (bytes : List ℕ) (p : PieceContent)
-    (step : Step CaptureFault) → IsPiece s.context bytes p t.context → t.lines ≡ s.lines
+    (step : Step BadPiece) → IsPiece s.context bytes p t.context → t.lines ≡ s.lines
     → t.venues ≡ s.venues → CountsPieces s.lines s.progress (p ∷ []) t.progress
     → IsStepOf s.lines p step
     → StepsTo ReadsPackets wants_packets is_bad_packets s bytes step t
@@ -97,17 +97,17 @@ step_read law s t bytes p (Passed len) is lines venues counts k =
     subst (λ (n : ℕ). TakesPiece ReadsPackets s bytes [] n t) (sym k.0) (piece_read law s t bytes p
     _ is lines venues counts k.1)
 step_read law s t bytes p Wants is lines venues counts k = absurd k
-step_read law s t bytes p (Bad fault) is lines venues counts k = absurd k
+step_read law s t bytes p (Bad bad) is lines venues counts k = absurd k
 
-pub stop_read : (s t : PacketState) (bytes : List ℕ) (stop : Stop) (step : Step CaptureFault)
-    → StopsReading s.context bytes stop → t ≡ s → IsStopStep stop step
+pub stop_read : (s t : PacketState) (bytes : List ℕ) (stop : Stop) (step : Step BadPiece)
+    → StopsReading s.context bytes stop → t ≡ s → IsStopStep stop bytes step
     → StepsTo ReadsPackets wants_packets is_bad_packets s bytes step t
 stop_read s t bytes (stops.Wants n) Wants why same k = let few = few_unread s.context bytes n why
     in ((n, why), omega (arith, few), same)
-stop_read s t bytes (stops.Bad fault) (Bad told) why same k = (rw k why, same)
+stop_read s t bytes (stops.Bad fault) (Bad bad) why same k = ((rw k.0 why, k.1), same)
 stop_read s t bytes (stops.Wants n) (Came len time r) why same k = absurd k
 stop_read s t bytes (stops.Wants n) (Passed len) why same k = absurd k
-stop_read s t bytes (stops.Wants n) (Bad told) why same k = absurd k
+stop_read s t bytes (stops.Wants n) (Bad bad) why same k = absurd k
 stop_read s t bytes (stops.Bad fault) (Came len time r) why same k = absurd k
 stop_read s t bytes (stops.Bad fault) (Passed len) why same k = absurd k
 stop_read s t bytes (stops.Bad fault) Wants why same k = absurd k

@@ -3,6 +3,7 @@ pub mod Records
 pub mod DropCounts
 pub mod Counts
 pub mod CountLaws
+pub mod Starts
 pub mod PacketFormats
 pub mod PacketFormatLaws
 pub mod Conversions

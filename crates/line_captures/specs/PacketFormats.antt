@@ -1,6 +1,5 @@
 -- Packet captures for lines, as a format of records.
 use Rattle.std.specs.Prelude.{◌≡◌, ◌≢◌, ℕ, List, [], ◌∷◌, ◌++◌, map}
-use Rattle.packet_capture.specs.declared.fault.CaptureFault.{CaptureFault}
 use Rattle.packet_capture.specs.declared.reader.Format.TheVariants.{Start}
 use Rattle.packet_capture.specs.declared.stop.Stop.{Stop}
 use Rattle.packet_capture.specs.declared.stop.Stop.TheVariants as stops
@@ -13,12 +12,14 @@ use Rattle.feed_text.specs.declared.record_format.Step.{Step}
 use Rattle.feed_text.specs.declared.record_format.Step.TheVariants.{Came, Passed, Wants, Bad}
 use Rattle.feed_text.specs.Formats.{TimedRecord, Parsing, timed_record}
 use Rattle.run_settings.specs.declared.captured_line.CapturedLine.{CapturedLine}
+use Rattle.line_captures.specs.declared.bad_piece.BadPiece.{BadPiece}
 use Rattle.line_captures.specs.declared.piece_step.LineDatagram.{LineDatagram}
 use Rattle.line_captures.specs.declared.piece_step.PieceStep.{PieceStep}
 use Rattle.line_captures.specs.declared.piece_step.PieceStep.TheVariants as steps
 use Rattle.line_captures.specs.declared.progress.Progress.{Progress}
 use Rattle.line_captures.specs.Counts.{CountsPieces, new_progress}
 use Rattle.line_captures.specs.Records.{AreOfFrame}
+use Rattle.line_captures.specs.Starts.{start_of}
 
 -- the lines, of which there are this many venues, what the pieces that were read say of the next
 -- one, and what was counted of them
@@ -65,16 +66,17 @@ pub record ReadsPackets (before : PacketState) (bytes : List ℕ) (records : Lis
 abbrev pub wants_packets : PacketState → List ℕ → Type 0
 wants_packets s bytes = (n : ℕ) × StopsReading s.context bytes (stops.Wants n)
 
--- no piece stands there
-abbrev pub is_bad_packets : PacketState → List ℕ → CaptureFault → Type 0
-is_bad_packets s bytes fault = StopsReading s.context bytes (stops.Bad fault)
+-- no piece stands there, but bytes that start so
+abbrev pub is_bad_packets : PacketState → List ℕ → BadPiece → Type 0
+is_bad_packets s bytes bad =
+    StopsReading s.context bytes (stops.Bad bad.fault) × (bad.start ≡ start_of bytes)
 
 -- a piece at least was read
 abbrev pub is_whole_packets : PacketState → Type 0
 is_whole_packets s = s.context.format ≢ Start
 
 -- how packet captures go on
-abbrev pub packet_parsing : Parsing PacketState CaptureFault
+abbrev pub packet_parsing : Parsing PacketState BadPiece
 packet_parsing = record {
   reads = ReadsPackets;
   wants = wants_packets;
@@ -105,22 +107,22 @@ abbrev pub record_on_line : LineDatagram → Record
 record_on_line d = Datagram d.venue d.line d.bytes
 
 -- a step as a replay takes it
-abbrev pub step_from : PieceStep → Step CaptureFault
+abbrev pub step_from : PieceStep → Step BadPiece
 step_from (steps.Came len venue line bytes time) = Came len time (Datagram venue line bytes)
 step_from (steps.Passed len) = Passed len
 step_from steps.Wants = Wants
-step_from (steps.Bad fault) = Bad fault
+step_from (steps.Bad bad) = Bad bad
 
 -- the step of a piece
-abbrev pub IsStepOf : List CapturedLine → PieceContent → Step CaptureFault → Type 0
+abbrev pub IsStepOf : List CapturedLine → PieceContent → Step BadPiece → Type 0
 IsStepOf lines piece (Came len time r) =
     (len ≡ piece.len) × AreTimed lines (frames_in piece) (timed_record (record_of r) time ∷ [])
 IsStepOf lines piece (Passed len) = (len ≡ piece.len) × AreTimed lines (frames_in piece) []
 IsStepOf lines piece Wants = ⊥
-IsStepOf lines piece (Bad fault) = ⊥
+IsStepOf lines piece (Bad bad) = ⊥
 
--- the step where no piece is read
-abbrev pub IsStopStep : Stop → Step CaptureFault → Type 0
-IsStopStep (stops.Wants n) Wants = Unit {0}
-IsStopStep (stops.Bad fault) (Bad told) = told ≡ fault
-IsStopStep stop step = ⊥
+-- the step where no piece is read, at these bytes
+abbrev pub IsStopStep : Stop → List ℕ → Step BadPiece → Type 0
+IsStopStep (stops.Wants n) bytes Wants = Unit {0}
+IsStopStep (stops.Bad fault) bytes (Bad bad) = (bad.fault ≡ fault) × (bad.start ≡ start_of bytes)
+IsStopStep stop bytes step = ⊥

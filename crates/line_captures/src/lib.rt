@@ -10,12 +10,14 @@
 //! nothing else; each frame is counted once, by what became of it, which [`each_frame_is_counted`]
 //! says, too; and so are frames that were dropped before, as the capture says itself
 //! (`specs/PacketFormats.antt`, over `specs/Records.antt`, `specs/Lines.antt`, `specs/Counts.antt`
-//! and `specs/DropCounts.antt`). [`convert`] writes the records of any format in the project's own
+//! and `specs/DropCounts.antt`). A [`BadPiece`] says why no piece is read, and with which bytes
+//! what stands there begins. [`convert`] writes the records of any format in the project's own
 //! (`specs/Conversions.antt`).
 //!
 //! Begin at `packet_format.rt`.
 #![tactic(auto)]
 
+mod bad_piece;
 mod captured_line;
 mod conversion;
 mod drop_counts;
@@ -25,6 +27,7 @@ mod packet_format;
 mod piece_step;
 mod progress;
 
+pub use bad_piece::{BadPiece, start_of};
 pub use conversion::convert;
 pub use drop_counts::{DropCounts, DroppedFrames};
 pub use frame_counts::FrameCounts;

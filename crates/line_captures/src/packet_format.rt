@@ -12,6 +12,7 @@ ghost use Rattle.line_captures.specs.Records.{AreOfFrame, IsOfLine};
 ghost use Rattle.line_captures.specs.PacketFormats.{IsStepOf, IsStopStep, ReadsPackets, new_packets, packet_state, record_on_line, step_from, wants_packets, is_bad_packets, is_whole_packets};
 ghost use Rattle.line_captures.specs.PacketFormatLaws.{packets_none, packets_more, packets_longer, packets_venues};
 
+use crate::bad_piece::BadPiece;
 use crate::captured_line::line_to;
 use crate::drop_counts::DroppedFrames;
 use crate::frame_counts::FrameCounts;
@@ -19,7 +20,7 @@ use crate::piece_step::{LineDatagram, PieceStep};
 use crate::progress::Progress;
 use feed_text::{RecordFormat, Step};
 use packet_capture::{
-    CaptureFault, CaptureReader, Datagram, Frame, Piece, Stop, read_as_bytes_come, read_datagram,
+    CaptureReader, Datagram, Frame, Piece, Stop, read_as_bytes_come, read_datagram,
     read_plain_datagram,
 };
 use run_settings::CapturedLine;
@@ -185,13 +186,13 @@ fn step_of<'b>(lines: &[CapturedLine], piece: Piece<'b>, progress: &mut Progress
     }
 }
 
-/// Returns the step where no piece is read.
-fn step_at<'b>(stop: Stop) -> PieceStep<'b>
-    ensures { IsStopStep stop (step_from result) }
+/// Returns the step where no piece is read at the front of these bytes.
+fn step_at<'b>(stop: Stop, bytes: &[u8]) -> PieceStep<'b>
+    ensures { IsStopStep stop bytes.now (step_from result) }
 {
     match stop {
         Stop::Wants(_) => PieceStep::Wants,
-        Stop::Bad(fault) => PieceStep::Bad(fault),
+        Stop::Bad(fault) => PieceStep::Bad(BadPiece::new(fault, bytes)),
     }
 }
 
@@ -214,7 +215,7 @@ fn any_step<'b>(
     read_as_bytes_come();
     match capture.next_piece(bytes) {
         Ok(piece) => step_of(lines, piece, progress),
-        Err(stop) => step_at(stop),
+        Err(stop) => step_at(stop, bytes),
     }
 }
 
@@ -287,7 +288,7 @@ fn front_step<'b>(
     lines: &[CapturedLine],
     progress: &mut Progress,
     bytes: &'b [u8],
-) -> Step<'b, CaptureFault>
+) -> Step<'b, BadPiece>
     ensures steps { (venues : ℕ) → StepsTo ReadsPackets wants_packets is_bad_packets
         (packet_state venues lines.now capture.old progress.old) bytes.now result
         (packet_state venues lines.now capture.new progress.new) }
@@ -303,7 +304,7 @@ fn front_step<'b>(
 }
 
 impl RecordFormat for PacketFormat<'_> {
-    type Fault = CaptureFault;
+    type Fault = BadPiece;
 
     ghost reads = { ReadsPackets };
 
@@ -324,7 +325,7 @@ impl RecordFormat for PacketFormat<'_> {
     ghost reads_venues = { packets_venues };
 
     #[inline(always)]
-    fn next<'b>(&mut self, bytes: &'b [u8]) -> Step<'b, CaptureFault> {
+    fn next<'b>(&mut self, bytes: &'b [u8]) -> Step<'b, BadPiece> {
         front_step(&mut self.capture, self.lines, &mut self.progress, bytes)
     }
 

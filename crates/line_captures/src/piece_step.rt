@@ -2,9 +2,9 @@
 ghost use Rattle.std.specs.Prelude.{◌≡◌};
 ghost use Rattle.line_captures.specs.PacketFormats.{step_from};
 
+use crate::bad_piece::BadPiece;
 use feed_text::{Record, Step};
 use feed_types::{LineId, VenueId};
-use packet_capture::CaptureFault;
 
 /// A datagram that came on a line.
 #[derive(Clone, Copy, Debug)]
@@ -34,7 +34,7 @@ pub(crate) enum PieceStep<'a> {
     /// Less than a piece.
     Wants,
     /// No piece, however the bytes go on.
-    Bad(CaptureFault),
+    Bad(BadPiece),
 }
 
 impl<'a> PieceStep<'a> {
@@ -60,13 +60,13 @@ impl<'a> PieceStep<'a> {
             },
             PieceStep::Passed(len) => PieceStep::Passed(len),
             PieceStep::Wants => PieceStep::Wants,
-            PieceStep::Bad(fault) => PieceStep::Bad(fault),
+            PieceStep::Bad(bad) => PieceStep::Bad(bad),
         }
     }
 
     /// Returns the step as a replay takes it.
     #[inline(always)]
-    pub(crate) fn into_step(self) -> Step<'a, CaptureFault>
+    pub(crate) fn into_step(self) -> Step<'a, BadPiece>
         ensures { result ≡ step_from self.entry }
     {
         match self {
@@ -83,7 +83,7 @@ impl<'a> PieceStep<'a> {
             },
             PieceStep::Passed(len) => Step::Passed(len),
             PieceStep::Wants => Step::Wants,
-            PieceStep::Bad(fault) => Step::Bad(fault),
+            PieceStep::Bad(bad) => Step::Bad(bad),
         }
     }
 }

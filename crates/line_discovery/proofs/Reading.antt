@@ -2,7 +2,6 @@
 use Rattle.std.proofs.Common.{◌≡◌, ℕ, List, [], ◌∷◌, ◌++◌, Option, Some, None, drop, refl, sym, ap, subst, ◌∙◌, append-nil, arith}
 use Rattle.std.proofs.lemmas.List.{drop-append-le}
 use Rattle.std.specs.List.{AllZip}
-use Rattle.packet_capture.specs.declared.fault.CaptureFault.{CaptureFault}
 use Rattle.packet_capture.specs.declared.stop.Stop.{Stop}
 use Rattle.packet_capture.specs.declared.stop.Stop.TheVariants as stops
 use Rattle.packet_capture.specs.Captures.{Context, PieceContent, IsPiece, StopsReading, frames_of, list_of}
@@ -10,6 +9,7 @@ use Rattle.packet_capture.specs.Frames.{FrameContent}
 use Rattle.feed_text.specs.declared.record_format.Step.{Step}
 use Rattle.feed_text.specs.declared.record_format.Step.TheVariants.{Came, Passed, Wants, Bad}
 use Rattle.feed_text.specs.Formats.{TakesPiece, StepsTo}
+use Rattle.line_captures.specs.declared.bad_piece.BadPiece.{BadPiece}
 use Rattle.line_captures.specs.declared.frame_counts.FrameCounts.{FrameCounts}
 use Rattle.line_captures.specs.declared.progress.Progress.{Progress}
 use Rattle.line_captures.specs.Counts.{IsFate, counts_after, piece_after, timed_after}
@@ -103,15 +103,15 @@ piece_read law s t bytes p is counts =
       };
     }
 
-pub stop_read : (s t : LineSurvey) (bytes : List ℕ) (stop : Stop) (step : Step CaptureFault)
-    → StopsReading s.capture bytes stop → t ≡ s → StopsSurvey stop step
+pub stop_read : (s t : LineSurvey) (bytes : List ℕ) (stop : Stop) (step : Step BadPiece)
+    → StopsReading s.capture bytes stop → t ≡ s → StopsSurvey stop bytes step
     → StepsTo ReadsSurvey wants_piece is_bad_piece s bytes step t
 stop_read s t bytes (stops.Wants n) Wants why same k = let few = few_unread s.capture bytes n why
     in ((n, why), omega (arith, few), same)
-stop_read s t bytes (stops.Bad fault) (Bad told) why same k = (rw k why, same)
+stop_read s t bytes (stops.Bad fault) (Bad bad) why same k = ((rw k.0 why, k.1), same)
 stop_read s t bytes (stops.Wants n) (Came len time r) why same k = absurd k
 stop_read s t bytes (stops.Wants n) (Passed len) why same k = absurd k
-stop_read s t bytes (stops.Wants n) (Bad told) why same k = absurd k
+stop_read s t bytes (stops.Wants n) (Bad bad) why same k = absurd k
 stop_read s t bytes (stops.Bad fault) (Came len time r) why same k = absurd k
 stop_read s t bytes (stops.Bad fault) (Passed len) why same k = absurd k
 stop_read s t bytes (stops.Bad fault) Wants why same k = absurd k

@@ -17,7 +17,7 @@ use Rattle.line_discovery.specs.Tables.{packets_at, rows_of, unlisted_of, up_to_
 
 -- ---- parts
 
--- so many spaces, of 32 at most
+-- `n` spaces, of 32 at most
 abbrev pub spaces : ℕ → List ℕ
 spaces n = take n (codes "                                ")
 

@@ -1,7 +1,6 @@
 -- Surveys of packet captures: a format without records, of which the frames are counted.
 use Rattle.std.specs.Prelude.{◌≡◌, ◌≢◌, ℕ, List, [], ◌∷◌, ◌++◌, flat_map}
 use Rattle.std.specs.List.{AllZip}
-use Rattle.packet_capture.specs.declared.fault.CaptureFault.{CaptureFault}
 use Rattle.packet_capture.specs.declared.reader.Format.TheVariants.{Start}
 use Rattle.packet_capture.specs.declared.stop.Stop.{Stop}
 use Rattle.packet_capture.specs.declared.stop.Stop.TheVariants as stops
@@ -9,7 +8,9 @@ use Rattle.packet_capture.specs.Captures.{PieceContent, ArePieces, StopsReading,
 use Rattle.feed_text.specs.declared.record_format.Step.{Step}
 use Rattle.feed_text.specs.declared.record_format.Step.TheVariants.{Wants, Bad}
 use Rattle.feed_text.specs.Formats.{TimedRecord, Parsing}
+use Rattle.line_captures.specs.declared.bad_piece.BadPiece.{BadPiece}
 use Rattle.line_captures.specs.Counts.{CountsPieces, counts_after, new_progress}
+use Rattle.line_captures.specs.Starts.{start_of}
 use Rattle.line_discovery.specs.declared.counts.SurveyCounts.{SurveyCounts}
 use Rattle.line_discovery.specs.declared.fate.Fate.{Fate}
 use Rattle.line_discovery.specs.declared.survey.LineSurvey.{LineSurvey}
@@ -46,16 +47,17 @@ pub record ReadsSurvey (before : LineSurvey) (bytes : List ℕ) (records : List 
 abbrev pub wants_piece : LineSurvey → List ℕ → Type 0
 wants_piece s bytes = (n : ℕ) × StopsReading s.capture bytes (stops.Wants n)
 
--- no piece stands there
-abbrev pub is_bad_piece : LineSurvey → List ℕ → CaptureFault → Type 0
-is_bad_piece s bytes fault = StopsReading s.capture bytes (stops.Bad fault)
+-- no piece stands there, but bytes that start so
+abbrev pub is_bad_piece : LineSurvey → List ℕ → BadPiece → Type 0
+is_bad_piece s bytes bad =
+    StopsReading s.capture bytes (stops.Bad bad.fault) × (bad.start ≡ start_of bytes)
 
 -- a piece at least was read
 abbrev pub is_begun : LineSurvey → Type 0
 is_begun s = s.capture.format ≢ Start
 
 -- how surveys go on
-abbrev pub survey_parsing : Parsing LineSurvey CaptureFault
+abbrev pub survey_parsing : Parsing LineSurvey BadPiece
 survey_parsing = record {
   reads = ReadsSurvey;
   wants = wants_piece;
@@ -73,8 +75,8 @@ pub record CountsFate (fate : Fate) (before after : SurveyCounts) : Type 0 where
   pub lines : after.lines ≡ before.lines ++ packets_in fate
   pub others : after.others ≡ before.others ++ others_in fate
 
--- the step where no piece is read
-abbrev pub StopsSurvey : Stop → Step CaptureFault → Type 0
-StopsSurvey (stops.Wants n) Wants = Unit {0}
-StopsSurvey (stops.Bad fault) (Bad told) = told ≡ fault
-StopsSurvey stop step = ⊥
+-- the step where no piece is read, at these bytes
+abbrev pub StopsSurvey : Stop → List ℕ → Step BadPiece → Type 0
+StopsSurvey (stops.Wants n) bytes Wants = Unit {0}
+StopsSurvey (stops.Bad fault) bytes (Bad bad) = (bad.fault ≡ fault) × (bad.start ≡ start_of bytes)
+StopsSurvey stop bytes step = ⊥

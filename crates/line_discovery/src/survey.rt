@@ -9,8 +9,8 @@ ghost use Rattle.line_discovery.specs.Tables.{up_to_most};
 use crate::counts::SurveyCounts;
 use crate::text::text_of;
 use feed_text::{RecordFormat, Step};
-use line_captures::{DroppedFrames, FrameCounts};
-use packet_capture::{CaptureFault, CaptureReader, Stop, read_as_bytes_come};
+use line_captures::{BadPiece, DroppedFrames, FrameCounts};
+use packet_capture::{CaptureReader, Stop, read_as_bytes_come};
 use run_settings::{StatsFormat, TimeStyle};
 use std::alloc::{AllocError, Global};
 
@@ -84,18 +84,18 @@ impl LineSurvey {
     }
 }
 
-/// Returns the step where no piece is read.
-fn step_at<'b>(stop: Stop) -> Step<'b, CaptureFault>
-    ensures { StopsSurvey stop result }
+/// Returns the step where no piece is read at the front of these bytes.
+fn step_at<'b>(stop: Stop, bytes: &[u8]) -> Step<'b, BadPiece>
+    ensures { StopsSurvey stop bytes.now result }
 {
     match stop {
         Stop::Wants(_) => Step::Wants,
-        Stop::Bad(fault) => Step::Bad(fault),
+        Stop::Bad(fault) => Step::Bad(BadPiece::new(fault, bytes)),
     }
 }
 
 impl RecordFormat for LineSurvey {
-    type Fault = CaptureFault;
+    type Fault = BadPiece;
 
     ghost reads = { ReadsSurvey };
 
@@ -115,14 +115,14 @@ impl RecordFormat for LineSurvey {
 
     ghost reads_venues = { survey_venues };
 
-    fn next<'b>(&mut self, bytes: &'b [u8]) -> Step<'b, CaptureFault> {
+    fn next<'b>(&mut self, bytes: &'b [u8]) -> Step<'b, BadPiece> {
         read_as_bytes_come();
         match self.capture.next_piece(bytes) {
             Ok(piece) => {
                 self.counts.count_piece(&piece);
                 Step::Passed(piece.len)
             }
-            Err(stop) => step_at(stop),
+            Err(stop) => step_at(stop, bytes),
         }
     }
 

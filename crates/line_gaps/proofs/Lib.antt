@@ -3,6 +3,7 @@ pub mod RunOrders
 pub mod RunCounts
 pub mod EndLemmas
 pub mod MissingLemmas
+pub mod GivenCounts
 pub mod LineLemmas
 pub mod StandLemmas
 pub mod SessionLemmas

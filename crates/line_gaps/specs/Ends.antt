@@ -88,7 +88,7 @@ pub record KeepsLine (old new : LineGaps) : Type 0 where
   pub highest : new.highest ≡ old.highest
   pub passed : new.passed ≡ old.passed
 
--- Gaps of the line ended, at most so many, and its sums are those of these gaps, too.
+-- Gaps of the line ended, at most `most`, and its sums are those of these gaps, too.
 pub record EndsGaps (most : ℕ) (old new : LineGaps) (before after : EndedGaps) : Type 0 where
   pub more : List EndedGap
   pub ended : after.gaps.items ≡ before.gaps.items ++ more

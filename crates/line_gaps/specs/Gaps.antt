@@ -35,12 +35,15 @@ number_has_come events n = list_any (λ e. brings_number n e.event) events
 abbrev pub was_passed : List TimedEvent → ℕ → Bool
 was_passed events n = list_any (λ e. passes n e.event) events
 
--- a skip passed it before it came; messages have numbers from 1 on
+-- it neither came nor was passed; messages have numbers from 1 on
+abbrev pub is_left : List TimedEvent → ℕ → Bool
+is_left events n = nat_lt 0 n && not (number_has_come events n || was_passed events n)
+
+-- a skip passed it before it came
 abbrev pub is_given_up : List TimedEvent → ℕ → Bool
 is_given_up [] n = false
 is_given_up (last ∷ earlier) n =
-    (passes n last.event && (nat_lt 0 n && not (number_has_come earlier n || was_passed earlier n)))
-    || is_given_up earlier n
+    (passes n last.event && is_left earlier n) || is_given_up earlier n
 
 -- ---- packets that count
 

@@ -1,10 +1,10 @@
 -- The numbers of a venue that are missing, as they are kept.
-use Rattle.std.specs.Prelude.{◌≡◌, ℕ, ◌<◌, ◌≤◌, Bool, false, ◌&&◌, nat_le, nat_lt, List, Some}
+use Rattle.std.specs.Prelude.{◌≡◌, ℕ, ◌<◌, ◌≤◌, Bool, false, ◌&&◌, nat_le, nat_lt, min, List, Some}
 use Rattle.feed_text.specs.SinkEvents.{TimedEvent}
 use Rattle.line_gaps.specs.declared.heard_packet.HeardPacket.{HeardPacket}
 use Rattle.line_gaps.specs.declared.lost_numbers.LostNumbers.{LostNumbers}
-use Rattle.line_gaps.specs.Gaps.{brings_number, counts_with, number_has_come, is_given_up, is_missing, known_number, passes, was_passed}
-use Rattle.line_gaps.specs.Runs.{AreAscending, HaveJust}
+use Rattle.line_gaps.specs.Gaps.{brings_number, counts_with, number_has_come, is_given_up, is_left, is_missing, known_number, passes, was_passed}
+use Rattle.line_gaps.specs.Runs.{AreAscending, HaveJust, count_below}
 
 -- Just the numbers that are missing after these events are kept, as long as no run was dropped, and
 -- just those that were given up, as runs in order.
@@ -17,6 +17,10 @@ pub record FitsLost (events : List TimedEvent) (lost : LostNumbers) : Type 0 whe
   pub highest : lost.highest ≡ known_number events
   pub floor : (n : ℕ) → was_passed events n ≡ nat_lt n lost.floor
   pub come : (n : ℕ) → known_number events < n → number_has_come events n ≡ false
+
+-- how many numbers a skip to this one gives up, up to 2^64 - 1
+abbrev pub given_up_by : List TimedEvent → ℕ → ℕ
+given_up_by events number = min (count_below (is_left events) number) 18446744073709551615
 
 -- a packet counts with an event, and none of its numbers came
 pub record CountsNumbers (events : List TimedEvent) (last : TimedEvent) (packet : HeardPacket)

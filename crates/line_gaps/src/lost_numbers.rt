@@ -4,7 +4,7 @@ ghost use Rattle.feed_text.specs.SinkEvents.{SinkEvent, TimedEvent, timed_event,
 ghost use Rattle.line_arbiter.specs.declared.outcome.Outcome.TheVariants.{Taken};
 ghost use Rattle.line_gaps.specs.Runs.{AreAscending, HaveJust, is_in_run, is_in_runs, meets_runs};
 ghost use Rattle.line_gaps.specs.Gaps.{last_number_told};
-ghost use Rattle.line_gaps.specs.Missing.{CountsNumbers, FitsLost, KeepsDropped, KeepsKnown, is_learnt};
+ghost use Rattle.line_gaps.specs.Missing.{CountsNumbers, FitsLost, KeepsDropped, KeepsKnown, given_up_by, is_learnt};
 
 use crate::gap_sums::raised;
 use crate::heard_packet::HeardPacket;
@@ -145,6 +145,8 @@ impl LostNumbers {
     /// many.
     #[inline(never)]
     pub fn give_up(&mut self, number: u64) -> u64
+        ensures count { (events : List TimedEvent) → FitsLost events self.old
+            → self.old.missing.dropped ≡ 0 → result ≡ given_up_by events number }
         ensures dropped { KeepsDropped self.old self.new }
         ensures fits { (events : List TimedEvent) (time : Option ℕ) (venue : ℕ)
             → FitsLost events self.old

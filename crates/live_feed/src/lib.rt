@@ -41,7 +41,9 @@ pub use laws::settled_items_are_the_sessions;
 pub use run::attendant::{Attendant, Attended, OwnLog, RunView, Unattended};
 pub use run::line::{Line, LineEnd};
 pub use run::report::{RunReport, Stop};
+pub use run::rules::RunRules;
 pub use run::stop_handle::StopHandle;
+pub use run::watcher::{Unwatched, Watcher};
 pub use run::whole::{
     FeedEnd, FeedReport, FeedTask, LineReport, LineTask, Subscription, WholeFault,
 };

@@ -1,5 +1,5 @@
-//! A run: each line, each subscriber and the consolidator in a thread of its own, and the attendant
-//! in the calling one.
+//! A run: each line, each subscriber, the consolidator and the watcher in a thread of its own, and
+//! the attendant in the calling one.
 
 ghost use Rattle.std.specs.Prelude.{◌≡◌, ◌≤◌, [], map, IfOk, IfErr, OnErr, OnOk, vec_len, vec_capacity};
 ghost use Rattle.live_feed.specs.run.Runs.{Pairwise, HasTaken, LineHasEnded, HasPolled};
@@ -10,24 +10,29 @@ mod idle;
 pub(crate) mod line;
 mod line_threads;
 mod line_work;
+mod names;
 pub(crate) mod report;
+pub(crate) mod rules;
 mod signals;
 pub(crate) mod stop_handle;
 mod subscriber_threads;
 mod subscriber_work;
 mod threads;
+pub(crate) mod watcher;
 pub(crate) mod whole;
 
 use crate::feed::open_feed::OpenFeed;
-use crate::run::attendant::{Attendant, Attended, OwnLog, RunView, Unattended};
+use crate::run::attendant::{Attendant, Attended, OwnLog, Unattended};
 use crate::run::consolidating::{join_consolidator, start_consolidator};
 use crate::run::line::{Line, LineEnd};
 use crate::run::line_threads::{LineThread, start_lines};
 use crate::run::report::{RunReport, Stop};
+use crate::run::rules::RunRules;
 use crate::run::signals::Signals;
 use crate::run::stop_handle::StopHandle;
 use crate::run::subscriber_threads::{LogThread, start_subscribers};
 use crate::run::threads::join_each;
+use crate::run::watcher::{Unwatched, Watcher, attend_and_watch};
 use crate::subscriber::Subscriber;
 use crate::subscriber::log::SubscriberLog;
 use feed_steps::FeedName;
@@ -60,20 +65,22 @@ struct LogsToRun<N: FeedName> {
     ghost room: { (vec_len logs ≤ vec_capacity threads) × (vec_len logs ≤ vec_capacity back) },
 }
 
-/// What is run: lines, subscribers' logs, and the attendant beside them.
+/// What is run: lines, subscribers' logs, and the attendant and the watcher beside them.
 #[derive(Drop)]
-struct Parts<G: Genuine, N: FeedName, S: LineSource<G>, A> {
+struct Parts<G: Genuine, N: FeedName, S: LineSource<G>, A, W> {
     lines: LinesToRun<G, N, S>,
     logs: LogsToRun<N>,
     attended: Attended<N, A>,
+    watcher: W,
 }
 
 /// What the threads of a run return, and its attendant.
 #[derive(Drop)]
-struct Joined<G: Genuine, N: FeedName, S: LineSource<G>, A> {
+struct Joined<G: Genuine, N: FeedName, S: LineSource<G>, A, W> {
     ends: Vec<LineEnd<G, N, S>>,
     logs: Vec<SubscriberLog<N>>,
     attended: Attended<N, A>,
+    watcher: W,
     stopped: Option<Stop>,
 }
 
@@ -99,19 +106,20 @@ fn split_subscribers<N: FeedName>(
 }
 
 /// Starts the threads of a run, has the attendant attend it, and waits for all threads.
-fn run_in<'s, E, G, N, S, A, R>(
+fn run_in<'s, E, G, N, S, A, W, R>(
     rt: &'s R,
     scope: &Scope<'s, E>,
     feed: &'s OpenFeed<G, N>,
     signals: &'s Signals,
-    parts: Parts<G, N, S, A>,
+    parts: Parts<G, N, S, A, W>,
     strategies: &'s Vec<Mutex<Strategy>>,
-) -> Joined<G, N, S, A>
+) -> Joined<G, N, S, A, W>
 where
     G: Genuine + Send + Sync + 's,
     N: FeedName + Send + Sync + 's,
     S: LineSource<G> + Send + 's,
     A: Attendant<G, N, OwnLog<N>>,
+    W: Watcher<G, N> + Send + 's,
     R: Threads + Wait + Sync,
     requires { vec_len parts.logs.logs ≤ vec_len strategies.now }
     ensures lines { Pairwise (λ line. LineHasEnded (HasTaken G.Genuine N.lanes) S.brings S.failures
@@ -120,6 +128,7 @@ where
     ensures count { vec_len result.logs ≡ vec_len parts.logs.logs }
     ensures attended { A.attends parts.attended.attendant parts.attended.log
         result.attended.attendant result.attended.log }
+    ensures watched { W.watches parts.watcher result.watcher }
 {
     let Parts {
         lines: LinesToRun {
@@ -133,18 +142,15 @@ where
             back,
         },
         attended,
+        watcher,
     } = parts;
     attended.set_polling(true);
     let bells = feed.venues.bells();
     let log_threads = start_subscribers(rt, scope, signals, bells, logs, strategies, log_threads);
     let line_threads = start_lines(rt, scope, &feed.venues, signals, lines, line_threads);
     let consolidator = start_consolidator(rt, scope, feed, signals);
-    let view = RunView {
-        venues: &feed.venues,
-        signals,
-    };
-    let attended = attended.attend(rt, &view);
-    attended.set_polling(false);
+    let venues = &feed.venues;
+    let (attended, watcher) = attend_and_watch(rt, scope, venues, signals, attended, watcher);
     let stopped = join_consolidator(rt, consolidator, signals);
     let ends = join_each(rt, line_threads, ends);
     let logs = join_each(rt, log_threads, back);
@@ -152,6 +158,7 @@ where
         ends,
         logs,
         attended,
+        watcher,
         stopped,
     }
 }
@@ -214,15 +221,24 @@ impl<G: Genuine + Send + Sync, N: FeedName + Send + Sync> OpenFeed<G, N> {
             attendant: Unattended,
             log: None,
         };
-        let (ran, _attended) = self.run_attended(rt, alloc, lines, subscribers, unattended);
+        let (ran, _unattended, _unwatched) = self.run_attended(
+            rt,
+            alloc,
+            lines,
+            subscribers,
+            unattended,
+            Unwatched,
+            RunRules::default(),
+        );
         ran
     }
 
-    /// Runs as `run` does, with an attendant beside the run, in the calling thread. The run ends
-    /// once the attendant has returned, too.
+    /// Runs as `run` does, by these rules, with an attendant beside the run, in the calling thread,
+    /// and a watcher in a thread of its own. The run ends once both have returned, too.
     pub fn run_attended<
         S: LineSource<G> + Send,
         A: Attendant<G, N, OwnLog<N>>,
+        W: Watcher<G, N> + Send,
         R: Threads + Wait + Sync,
     >(
         &self,
@@ -231,9 +247,12 @@ impl<G: Genuine + Send + Sync, N: FeedName + Send + Sync> OpenFeed<G, N> {
         lines: Vec<Line<G, N, S>>,
         subscribers: Vec<Subscriber<N>>,
         attended: Attended<N, A>,
-    ) -> RanOrBack<G, N, S, A>
+        watcher: W,
+        rules: RunRules,
+    ) -> RanOrBack<G, N, S, A, W>
         ensures back { IfErr result.0 (λ back. (back.0 ≡ lines) × (back.1 ≡ subscribers)) }
         ensures unattended { OnErr result.0 (result.1 ≡ attended) }
+        ensures unwatched { OnErr result.0 (result.2 ≡ watcher) }
         ensures lines { IfOk result.0 (λ report. Pairwise (λ line. LineHasEnded
             (HasTaken G.Genuine N.lanes) S.brings S.failures line.seat line.source) lines.items
             report.lines.items) }
@@ -241,6 +260,7 @@ impl<G: Genuine + Send + Sync, N: FeedName + Send + Sync> OpenFeed<G, N> {
             HasPolled given.log back.log) subscribers.items report.subscribers.items) }
         ensures attended { OnOk result.0 (A.attends attended.attendant attended.log
             result.1.attendant result.1.log) }
+        ensures watched { OnOk result.0 (W.watches watcher result.2) }
     {
         let (lines_count, count) = (lines.len(), subscribers.len());
         let (Ok(line_threads), Ok(ends), Ok(log_threads), Ok(logs), Ok(logs_back)) = (
@@ -250,15 +270,15 @@ impl<G: Genuine + Send + Sync, N: FeedName + Send + Sync> OpenFeed<G, N> {
             Vec::with_capacity(alloc, count),
             Vec::with_capacity(alloc, count),
         ) else {
-            return (Err((lines, subscribers)), attended);
+            return (Err((lines, subscribers)), attended, watcher);
         };
         let (Ok(strategies), Ok(back)) = (
             Vec::with_capacity(alloc, count),
             Vec::with_capacity(alloc, count),
         ) else {
-            return (Err((lines, subscribers)), attended);
+            return (Err((lines, subscribers)), attended, watcher);
         };
-        let signals = Signals::new(lines_count as u64);
+        let signals = Signals::new(lines_count as u64, rules);
         let (logs, strategies) = split_subscribers(subscribers, logs, strategies);
         let parts = Parts {
             lines: LinesToRun {
@@ -272,11 +292,13 @@ impl<G: Genuine + Send + Sync, N: FeedName + Send + Sync> OpenFeed<G, N> {
                 back: logs_back,
             },
             attended,
+            watcher,
         };
         let Joined {
             ends,
             logs,
             attended,
+            watcher,
             stopped,
         } = run_scoped(rt, self, &signals, parts, &strategies);
         let subscribers = rejoin_subscribers(logs, strategies, back);
@@ -285,29 +307,31 @@ impl<G: Genuine + Send + Sync, N: FeedName + Send + Sync> OpenFeed<G, N> {
             subscribers,
             stopped,
         };
-        (Ok(report), attended)
+        (Ok(report), attended, watcher)
     }
 }
 
-/// A run's report, or what was to be run, and the attendant.
-type RanOrBack<G, N, S, A> = (
+/// A run's report, or what was to be run, and the attendant and the watcher.
+type RanOrBack<G, N, S, A, W> = (
     Result<RunReport<G, N, S>, (Vec<Line<G, N, S>>, Vec<Subscriber<N>>)>,
     Attended<N, A>,
+    W,
 );
 
 /// Runs all threads in a scope.
-fn run_scoped<G, N, S, A, R>(
+fn run_scoped<G, N, S, A, W, R>(
     rt: &R,
     feed: &OpenFeed<G, N>,
     signals: &Signals,
-    parts: Parts<G, N, S, A>,
+    parts: Parts<G, N, S, A, W>,
     strategies: &Vec<Mutex<Strategy>>,
-) -> Joined<G, N, S, A>
+) -> Joined<G, N, S, A, W>
 where
     G: Genuine + Send + Sync,
     N: FeedName + Send + Sync,
     S: LineSource<G> + Send,
     A: Attendant<G, N, OwnLog<N>>,
+    W: Watcher<G, N> + Send,
     R: Threads + Wait + Sync,
     requires { vec_len parts.logs.logs ≤ vec_len strategies.now }
     ensures lines { Pairwise (λ line. LineHasEnded (HasTaken G.Genuine N.lanes) S.brings S.failures
@@ -316,11 +340,12 @@ where
     ensures count { vec_len result.logs ≡ vec_len parts.logs.logs }
     ensures attended { A.attends parts.attended.attendant parts.attended.log
         result.attended.attendant result.attended.log }
+    ensures watched { W.watches parts.watcher result.watcher }
 {
     thread::scope(
         thread::scope_env(),
         rt,
-        move |scope| -> Joined<G, N, S, A>
+        move |scope| -> Joined<G, N, S, A, W>
             requires { vec_len parts.logs.logs ≤ vec_len strategies.now }
             ensures lines { Pairwise (λ line. LineHasEnded (HasTaken G.Genuine N.lanes) S.brings
                 S.failures line.seat line.source) parts.lines.lines.items result.ends.items }
@@ -328,6 +353,7 @@ where
             ensures count { vec_len result.logs ≡ vec_len parts.logs.logs }
             ensures attended { A.attends parts.attended.attendant parts.attended.log
                 result.attended.attendant result.attended.log }
+            ensures watched { W.watches parts.watcher result.watcher }
         { run_in(rt, scope, feed, signals, parts, strategies) },
     )
 }

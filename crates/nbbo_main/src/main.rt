@@ -18,23 +18,29 @@ ghost use Rattle.command_words.specs.declared.refusal.Refusal.TheVariants.{NoMem
 
 use command_words::{Refusal, explanation_of, symbol_words};
 use feed_text::{CaptureIn, Count, StreamIn, StreamOut, TextOut, write_stderr};
-use nbbo_runs::{
-    KeptStart, Next, RunFacts, Terminals, hint_at_file, input_format_hint, journal_hint, refuse,
-    run,
-};
+use nbbo_runs::{Next, RunFacts, Terminals, hint_at_file, journal_hint, refuse, run};
 use run_settings::ListenSettings;
 use std::alloc::{AllocError, Global};
+use std::fs::File;
 use std::io::{ErrorKind, IsTerminal, Stderr, Stdin, Stdout};
 use std::marker::Brand;
+use std::os::fd::{AsRawFd, IntoRawFd};
 use std::process::ExitCode;
 use std::sync::Wait;
 use std::sync::ledger::{Blank, Ledger};
 use std::thread::Threads;
 use std::{env, io};
 use udp_listening::{
-    BindFault, ListenSockets, NO_MEMORY, SocketTables, bind_metrics, bind_sockets, enlarge,
-    listen_with, listening_line, metrics_line, write_bind_fault,
+    BindFault, ErrorsProgress, ListenSockets, ListenStreams, NO_MEMORY, OutputState, PatientOutput,
+    SocketTables, UnheldErrors, bind_metrics, bind_sockets, enlarge, listen_with, listening_line,
+    metrics_line, write_bind_fault,
 };
+
+/// The descriptor of standard error.
+const STDERR: i32 = 2;
+
+/// How many standard streams there are, which have the first descriptors.
+const STREAMS: i32 = 3;
 
 /// The words of the command line, the program's name first.
 fn words_of(rt: &HostRuntime) -> io::Result<Vec<String>> {
@@ -54,15 +60,19 @@ fn unread(kind: ErrorKind) -> Refusal
 }
 
 /// Runs over the standard streams, and returns the status of the program. The blank pages count the
-/// calls of the input, and the failures of each.
-fn run_streams<H: Threads + Wait + Sync, C: Ledger, R: Ledger, W: Ledger, E: Ledger>(
+/// calls of the input, and the failures of each; those of a run that listens are counted apart.
+fn run_streams<H, C: Ledger, R: Ledger, W: Ledger, E: Ledger + Send, L: Ledger, M: Ledger + Send>(
     rt: &HostRuntime,
     threads: &H,
     of_calls: Blank,
     of_reads: Blank,
     of_writes: Blank,
     of_errors: Blank,
+    of_rows: Blank,
+    of_texts: Blank,
 ) -> u8
+where
+    H: Threads + Wait + Sync,
     requires calls { of_calls.name ≡ C.name }
     requires call_parts { of_calls.parts ≡ C.parts }
     requires some_calls { 0 < of_calls.parts }
@@ -75,6 +85,12 @@ fn run_streams<H: Threads + Wait + Sync, C: Ledger, R: Ledger, W: Ledger, E: Led
     requires errors { of_errors.name ≡ E.name }
     requires error_parts { of_errors.parts ≡ E.parts }
     requires some_errors { 0 < of_errors.parts }
+    requires rows { of_rows.name ≡ L.name }
+    requires row_parts { of_rows.parts ≡ L.parts }
+    requires some_rows { 0 < of_rows.parts }
+    requires texts { of_texts.name ≡ M.name }
+    requires text_parts { of_texts.parts ≡ M.parts }
+    requires some_texts { 0 < of_texts.parts }
 {
     let input: StreamIn<Stdin, C, R> = StreamIn::new(
         rt.stdin(),
@@ -83,10 +99,13 @@ fn run_streams<H: Threads + Wait + Sync, C: Ledger, R: Ledger, W: Ledger, E: Led
     );
     let output: StreamOut<Stdout, W> = StreamOut::new(rt.stdout(), Count::new(of_writes));
     let mut errors: StreamOut<Stderr, E> = StreamOut::new(rt.stderr(), Count::new(of_errors));
-    let (next, output) = run_words(rt, KeptStart::new(input), output, &mut errors);
+    let (next, _output) = run_words(rt, input, output, &mut errors);
     match next {
         Next::Ended(status) => status,
-        Next::Listens(settings) => listen_live(rt, threads, &settings, output, errors),
+        Next::Listens(settings) => {
+            let (of_rows, of_texts) = (Count::new(of_rows), Count::new(of_texts));
+            listen_live::<H, _, L, M>(rt, threads, &settings, of_rows, of_texts, errors)
+        }
     }
 }
 
@@ -97,21 +116,14 @@ fn hint_at_symbols<E: TextOut>(rt: &HostRuntime, words: &[String], errors: &mut 
     }
 }
 
-/// Writes the hints after a run: what is wrong with words that were refused, which format the input
-/// seems to have, and at a terminal how a journal gets more room.
-fn write_hints<E: TextOut>(
-    rt: &HostRuntime,
-    words: &[String],
-    facts: &RunFacts,
-    start: u32,
-    errors: &mut E,
-) {
+/// Writes the hints after a run: what is wrong with words that were refused, and at a terminal how
+/// a journal gets more room.
+fn write_hints<E: TextOut>(rt: &HostRuntime, words: &[String], facts: &RunFacts, errors: &mut E) {
     if let Some(refusal) = &facts.refusal {
         if let Some(text) = explanation_of(rt.alloc(), words, refusal) {
             write_stderr(text.as_str(), errors);
         }
     }
-    write_stderr(input_format_hint(facts.read_as, start), errors);
     let is_shown = facts.is_journal_full && rt.stderr().is_terminal();
     write_stderr(journal_hint(is_shown), errors);
 }
@@ -119,7 +131,7 @@ fn write_hints<E: TextOut>(
 /// Does what the words of the command line ask for, but for listening, and writes the hints.
 fn run_words<R: CaptureIn + Drop, W: TextOut + Drop, E: TextOut>(
     rt: &HostRuntime,
-    input: KeptStart<R>,
+    input: R,
     mut output: W,
     errors: &mut E,
 ) -> (Next, W) {
@@ -139,14 +151,29 @@ fn run_words<R: CaptureIn + Drop, W: TextOut + Drop, E: TextOut>(
         hint_at_symbols(rt, words, errors);
     }
     let ran = run(rt.alloc(), words, terminals, input, output, errors);
-    write_hints(rt, words, &ran.facts, ran.input.start(), errors);
+    write_hints(rt, words, &ran.facts, errors);
     (ran.next, ran.output)
+}
+
+/// Opens `/dev/null` in place of each standard stream that is closed, so that no socket gets its
+/// number: input that was closed has ended, and output fails, as it did.
+fn fill_streams(rt: &HostRuntime) {
+    for _ in 0..STREAMS {
+        let Ok(file) = File::open(rt, "/dev/null") else {
+            return;
+        };
+        if file.as_raw_fd() >= STREAMS {
+            return;
+        }
+        // It is left open.
+        let _fd = file.into_raw_fd();
+    }
 }
 
 /// Opens the sockets of the settings, and where it is told what the system drops at them its
 /// tables. Where a socket is refused, all are closed.
 fn bind_all(rt: &HostRuntime, settings: &ListenSettings) -> Result<ListenSockets, BindFault> {
-    let lines = bind_sockets(rt, rt.alloc(), settings.lines.as_slice())?;
+    let lines = bind_sockets(rt, rt.alloc(), settings)?;
     let metrics = match settings.metrics {
         Some(address) => Some(bind_metrics(rt, address)?),
         None => None,
@@ -185,19 +212,45 @@ fn tell_sockets<E: TextOut>(
     Ok(())
 }
 
+/// How the streams of a run that listens do, twice: for who writes on them, and for its monitor.
+#[derive(Drop)]
+struct StreamShares {
+    output: OutputState,
+    output_state: OutputState,
+    errors: ErrorsProgress,
+    errors_progress: ErrorsProgress,
+}
+
+impl StreamShares {
+    /// Returns those of streams on which nothing was written.
+    fn new(alloc: Global) -> Result<StreamShares, AllocError> {
+        let output_state = OutputState::new(alloc)?;
+        let errors_progress = ErrorsProgress::new(alloc, STDERR)?;
+        Ok(StreamShares {
+            output: output_state.share()?,
+            output_state,
+            errors: errors_progress.share()?,
+            errors_progress,
+        })
+    }
+}
+
 /// Listens on the lines of the settings, and returns the status of the program.
-fn listen_live<H, W, E>(
+fn listen_live<H, E, L, M>(
     rt: &HostRuntime,
     threads: &H,
     settings: &ListenSettings,
-    output: W,
+    of_rows: Count<L>,
+    of_texts: Count<M>,
     mut errors: E,
 ) -> u8
 where
     H: Threads + Wait + Sync,
-    W: TextOut + Drop,
-    E: TextOut + Drop,
+    E: TextOut + Drop + Send,
+    L: Ledger,
+    M: Ledger + Send,
 {
+    fill_streams(rt);
     let sockets = match bind_all(rt, settings) {
         Ok(sockets) => sockets,
         Err(fault) => {
@@ -210,23 +263,35 @@ where
         write_stderr(NO_MEMORY, &mut errors);
         return 1;
     }
+    let Ok(shares) = StreamShares::new(rt.alloc()) else {
+        write_stderr(NO_MEMORY, &mut errors);
+        return 1;
+    };
+    let output = PatientOutput::new(rt.stdout(), shares.output);
+    let streams = ListenStreams {
+        input: rt.stdin(),
+        output: StreamOut::new(output, of_rows),
+        errors: UnheldErrors::new(errors, of_texts, shares.errors),
+        output_state: shares.output_state,
+        errors_progress: shares.errors_progress,
+    };
     let (status, _output, _errors) = listen_with(
         threads,
         rt,
         rt.alloc(),
         settings,
         sockets,
-        rt.stdin(),
-        output,
-        errors,
+        streams,
     );
     status
 }
 
 fn main(rt: HostRuntime) -> ExitCode {
-    ExitCode::from(run_streams::<HostRuntime, Brand, Brand, Brand, Brand>(
+    ExitCode::from(run_streams::<HostRuntime, Brand, Brand, Brand, Brand, Brand, Brand>(
         &rt,
         &rt,
+        Blank::new(1),
+        Blank::new(1),
         Blank::new(1),
         Blank::new(1),
         Blank::new(1),

@@ -9,3 +9,4 @@ pub mod SessionCounts
 pub mod SinkPrints
 pub mod SinkRuns
 pub mod SpanRuns
+pub mod LateRuns

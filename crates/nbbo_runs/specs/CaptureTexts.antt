@@ -1,15 +1,17 @@
 -- What is said of a packet capture on standard error.
-use Rattle.std.specs.Prelude.{ℕ, zero, suc, ◌==◌, Bool, not, List, [], ◌∷◌, ◌++◌, codes, decimal, Option, Some, None, Result, Ok, Err, if◌then◌else◌}
+use Rattle.std.specs.Prelude.{ℕ, zero, suc, ◌==◌, Bool, ◌&&◌, not, List, [], ◌∷◌, ◌++◌, codes, decimal, Option, Some, None, Result, Ok, Err, if◌then◌else◌}
 use Rattle.packet_capture.specs.declared.fault.CaptureFault.{CaptureFault}
 use Rattle.packet_capture.specs.declared.fault.CaptureFault.TheVariants.{NotCapture, UnknownVersion, TooLong, BadByteOrder, BadBlockLength, LengthsDiffer, ShortBlock, UnknownInterface, FramePastBlock, OptionPastBlock, TooManyInterfaces}
 use Rattle.feed_text.specs.declared.replay_stop.ReplayStop.{ReplayStop}
 use Rattle.feed_text.specs.declared.replay_stop.ReplayStop.TheVariants.{Bad, Short}
+use Rattle.line_captures.specs.declared.bad_piece.BadPiece.{BadPiece}
 use Rattle.line_captures.specs.declared.drop_counts.DroppedFrames.{DroppedFrames}
 use Rattle.line_captures.specs.declared.frame_counts.FrameCounts.{FrameCounts}
 use Rattle.line_captures.specs.Counts.{total_of}
 use Rattle.line_captures.specs.DropCounts.{dropped_of}
 use Rattle.line_captures.specs.PacketFormats.{PacketState}
 use Rattle.nbbo_runs.specs.Ending.{stop_line_text}
+use Rattle.nbbo_runs.specs.Hints.{is_packets, packed_hint}
 
 -- a line with a count, where that isn't 0
 abbrev pub count_texts : List ℕ → ℕ → List (List ℕ)
@@ -92,10 +94,15 @@ abbrev pub no_line_texts : ℕ → List (List ℕ)
 no_line_texts zero = codes "nbbo: no datagram goes to a line\n" ∷ []
 no_line_texts (suc more) = []
 
+-- one line where a capture is to be unpacked, by what stands at its first byte
+abbrev pub packed_at : ℕ → ℕ → List ℕ
+packed_at start position = if position == 0 then packed_hint start else []
+
 -- at which byte the piece begins that is bad, and why
-abbrev pub bad_capture_texts : CaptureFault → ℕ → List (List ℕ)
-bad_capture_texts fault position =
-    codes "nbbo: bad capture at byte " ∷ decimal position ∷ capture_fault_text fault ∷ []
+abbrev pub bad_capture_texts : BadPiece → ℕ → List (List ℕ)
+bad_capture_texts bad position =
+    codes "nbbo: bad capture at byte " ∷ decimal position ∷ capture_fault_text bad.fault
+    ∷ packed_at bad.start position ∷ []
 
 -- at which byte the capture ends within a piece, or before the first one
 abbrev pub short_capture_texts : ℕ → List (List ℕ)
@@ -103,11 +110,10 @@ short_capture_texts position =
     codes "nbbo: short record at byte " ∷ decimal position ∷ codes "\n" ∷ []
 
 -- the line of an outcome; of a whole capture, that no datagram goes to a line
-abbrev pub capture_outcome_texts : Result (Unit {0}) (ReplayStop CaptureFault) → ℕ → ℕ
+abbrev pub capture_outcome_texts : Result (Unit {0}) (ReplayStop BadPiece) → ℕ → ℕ
     → List (List ℕ)
 capture_outcome_texts (Ok done) position to_lines = no_line_texts to_lines
-capture_outcome_texts (Err (Bad fault)) position to_lines =
-    bad_capture_texts fault position
+capture_outcome_texts (Err (Bad bad)) position to_lines = bad_capture_texts bad position
 capture_outcome_texts (Err Short) position to_lines = short_capture_texts position
 capture_outcome_texts (Err stop) position to_lines = stop_line_text stop ∷ []
 
@@ -117,20 +123,39 @@ start_texts None = []
 start_texts (Some start) =
     codes "nbbo: a second capture seems to begin at byte " ∷ decimal start ∷ codes "\n" ∷ []
 
--- the same of a capture that wasn't read to its end
-abbrev pub second_texts : Result (Unit {0}) (ReplayStop CaptureFault) → Option ℕ → List (List ℕ)
-second_texts (Ok done) second_start = []
-second_texts (Err stop) second_start = start_texts second_start
+-- a second capture begins where a piece is bad: a capture starts so, and a piece stands before it
+abbrev pub is_second : BadPiece → ℕ → Bool
+is_second bad position = is_packets bad.start && not (position == 0)
+
+abbrev pub second_now : BadPiece → ℕ → Option ℕ
+second_now bad position = if is_second bad position then Some position else None
+
+-- where a second capture seems to begin: where one was seen, or where this piece is bad
+abbrev pub second_at : Option ℕ → BadPiece → ℕ → Option ℕ
+second_at None bad position = second_now bad position
+second_at (Some start) bad position = Some start
+
+-- the same of a capture that wasn't read to its end, and whose next piece begins at this byte
+abbrev pub second_texts : Result (Unit {0}) (ReplayStop BadPiece) → Option ℕ → ℕ → List (List ℕ)
+second_texts (Ok done) second_start position = []
+second_texts (Err (Bad bad)) second_start position =
+    start_texts (second_at second_start bad position)
+second_texts (Err stop) second_start position = start_texts second_start
+
+-- how many frames came in a period before the earliest of those that were kept
+abbrev pub late_texts : ℕ → List (List ℕ)
+late_texts late =
+    count_texts (codes "nbbo: frames earlier than the 16 periods that are kept: ") late
 
 -- whether a frame of what was read had a time
 abbrev pub is_timed_capture : PacketState → Bool
 is_timed_capture read = not (read.progress.latest_time == 0)
 
 -- after a packet capture of which so much was read
-abbrev pub capture_texts : PacketState → Result (Unit {0}) (ReplayStop CaptureFault)
+abbrev pub capture_texts : PacketState → Result (Unit {0}) (ReplayStop BadPiece)
     → List (List ℕ)
 capture_texts read outcome =
     frame_texts read.progress.counts
     ++ (dropped_texts (dropped_of read.progress.drops)
     ++ (capture_outcome_texts outcome read.progress.position read.progress.counts.to_lines
-    ++ second_texts outcome read.progress.second_start))
+    ++ second_texts outcome read.progress.second_start read.progress.position))

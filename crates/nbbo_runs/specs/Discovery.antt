@@ -1,15 +1,15 @@
 -- Runs that list the lines of a packet capture.
-use Rattle.std.specs.Prelude.{◌≡◌, ℕ, zero, suc, List, [], ◌∷◌, ◌++◌, codes, length, Result, Ok, Err}
+use Rattle.std.specs.Prelude.{◌≡◌, ◌⊎◌, ℕ, zero, suc, List, [], ◌∷◌, ◌++◌, codes, length, Result, Ok, Err}
 use Rattle.std.specs.Result.{result_and}
 use Rattle.clap.specs.Walk.{Text}
-use Rattle.packet_capture.specs.declared.fault.CaptureFault.{CaptureFault}
 use Rattle.feed_text.specs.declared.replay_stop.ReplayStop.{ReplayStop}
 use Rattle.feed_text.specs.Devices.{Reading, Writing}
 use Rattle.feed_text.specs.StandardError.{SaysEach}
+use Rattle.line_captures.specs.declared.bad_piece.BadPiece.{BadPiece}
 use Rattle.line_captures.specs.Conversions.{AnswersConversion}
 use Rattle.line_captures.specs.DropCounts.{dropped_of}
 use Rattle.line_discovery.specs.declared.survey.LineSurvey.{LineSurvey}
-use Rattle.line_discovery.specs.Surveys.{new_survey, survey_parsing}
+use Rattle.line_discovery.specs.Surveys.{is_begun, new_survey, survey_parsing}
 use Rattle.line_discovery.specs.SurveyTexts.{text_of_survey}
 use Rattle.line_discovery.specs.Tables.{up_to_most}
 use Rattle.command_words.specs.CommandLine.{AsksDiscovery}
@@ -21,18 +21,27 @@ use Rattle.nbbo_runs.specs.Streams.{Devices, Streams}
 use Rattle.nbbo_runs.specs.declared.survey_form.SurveyForm.{SurveyForm}
 use Rattle.nbbo_runs.specs.declared.terminals.Terminals.{Terminals}
 
--- A packet capture was read to its end, or up to a fault, and its lines were printed in the form. A
--- fault of printing comes before that of reading.
+-- The lines of a survey are printed in the form once a capture has begun in it; else nothing is.
+abbrev pub PrintsSurvey : {W : Type 0} (writing : Writing W) (form : SurveyForm)
+    (survey : LineSurvey) (before after : W)
+    → Result (Unit {0}) (ReplayStop BadPiece) → Type 0
+PrintsSurvey writing form survey before after printed =
+    (is_begun survey
+    × PrintsText writing (λ text. text ≡ text_of_survey form.format form.times survey.counts)
+    before after printed)
+    ⊎ ((is_begun survey → ⊥) × (after ≡ before) × (printed ≡ Ok tt))
+
+-- A packet capture was read to its end, or up to a fault, and its lines were printed. A fault of
+-- printing comes before that of reading.
 pub record Discovers {R W : Type 0} (reading : Reading R) (writing : Writing W)
     (form : SurveyForm) (from to : R) (start finish : LineSurvey) (before after : W)
-    (outcome : Result (Unit {0}) (ReplayStop CaptureFault)) : Type 0 where
-  pub read : Result (Unit {0}) (ReplayStop CaptureFault)
+    (outcome : Result (Unit {0}) (ReplayStop BadPiece)) : Type 0 where
+  pub read : Result (Unit {0}) (ReplayStop BadPiece)
   pub mid : W
   pub reads : AnswersConversion reading survey_parsing writing 0 1000000000 from to start finish
       before mid read
-  pub printed : Result (Unit {0}) (ReplayStop CaptureFault)
-  pub prints : PrintsText writing
-      (λ text. text ≡ text_of_survey form.format form.times finish.counts) mid after printed
+  pub printed : Result (Unit {0}) (ReplayStop BadPiece)
+  pub prints : PrintsSurvey writing form finish mid after printed
   pub ends : outcome ≡ result_and printed read
 
 -- that no datagram is a packet, by how many are
@@ -41,7 +50,7 @@ no_packet_texts zero = codes "nbbo: no datagram is a MoldUDP64 packet\n" ∷ []
 no_packet_texts (suc more) = []
 
 -- the line of an outcome; of a whole capture, that no datagram is a packet
-abbrev pub survey_outcome_texts : Result (Unit {0}) (ReplayStop CaptureFault) → ℕ → ℕ
+abbrev pub survey_outcome_texts : Result (Unit {0}) (ReplayStop BadPiece) → ℕ → ℕ
     → List (List ℕ)
 survey_outcome_texts (Ok done) position packets = no_packet_texts packets
 survey_outcome_texts (Err stop) position packets =
@@ -49,7 +58,7 @@ survey_outcome_texts (Err stop) position packets =
 
 -- after a survey: the frames without a datagram by their kinds, those out of time order, those that
 -- were dropped, the outcome, and where a second capture seems to begin
-abbrev pub survey_texts : LineSurvey → Result (Unit {0}) (ReplayStop CaptureFault)
+abbrev pub survey_texts : LineSurvey → Result (Unit {0}) (ReplayStop BadPiece)
     → List (List ℕ)
 survey_texts s outcome =
     let progress = s.counts.progress in
@@ -58,14 +67,14 @@ survey_texts s outcome =
     ++ (other_texts progress.counts
     ++ (dropped_texts (dropped_of progress.drops)
     ++ (survey_outcome_texts outcome progress.position (up_to_most (length s.counts.lines))
-    ++ second_texts outcome progress.second_start))))
+    ++ second_texts outcome progress.second_start progress.position))))
 
 -- The same, of which nothing was read before. Standard error has the hint, and then what is to be
 -- said of the outcome.
 pub record RunsDiscovery {R W E : Type 0} (devices : Devices R W E) (form : SurveyForm)
     (terminals : Terminals) (before after : Streams R W E) (status : ℕ) : Type 0 where
   pub finish : LineSurvey
-  pub outcome : Result (Unit {0}) (ReplayStop CaptureFault)
+  pub outcome : Result (Unit {0}) (ReplayStop BadPiece)
   pub discovers : Discovers devices.reading devices.writing form before.input after.input
       new_survey finish before.output after.output outcome
   pub says : SaysEach devices.telling

@@ -6,10 +6,11 @@ pub mod Ending
 pub mod Hints
 pub mod Kept
 pub mod Lacks
+pub mod OwnCaptureLaws
+pub mod OwnCaptures
 pub mod Printing
 pub mod Runs
 pub mod Sessions
-pub mod Starts
 pub mod Streams
 pub mod SymbolHints
 pub mod Timeless

@@ -16,6 +16,7 @@ use Rattle.feed_text.specs.Replays.{text_told}
 use Rattle.feed_text.specs.SinkEvents.{TimedEvent}
 use Rattle.period_rows.specs.BestRows.{text_of_bests}
 use Rattle.period_rows.specs.CountRows.{text_of_counts}
+use Rattle.period_rows.specs.CountStates.{state_told}
 use Rattle.gap_rows.specs.GapCells.{gap_names}
 use Rattle.gap_rows.specs.GapMakers.{TellsGaps}
 use Rattle.gap_rows.specs.declared.gap_maker.GapMaker.{GapMaker}
@@ -159,6 +160,34 @@ pub record PrintsWatched {R S F W : Type 0} (reading : Reading R) (parsing : Par
   pub prints : Prints S F parsing config from to start finish before after outcome
   pub missing : LeavesMissing reading parsing config from to start finish old new outcome
 
+-- ---- datagrams that are too late
+
+-- how many datagrams of events came in a period before the earliest of the 16 that were kept
+abbrev pub late_in : ℕ → List TimedEvent → ℕ
+late_in length told = (state_told length (reverse told ++ [])).late
+
+-- The datagrams of events in a span that are too late are counted; of a run whose output failed
+-- none is.
+abbrev pub counting_late : ℕ → TimeSpan → SinkTaking ℕ
+counting_late length span = record {
+  takes = λ before told after. after ≡ late_in length (span_events span told);
+  fails = λ before told after. after ≡ 0;
+}
+
+-- how many of them are told, by the outcome
+abbrev pub late_told : {F : Type 0} → Result (Unit {0}) (ReplayStop F) → ℕ → ℕ
+late_told (Err SinkFailed) late = 0
+late_told _ late = late
+
+-- What is left of the datagrams that were too late for the periods that are printed.
+abbrev pub LeavesLate : {R S F : Type 0} (reading : Reading R) (parsing : Parsing S F)
+    (config : ReplayConfig) (span : TimeSpan) (from to : R) (start finish : S) (late : ℕ)
+    (outcome : Result (Unit {0}) (ReplayStop F)) → RunOutput → Type 0
+LeavesLate reading parsing config span from to start finish late outcome (Periods style) =
+    AnswersRun reading parsing (counting_late style.length span) (λ late. ⊤) config
+    (facts_of_run config) from to start finish 0 late outcome
+LeavesLate reading parsing config span from to start finish late outcome _ = late ≡ 0
+
 -- ---- by what is asked for
 
 -- all rows
@@ -268,14 +297,16 @@ pub record IsConfigOf (settings : RunSettings) (config : ReplayConfig) : Type 0 
 
 -- A capture was replayed with these settings, and printed by an output. Where it came to its end,
 -- what its venues lack was appended to a list, and these are the symbols of which no item came, if
--- that is watched.
+-- that is watched. So many datagrams were too late for the periods that were kept.
 pub record PrintsAsked {R S F W : Type 0} (reading : Reading R) (parsing : Parsing S F)
     (Prints : Output R W) (settings : RunSettings) (is_watched : Bool) (from to : R)
     (start finish : S) (before after : W) (old new : List Lack) (absent : List (List ℕ))
-    (outcome : Result (Unit {0}) (ReplayStop F)) : Type 0 where
+    (late : ℕ) (outcome : Result (Unit {0}) (ReplayStop F)) : Type 0 where
   pub config : ReplayConfig
   pub is : IsConfigOf settings config
   pub prints : Prints S F parsing config from to start finish before after outcome
   pub lacks : OnOk outcome (AppendsLacks reading parsing config from to start finish old new)
   pub absent_are : OnOk outcome
       (LeavesAbsent reading parsing config from to start finish outcome is_watched absent)
+  pub late_is : LeavesLate reading parsing config settings.span from to start finish late outcome
+      settings.output

@@ -2,14 +2,13 @@
 -- and the status, the last argument.
 use Rattle.std.specs.Prelude.{◌≡◌, ◌≢◌, ◌⊎◌, ℕ, ◌+◌, Bool, true, false, List, [], ◌∷◌, ◌++◌, length, Result}
 use Rattle.clap.specs.Walk.{Text}
-use Rattle.packet_capture.specs.declared.fault.CaptureFault.{CaptureFault}
 use Rattle.feed_text.specs.declared.replay_stop.ReplayStop.{ReplayStop}
 use Rattle.feed_text.specs.Devices.{Writing, Wrote}
 use Rattle.feed_text.specs.Formats.{Parsing}
-use Rattle.feed_text.specs.OwnFormats.{own_parsing}
 use Rattle.feed_text.specs.StandardError.{Says, SaysEach}
 use Rattle.feed_text.specs.declared.lack.Lack.{Lack}
 use Rattle.run_settings.specs.declared.captured_line.CapturedLine.{CapturedLine}
+use Rattle.line_captures.specs.declared.bad_piece.BadPiece.{BadPiece}
 use Rattle.line_captures.specs.Conversions.{AnswersConversion}
 use Rattle.line_captures.specs.PacketFormats.{PacketState, new_packets, packet_parsing}
 use Rattle.command_words.specs.CommandLine.{Asks, AsksConversion, AsksRun, IsRefused, refusal_status, refusal_text}
@@ -20,11 +19,12 @@ use Rattle.run_settings.specs.declared.run_input.RunInput.TheVariants.{Own, Pack
 use Rattle.run_settings.specs.declared.run_settings.RunSettings.{RunSettings}
 use Rattle.command_words.specs.declared.task.Task.TheVariants.{Listen}
 use Rattle.nbbo_runs.specs.AbsentSymbols.{told_absent}
-use Rattle.nbbo_runs.specs.CaptureTexts.{capture_texts, is_timed_capture}
+use Rattle.nbbo_runs.specs.CaptureTexts.{capture_texts, is_timed_capture, late_texts}
 use Rattle.nbbo_runs.specs.Discovery.{Discovered}
 use Rattle.nbbo_runs.specs.Ending.{ending_status, own_end_texts, write_failed_text}
 use Rattle.nbbo_runs.specs.Hints.{hint_text}
 use Rattle.nbbo_runs.specs.Lacks.{tells_lacks, told_lacks}
+use Rattle.nbbo_runs.specs.OwnCaptures.{new_own_capture, own_capture_parsing}
 use Rattle.nbbo_runs.specs.Printing.{Output, PrintsAsked, output_asked}
 use Rattle.nbbo_runs.specs.Streams.{Devices, Streams}
 use Rattle.nbbo_runs.specs.SymbolHints.{symbol_hint}
@@ -36,8 +36,9 @@ use Rattle.nbbo_runs.specs.declared.program_run.Next.TheVariants.{Ended, Listens
 use Rattle.nbbo_runs.specs.declared.terminals.Terminals.{Terminals}
 
 -- A capture of a format was replayed with these settings, and printed by an output. Standard error
--- has the hints, then what venues lack and which symbols never came, if that is told, and then what
--- is to be said of what was read and of the outcome, by `end_texts`.
+-- has the hints, then what venues lack and which symbols never came, if that is told, then what is
+-- to be said of what was read and of the outcome, by `end_texts`, and how many frames were too late
+-- for the periods that were kept.
 pub record RunsOver {R W E S F : Type 0} (devices : Devices R W E) (parsing : Parsing S F)
     (Prints : Output R W) (end_texts : S → Result (Unit {0}) (ReplayStop F) → List (List ℕ))
     (settings : RunSettings) (terminals : Terminals) (start : S)
@@ -46,13 +47,15 @@ pub record RunsOver {R W E S F : Type 0} (devices : Devices R W E) (parsing : Pa
   pub outcome : Result (Unit {0}) (ReplayStop F)
   pub lacks : List Lack
   pub absent : List (List ℕ)
+  pub late : ℕ
   pub prints : PrintsAsked devices.reading parsing Prints settings
       (tells_lacks settings terminals) before.input after.input start finish before.output
-      after.output [] lacks absent outcome
+      after.output [] lacks absent late outcome
   pub says : SaysEach devices.telling
       (hint_text terminals.input ∷ symbol_hint settings
       ∷ told_lacks outcome (tells_lacks settings terminals) lacks
-      ++ (told_absent outcome (tells_lacks settings terminals) absent ++ end_texts finish outcome))
+      ++ (told_absent outcome (tells_lacks settings terminals) absent
+      ++ (end_texts finish outcome ++ late_texts late)))
       before.errors after.errors
   pub ends : status ≡ ending_status outcome
 
@@ -74,12 +77,12 @@ abbrev pub RunsOwn : {R W E : Type 0} (devices : Devices R W E) (Prints : Output
     (settings : RunSettings) (terminals : Terminals) (before after : Streams R W E) (status : ℕ)
     → Bool → Type 0
 RunsOwn devices Prints settings terminals before after status false =
-    RunsOver devices own_parsing Prints
+    RunsOver devices own_capture_parsing Prints
     (with_times settings.output (λ s. false) own_end_texts) settings terminals
-    (length settings.feed.sessions.items) before after status
+    (new_own_capture (length settings.feed.sessions.items)) before after status
 RunsOwn devices Prints settings terminals before after status true =
-    RunsWatched devices own_parsing Prints (λ s. false) own_end_texts settings terminals
-    (length settings.feed.sessions.items) before after status
+    RunsWatched devices own_capture_parsing Prints (λ s. false) own_end_texts settings terminals
+    (new_own_capture (length settings.feed.sessions.items)) before after status
 
 -- a run over a capture of the project's own format, or over a packet capture
 abbrev pub RunsBy : {R W E : Type 0} (devices : Devices R W E) (Prints : Output R W)
@@ -104,7 +107,7 @@ pub record Ran {R W E : Type 0} (devices : Devices R W E) (words : List Text)
 pub record RunsConversion {R W E : Type 0} (devices : Devices R W E) (lines : List CapturedLine)
     (terminals : Terminals) (before after : Streams R W E) (status : ℕ) : Type 0 where
   pub finish : PacketState
-  pub outcome : Result (Unit {0}) (ReplayStop CaptureFault)
+  pub outcome : Result (Unit {0}) (ReplayStop BadPiece)
   pub converts : AnswersConversion devices.reading packet_parsing devices.writing 16 1000000000
       before.input after.input (new_packets 16 lines) finish before.output after.output outcome
   pub says : SaysEach devices.telling

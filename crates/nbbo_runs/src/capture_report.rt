@@ -1,11 +1,12 @@
 //! What is said of a packet capture on standard error.
 ghost use Rattle.std.specs.Prelude.{◌≡◌, ◌∷◌, [], codes, decimal};
 ghost use Rattle.feed_text.specs.StandardError.{SaysEach};
-ghost use Rattle.nbbo_runs.specs.CaptureTexts.{bad_capture_texts, capture_fault_text, capture_outcome_texts, count_texts, datagrams_texts, dropped_texts, frame_texts, frames_texts, lost_texts, no_line_texts, order_texts, other_texts, protocols_texts, second_texts, start_texts};
+ghost use Rattle.nbbo_runs.specs.CaptureTexts.{bad_capture_texts, capture_fault_text, capture_outcome_texts, count_texts, datagrams_texts, dropped_texts, frame_texts, frames_texts, is_second, late_texts, lost_texts, no_line_texts, order_texts, other_texts, packed_at, protocols_texts, second_at, second_now, second_texts, start_texts};
 
 use crate::ending::stop_line;
+use crate::hints::{is_packets, packed_hint};
 use feed_text::{ReplayStop, TextOut, write_number, write_stderr};
-use line_captures::{DroppedFrames, FrameCounts};
+use line_captures::{BadPiece, DroppedFrames, FrameCounts};
 use packet_capture::CaptureFault;
 
 /// The line beside the number of frames that are out of time order.
@@ -173,14 +174,28 @@ fn capture_fault_end(fault: CaptureFault) -> &'static str
     }
 }
 
-/// Writes at which byte a piece begins that is bad, and why.
-fn write_bad_capture<E: TextOut>(fault: CaptureFault, position: u64, errors: &mut E)
+/// Returns the line for a capture that is to be unpacked, by what stands where a piece is bad, if
+/// that is the first one; else none.
+fn packed_at(start: u32, position: u64) -> &'static str
+    ensures { result.now ≡ packed_at start position }
+{
+    if position == 0 {
+        packed_hint(start)
+    } else {
+        ""
+    }
+}
+
+/// Writes at which byte a piece begins that is bad, why, and what to do where the capture is to be
+/// unpacked.
+fn write_bad_capture<E: TextOut>(bad: &BadPiece, position: u64, errors: &mut E)
     ensures { SaysEach (record { adds = E.adds; failures = E.failures })
-        (bad_capture_texts fault position) errors.old errors.new }
+        (bad_capture_texts bad.now position) errors.old errors.new }
 {
     write_stderr("nbbo: bad capture at byte ", errors);
     write_number(position, errors);
-    write_stderr(capture_fault_end(fault), errors);
+    write_stderr(capture_fault_end(bad.fault), errors);
+    write_stderr(packed_at(bad.start, position), errors);
 }
 
 /// Writes that no datagram goes to a line, where none does.
@@ -197,7 +212,7 @@ fn write_no_line<E: TextOut>(to_lines: u64, errors: &mut E)
 /// Writes the line of an outcome, if it has one: of a capture whose next piece begins at this byte,
 /// and of which this many datagrams go to a line.
 pub fn write_outcome<E: TextOut>(
-    outcome: &Result<(), ReplayStop<CaptureFault>>,
+    outcome: &Result<(), ReplayStop<BadPiece>>,
     position: u64,
     to_lines: u64,
     errors: &mut E,
@@ -207,7 +222,7 @@ pub fn write_outcome<E: TextOut>(
 {
     match outcome {
         Ok(()) => write_no_line(to_lines, errors),
-        Err(ReplayStop::Bad(fault)) => write_bad_capture(*fault, position, errors),
+        Err(ReplayStop::Bad(bad)) => write_bad_capture(bad, position, errors),
         Err(ReplayStop::Short) => write_counted("nbbo: short record at byte ", position, errors),
         Err(stop) => write_stderr(stop_line(stop), errors),
     }
@@ -228,17 +243,61 @@ fn write_start<E: TextOut>(second_start: Option<u64>, errors: &mut E)
     }
 }
 
-/// Writes where a second capture seems to begin, of a capture that wasn't read to its end.
+/// Returns whether a second capture begins where a piece is bad: a capture starts so, and a piece
+/// stands before it.
+fn is_second(bad: &BadPiece, position: u64) -> bool
+    ensures { result ≡ is_second bad.now position }
+{
+    is_packets(bad.start) && position != 0
+}
+
+/// Returns at which byte a second capture seems to begin, if one does: where one was seen, or where
+/// this piece is bad.
+fn second_at(second_start: Option<u64>, bad: &BadPiece, position: u64) -> Option<u64>
+    ensures { result ≡ second_at second_start bad.now position }
+{
+    match second_start {
+        Some(start) => Some(start),
+        None => second_now(bad, position),
+    }
+}
+
+/// Returns the byte at which this piece is bad, if a second capture begins there.
+fn second_now(bad: &BadPiece, position: u64) -> Option<u64>
+    ensures { result ≡ second_now bad.now position }
+{
+    if is_second(bad, position) {
+        return Some(position);
+    }
+    None
+}
+
+/// Writes where a second capture seems to begin, of a capture that wasn't read to its end, and
+/// whose next piece begins at this byte.
 pub fn write_second<E: TextOut>(
-    outcome: &Result<(), ReplayStop<CaptureFault>>,
+    outcome: &Result<(), ReplayStop<BadPiece>>,
     second_start: Option<u64>,
+    position: u64,
     errors: &mut E,
 )
     ensures { SaysEach (record { adds = E.adds; failures = E.failures })
-        (second_texts outcome.now second_start) errors.old errors.new }
+        (second_texts outcome.now second_start position) errors.old errors.new }
 {
     match outcome {
         Ok(()) => {}
+        Err(ReplayStop::Bad(bad)) => write_start(second_at(second_start, bad, position), errors),
         Err(_) => write_start(second_start, errors),
     }
+}
+
+/// Writes how many frames came in a period before the earliest of those that were kept.
+pub fn write_late<E: TextOut>(late: u64, errors: &mut E)
+    ensures { SaysEach (record { adds = E.adds; failures = E.failures })
+        (late_texts late) errors.old errors.new }
+{
+    write_count(
+        "nbbo: frames earlier than the 16 periods that are kept: ",
+        late,
+        errors,
+    );
 }

@@ -1,7 +1,7 @@
 //! Runs that list the lines of a packet capture.
 ghost use Rattle.std.specs.Prelude.{codes};
 ghost use Rattle.feed_text.specs.StandardError.{SaysEach};
-ghost use Rattle.nbbo_runs.specs.Discovery.{Discovers, RunsDiscovery, no_packet_texts, survey_outcome_texts, survey_texts};
+ghost use Rattle.nbbo_runs.specs.Discovery.{Discovers, PrintsSurvey, RunsDiscovery, no_packet_texts, survey_outcome_texts, survey_texts};
 
 use crate::capture_report::{
     write_dropped, write_lost, write_other, write_outcome, write_protocols, write_second,
@@ -12,14 +12,29 @@ use crate::hints::input_hint;
 use crate::printing::write_text;
 use crate::survey_form::SurveyForm;
 use crate::terminals::Terminals;
-use feed_text::{CaptureIn, ReplayStop, TextOut, write_stderr};
-use line_captures::convert;
+use feed_text::{CaptureIn, RecordFormat, ReplayStop, TextOut, write_stderr};
+use line_captures::{BadPiece, convert};
 use line_discovery::LineSurvey;
-use packet_capture::CaptureFault;
 use std::alloc::Global;
 
 /// The outcome of a run.
-type Outcome = Result<(), ReplayStop<CaptureFault>>;
+type Outcome = Result<(), ReplayStop<BadPiece>>;
+
+/// Prints the lines of a survey, once a capture has begun in it; else nothing.
+fn print_survey<W: TextOut>(
+    alloc: Global,
+    form: SurveyForm,
+    survey: &LineSurvey,
+    output: &mut W,
+) -> Outcome
+    ensures { PrintsSurvey (record { adds = W.adds; failures = W.failures }) form survey.now
+        output.old output.new result }
+{
+    if !survey.may_end() {
+        return Ok(());
+    }
+    write_text(survey.text(alloc, form.format, form.times), output)
+}
 
 /// Reads the packet capture that the input is, and prints its lines, also up to a fault. A survey
 /// has no records: to convert it is to read it, and writes nothing.
@@ -36,7 +51,7 @@ fn discover<R: CaptureIn, W: TextOut>(
         form input.old input.new survey.old survey.new output.old output.new result }
 {
     let read = convert(alloc, MAX_TURNS, survey, input, output);
-    let printed = write_text(survey.text(alloc, form.format, form.times), output);
+    let printed = print_survey(alloc, form, survey, output);
     printed.and(read)
 }
 
@@ -73,7 +88,7 @@ fn write_survey<E: TextOut>(survey: &LineSurvey, outcome: &Outcome, errors: &mut
     write_other(&frames, errors);
     write_dropped(&survey.dropped(), errors);
     write_survey_outcome(outcome, survey.position(), survey.packets(), errors);
-    write_second(outcome, survey.second_start(), errors);
+    write_second(outcome, survey.second_start(), survey.position(), errors);
 }
 
 /// Lists the lines of the packet capture that the input is, on the output. Returns the status of

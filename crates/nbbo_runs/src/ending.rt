@@ -1,7 +1,9 @@
 //! The end of the program after a replay.
 ghost use Rattle.std.specs.Prelude.{◌≡◌};
-ghost use Rattle.nbbo_runs.specs.Ending.{ending_status, stop_line_text, write_failed_text};
+ghost use Rattle.nbbo_runs.specs.Ending.{ending_status, first_hint, own_hint, stop_line_text, write_failed_text};
 
+use crate::hints::format_hint;
+use crate::own_capture::BadRecord;
 use feed_text::ReplayStop;
 
 /// The line for a call of a writer that failed.
@@ -19,6 +21,28 @@ pub fn stop_line<F>(stop: &ReplayStop<F>) -> &'static str
         ReplayStop::TooManyTurns => "nbbo: too many turns\n",
         ReplayStop::JournalFull => "nbbo: journal full\n",
         ReplayStop::NoMemory => "nbbo: no memory\n",
+    }
+}
+
+/// Returns the line for a capture that is none of the project's own, by what stands where its first
+/// record is bad; empty for another one.
+pub(crate) fn own_hint(stop: &ReplayStop<BadRecord>) -> &'static str
+    ensures { result.now ≡ own_hint stop.now }
+{
+    match stop {
+        ReplayStop::Bad(bad) => first_hint(bad),
+        _ => "",
+    }
+}
+
+/// Returns the line for what stands where a record is bad, if that is the first one; else none.
+fn first_hint(bad: &BadRecord) -> &'static str
+    ensures { result.now ≡ first_hint bad.now }
+{
+    if bad.is_first {
+        format_hint(bad.start)
+    } else {
+        ""
     }
 }
 

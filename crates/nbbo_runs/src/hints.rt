@@ -1,10 +1,9 @@
-//! Hints: what was probably meant where something else was given. They are made of what a run
-//! returns.
+//! Hints: what was probably meant where something else was given. They are made of values: what
+//! stands where a capture is bad, and what a run returns.
 ghost use Rattle.std.specs.Prelude.{◌≡◌};
 ghost use Rattle.nbbo_runs.specs.Hints.{format_hint, hint_text, is_packets, journal_hint, packed_hint};
 
 use feed_text::{TextOut, write_stderr};
-use run_settings::RunInput;
 use std::fs::{self, File, Files};
 
 /// The line before a terminal is read.
@@ -40,25 +39,6 @@ const XZ: u32 = 0xfd37_7a58;
 
 const LZ4: u32 = 0x0422_4d18;
 
-/// What a run reads.
-#[derive(Clone, Copy, Debug, PartialEq, Eq)]
-pub enum InputFormat {
-    /// A capture of the project's own format.
-    Own,
-    /// A packet capture.
-    Packets,
-    /// Nothing.
-    Nothing,
-}
-
-/// Returns the format of an input.
-pub fn input_format_of(input: &RunInput) -> InputFormat {
-    match input {
-        RunInput::Own => InputFormat::Own,
-        RunInput::Packets(_) => InputFormat::Packets,
-    }
-}
-
 /// Returns the line for an input that is a terminal; empty for another one.
 pub fn input_hint(at_terminal: bool) -> &'static str
     ensures { result.now ≡ hint_text at_terminal }
@@ -66,8 +46,8 @@ pub fn input_hint(at_terminal: bool) -> &'static str
     if at_terminal { AT_TERMINAL } else { "" }
 }
 
-/// Returns whether an input that starts so is a packet capture.
-fn is_packets(start: u32) -> bool
+/// Returns whether a packet capture starts so, by the number of its first four bytes.
+pub(crate) fn is_packets(start: u32) -> bool
     ensures { result ≡ is_packets start }
 {
     start == PCAP
@@ -79,7 +59,7 @@ fn is_packets(start: u32) -> bool
 
 /// Returns the line for an input that is no capture of this project's own, by the number of its
 /// first four bytes; empty where it may be one.
-fn format_hint(start: u32) -> &'static str
+pub(crate) fn format_hint(start: u32) -> &'static str
     ensures { result.now ≡ format_hint start }
 {
     if is_packets(start) {
@@ -91,7 +71,7 @@ fn format_hint(start: u32) -> &'static str
 
 /// Returns the line for an input that is to be unpacked, by the number of its first four bytes;
 /// empty for another one.
-fn packed_hint(start: u32) -> &'static str
+pub(crate) fn packed_hint(start: u32) -> &'static str
     ensures { result.now ≡ packed_hint start }
 {
     if start / 65_536 == GZIP {
@@ -106,16 +86,6 @@ fn packed_hint(start: u32) -> &'static str
         "nbbo: the input is in lz4; to unpack it write 'lz4cat FILE | nbbo ..'\n"
     } else {
         ""
-    }
-}
-
-/// Returns the line for an input that was read as this, by the number of its first four bytes;
-/// empty where it may be that.
-pub fn input_format_hint(read_as: InputFormat, start: u32) -> &'static str {
-    match read_as {
-        InputFormat::Own => format_hint(start),
-        InputFormat::Packets => packed_hint(start),
-        InputFormat::Nothing => "",
     }
 }
 

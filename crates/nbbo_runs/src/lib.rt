@@ -23,8 +23,8 @@ mod discovery;
 mod ending;
 mod fed_sink;
 mod hints;
-mod kept_start;
 mod lacks;
+mod own_capture;
 mod printing;
 mod program_run;
 mod runs;
@@ -42,7 +42,6 @@ mod venue_watch;
 mod watched_format;
 mod watched_sink;
 
-pub use hints::{InputFormat, hint_at_file, input_format_hint, journal_hint};
-pub use kept_start::KeptStart;
+pub use hints::{hint_at_file, journal_hint};
 pub use program_run::{Next, ProgramRun, RunFacts, refuse, run};
 pub use terminals::Terminals;

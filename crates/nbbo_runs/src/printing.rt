@@ -1,7 +1,7 @@
 //! What is printed of a replay.
-ghost use Rattle.std.specs.Prelude.{◌≡◌, ◌≤◌, ◌*◌, ℕ, List, [], Err, IfErr, IfOk, IsOkAnd, vec_len};
+ghost use Rattle.std.specs.Prelude.{◌≡◌, ◌≤◌, ◌*◌, ⊤, ℕ, List, [], Err, IfErr, IfOk, IsOkAnd, vec_len};
 ghost use Rattle.feed_text.specs.declared.replay_stop.ReplayStop.TheVariants.{NoMemory};
-ghost use Rattle.feed_text.specs.EventReplays.{venues_in};
+ghost use Rattle.feed_text.specs.EventReplays.{AnswersRun, venues_in};
 ghost use Rattle.feed_text.specs.Replays.{CanReplay};
 ghost use Rattle.feed_text.specs.SinkEvents.{TimedEvent};
 ghost use Rattle.period_rows.specs.BestMakers.{AreBests};
@@ -9,8 +9,9 @@ ghost use Rattle.period_rows.specs.BestRows.{best_names};
 ghost use Rattle.period_rows.specs.CountRows.{ArePeriodCounts, count_names};
 ghost use Rattle.replay_reports.specs.rows.RowSinks.{IsNewRows};
 ghost use Rattle.report_rows.specs.RowTexts.{header_text};
+ghost use Rattle.replay_run.specs.Printed.{facts_of_run};
 ghost use Rattle.run_notes.specs.AbsentSymbols.{symbols_with};
-ghost use Rattle.nbbo_runs.specs.Printing.{IsGapSink, IsSinkBefore, PrintsAllRows, PrintsAsked, PrintsBestRows, PrintsGapRows, PrintsRows, PrintsStatistics, PrintsText, PrintsWatched, WritesRows, output_asked};
+ghost use Rattle.nbbo_runs.specs.Printing.{IsGapSink, IsSinkBefore, PrintsAllRows, PrintsAsked, PrintsBestRows, PrintsGapRows, PrintsPeriods, PrintsRows, PrintsStatistics, PrintsText, PrintsWatched, WritesRows, counting_late, late_told, output_asked};
 
 use crate::config::{RunConfig, config_of};
 use crate::fed_sink::FedSink;
@@ -29,6 +30,30 @@ use replay_reports::{BestRows, ReplayStats};
 use report_rows::{RowMaker, RowSink};
 use run_settings::{PeriodStyle, ReportFormat, RowFormat, RunOutput, RunSettings};
 use std::alloc::{AllocError, Global};
+
+/// What a run printed: the output, the outcome, and how many datagrams were too late for the
+/// periods that were kept.
+#[derive(Drop)]
+pub struct Printed<W, F> {
+    pub output: W,
+    pub outcome: Result<(), ReplayStop<F>>,
+    pub late: u64,
+}
+
+/// Returns what was printed of a replay without periods.
+fn without_periods<W, F>(replayed: Replayed<W, F>) -> Printed<W, F>
+    ensures { result ≡ record {
+      output = replayed.sink;
+      outcome = replayed.outcome;
+      late = 0;
+    } }
+{
+    Printed {
+        output: replayed.sink,
+        outcome: replayed.outcome,
+        late: 0,
+    }
+}
 
 /// The outcome where memory was refused before anything was read.
 fn without_memory<W, F>(output: W) -> Replayed<W, F>
@@ -283,6 +308,62 @@ fn print_rows<R: CaptureIn, F: RecordFormat, W: TextOut + Drop, M: RowMaker + Dr
     }
 }
 
+/// Returns how many datagrams were too late, as it is told: of a sink that failed it isn't.
+fn late_told<F>(outcome: &Result<(), ReplayStop<F>>, late: u64) -> u64
+    ensures { result ≡ late_told outcome.now late }
+{
+    match outcome {
+        Err(ReplayStop::SinkFailed) => 0,
+        _ => late,
+    }
+}
+
+/// Replays a capture, and prints the rows of its periods in a style. Returns the output beside the
+/// outcome, and how many datagrams were too late for the periods that were kept. What is missing at
+/// the end is left in `missing`.
+fn print_periods<R: CaptureIn, F: RecordFormat, W: TextOut + Drop>(
+    alloc: Global,
+    config: &RunConfig<'_>,
+    style: PeriodStyle,
+    format: &mut F,
+    input: &mut R,
+    output: W,
+    missing: &mut Missing,
+) -> Printed<W, F::Fault>
+    requires can { CanReplay config.now.replay }
+    requires of_venues { F.venues format.old ≡ venues_in config.now.replay }
+    requires few { venues_in config.now.replay ≤ 16 }
+    ensures printed { PrintsWatched
+        (record { gives = R.gives; ends = R.ends; failures = R.failures; fails = R.fails })
+        (record { reads = F.reads; wants = F.wants; is_bad = F.is_bad; is_whole = F.is_whole })
+        (PrintsPeriods
+        (record { gives = R.gives; ends = R.ends; failures = R.failures; fails = R.fails })
+        (record { adds = W.adds; failures = W.failures })
+        style config.now.span)
+        config.now.replay
+        input.old input.new format.old format.new output result.output missing.old missing.new
+        result.outcome }
+    ensures late { AnswersRun
+        (record { gives = R.gives; ends = R.ends; failures = R.failures; fails = R.fails })
+        (record { reads = F.reads; wants = F.wants; is_bad = F.is_bad; is_whole = F.is_whole })
+        (counting_late style.length config.now.span) (λ late. ⊤) config.now.replay
+        (facts_of_run config.now.replay) input.old input.new format.old format.new
+        0 result.late result.outcome }
+{
+    match counts_before(alloc, config, style, output) {
+        Ok(rows) => {
+            let replayed = replay_in_span(alloc, config, format, input, rows, missing);
+            let late = late_told(&replayed.outcome, replayed.sink.maker.late());
+            Printed {
+                output: replayed.sink.into_writer(),
+                outcome: replayed.outcome,
+                late,
+            }
+        }
+        Err(output) => without_periods(without_memory(output)),
+    }
+}
+
 /// Writes a text, if it was made.
 pub fn write_text<W: TextOut, F>(
     made: Result<Vec<u8>, AllocError>,
@@ -363,8 +444,9 @@ fn print_stats<R: CaptureIn, F: RecordFormat, W: TextOut>(
     }
 }
 
-/// Replays a capture, and prints what is asked for.
-/// Returns the output beside the outcome. What is missing at the end is left in `missing`.
+/// Replays a capture, and prints what is asked for. Returns the output beside the outcome, and how
+/// many datagrams were too late for the periods that were kept. What is missing at the end is left
+/// in `missing`.
 pub fn print<R: CaptureIn, F: RecordFormat, W: TextOut + Drop>(
     alloc: Global,
     settings: &RunSettings,
@@ -372,7 +454,7 @@ pub fn print<R: CaptureIn, F: RecordFormat, W: TextOut + Drop>(
     input: &mut R,
     output: W,
     missing: &mut Missing,
-) -> Replayed<W, F::Fault>
+) -> Printed<W, F::Fault>
     requires { F.venues format.old ≡ vec_len settings.now.feed.sessions }
     ensures { PrintsAsked
         (record { gives = R.gives; ends = R.ends; failures = R.failures; fails = R.fails })
@@ -382,35 +464,41 @@ pub fn print<R: CaptureIn, F: RecordFormat, W: TextOut + Drop>(
         (record { adds = W.adds; failures = W.failures })
         settings.now)
         settings.now missing.old.is_watched input.old input.new format.old format.new
-        output result.sink missing.old.lacks.items missing.new.lacks.items
-        (symbols_with missing.new.absent settings.now.feed.symbols.items) result.outcome }
+        output result.output missing.old.lacks.items missing.new.lacks.items
+        (symbols_with missing.new.absent settings.now.feed.symbols.items) result.late
+        result.outcome }
 {
     let config = config_of(settings);
     let timed = is_packet_input(&settings.input);
     match settings.output {
-        RunOutput::Lines => print_lines(alloc, &config, format, input, output, missing),
+        RunOutput::Lines => {
+            without_periods(print_lines(alloc, &config, format, input, output, missing))
+        }
         RunOutput::Bests(rows) => {
             let style = RowStyle {
                 format: rows,
                 timed,
             };
-            print_bests(alloc, &config, style, format, input, output, missing)
+            let printed = print_bests(alloc, &config, style, format, input, output, missing);
+            without_periods(printed)
         }
         RunOutput::Periods(style) => {
-            let made = counts_before(alloc, &config, style, output);
-            print_rows(alloc, &config, made, format, input, missing)
+            print_periods(alloc, &config, style, format, input, output, missing)
         }
         RunOutput::BestTimes(style) => {
             let made = best_times_before(alloc, &config, style, output);
-            print_rows(alloc, &config, made, format, input, missing)
+            without_periods(print_rows(alloc, &config, made, format, input, missing))
         }
         RunOutput::Stats(rows) => {
             let form = StatsForm {
                 format: rows,
                 has_times: timed,
             };
-            print_stats(alloc, &config, form, format, input, output, missing)
+            without_periods(print_stats(alloc, &config, form, format, input, output, missing))
         }
-        RunOutput::Gaps(rows) => print_gaps(alloc, &config, rows, format, input, output, missing),
+        RunOutput::Gaps(rows) => {
+            let printed = print_gaps(alloc, &config, rows, format, input, output, missing);
+            without_periods(printed)
+        }
     }
 }

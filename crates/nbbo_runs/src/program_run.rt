@@ -4,7 +4,6 @@ ghost use Rattle.nbbo_runs.specs.Runs.{Leads, TellsRefusal};
 
 use crate::discovery::run_discovery;
 use crate::ending::WRITE_FAILED;
-use crate::hints::{InputFormat, input_format_of};
 use crate::runs::{RunEnd, run_conversion, run_settings};
 use crate::survey_form::SurveyForm;
 use crate::terminals::Terminals;
@@ -23,25 +22,12 @@ pub enum Next {
 }
 
 /// What hints are made of after a run.
-#[derive(Debug, Drop)]
+#[derive(Debug, Default, Drop)]
 pub struct RunFacts {
-    /// What was read.
-    pub read_as: InputFormat,
     /// Whether the run ended since its journal was full.
     pub is_journal_full: bool,
     /// Why the words are refused, if they are.
     pub refusal: Option<Refusal>,
-}
-
-impl RunFacts {
-    /// Returns the facts of a run that reads this, and whose journal wasn't full.
-    fn of_input(read_as: InputFormat) -> RunFacts {
-        RunFacts {
-            read_as,
-            is_journal_full: false,
-            refusal: None,
-        }
-    }
 }
 
 /// The result of a run, its input and output as the last calls left them, and what hints are made
@@ -127,45 +113,39 @@ pub fn run<R: CaptureIn + Drop, W: TextOut + Drop, E: TextOut>(
 {
     match settings(alloc, words) {
         Ok(Task::Run(settings)) => {
-            let mut facts = RunFacts::of_input(input_format_of(&settings.input));
             let RunEnd {
                 status,
                 output,
                 is_journal_full,
             } = run_settings(alloc, &settings, terminals, &mut input, output, errors);
-            facts.is_journal_full = is_journal_full;
+            let facts = RunFacts {
+                is_journal_full,
+                refusal: None,
+            };
             ended(status, input, output, facts)
         }
         Ok(Task::Convert(lines)) => {
             let lines = lines.as_slice();
             let status = run_conversion(alloc, lines, terminals, &mut input, &mut output, errors);
-            ended(
-                status,
-                input,
-                output,
-                RunFacts::of_input(InputFormat::Packets),
-            )
+            ended(status, input, output, RunFacts::default())
         }
         Ok(Task::Discover(format, times)) => {
             let form = SurveyForm { format, times };
             let status = run_discovery(alloc, form, terminals, &mut input, &mut output, errors);
-            ended(
-                status,
-                input,
-                output,
-                RunFacts::of_input(InputFormat::Packets),
-            )
+            ended(status, input, output, RunFacts::default())
         }
         Ok(Task::Listen(settings)) => ProgramRun {
             next: Next::Listens(settings),
             input,
             output,
-            facts: RunFacts::of_input(InputFormat::Nothing),
+            facts: RunFacts::default(),
         },
         Err(refusal) => {
             let status = refuse(&refusal, &mut output, errors);
-            let mut facts = RunFacts::of_input(InputFormat::Nothing);
-            facts.refusal = Some(refusal);
+            let facts = RunFacts {
+                is_journal_full: false,
+                refusal: Some(refusal),
+            };
             ended(status, input, output, facts)
         }
     }

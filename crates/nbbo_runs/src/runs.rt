@@ -6,10 +6,12 @@ ghost use Rattle.nbbo_runs.specs.Runs.{RunsBy, RunsConversion, RunsOver};
 ghost use Rattle.nbbo_runs.specs.Timeless.{with_times};
 
 use crate::absent_report::tell_absent;
+use crate::capture_report::write_late;
 use crate::config::MAX_TURNS;
 use crate::ending::status_of;
 use crate::hints::input_hint;
 use crate::lacks::{tell_lacks, tells_lacks};
+use crate::own_capture::OwnCapture;
 use crate::printing::print;
 use crate::symbol_hint::symbol_hint;
 use crate::terminals::Terminals;
@@ -17,7 +19,7 @@ use crate::timeless::timeless_hint;
 use crate::told_format::ToldFormat;
 use crate::watched_format::WatchedFormat;
 use crate::watched_sink::Missing;
-use feed_text::{CaptureIn, OwnFormat, ReplayStop, TextOut, write_stderr};
+use feed_text::{CaptureIn, ReplayStop, TextOut, write_stderr};
 use line_captures::{PacketFormat, convert};
 use run_settings::{CapturedLine, RunInput, RunSettings};
 use std::alloc::Global;
@@ -81,10 +83,11 @@ fn run_over<R: CaptureIn, F: ToldFormat + Drop, W: TextOut + Drop, E: TextOut>(
     format.tell_end(&printed.outcome, errors);
     let hint = timeless_hint(settings.output, format.has_times(), &printed.outcome);
     write_stderr(hint, errors);
+    write_late(printed.late, errors);
     RunEnd {
         status: status_of(&printed.outcome),
         is_journal_full: is_journal_full(&printed.outcome),
-        output: printed.sink,
+        output: printed.output,
     }
 }
 
@@ -123,7 +126,7 @@ pub fn run_settings<R: CaptureIn, W: TextOut + Drop, E: TextOut>(
     let next = settings.next_sessions.as_slice();
     match &settings.input {
         RunInput::Own => {
-            let format = OwnFormat::new(venues);
+            let format = OwnCapture::new(venues);
             if !tells_lacks(settings, terminals) {
                 return run_over(alloc, settings, terminals, format, input, output, errors);
             }

@@ -6,10 +6,10 @@ ghost use Rattle.nbbo_runs.specs.CaptureTexts.{capture_texts, is_timed_capture};
 ghost use Rattle.nbbo_runs.specs.Ending.{own_end_texts};
 
 use crate::capture_report::{write_counts, write_dropped, write_outcome, write_second};
-use crate::ending::stop_line;
-use feed_text::{OwnFormat, RecordFormat, ReplayStop, TextOut, write_stderr};
-use line_captures::PacketFormat;
-use packet_capture::CaptureFault;
+use crate::ending::{own_hint, stop_line};
+use crate::own_capture::{BadRecord, OwnCapture};
+use feed_text::{RecordFormat, ReplayStop, TextOut, write_stderr};
+use line_captures::{BadPiece, PacketFormat};
 
 /// A format of captures that has something to say after a run.
 pub trait ToldFormat: RecordFormat {
@@ -29,7 +29,7 @@ pub trait ToldFormat: RecordFormat {
             (end_texts self.now outcome.now) errors.old errors.new };
 }
 
-impl ToldFormat for OwnFormat {
+impl ToldFormat for OwnCapture {
     ghost end_texts = { own_end_texts };
 
     ghost is_timed = { λ s. false };
@@ -38,10 +38,13 @@ impl ToldFormat for OwnFormat {
         false
     }
 
-    fn tell_end<E: TextOut>(&self, outcome: &Result<(), ReplayStop<()>>, errors: &mut E) {
+    fn tell_end<E: TextOut>(&self, outcome: &Result<(), ReplayStop<BadRecord>>, errors: &mut E) {
         match outcome {
             Ok(()) => {}
-            Err(stop) => write_stderr(stop_line(stop), errors),
+            Err(stop) => {
+                write_stderr(stop_line(stop), errors);
+                write_stderr(own_hint(stop), errors);
+            }
         }
     }
 }
@@ -55,12 +58,12 @@ impl ToldFormat for PacketFormat<'_> {
         self.latest_time() != 0
     }
 
-    fn tell_end<E: TextOut>(&self, outcome: &Result<(), ReplayStop<CaptureFault>>, errors: &mut E) {
+    fn tell_end<E: TextOut>(&self, outcome: &Result<(), ReplayStop<BadPiece>>, errors: &mut E) {
         let frames = self.counts();
         let lost = self.dropped();
         write_counts(&frames, errors);
         write_dropped(&lost, errors);
         write_outcome(outcome, self.position(), frames.to_lines, errors);
-        write_second(outcome, self.second_start(), errors);
+        write_second(outcome, self.second_start(), self.position(), errors);
     }
 }

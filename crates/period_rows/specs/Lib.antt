@@ -2,7 +2,10 @@ pub mod Periods
 pub mod Sequences
 pub mod LineFigures
 pub mod CountStates
+pub mod PrintedPeriods
+pub mod PeriodLaws
 pub mod CountRows
+pub mod RowPeriods
 pub mod Bests
 pub mod BestRows
 pub mod BestHolding

@@ -1,11 +1,12 @@
 -- The busiest period, with messages more.
 use Rattle.std.proofs.Common.{◌≡◌, ℕ, List, [], ◌∷◌, Option, length, refl, ap, ◌∙◌, arith}
-use Rattle.std.specs.Prelude.{max, slice_index_or, slice_set}
+use Rattle.std.specs.Prelude.{max, slice_index_or, slice_set, if◌then◌else◌}
 use Rattle.std.specs.List.{refill}
-use Rattle.report_rows.specs.PeriodLists.{begun, entered, entered_place}
+use Rattle.feed_types.specs.FullCounts.{count_after}
+use Rattle.report_rows.specs.PeriodLists.{begun, entered, entered_place, is_late}
 use Rattle.report_rows.specs.declared.kept_periods.KeptPeriod.{KeptPeriod}
 use Rattle.replay_reports.specs.declared.times.busiest_period.BusiestPeriod.{BusiestPeriod}
-use Rattle.replay_reports.specs.times.Busiest.{HoldsBusiest, MessagesAt, began_with, begin_of, busiest_began, counts_in, entered_by, messages_at, most_messages, periods_of, place_in, with_messages}
+use Rattle.replay_reports.specs.times.Busiest.{HoldsBusiest, MessagesAt, began_with, begin_of, busiest_began, counts_in, entered_by, late_datagrams, messages_at, most_messages, periods_of, place_in, with_messages}
 
 -- what a slice of the whole list was left as
 pub refill_whole : {X : Type 0} (xs ws : List X) → length ws ≡ length xs
@@ -24,9 +25,11 @@ pub busier : (length time messages begin place : ℕ) (came : List MessagesAt)
     → new.kept.kept.items ≡ slice_set now place period
     → new.began ≡ began_with old.messages period old.began
     → new.messages ≡ max old.messages period.figures
+    → new.kept.late ≡ count_after old.kept.late
+    (if is_late begin old.kept.kept.items then 1 else 0)
     → HoldsBusiest length (messages_at time messages ∷ came) new
 busier length time messages begin place came old new now period holds begins enters at more put
-    began_is most =
+    began_is most late_is =
     let last = messages_at time messages in
     let ps = periods_of length came in
     let e : now ≡ entered_by length last ps =
@@ -51,4 +54,11 @@ busier length time messages begin place came old new now period holds begins ent
           ∙ ap (λ (x : KeptPeriod ℕ). began_with (most_messages length came) x old.began) c
           ∙ ap (λ (o : Option ℕ). began_with (most_messages length came)
           (counts_in length last ps) o) holds.began;
+      late = late_is
+          ∙ ap (λ (n : ℕ). count_after n
+          (if is_late begin old.kept.kept.items then 1 else 0)) holds.late
+          ∙ ap (λ (x : ℕ). count_after (late_datagrams length came)
+          (if is_late x old.kept.kept.items then 1 else 0)) begins
+          ∙ ap (λ (xs : List (KeptPeriod ℕ)). count_after (late_datagrams length came)
+          (if is_late (begin_of length time) xs then 1 else 0)) holds.kept;
     }

@@ -1,18 +1,20 @@
 -- The metrics of a run that listens, in Prometheus' text format: of each metric a line with its
 -- help, one with its type, and a row for each value, with the value's labels. The names are this
 -- project's own.
-use Rattle.std.specs.Prelude.{ℕ, List, [], ◌∷◌, ◌++◌, Option, Some, None, codes, decimal, flat_map, slice_index}
+use Rattle.std.specs.Prelude.{ℕ, ◌+◌, ◌/◌, ◌%◌, List, [], ◌∷◌, ◌++◌, Option, Some, None, codes, decimal, drop, flat_map, slice_index}
 use Rattle.venue_lines.specs.declared.line_counts.LineCounts.{LineCounts}
-use Rattle.venue_lines.specs.declared.status.VenueStatus.{VenueStatus}
 use Rattle.run_metrics.specs.LineFigures.{datagram_count, lacking, lag, message_count}
 use Rattle.run_metrics.specs.declared.figures.LineEnd.{LineEnd}
 use Rattle.run_metrics.specs.declared.figures.LineEnd.TheVariants as ends
+use Rattle.run_metrics.specs.declared.figures.LineState.{LineState}
 use Rattle.run_metrics.specs.declared.figures.RunFigures.{RunFigures}
 use Rattle.run_metrics.specs.declared.figures.VenueFigures.{VenueFigures}
 use Rattle.run_metrics.specs.declared.line_metric.LineMetric.{LineMetric}
 use Rattle.run_metrics.specs.declared.line_metric.LineMetric.TheVariants as lines
 use Rattle.run_metrics.specs.declared.run_metric.RunMetric.{RunMetric}
 use Rattle.run_metrics.specs.declared.run_metric.RunMetric.TheVariants as runs
+use Rattle.run_metrics.specs.declared.state_metric.StateMetric.{StateMetric}
+use Rattle.run_metrics.specs.declared.state_metric.StateMetric.TheVariants as states
 use Rattle.run_metrics.specs.declared.venue_metric.VenueMetric.{VenueMetric}
 use Rattle.run_metrics.specs.declared.venue_metric.VenueMetric.TheVariants as venues
 
@@ -46,6 +48,18 @@ line_row name venue line value =
     (name ∷ codes "{venue=\"" ∷ decimal venue ∷ codes "\",line=\"" ∷ line ∷ codes "\"} "
     ∷ decimal value ∷ codes "\n" ∷ [])
 
+-- nanoseconds as seconds with nine places, which one digit more before them fills with zeros
+abbrev pub places_text : ℕ → List ℕ
+places_text time = drop 1 (decimal (1000000000 + time % 1000000000))
+
+-- the row of a time of a line
+unfoldable pub line_time_row : (name : List ℕ) → (venue : ℕ) → (line : List ℕ) → ℕ → List ℕ
+line_time_row name venue line time =
+    text_of_parts
+    (name ∷ codes "{venue=\"" ∷ decimal venue ∷ codes "\",line=\"" ∷ line ∷ codes "\"} "
+    ∷ decimal (time / 1000000000) ∷ codes "." ∷ [])
+    ++ (places_text time ++ codes "\n")
+
 -- of a line's refusals of one number
 unfoldable pub refusal_row : (venue : ℕ) → (line number : List ℕ) → ℕ → List ℕ
 refusal_row venue line number value =
@@ -53,28 +67,60 @@ refusal_row venue line number value =
     (codes "nbbo_refused_packets_total{venue=\"" ∷ decimal venue ∷ codes "\",line=\"" ∷ line
     ∷ codes "\",refusal=\"" ∷ number ∷ codes "\"} " ∷ decimal value ∷ codes "\n" ∷ [])
 
+-- the rows of what there is, if it is there
+abbrev pub rows_if : {X : Type 0} → Option X → (X → List ℕ) → List ℕ
+rows_if None rows = []
+rows_if (Some x) rows = rows x
+
 -- ---- metrics of the run
 
 abbrev pub run_name : RunMetric → List ℕ
 run_name runs.Seconds = codes "nbbo_run_seconds"
 run_name runs.Changes = codes "nbbo_best_changes_total"
+run_name runs.Waiting = codes "nbbo_waiting_changes"
+run_name runs.Printed = codes "nbbo_printed_rows_total"
+run_name runs.Untaken = codes "nbbo_untaken_texts_total"
 
 abbrev pub run_help : RunMetric → List ℕ
 run_help runs.Seconds = codes "Seconds since the run began."
 run_help runs.Changes = codes "Changes of the national best."
+run_help runs.Waiting = codes "Changes of the national best that wait to be printed."
+run_help runs.Printed = codes "Rows of changes that were printed."
+run_help runs.Untaken = codes "Texts that standard error didn't take."
 
 abbrev pub run_kind : RunMetric → List ℕ
 run_kind runs.Seconds = codes "gauge"
 run_kind runs.Changes = codes "counter"
+run_kind runs.Waiting = codes "gauge"
+run_kind runs.Printed = codes "counter"
+run_kind runs.Untaken = codes "counter"
 
 abbrev pub run_value : RunMetric → RunFigures → ℕ
 run_value runs.Seconds figures = figures.seconds
 run_value runs.Changes figures = figures.changes
+run_value runs.Waiting figures = figures.waiting
+run_value runs.Printed figures = figures.printed
+run_value runs.Untaken figures = figures.untaken
 
 unfoldable pub run_family : RunFigures → RunMetric → List ℕ
 run_family figures metric =
     head_text (run_name metric) (run_help metric) (run_kind metric)
     ++ run_row (run_name metric) (run_value metric figures)
+
+-- the row of a time of the run
+unfoldable pub run_time_row : (name : List ℕ) → ℕ → List ℕ
+run_time_row name time =
+    text_of_parts (name ∷ codes " " ∷ decimal (time / 1000000000) ∷ codes "." ∷ [])
+    ++ (places_text time ++ codes "\n")
+
+-- the sum of the rows' latencies, and how many rows there are
+abbrev pub latency_family : RunFigures → List ℕ
+latency_family figures =
+    head_text (codes "nbbo_row_latency_seconds")
+    (codes "Time from the datagrams of printed rows to their printing.")
+    (codes "summary")
+    ++ (run_time_row (codes "nbbo_row_latency_seconds_sum") figures.latency
+    ++ run_row (codes "nbbo_row_latency_seconds_count") figures.timed)
 
 -- ---- metrics of venues
 
@@ -84,6 +130,7 @@ venue_name venues.Known = codes "nbbo_known_sequence_number"
 venue_name venues.Lag = codes "nbbo_lag_messages"
 venue_name venues.Lacking = codes "nbbo_lacking_messages"
 venue_name venues.Requests = codes "nbbo_requests_total"
+venue_name venues.GivenUp = codes "nbbo_given_up_messages_total"
 
 abbrev pub venue_help : VenueMetric → List ℕ
 venue_help venues.Sent = codes "Number of the session's last item in sequence."
@@ -91,6 +138,7 @@ venue_help venues.Known = codes "Greatest number up to which the session is know
 venue_help venues.Lag = codes "Messages that are known of and not in sequence yet."
 venue_help venues.Lacking = codes "Messages that are missing of the first gap."
 venue_help venues.Requests = codes "Requests for missing messages that were sent."
+venue_help venues.GivenUp = codes "Missing messages that were given up."
 
 abbrev pub venue_kind : VenueMetric → List ℕ
 venue_kind venues.Sent = codes "gauge"
@@ -98,16 +146,18 @@ venue_kind venues.Known = codes "gauge"
 venue_kind venues.Lag = codes "gauge"
 venue_kind venues.Lacking = codes "gauge"
 venue_kind venues.Requests = codes "counter"
+venue_kind venues.GivenUp = codes "counter"
 
-abbrev pub venue_value : VenueMetric → VenueStatus → ℕ
-venue_value venues.Sent status = status.cursors.sent
-venue_value venues.Known status = status.cursors.known
-venue_value venues.Lag status = lag status
-venue_value venues.Lacking status = lacking status
-venue_value venues.Requests status = status.requests
+abbrev pub venue_value : VenueMetric → VenueFigures → ℕ
+venue_value venues.Sent v = v.status.cursors.sent
+venue_value venues.Known v = v.status.cursors.known
+venue_value venues.Lag v = lag v.status
+venue_value venues.Lacking v = lacking v.status
+venue_value venues.Requests v = v.status.requests
+venue_value venues.GivenUp v = v.given_up
 
 abbrev pub venue_row_of : VenueMetric → VenueFigures → List ℕ
-venue_row_of metric v = venue_row (venue_name metric) v.venue (venue_value metric v.status)
+venue_row_of metric v = venue_row (venue_name metric) v.venue (venue_value metric v)
 
 unfoldable pub venue_family : List VenueFigures → VenueMetric → List ℕ
 venue_family all metric =
@@ -124,6 +174,7 @@ line_name lines.RepeatedMessages = codes "nbbo_repeated_messages_total"
 line_name lines.Heartbeats = codes "nbbo_heartbeats_total"
 line_name lines.Ends = codes "nbbo_ends_of_session_total"
 line_name lines.AheadPackets = codes "nbbo_ahead_packets_total"
+line_name lines.OtherSessions = codes "nbbo_other_session_packets_total"
 
 abbrev pub line_help : LineMetric → List ℕ
 line_help lines.Packets = codes "Datagrams that came on the line."
@@ -133,6 +184,7 @@ line_help lines.RepeatedMessages = codes "Messages of the line that had come bef
 line_help lines.Heartbeats = codes "Heartbeats of the line."
 line_help lines.Ends = codes "Ends of session of the line."
 line_help lines.AheadPackets = codes "Packets of the line past the window."
+line_help lines.OtherSessions = codes "Packets of sessions that aren't the venue's."
 
 abbrev pub line_value : LineMetric → LineCounts → ℕ
 line_value lines.Packets counts = datagram_count counts
@@ -142,12 +194,20 @@ line_value lines.RepeatedMessages counts = counts.repeated
 line_value lines.Heartbeats counts = counts.heartbeats
 line_value lines.Ends counts = counts.ends
 line_value lines.AheadPackets counts = counts.ahead
+line_value lines.OtherSessions counts = slice_index counts.refused 7
 
--- a venue's rows of a metric, of line A and of line B
+-- line R's row, where the venue has that line
+abbrev pub recovery_row : LineMetric → VenueFigures → List ℕ
+recovery_row metric v =
+    rows_if v.recovery
+    (λ _. line_row (line_name metric) v.venue (codes "R") (line_value metric v.status.recovery))
+
+-- a venue's rows of a metric, of line A, of line B and of line R
 unfoldable pub line_rows : LineMetric → VenueFigures → List ℕ
 line_rows metric v =
     line_row (line_name metric) v.venue (codes "A") (line_value metric v.status.a)
-    ++ line_row (line_name metric) v.venue (codes "B") (line_value metric v.status.b)
+    ++ (line_row (line_name metric) v.venue (codes "B") (line_value metric v.status.b)
+    ++ recovery_row metric v)
 
 unfoldable pub line_family : List VenueFigures → LineMetric → List ℕ
 line_family all metric =
@@ -167,10 +227,15 @@ line_refusals venue line refused =
     ∷ (codes "9", slice_index refused 9) ∷ (codes "10", slice_index refused 10)
     ∷ (codes "11", slice_index refused 11) ∷ [])
 
+-- line R's, where the venue has that line
+abbrev pub recovery_refusals : VenueFigures → List ℕ
+recovery_refusals v =
+    rows_if v.recovery (λ _. line_refusals v.venue (codes "R") v.status.recovery.refused)
+
 unfoldable pub venue_refusals : VenueFigures → List ℕ
 venue_refusals v =
     line_refusals v.venue (codes "A") v.status.a.refused
-    ++ line_refusals v.venue (codes "B") v.status.b.refused
+    ++ (line_refusals v.venue (codes "B") v.status.b.refused ++ recovery_refusals v)
 
 abbrev pub refusal_family : List VenueFigures → List ℕ
 refusal_family all =
@@ -181,22 +246,32 @@ refusal_family all =
 
 -- ---- what is known of lines
 
--- the datagrams that the system has dropped at a line's socket, where that is known
-abbrev pub dropped_row : (venue : ℕ) → (line : List ℕ) → Option ℕ → List ℕ
-dropped_row venue line None = []
-dropped_row venue line (Some count) =
-    line_row (codes "nbbo_dropped_datagrams_total") venue line count
+abbrev pub state_name : StateMetric → List ℕ
+state_name states.OtherSenders = codes "nbbo_other_sender_datagrams_total"
+state_name states.Withheld = codes "nbbo_withheld_datagrams_total"
+state_name states.Unsent = codes "nbbo_unsent_requests_total"
+state_name states.HeldBack = codes "nbbo_held_back_requests_total"
+state_name states.Dropped = codes "nbbo_dropped_datagrams_total"
+state_name states.Heard = codes "nbbo_line_last_datagram_timestamp_seconds"
+state_name states.Ended = codes "nbbo_line_ended"
 
-unfoldable pub dropped_rows : VenueFigures → List ℕ
-dropped_rows v =
-    dropped_row v.venue (codes "A") v.a.dropped ++ dropped_row v.venue (codes "B") v.b.dropped
+abbrev pub state_help : StateMetric → List ℕ
+state_help states.OtherSenders = codes "Datagrams of senders whose datagrams aren't taken."
+state_help states.Withheld = codes "Datagrams that were withheld, since they aren't plausible."
+state_help states.Unsent = codes "Requests that couldn't be sent."
+state_help states.HeldBack = codes "Requests that weren't sent, since too many were."
+state_help states.Dropped = codes "Datagrams that the system dropped at the line's socket."
+state_help states.Heard = codes "Time of the line's last datagram, in seconds since 1970."
+state_help states.Ended = codes "1 at what has ended the line, if it has ended."
 
-abbrev pub dropped_family : List VenueFigures → List ℕ
-dropped_family all =
-    head_text (codes "nbbo_dropped_datagrams_total")
-    (codes "Datagrams that the system dropped at the line's socket.")
-    (codes "counter")
-    ++ flat_map (λ v. dropped_rows v) all
+abbrev pub state_kind : StateMetric → List ℕ
+state_kind states.OtherSenders = codes "counter"
+state_kind states.Withheld = codes "counter"
+state_kind states.Unsent = codes "counter"
+state_kind states.HeldBack = codes "counter"
+state_kind states.Dropped = codes "counter"
+state_kind states.Heard = codes "gauge"
+state_kind states.Ended = codes "gauge"
 
 -- whether a line has ended by a cause
 unfoldable pub end_row : (venue : ℕ) → (line cause : List ℕ) → ℕ → List ℕ
@@ -221,36 +296,63 @@ line_end_rows venue line end =
     ++ (end_row venue line (codes "datagrams") (slice_index counts 2)
     ++ end_row venue line (codes "fault") (slice_index counts 3)))
 
-unfoldable pub end_rows : VenueFigures → List ℕ
-end_rows v =
-    line_end_rows v.venue (codes "A") v.a.end ++ line_end_rows v.venue (codes "B") v.b.end
+-- The rows of a metric of a line. What the system has dropped and when the last datagram came has a
+-- row where it is known.
+abbrev pub state_row : StateMetric → (venue : ℕ) → (line : List ℕ) → LineState → List ℕ
+state_row states.OtherSenders venue line state =
+    line_row (state_name states.OtherSenders) venue line state.foreign
+state_row states.Withheld venue line state =
+    line_row (state_name states.Withheld) venue line state.withheld
+state_row states.Unsent venue line state =
+    line_row (state_name states.Unsent) venue line state.unsent
+state_row states.HeldBack venue line state =
+    line_row (state_name states.HeldBack) venue line state.held_back
+state_row states.Dropped venue line state =
+    rows_if state.dropped (line_row (state_name states.Dropped) venue line)
+state_row states.Heard venue line state =
+    rows_if state.heard (line_time_row (state_name states.Heard) venue line)
+state_row states.Ended venue line state = line_end_rows venue line state.end
 
-abbrev pub end_family : List VenueFigures → List ℕ
-end_family all =
-    head_text (codes "nbbo_line_ended") (codes "1 at what has ended the line, if it has ended.")
-    (codes "gauge")
-    ++ flat_map (λ v. end_rows v) all
+-- a venue's rows of a metric, of line A, of line B, and of line R where it has that line
+unfoldable pub state_rows : StateMetric → VenueFigures → List ℕ
+state_rows metric v =
+    state_row metric v.venue (codes "A") v.a
+    ++ (state_row metric v.venue (codes "B") v.b
+    ++ rows_if v.recovery (state_row metric v.venue (codes "R")))
+
+unfoldable pub state_family : List VenueFigures → StateMetric → List ℕ
+state_family all metric =
+    head_text (state_name metric) (state_help metric) (state_kind metric)
+    ++ flat_map (λ v. state_rows metric v) all
 
 -- ---- the page
 
 abbrev pub run_metrics : List RunMetric
-run_metrics = runs.Seconds ∷ runs.Changes ∷ []
+run_metrics =
+    runs.Seconds ∷ runs.Changes ∷ runs.Waiting ∷ runs.Printed ∷ runs.Untaken ∷ []
 
 abbrev pub venue_metrics : List VenueMetric
 venue_metrics =
-    venues.Sent ∷ venues.Known ∷ venues.Lag ∷ venues.Lacking ∷ venues.Requests ∷ []
+    venues.Sent ∷ venues.Known ∷ venues.Lag ∷ venues.Lacking ∷ venues.Requests ∷ venues.GivenUp
+    ∷ []
 
 abbrev pub line_metrics : List LineMetric
 line_metrics =
     lines.Packets ∷ lines.Messages ∷ lines.NewMessages ∷ lines.RepeatedMessages
-    ∷ lines.Heartbeats ∷ lines.Ends ∷ lines.AheadPackets ∷ []
+    ∷ lines.Heartbeats ∷ lines.Ends ∷ lines.AheadPackets ∷ lines.OtherSessions ∷ []
 
--- the metrics of the run, of its venues, of their lines, the refusals, what the system dropped, and
--- which lines have ended
+abbrev pub state_metrics : List StateMetric
+state_metrics =
+    states.OtherSenders ∷ states.Withheld ∷ states.Unsent ∷ states.HeldBack ∷ states.Dropped
+    ∷ states.Heard ∷ states.Ended ∷ []
+
+-- the metrics of the run, of its venues, of their lines, the refusals, and what else is known of
+-- the lines
 abbrev pub page_text : RunFigures → List ℕ
 page_text figures =
     flat_map (λ m. run_family figures m) run_metrics
+    ++ (latency_family figures
     ++ (flat_map (λ m. venue_family figures.venues.now m) venue_metrics
     ++ (flat_map (λ m. line_family figures.venues.now m) line_metrics
     ++ (refusal_family figures.venues.now
-    ++ (dropped_family figures.venues.now ++ end_family figures.venues.now))))
+    ++ flat_map (λ m. state_family figures.venues.now m) state_metrics))))

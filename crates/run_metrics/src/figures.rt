@@ -23,28 +23,59 @@ pub struct LineState {
     pub dropped: Option<u64>,
     /// What has ended it, if it has ended.
     pub end: Option<LineEnd>,
+    /// When its last datagram came, in nanoseconds from 1970 on in UTC, where one has come and the
+    /// time is known.
+    pub heard: Option<u64>,
+    /// How many datagrams of senders whose datagrams aren't taken it has passed over.
+    pub foreign: u64,
+    /// How many datagrams it has withheld since they aren't plausible.
+    pub withheld: u64,
+    /// How many requests it couldn't send.
+    pub unsent: u64,
+    /// How many requests it hasn't sent since it had sent as many as it may.
+    pub held_back: u64,
 }
 
 /// A line of which nothing is known.
 pub const UNKNOWN_STATE: LineState = LineState {
     dropped: None,
     end: None,
+    heard: None,
+    foreign: 0,
+    withheld: 0,
+    unsent: 0,
+    held_back: 0,
 };
 
-/// A venue, what it has come to, and what is known of its lines A and B.
+/// A venue, what it has come to, and what is known of its lines.
 #[derive(Clone, Copy, Debug, PartialEq, Eq)]
 pub struct VenueFigures {
     pub venue: VenueId,
     pub status: VenueStatus,
+    /// How many of its messages were given up.
+    pub given_up: u64,
     pub a: LineState,
     pub b: LineState,
+    /// Its line R, where it has one.
+    pub recovery: Option<LineState>,
 }
 
-/// What a run has come to: how many seconds it has gone on, how many changes of the national best
-/// were taken from it, and its venues in order.
+/// What a run has come to, and its venues in order.
 #[derive(Clone, Copy, Debug)]
 pub struct RunFigures<'a> {
+    /// How many seconds it has gone on.
     pub seconds: u64,
+    /// How many changes of the national best were taken from it.
     pub changes: u64,
+    /// How many of these wait to be printed.
+    pub waiting: u64,
+    /// How many rows of changes were printed while it goes on.
+    pub printed: u64,
+    /// How many of these rows have a time.
+    pub timed: u64,
+    /// The nanoseconds from the times of these rows until they were printed, added up.
+    pub latency: u64,
+    /// How many texts standard error hasn't taken.
+    pub untaken: u64,
     pub venues: &'a [VenueFigures],
 }

@@ -19,6 +19,7 @@ mod parts;
 mod reply;
 mod response;
 mod run_metric;
+mod state_metric;
 mod venue_metric;
 
 pub use figures::{LineEnd, LineState, RunFigures, UNKNOWN_STATE, VenueFigures};

@@ -21,6 +21,8 @@ pub(crate) enum LineMetric {
     Ends,
     /// The packets past the window.
     AheadPackets,
+    /// The packets of sessions that aren't the venue's.
+    OtherSessions,
 }
 
 impl LineMetric {
@@ -36,6 +38,7 @@ impl LineMetric {
             LineMetric::Heartbeats => "nbbo_heartbeats_total",
             LineMetric::Ends => "nbbo_ends_of_session_total",
             LineMetric::AheadPackets => "nbbo_ahead_packets_total",
+            LineMetric::OtherSessions => "nbbo_other_session_packets_total",
         }
     }
 
@@ -51,6 +54,7 @@ impl LineMetric {
             LineMetric::Heartbeats => "Heartbeats of the line.",
             LineMetric::Ends => "Ends of session of the line.",
             LineMetric::AheadPackets => "Packets of the line past the window.",
+            LineMetric::OtherSessions => "Packets of sessions that aren't the venue's.",
         }
     }
 
@@ -66,6 +70,7 @@ impl LineMetric {
             LineMetric::Heartbeats => line.heartbeats,
             LineMetric::Ends => line.ends,
             LineMetric::AheadPackets => line.ahead,
+            LineMetric::OtherSessions => line.refused[7],
         }
     }
 }

@@ -1,65 +1,45 @@
-//! The metrics of what is known of lines beside what they have brought.
-ghost use Rattle.std.specs.Prelude.{◌≡◌, ◌++◌, OnOk, flat_map};
-ghost use Rattle.run_metrics.specs.Metrics.{dropped_family, dropped_row, dropped_rows, end_counts, end_family, end_rows, line_end_rows};
+//! The rows of what is known of lines beside what they have brought.
+ghost use Rattle.std.specs.Prelude.{◌≡◌, ◌++◌, OnOk, codes, flat_map};
+ghost use Rattle.run_metrics.specs.Metrics.{end_counts, line_end_rows, line_row, line_time_row, rows_if, state_family, state_name, state_row, state_rows};
 
-use crate::figures::{LineEnd, VenueFigures};
-use crate::parts::{COUNTER, GAUGE, put_end_row, put_head, put_line_row};
+use crate::figures::{LineEnd, LineState, VenueFigures};
+use crate::parts::{put_end_row, put_head, put_line_row, put_line_time_row};
+use crate::state_metric::StateMetric;
 use feed_types::VenueId;
 use std::alloc::AllocError;
 
-/// The name of the count of datagrams that the system dropped.
-const DROPPED: &str = "nbbo_dropped_datagrams_total";
-
-/// Appends how many datagrams the system has dropped at a line's socket, where that is known.
-fn put_dropped_row(
+/// Appends the row of a line's count, where that is known.
+fn put_known_count(
     text: &mut Vec<u8>,
+    name: &str,
     venue: VenueId,
     line: &str,
-    dropped: Option<u64>,
+    count: Option<u64>,
 ) -> Result<(), AllocError>
     ensures { OnOk result (text.new.items
-        ≡ text.old.items ++ dropped_row venue line.now dropped) }
+        ≡ text.old.items ++ rows_if count (line_row name.now venue line.now)) }
 {
-    match dropped {
-        Some(count) => put_line_row(text, DROPPED, venue, line, count),
+    match count {
+        Some(count) => put_line_row(text, name, venue, line, count),
         None => Ok(()),
     }
 }
 
-/// Appends a venue's rows of what the system has dropped.
-#[tactic(auto, unfolding(crate::specs::Metrics::dropped_rows))]
-fn put_dropped_rows(text: &mut Vec<u8>, venue: &VenueFigures) -> Result<(), AllocError>
-    ensures { OnOk result (text.new.items ≡ text.old.items ++ dropped_rows venue.now) }
-{
-    put_dropped_row(text, venue.venue, "A", venue.a.dropped)?;
-    put_dropped_row(text, venue.venue, "B", venue.b.dropped)
-}
-
-/// Appends the rows of what the system has dropped.
-fn put_all_dropped(text: &mut Vec<u8>, venues: &[VenueFigures]) -> Result<(), AllocError>
-    ensures { OnOk result (text.new.items
-        ≡ text.old.items ++ flat_map (λ v. dropped_rows v) venues.now) }
-{
-    for venue in venues {
-        put_dropped_rows(text, venue)?;
-    }
-    Ok(())
-}
-
-/// Appends the metric of what the system has dropped.
-pub(crate) fn put_dropped_family(
+/// Appends the row of a time of a line in nanoseconds, where that is known.
+fn put_known_time(
     text: &mut Vec<u8>,
-    venues: &[VenueFigures],
+    name: &str,
+    venue: VenueId,
+    line: &str,
+    time: Option<u64>,
 ) -> Result<(), AllocError>
-    ensures { OnOk result (text.new.items ≡ text.old.items ++ dropped_family venues.now) }
+    ensures { OnOk result (text.new.items
+        ≡ text.old.items ++ rows_if time (line_time_row name.now venue line.now)) }
 {
-    put_head(
-        text,
-        "nbbo_dropped_datagrams_total",
-        "Datagrams that the system dropped at the line's socket.",
-        COUNTER,
-    )?;
-    put_all_dropped(text, venues)
+    match time {
+        Some(time) => put_line_time_row(text, name, venue, line, time),
+        None => Ok(()),
+    }
 }
 
 /// Whether a line has ended by each of the causes: 1 at what has ended it, and 0 at the others.
@@ -93,35 +73,98 @@ fn put_line_end(
     put_end_row(text, venue, line, "fault", counts[3])
 }
 
-/// Appends a venue's rows of which lines have ended.
-#[tactic(auto, unfolding(crate::specs::Metrics::end_rows))]
-fn put_end_rows(text: &mut Vec<u8>, venue: &VenueFigures) -> Result<(), AllocError>
-    ensures { OnOk result (text.new.items ≡ text.old.items ++ end_rows venue.now) }
+/// Appends a line's rows of a metric.
+fn put_state_row(
+    text: &mut Vec<u8>,
+    metric: StateMetric,
+    venue: VenueId,
+    line: &str,
+    state: &LineState,
+) -> Result<(), AllocError>
+    ensures { OnOk result (text.new.items
+        ≡ text.old.items ++ state_row metric venue line.now state.now) }
 {
-    put_line_end(text, venue.venue, "A", venue.a.end)?;
-    put_line_end(text, venue.venue, "B", venue.b.end)
+    let name = metric.name();
+    match metric {
+        StateMetric::OtherSenders => put_line_row(text, name, venue, line, state.foreign),
+        StateMetric::Withheld => put_line_row(text, name, venue, line, state.withheld),
+        StateMetric::Unsent => put_line_row(text, name, venue, line, state.unsent),
+        StateMetric::HeldBack => put_line_row(text, name, venue, line, state.held_back),
+        StateMetric::Dropped => put_known_count(text, name, venue, line, state.dropped),
+        StateMetric::Heard => put_known_time(text, name, venue, line, state.heard),
+        StateMetric::Ended => put_line_end(text, venue, line, state.end),
+    }
 }
 
-/// Appends the rows of which lines have ended.
-fn put_all_ends(text: &mut Vec<u8>, venues: &[VenueFigures]) -> Result<(), AllocError>
+/// Appends line R's rows of a metric, where there is that line.
+fn put_recovery_state(
+    text: &mut Vec<u8>,
+    metric: StateMetric,
+    venue: VenueId,
+    recovery: &Option<LineState>,
+) -> Result<(), AllocError>
     ensures { OnOk result (text.new.items
-        ≡ text.old.items ++ flat_map (λ v. end_rows v) venues.now) }
+        ≡ text.old.items ++ rows_if recovery.now (state_row metric venue (codes "R"))) }
+{
+    match recovery {
+        Some(state) => put_state_row(text, metric, venue, "R", state),
+        None => Ok(()),
+    }
+}
+
+/// Appends a venue's rows of a metric of its lines.
+#[tactic(auto, unfolding(crate::specs::Metrics::state_rows))]
+fn put_state_rows(
+    text: &mut Vec<u8>,
+    metric: StateMetric,
+    venue: &VenueFigures,
+) -> Result<(), AllocError>
+    ensures { OnOk result (text.new.items ≡ text.old.items ++ state_rows metric venue.now) }
+{
+    put_state_row(text, metric, venue.venue, "A", &venue.a)?;
+    put_state_row(text, metric, venue.venue, "B", &venue.b)?;
+    put_recovery_state(text, metric, venue.venue, &venue.recovery)
+}
+
+/// Appends the rows of a metric of lines.
+fn put_all_states(
+    text: &mut Vec<u8>,
+    metric: StateMetric,
+    venues: &[VenueFigures],
+) -> Result<(), AllocError>
+    ensures { OnOk result (text.new.items
+        ≡ text.old.items ++ flat_map (λ v. state_rows metric v) venues.now) }
 {
     for venue in venues {
-        put_end_rows(text, venue)?;
+        put_state_rows(text, metric, venue)?;
     }
     Ok(())
 }
 
-/// Appends the metric of which lines have ended, by what.
-pub(crate) fn put_end_family(text: &mut Vec<u8>, venues: &[VenueFigures]) -> Result<(), AllocError>
-    ensures { OnOk result (text.new.items ≡ text.old.items ++ end_family venues.now) }
+/// Appends a metric of lines.
+#[tactic(auto, unfolding(crate::specs::Metrics::state_family))]
+fn put_state_family(
+    text: &mut Vec<u8>,
+    metric: StateMetric,
+    venues: &[VenueFigures],
+) -> Result<(), AllocError>
+    ensures { OnOk result (text.new.items ≡ text.old.items ++ state_family venues.now metric) }
 {
-    put_head(
-        text,
-        "nbbo_line_ended",
-        "1 at what has ended the line, if it has ended.",
-        GAUGE,
-    )?;
-    put_all_ends(text, venues)
+    put_head(text, metric.name(), metric.help(), metric.kind())?;
+    put_all_states(text, metric, venues)
+}
+
+/// Appends metrics of lines.
+pub(crate) fn put_state_families(
+    text: &mut Vec<u8>,
+    metrics: &[StateMetric],
+    venues: &[VenueFigures],
+) -> Result<(), AllocError>
+    ensures { OnOk result (text.new.items
+        ≡ text.old.items ++ flat_map (λ m. state_family venues.now m) metrics.now) }
+{
+    for metric in metrics {
+        put_state_family(text, *metric, venues)?;
+    }
+    Ok(())
 }

@@ -1,12 +1,16 @@
 //! The page of a run's metrics.
 ghost use Rattle.std.specs.Prelude.{◌≡◌, ◌++◌, OnOk, flat_map};
-ghost use Rattle.run_metrics.specs.Metrics.{line_family, line_refusals, line_rows, page_text, refusal_family, refusal_row, run_family, venue_family, venue_refusals, venue_row_of};
+ghost use Rattle.run_metrics.specs.Metrics.{latency_family, line_family, line_refusals, line_rows, page_text, recovery_refusals, recovery_row, refusal_family, refusal_row, run_family, venue_family, venue_refusals, venue_row_of};
 
 use crate::figures::{RunFigures, VenueFigures};
 use crate::line_metric::LineMetric;
-use crate::line_states::{put_dropped_family, put_end_family};
-use crate::parts::{COUNTER, put_head, put_line_row, put_refusal_row, put_run_row, put_venue_row};
+use crate::line_states::put_state_families;
+use crate::parts::{
+    COUNTER, SUMMARY, put_head, put_line_row, put_refusal_row, put_run_row, put_run_time_row,
+    put_venue_row,
+};
 use crate::run_metric::RunMetric;
+use crate::state_metric::StateMetric;
 use crate::venue_metric::VenueMetric;
 use feed_types::VenueId;
 use std::alloc::AllocError;
@@ -39,6 +43,20 @@ fn put_run_families(
     Ok(())
 }
 
+/// Appends how long rows took from their datagrams to their printing.
+fn put_latency_family(text: &mut Vec<u8>, figures: &RunFigures<'_>) -> Result<(), AllocError>
+    ensures { OnOk result (text.new.items ≡ text.old.items ++ latency_family figures.now) }
+{
+    put_head(
+        text,
+        "nbbo_row_latency_seconds",
+        "Time from the datagrams of printed rows to their printing.",
+        SUMMARY,
+    )?;
+    put_run_time_row(text, "nbbo_row_latency_seconds_sum", figures.latency)?;
+    put_run_row(text, "nbbo_row_latency_seconds_count", figures.timed)
+}
+
 /// Appends the rows of a venue's metric.
 fn put_venue_rows(
     text: &mut Vec<u8>,
@@ -49,12 +67,7 @@ fn put_venue_rows(
         ≡ text.old.items ++ flat_map (λ v. venue_row_of metric v) venues.now) }
 {
     for venue in venues {
-        put_venue_row(
-            text,
-            metric.name(),
-            venue.venue,
-            metric.value(&venue.status),
-        )?;
+        put_venue_row(text, metric.name(), venue.venue, metric.value(venue))?;
     }
     Ok(())
 }
@@ -87,6 +100,21 @@ fn put_venue_families(
     Ok(())
 }
 
+/// Appends line R's row of a metric, where the venue has that line.
+fn put_recovery_row(
+    text: &mut Vec<u8>,
+    metric: LineMetric,
+    venue: &VenueFigures,
+) -> Result<(), AllocError>
+    ensures { OnOk result (text.new.items ≡ text.old.items ++ recovery_row metric venue.now) }
+{
+    let value = metric.value(&venue.status.recovery);
+    match venue.recovery {
+        Some(_) => put_line_row(text, metric.name(), venue.venue, "R", value),
+        None => Ok(()),
+    }
+}
+
 /// Appends a venue's rows of a metric of its lines.
 #[tactic(auto, unfolding(crate::specs::Metrics::line_rows))]
 fn put_rows_of_lines(
@@ -98,7 +126,8 @@ fn put_rows_of_lines(
 {
     let name = metric.name();
     put_line_row(text, name, venue.venue, "A", metric.value(&venue.status.a))?;
-    put_line_row(text, name, venue.venue, "B", metric.value(&venue.status.b))
+    put_line_row(text, name, venue.venue, "B", metric.value(&venue.status.b))?;
+    put_recovery_row(text, metric, venue)
 }
 
 /// Appends the rows of a metric of lines.
@@ -185,13 +214,24 @@ fn put_line_refusals(
     put_refusal_rows(text, venue, line, &counts)
 }
 
+/// Appends how many datagrams of line R were refused, where the venue has that line.
+fn put_recovery_refusals(text: &mut Vec<u8>, venue: &VenueFigures) -> Result<(), AllocError>
+    ensures { OnOk result (text.new.items ≡ text.old.items ++ recovery_refusals venue.now) }
+{
+    match venue.recovery {
+        Some(_) => put_line_refusals(text, venue.venue, "R", &venue.status.recovery.refused),
+        None => Ok(()),
+    }
+}
+
 /// Appends how many datagrams of a venue's lines were refused.
 #[tactic(auto, unfolding(crate::specs::Metrics::venue_refusals))]
 fn put_venue_refusals(text: &mut Vec<u8>, venue: &VenueFigures) -> Result<(), AllocError>
     ensures { OnOk result (text.new.items ≡ text.old.items ++ venue_refusals venue.now) }
 {
     put_line_refusals(text, venue.venue, "A", &venue.status.a.refused)?;
-    put_line_refusals(text, venue.venue, "B", &venue.status.b.refused)
+    put_line_refusals(text, venue.venue, "B", &venue.status.b.refused)?;
+    put_recovery_refusals(text, venue)
 }
 
 /// Appends how many datagrams of each venue's lines were refused.
@@ -218,37 +258,57 @@ fn put_refusal_family(text: &mut Vec<u8>, venues: &[VenueFigures]) -> Result<(),
     put_all_refusals(text, venues)
 }
 
+/// The metrics of a run.
+const OF_RUN: [RunMetric; 5] = [
+    RunMetric::Seconds,
+    RunMetric::Changes,
+    RunMetric::Waiting,
+    RunMetric::Printed,
+    RunMetric::Untaken,
+];
+
+/// Of its venues.
+const OF_VENUES: [VenueMetric; 6] = [
+    VenueMetric::Sent,
+    VenueMetric::Known,
+    VenueMetric::Lag,
+    VenueMetric::Lacking,
+    VenueMetric::Requests,
+    VenueMetric::GivenUp,
+];
+
+/// Of what their lines have brought.
+const OF_LINES: [LineMetric; 8] = [
+    LineMetric::Packets,
+    LineMetric::Messages,
+    LineMetric::NewMessages,
+    LineMetric::RepeatedMessages,
+    LineMetric::Heartbeats,
+    LineMetric::Ends,
+    LineMetric::AheadPackets,
+    LineMetric::OtherSessions,
+];
+
+/// Of what else is known of the lines.
+const OF_STATES: [StateMetric; 7] = [
+    StateMetric::OtherSenders,
+    StateMetric::Withheld,
+    StateMetric::Unsent,
+    StateMetric::HeldBack,
+    StateMetric::Dropped,
+    StateMetric::Heard,
+    StateMetric::Ended,
+];
+
 /// Appends the page of a run's metrics: those of the run, of its venues, of their lines, the
-/// refusals, what the system dropped, and which lines have ended.
+/// refusals, and what else is known of the lines.
 pub fn put_page(text: &mut Vec<u8>, figures: &RunFigures<'_>) -> Result<(), AllocError>
     ensures { OnOk result (text.new.items ≡ text.old.items ++ page_text figures.now) }
 {
-    put_run_families(text, &[RunMetric::Seconds, RunMetric::Changes], figures)?;
-    put_venue_families(
-        text,
-        &[
-            VenueMetric::Sent,
-            VenueMetric::Known,
-            VenueMetric::Lag,
-            VenueMetric::Lacking,
-            VenueMetric::Requests,
-        ],
-        figures.venues,
-    )?;
-    put_line_families(
-        text,
-        &[
-            LineMetric::Packets,
-            LineMetric::Messages,
-            LineMetric::NewMessages,
-            LineMetric::RepeatedMessages,
-            LineMetric::Heartbeats,
-            LineMetric::Ends,
-            LineMetric::AheadPackets,
-        ],
-        figures.venues,
-    )?;
+    put_run_families(text, &OF_RUN, figures)?;
+    put_latency_family(text, figures)?;
+    put_venue_families(text, &OF_VENUES, figures.venues)?;
+    put_line_families(text, &OF_LINES, figures.venues)?;
     put_refusal_family(text, figures.venues)?;
-    put_dropped_family(text, figures.venues)?;
-    put_end_family(text, figures.venues)
+    put_state_families(text, &OF_STATES, figures.venues)
 }

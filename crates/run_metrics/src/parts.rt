@@ -1,6 +1,6 @@
 //! The texts of which a page of metrics is made: the head of a metric, and rows.
-ghost use Rattle.std.specs.Prelude.{◌≡◌, ◌++◌, OnOk, flat_map};
-ghost use Rattle.run_metrics.specs.Metrics.{end_row, head_text, line_row, refusal_row, run_row, venue_row};
+ghost use Rattle.std.specs.Prelude.{◌≡◌, ◌+◌, ◌++◌, ◌%◌, OnOk, codes, decimal, drop, flat_map};
+ghost use Rattle.run_metrics.specs.Metrics.{end_row, head_text, line_row, line_time_row, places_text, refusal_row, run_row, run_time_row, venue_row};
 
 use feed_types::VenueId;
 use itoa::Buffer;
@@ -11,6 +11,12 @@ pub(crate) const COUNTER: &str = "counter";
 
 /// The type of a metric that also falls.
 pub(crate) const GAUGE: &str = "gauge";
+
+/// The type of a sum over what is counted beside it.
+pub(crate) const SUMMARY: &str = "summary";
+
+/// The nanoseconds of a second.
+const SECOND: u64 = 1_000_000_000;
 
 /// The name of the count of refusals.
 const REFUSED: &str = "nbbo_refused_packets_total{venue=\"";
@@ -111,6 +117,62 @@ pub(crate) fn put_line_row(
             "\n",
         ],
     )
+}
+
+/// Appends the nine places of a time in nanoseconds that is written as seconds, and ends the row.
+fn put_places(text: &mut Vec<u8>, time: u64) -> Result<(), AllocError>
+    ensures { OnOk result (text.new.items ≡ text.old.items ++ (places_text time ++ codes "\n")) }
+{
+    let mut digits = Buffer::new();
+    let filled = digits.format(SECOND + time % SECOND).as_bytes();
+    match filled.split_first() {
+        Some((_, places)) => text.extend_from_slice(places)?,
+        None => {}
+    }
+    text.extend_from_slice(b"\n")
+}
+
+/// Appends the row of a time of a line, in nanoseconds, as seconds. `line` is its letter.
+#[tactic(auto, unfolding(crate::specs::Metrics::line_time_row))]
+pub(crate) fn put_line_time_row(
+    text: &mut Vec<u8>,
+    name: &str,
+    venue: VenueId,
+    line: &str,
+    time: u64,
+) -> Result<(), AllocError>
+    ensures { OnOk result (text.new.items
+        ≡ text.old.items ++ line_time_row name.now venue line.now time) }
+{
+    let mut place = Buffer::new();
+    let mut digits = Buffer::new();
+    let place = place.format(venue.index() as u64);
+    let seconds = digits.format(time / SECOND);
+    put_texts(
+        text,
+        &[
+            name,
+            "{venue=\"",
+            place,
+            "\",line=\"",
+            line,
+            "\"} ",
+            seconds,
+            ".",
+        ],
+    )?;
+    put_places(text, time)
+}
+
+/// Appends the row of a time of a run, in nanoseconds, as seconds.
+#[tactic(auto, unfolding(crate::specs::Metrics::run_time_row))]
+pub(crate) fn put_run_time_row(text: &mut Vec<u8>, name: &str, time: u64) -> Result<(), AllocError>
+    ensures { OnOk result (text.new.items ≡ text.old.items ++ run_time_row name.now time) }
+{
+    let mut digits = Buffer::new();
+    let seconds = digits.format(time / SECOND);
+    put_texts(text, &[name, " ", seconds, "."])?;
+    put_places(text, time)
 }
 
 /// Appends the row of how many datagrams of a line were refused by the refusal of a number.

@@ -1,6 +1,6 @@
 //! The answer to a client of the metrics, as HTTP has it.
 ghost use Rattle.std.specs.Prelude.{◌≡◌, ◌++◌, IfOk, OnOk};
-ghost use Rattle.run_metrics.specs.Replies.{content_text, response_head, response_text, status_text};
+ghost use Rattle.run_metrics.specs.Replies.{content_text, has_content, response_head, response_text, status_text};
 
 use crate::figures::RunFigures;
 use crate::page::put_page;
@@ -15,21 +15,30 @@ impl Reply {
         ensures { result.now ≡ status_text self }
     {
         match self {
-            Reply::Page => "200 OK\r\n",
-            Reply::NotFound => "404 Not Found\r\n",
-            Reply::NotAllowed => "405 Method Not Allowed\r\nAllow: GET\r\n",
+            Reply::Page | Reply::PageHead => "200 OK\r\n",
+            Reply::NotFound | Reply::NotFoundHead => "404 Not Found\r\n",
+            Reply::NotAllowed => "405 Method Not Allowed\r\nAllow: GET, HEAD\r\n",
             Reply::BadRequest => "400 Bad Request\r\n",
         }
     }
 }
 
-/// Appends the content of an answer.
+/// Whether the content is in an answer; if not the answer has its length alone.
+fn has_content(reply: Reply) -> bool
+    ensures { result ≡ has_content reply }
+{
+    !matches!(reply, Reply::PageHead | Reply::NotFoundHead)
+}
+
+/// Appends what is at a request's target, or why nothing is.
 fn put_content(text: &mut Vec<u8>, reply: Reply, figures: &RunFigures<'_>) -> Result<(), AllocError>
     ensures { OnOk result (text.new.items ≡ text.old.items ++ content_text reply figures.now) }
 {
     match reply {
-        Reply::Page => put_page(text, figures),
-        Reply::NotFound => text.extend_from_slice(b"the metrics are at /metrics\n"),
+        Reply::Page | Reply::PageHead => put_page(text, figures),
+        Reply::NotFound | Reply::NotFoundHead => {
+            text.extend_from_slice(b"the metrics are at /metrics\n")
+        }
         Reply::NotAllowed => text.extend_from_slice(b"the metrics are read by GET\n"),
         Reply::BadRequest => text.extend_from_slice(b"this is no request\n"),
     }
@@ -62,6 +71,8 @@ pub fn answer(alloc: Global, reply: Reply, figures: &RunFigures<'_>) -> Result<V
     put_content(&mut content, reply, figures)?;
     let mut text = Vec::new(alloc);
     put_response_head(&mut text, reply, content.len() as u64)?;
-    text.extend_from_slice(content.as_slice())?;
+    if has_content(reply) {
+        text.extend_from_slice(content.as_slice())?;
+    }
     Ok(text)
 }

@@ -12,6 +12,12 @@ pub(crate) enum RunMetric {
     Seconds,
     /// The changes of the national best.
     Changes,
+    /// Those that wait to be printed.
+    Waiting,
+    /// The rows that were printed.
+    Printed,
+    /// The texts that standard error hasn't taken.
+    Untaken,
 }
 
 impl RunMetric {
@@ -22,6 +28,9 @@ impl RunMetric {
         match self {
             RunMetric::Seconds => "nbbo_run_seconds",
             RunMetric::Changes => "nbbo_best_changes_total",
+            RunMetric::Waiting => "nbbo_waiting_changes",
+            RunMetric::Printed => "nbbo_printed_rows_total",
+            RunMetric::Untaken => "nbbo_untaken_texts_total",
         }
     }
 
@@ -32,6 +41,9 @@ impl RunMetric {
         match self {
             RunMetric::Seconds => "Seconds since the run began.",
             RunMetric::Changes => "Changes of the national best.",
+            RunMetric::Waiting => "Changes of the national best that wait to be printed.",
+            RunMetric::Printed => "Rows of changes that were printed.",
+            RunMetric::Untaken => "Texts that standard error didn't take.",
         }
     }
 
@@ -40,8 +52,8 @@ impl RunMetric {
         ensures { result.now ≡ run_kind self }
     {
         match self {
-            RunMetric::Seconds => GAUGE,
-            RunMetric::Changes => COUNTER,
+            RunMetric::Seconds | RunMetric::Waiting => GAUGE,
+            RunMetric::Changes | RunMetric::Printed | RunMetric::Untaken => COUNTER,
         }
     }
 
@@ -52,6 +64,9 @@ impl RunMetric {
         match self {
             RunMetric::Seconds => figures.seconds,
             RunMetric::Changes => figures.changes,
+            RunMetric::Waiting => figures.waiting,
+            RunMetric::Printed => figures.printed,
+            RunMetric::Untaken => figures.untaken,
         }
     }
 }

@@ -2,9 +2,9 @@
 ghost use Rattle.std.specs.Prelude.{◌≡◌};
 ghost use Rattle.run_metrics.specs.Metrics.{venue_help, venue_kind, venue_name, venue_value};
 
+use crate::figures::VenueFigures;
 use crate::line_figures::{lacking, lag};
 use crate::parts::{COUNTER, GAUGE};
-use venue_lines::VenueStatus;
 
 /// A figure of a venue.
 #[derive(Clone, Copy, Debug, PartialEq, Eq)]
@@ -19,6 +19,8 @@ pub(crate) enum VenueMetric {
     Lacking,
     /// The requests that the lines have sent.
     Requests,
+    /// The messages that were given up.
+    GivenUp,
 }
 
 impl VenueMetric {
@@ -32,6 +34,7 @@ impl VenueMetric {
             VenueMetric::Lag => "nbbo_lag_messages",
             VenueMetric::Lacking => "nbbo_lacking_messages",
             VenueMetric::Requests => "nbbo_requests_total",
+            VenueMetric::GivenUp => "nbbo_given_up_messages_total",
         }
     }
 
@@ -45,6 +48,7 @@ impl VenueMetric {
             VenueMetric::Lag => "Messages that are known of and not in sequence yet.",
             VenueMetric::Lacking => "Messages that are missing of the first gap.",
             VenueMetric::Requests => "Requests for missing messages that were sent.",
+            VenueMetric::GivenUp => "Missing messages that were given up.",
         }
     }
 
@@ -53,22 +57,24 @@ impl VenueMetric {
         ensures { result.now ≡ venue_kind self }
     {
         match self {
-            VenueMetric::Requests => COUNTER,
+            VenueMetric::Requests | VenueMetric::GivenUp => COUNTER,
             VenueMetric::Sent | VenueMetric::Known => GAUGE,
             VenueMetric::Lag | VenueMetric::Lacking => GAUGE,
         }
     }
 
     /// The metric's value.
-    pub(crate) fn value(self, venue: &VenueStatus) -> u64
+    pub(crate) fn value(self, venue: &VenueFigures) -> u64
         ensures { result ≡ venue_value self venue.now }
     {
+        let status = &venue.status;
         match self {
-            VenueMetric::Sent => venue.cursors.sent,
-            VenueMetric::Known => venue.cursors.known,
-            VenueMetric::Lag => lag(venue),
-            VenueMetric::Lacking => u64::from(lacking(venue)),
-            VenueMetric::Requests => venue.requests,
+            VenueMetric::Sent => status.cursors.sent,
+            VenueMetric::Known => status.cursors.known,
+            VenueMetric::Lag => lag(status),
+            VenueMetric::Lacking => u64::from(lacking(status)),
+            VenueMetric::Requests => status.requests,
+            VenueMetric::GivenUp => venue.given_up,
         }
     }
 }

@@ -1,6 +1,6 @@
 -- The lines of a list of addresses: two for each venue, line A's and then line B's, venue 0's
--- first.
-use Rattle.std.specs.Prelude.{◌≡◌, ℕ, ◌+◌, ◌/◌, ◌%◌, ◌==◌, ◌<◌, List, [], ◌∷◌, Some, slice_get, if◌then◌else◌}
+-- first. A place without an address is that of a line that isn't there.
+use Rattle.std.specs.Prelude.{◌≡◌, ℕ, ◌+◌, ◌/◌, ◌%◌, ◌==◌, ◌<◌, List, [], ◌∷◌, ◌++◌, Option, None, Some, slice_get, if◌then◌else◌}
 use Rattle.std.specs.declared.net.ip_addr.IpAddr.{IpAddr}
 use Rattle.std.specs.declared.net.ip_addr.IpAddr.TheVariants as ips
 use Rattle.std.specs.declared.net.socket_addr.SocketAddr.{SocketAddr}
@@ -24,11 +24,16 @@ captured_line_at place address = record {
   line = if place % 2 == 0 then A else B;
 }
 
+-- the line at a place, if it is there
+abbrev pub line_of_place : ℕ → Option SocketAddr → List CapturedLine
+line_of_place place None = []
+line_of_place place (Some address) = captured_line_at place address ∷ []
+
 -- the lines from a place on
-abbrev pub lines_from : ℕ → List SocketAddr → List CapturedLine
+abbrev pub lines_from : ℕ → List (Option SocketAddr) → List CapturedLine
 lines_from place [] = []
 lines_from place (address ∷ addresses) =
-    captured_line_at place address ∷ lines_from (place + 1) addresses
+    line_of_place place address ++ lines_from (place + 1) addresses
 
 -- two lines of one address and port
 abbrev pub AreSame : CapturedLine → CapturedLine → Type 0

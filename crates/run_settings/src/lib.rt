@@ -38,6 +38,7 @@ pub use captured_line::CapturedLine;
 pub use end_rule::EndRule;
 pub use feed_settings::FeedSettings;
 pub use formats::{BestFormat, ReportFormat, RowFormat, StatsFormat, TimeStyle};
+pub use further_options::{USUAL_LEAD, USUAL_SILENCE, USUAL_WAIT};
 pub use line_list::{are_apart, lines_at};
 pub use listen_settings::ListenSettings;
 pub use listen_stats::ListenStats;

@@ -1,6 +1,6 @@
 //! Lists of lines by their addresses.
-ghost use Rattle.std.specs.Prelude.{◌≡◌, ℕ, ◌*◌, ◌<◌, ◌≤◌, IfOk, IsTrue, ◌↔◌, length, true, false, vec_len};
-ghost use Rattle.run_settings.specs.Lists.{address_of, captured_line_at, lines_from, AreSame, HasSame, AreApart, AreOfVenues};
+ghost use Rattle.std.specs.Prelude.{◌≡◌, ℕ, ◌*◌, ◌<◌, ◌≤◌, ◌++◌, IfOk, IsTrue, OnOk, ◌↔◌, length, true, false, vec_len};
+ghost use Rattle.run_settings.specs.Lists.{address_of, captured_line_at, line_of_place, lines_from, AreSame, HasSame, AreApart, AreOfVenues};
 
 use crate::captured_line::CapturedLine;
 use feed_types::{LineId, VenueId};
@@ -33,9 +33,27 @@ fn captured_line_at(place: usize, address: SocketAddr) -> CapturedLine
     }
 }
 
+/// Appends the line at a place of the list, where one is there.
+fn push_line(
+    lines: &mut Vec<CapturedLine>,
+    place: usize,
+    address: Option<SocketAddr>,
+) -> Result<(), AllocError>
+    requires { place < 32 }
+    ensures { OnOk result (lines.new.items ≡ lines.old.items ++ line_of_place place address) }
+{
+    if let Some(address) = address {
+        lines.push(captured_line_at(place, address))?;
+    }
+    Ok(())
+}
+
 /// Returns the lines that receive at the addresses: two for each venue, line A's and then line B's,
-/// venue 0's first.
-pub fn lines_at(alloc: Global, addresses: &[SocketAddr]) -> Result<Vec<CapturedLine>, AllocError>
+/// venue 0's first. One without an address isn't among them.
+pub fn lines_at(
+    alloc: Global,
+    addresses: &[Option<SocketAddr>],
+) -> Result<Vec<CapturedLine>, AllocError>
     requires { length addresses.now ≤ 32 }
     ensures lines { IfOk result (λ lines. lines.items ≡ lines_from 0 addresses.now) }
     ensures venues { IfOk result (λ lines. (venues : ℕ)
@@ -44,7 +62,7 @@ pub fn lines_at(alloc: Global, addresses: &[SocketAddr]) -> Result<Vec<CapturedL
     let mut lines = Vec::with_capacity(alloc, addresses.len())?;
     let mut place = 0;
     for address in addresses {
-        lines.push(captured_line_at(place, *address))?;
+        push_line(&mut lines, place, *address)?;
         place += 1;
     }
     Ok(lines)

@@ -13,16 +13,23 @@ use std::net::SocketAddr;
 pub struct ListenSettings {
     /// The feed that is listened to.
     pub feed: FeedSettings,
-    /// The address where each line is received: line A's and then line B's, those of venue 0 first.
-    pub lines: Vec<SocketAddr>,
+    /// The address where each line is received, `None` for a line that isn't there: line A's and
+    /// then line B's, those of venue 0 first. Each venue has a line.
+    pub lines: Vec<Option<SocketAddr>>,
     /// The address that requests for missing messages go to, if there is one.
     pub request: Option<SocketAddr>,
+    /// For how many milliseconds a gap stands before its messages are asked for, if that is said.
+    pub request_after: Option<u32>,
     /// The senders whose datagrams are taken.
-    pub from: Senders,
-    /// Whether a gap before the first message in sequence is given up at once.
+    pub senders: Senders,
+    /// How far past what the lines have brought a number may be, if that is said.
+    pub most_ahead: Option<u32>,
+    /// Whether a venue's session is joined at its first packet.
     pub join: bool,
     /// After how many milliseconds a gap is given up that stands so long, if after any number.
     pub skip_after: Option<u32>,
+    /// After how many milliseconds a line that brings nothing is reported, if that is said.
+    pub silent_after: Option<u32>,
     /// The most datagrams that a line reads, if there is any limit.
     pub datagrams: Option<u32>,
     /// Which ends of session end a line.

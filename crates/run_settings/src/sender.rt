@@ -1,9 +1,31 @@
 //! The senders whose datagrams are taken.
 ghost use Rattle.std.specs.Prelude.{◌≡◌, ◌↔◌, IfOk, IsTrue, false, true};
-ghost use Rattle.run_settings.specs.Senders.{HasSender, IsOfSender, IsTakenFrom, are_named, senders_of};
+ghost use Rattle.run_settings.specs.Senders.{HasSender, IsMappedFrom, IsOfSender, IsSameMachine, IsTakenFrom, are_named, senders_of};
 
 use std::alloc::{AllocError, Global};
-use std::net::{IpAddr, SocketAddr};
+use std::net::{IpAddr, Ipv4Addr, Ipv6Addr, SocketAddr};
+
+/// Returns whether an address of version 6 of IP is this one of version 4, mapped.
+fn is_mapped(address: Ipv4Addr, mapped: Ipv6Addr) -> bool
+    ensures { IsTrue result ↔ IsMappedFrom address mapped }
+{
+    match mapped.to_ipv4_mapped() {
+        Some(ip) => ip.octets() == address.octets(),
+        None => false,
+    }
+}
+
+/// Returns whether the addresses are one machine's: the same, or one of version 4 of IP and the
+/// other one the same mapped, as a socket shows it that receives both versions.
+fn is_same_machine(one: IpAddr, other: IpAddr) -> bool
+    ensures { IsTrue result ↔ IsSameMachine one other }
+{
+    match (one, other) {
+        (IpAddr::V4(one), IpAddr::V6(other)) => is_mapped(one, other),
+        (IpAddr::V6(one), IpAddr::V4(other)) => is_mapped(other, one),
+        (one, other) => one == other,
+    }
+}
 
 /// A sender of datagrams: a machine, with whichever port it sends from, or with one.
 #[derive(Clone, Copy, Debug, PartialEq, Eq)]
@@ -23,7 +45,7 @@ impl Sender {
             Some(port) => port == from.port(),
             None => true,
         };
-        is_port && self.address == from.ip()
+        is_port && is_same_machine(self.address, from.ip())
     }
 }
 

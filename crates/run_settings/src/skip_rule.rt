@@ -11,7 +11,7 @@ pub enum SkipRule {
     /// front is given up, before the packet is taken, to the first number that has come, of a held
     /// message or the packet's own.
     Gaps,
-    /// After so many milliseconds by the records' times: a gap that has stood so long is given up
+    /// After these milliseconds by the records' times: a gap that has stood that long is given up
     /// before the next record is taken, and a session is joined at its first packet.
     After(u32),
 }

@@ -1,6 +1,6 @@
 -- What is said of gaps and of a run, one thing after the other.
 use Rattle.std.proofs.Common.{List, [], ◌∷◌, ◌++◌, ◌≡◌, ◌∙◌, ◌<◌, ◌+◌, ℕ, zero, suc, Option, Some, None, All, ap, flat_map, length, map, refl, sym, subst, arith}
-use Rattle.std.specs.Prelude.{◌/◌, Bool, true, false, ◌&&◌, ◌||◌, MatchOption, is_some, nat_le, nat_lt, if◌then◌else◌}
+use Rattle.std.specs.Prelude.{◌/◌, Bool, true, false, ◌&&◌, ◌||◌, MatchOption, is_some, nat_lt, ◌-◌, if◌then◌else◌}
 use Rattle.std.specs.List.{range_with_len}
 use Rattle.std.proofs.lemmas.List.{get_or-map, length-map, map-append}
 use Rattle.feed_text.specs.Devices.{Writing}
@@ -8,17 +8,17 @@ use Rattle.feed_text.specs.StandardError.{SaysEach}
 use Rattle.line_arbiter.specs.declared.arbiter.ArbiterStatus.{ArbiterStatus}
 use Rattle.mold_packet.specs.declared.request.Request.{Request}
 use Rattle.run_watches.specs.GapNews.{gap_texts_if}
-use Rattle.run_watches.specs.Gaps.{LooksAt, SaysOfGap, TellsIfDone, TellsStanding, closed_run, due_of, gap_next, gives_up, has_stood, is_due, lacking_of, news_of, stands, stood_of, told_still, unanswered_of}
+use Rattle.run_watches.specs.Gaps.{LooksAt, SaysOfGap, TellsIfDone, TellsStanding, after_joins, closed_run, due_of, gap_next, gives_up, has_stood, joined_run, lacking_of, news_of, stands, stood_of, told_still, unanswered_of}
 use Rattle.run_watches.specs.RunLines.{WatchedRun, watched_venue}
-use Rattle.run_watches.specs.RunNews.{IsNewsOf, IsNewsOfGap, MayHappen, RunNews, SaysCounts, SaysNews, SaysOfRun, SaysRunNews, SaysTable, of_counts, of_gap, run_news_texts}
+use Rattle.run_watches.specs.RunNews.{IsNewsOf, IsNewsOfGap, MayHappen, RunNews, SaysCounts, SaysNews, SaysRunNews, of_counts, of_gap, run_news_texts}
 use Rattle.run_watches.specs.declared.gap_news.GapChange.{GapChange}
-use Rattle.run_watches.specs.declared.gap_news.GapChange.TheVariants.{Closed, Lacking, Unanswered}
+use Rattle.run_watches.specs.declared.gap_news.GapChange.TheVariants.{Closed, GivenUp, Lacking, Unanswered}
 use Rattle.run_watches.specs.declared.gap_news.MissingRun.{MissingRun}
 use Rattle.run_watches.specs.declared.gap_rule.GapRule.{GapRule}
 use Rattle.run_watches.specs.declared.gap_watch.DueGap.{DueGap}
 use Rattle.run_watches.specs.declared.gap_watch.GapWatch.{GapWatch}
 use Rattle.venue_lines.specs.declared.status.VenueStatus.{VenueStatus}
-use Rattle.run_watches.specs.RunNewsLaws.{more_news, no_news, no_totals}
+use Rattle.run_watches.specs.RunNewsLaws.{more_news, no_news}
 use Rattle.run_watches.proofs.Telling.{one_news}
 
 -- ---- a gap
@@ -39,6 +39,17 @@ said_if_any w rule second venue change (Some run) s t may said =
     (of_gap (record { second = second; venue = venue; change = change; run = run })) s t
     (refl, may) said
 
+-- the same where it may only happen if there are any
+said_of_any : {E : Type 0} (w : Writing E) (rule : GapRule) (second venue : ℕ) (change : GapChange)
+    (run : Option MissingRun) (s t : E)
+    → ((r : MissingRun) → run ≡ Some r → MayHappen rule change)
+    → SaysEach w (gap_texts_if second venue change run) s t
+    → SaysNews w (IsNewsOfGap rule venue) s t
+said_of_any w rule second venue change None s t may said =
+    unsaid w (IsNewsOfGap rule venue) s t said
+said_of_any w rule second venue change (Some run) s t may said =
+    said_if_any w rule second venue change (Some run) s t (may run refl) said
+
 -- what was said where it was answered that the messages are given up
 said_if_done : {E : Type 0} (w : Writing E) (rule : GapRule) (second venue : ℕ) (due : DueGap)
     (done : Bool) (s t : E)
@@ -56,20 +67,32 @@ test_of_some true x y e = refl
 test_of_some false x y e = absurd cc
 
 -- where a gap is due some are given up
-rule_of_due : (join first again : Bool) (after : Option ℕ) (stood : ℕ)
-    → ((join && first && again) || has_stood after stood) ≡ true → (join || is_some after) ≡ true
-rule_of_due true first again after stood e = refl
-rule_of_due false first again None stood e = absurd cc
-rule_of_due false first again (Some ms) stood e = refl
+rule_of_due : (join : Bool) (after : Option ℕ) (stood : ℕ) → has_stood after stood ≡ true
+    → (join || is_some after) ≡ true
+rule_of_due true after stood e = refl
+rule_of_due false None stood e = absurd cc
+rule_of_due false (Some ms) stood e = refl
 
-some_given_up : (rule : GapRule) (passed stood : ℕ) (cursors : ArbiterStatus)
-    (gap : Option Request) (due : DueGap)
-    → due_of rule passed stood cursors gap ≡ Some due → gives_up rule ≡ true
-some_given_up rule passed stood cursors None due e = absurd cc
-some_given_up rule passed stood cursors (Some gap) due e =
-    rule_of_due rule.join (nat_le cursors.front passed) (nat_lt 0 stood) rule.after_ms stood
-    (test_of_some (is_due rule passed cursors.front stood)
+some_given_up : (rule : GapRule) (stood : ℕ) (cursors : ArbiterStatus) (gap : Option Request)
+    (due : DueGap) → due_of rule stood cursors gap ≡ Some due → gives_up rule ≡ true
+some_given_up rule stood cursors None due e = absurd cc
+some_given_up rule stood cursors (Some gap) due e =
+    rule_of_due rule.join rule.after_ms stood
+    (test_of_some (has_stood rule.after_ms stood)
     (record { number = gap.number; next = gap_next cursors gap }) due e)
+
+-- where sessions are joined, too
+rule_of_join : (join more : Bool) (after : Option ℕ) → (join && more) ≡ true
+    → (join || is_some after) ≡ true
+rule_of_join true more after e = refl
+rule_of_join false more after e = absurd cc
+
+joined_given_up : (rule : GapRule) (watch : GapWatch) (status : VenueStatus) (run : MissingRun)
+    → joined_run rule watch status ≡ Some run → gives_up rule ≡ true
+joined_given_up rule watch status run e =
+    rule_of_join rule.join (nat_lt watch.before_join status.before_join) rule.after_ms
+    (test_of_some (rule.join && nat_lt watch.before_join status.before_join)
+    (record { number = 1; count = status.before_join - watch.before_join }) run e)
 
 given_up_if_due : {E : Type 0} (w : Writing E) (answers : ℕ → Bool → Type 0) (rule : GapRule)
     (second venue : ℕ) (due : Option DueGap) (s t : E)
@@ -99,16 +122,22 @@ module _ {E : Type 0} (w : Writing E) (answers : ℕ → Bool → Type 0) (rule 
       (unanswered_of watch.has_told_unanswered watch.standing now status.requests status.gap)
       told.lacking t tt told.says_unanswered))
 
-  of_gap_seen : (status : VenueStatus) (s t : E) → SaysOfGap w answers rule watch now status s t
-      → SaysNews w (IsNewsOfGap rule watch.venue) s t
-  of_gap_seen status s t seen =
-      more_news w (IsNewsOfGap rule watch.venue) s seen.told t
-      (of_standing status s seen.told seen.tells)
-      (given_up_if_due w answers rule (now / 1000) watch.venue
-      (due_of rule watch.passed (stood_of watch.standing now) status.cursors status.gap)
-      seen.told t
-      (some_given_up rule watch.passed (stood_of watch.standing now) status.cursors status.gap)
-      seen.gives_up)
+of_gap_seen : {E : Type 0} (w : Writing E) (answers : ℕ → Bool → Type 0) (rule : GapRule)
+    (watch : GapWatch) (now : ℕ) (status : VenueStatus) (s t : E)
+    → SaysOfGap w answers rule watch now status s t → SaysNews w (IsNewsOfGap rule watch.venue) s t
+of_gap_seen w answers rule watch now status s t seen =
+    let P = IsNewsOfGap rule watch.venue in
+    let after = after_joins rule watch status in
+    more_news w P s seen.joined t
+    (said_of_any w rule (now / 1000) watch.venue GivenUp (joined_run rule watch status) s
+    seen.joined (joined_given_up rule watch status) seen.tells_joins)
+    (more_news w P seen.joined seen.told t
+    (of_standing w answers rule after now status seen.joined seen.told seen.tells)
+    (given_up_if_due w answers rule (now / 1000) watch.venue
+    (due_of rule (stood_of after.standing now) status.cursors status.gap)
+    seen.told t
+    (some_given_up rule (stood_of after.standing now) status.cursors status.gap)
+    seen.gives_up))
 
 of_shown : {E : Type 0} (w : Writing E) (answers : ℕ → Bool → Type 0) (rule : GapRule)
     (watch : GapWatch) (now : ℕ) (status : Option VenueStatus) (s t : E)

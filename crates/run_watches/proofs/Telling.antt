@@ -2,18 +2,17 @@
 use Rattle.std.proofs.Common.{List, [], ◌∷◌, ◌++◌, ◌≡◌, ◌≢◌, ◌∙◌, ◌<◌, ℕ, zero, suc, Contains, ap, flat_map, get_or, length, map, refl, sym, subst, arith}
 use Rattle.std.specs.Prelude.{Bool, true, false, IfSome, Option, Some, ◌==◌, if◌then◌else◌}
 use Rattle.std.proofs.lemmas.Bool.Decides.{nat_tests}
-use Rattle.std.proofs.lemmas.Grind.{flat_map-append}
 use Rattle.std.proofs.lemmas.List.{append-nil, get_or-map, length-map, map-append}
-use Rattle.std.proofs.lemmas.List.Elements.{All-append}
 use Rattle.feed_types.specs.declared.line.LineId.{LineId}
 use Rattle.feed_text.specs.Devices.{Writing}
 use Rattle.feed_text.specs.StandardError.{SaysEach}
-use Rattle.run_watches.specs.News.{LineTally, SaysTotals, dropped_if, total_if, total_texts, totals_of}
+use Rattle.feed_text.specs.laws.SaidTexts.{says_each}
+use Rattle.run_watches.specs.News.{LineTally, SaysNotes, SaysTotals, line_end_texts, notes_of, stranger_note, tally_texts, told_if, total_if, total_texts, totals_of, unheard_note}
 use Rattle.run_watches.specs.RunLines.{WatchedGaps, WatchedLines, WatchedRun}
-use Rattle.run_watches.specs.RunNews.{IsNewsOf, IsNewsOfGap, IsNewsOfGaps, IsNewsOfLine, IsNewsOfLines, RunNews, SaysNews, of_counts, of_gap, of_line, run_news_texts}
+use Rattle.run_watches.specs.RunNews.{IsNewsOf, IsNewsOfGap, IsNewsOfGaps, IsNewsOfLine, IsNewsOfLines, IsNewsOfOutput, RunNews, SaysNews, of_counts, of_gap, of_line, of_output, run_news_texts}
 use Rattle.run_watches.specs.RunNewsLaws.{each_of_more}
 use Rattle.run_watches.specs.declared.line_news.LineCounted.{LineCounted}
-use Rattle.run_watches.specs.declared.line_news.LineCounted.TheVariants.{Dropped, Foreign, Passed, Unsent}
+use Rattle.run_watches.specs.declared.line_news.LineCounted.TheVariants.{Dropped, Foreign, HeldBack, Passed, Unsent, Withheld}
 use Rattle.run_watches.specs.declared.line_news.LineTotal.{LineTotal}
 
 -- the texts of one thing
@@ -58,6 +57,7 @@ pub line_within : (w : WatchedLines) (line : ℕ × LineId) → Contains w.lines
 line_within w line there (of_line news) is =
     (subst (λ l. Contains w.lines l) (sym is.0) there, is.1)
 line_within w line there (of_gap news) is = absurd is
+line_within w line there (of_output news) is = absurd is
 line_within w line there (of_counts text) is = absurd is
 
 -- and so of a gap
@@ -66,19 +66,29 @@ pub gap_within : (gaps : WatchedGaps) (venue : ℕ) → Contains gaps.venues ven
 gap_within gaps venue there (of_line news) is = absurd is
 gap_within gaps venue there (of_gap news) is =
     (subst (λ v. Contains gaps.venues v) (sym is.0) there, is.1)
+gap_within gaps venue there (of_output news) is = absurd is
 gap_within gaps venue there (of_counts text) is = absurd is
 
 -- news of the run's lines are news of the run
 pub lines_within : (run : WatchedRun) (n : RunNews) → IsNewsOfLines run.lines n → IsNewsOf run n
 lines_within run (of_line news) is = is
 lines_within run (of_gap news) is = absurd is
+lines_within run (of_output news) is = absurd is
 lines_within run (of_counts text) is = absurd is
 
 -- and so are those of its gaps
 pub gaps_within : (run : WatchedRun) (n : RunNews) → IsNewsOfGaps run.gaps n → IsNewsOf run n
 gaps_within run (of_line news) is = absurd is
 gaps_within run (of_gap news) is = is
+gaps_within run (of_output news) is = absurd is
 gaps_within run (of_counts text) is = absurd is
+
+-- and those of what is printed of it
+pub output_within : (run : WatchedRun) (n : RunNews) → IsNewsOfOutput run.follows n → IsNewsOf run n
+output_within run (of_line news) is = absurd is
+output_within run (of_gap news) is = absurd is
+output_within run (of_output news) is = is
+output_within run (of_counts text) is = absurd is
 
 -- what is made of a list's thing is in the list of what is made of them all
 pub made_within : {X Y : Type 0} (f : X → Y) (xs : List X) (k : ℕ) (d : X)
@@ -119,54 +129,97 @@ pub dropped_total : {E : Type 0} (w : Writing E) (line : ℕ × LineId) (tells_m
     (count : ℕ) (s t : E)
     → SaysEach w (flat_map total_texts (total_if line Dropped count)) s t
     → (tells_more ≡ false → count ≡ 0)
-    → SaysEach w (flat_map total_texts (total_if line Dropped (dropped_if tells_more count))) s t
+    → SaysEach w (flat_map total_texts (total_if line Dropped (told_if tells_more count))) s t
 dropped_total w line true count s t said none = said
 dropped_total w line false count s t said none =
     subst (λ n. SaysEach w (flat_map total_texts (total_if line Dropped n)) s t) (none refl) said
 
--- all totals of a line
+-- the session, and then that nothing came
+pub both_notes : {E : Type 0} (w : Writing E) (line : ℕ × LineId)
+    (stranger : Option (List ℕ)) (unheard : Bool) (s t u : E)
+    → SaysEach w (flat_map (line_end_texts line) (stranger_note stranger)) s t
+    → SaysEach w (flat_map (line_end_texts line) (unheard_note unheard)) t u
+    → SaysNotes w true line s u
+both_notes w line stranger unheard s t u a b = record {
+  stranger = stranger;
+  unheard = unheard;
+  says =
+      each_of_more w (line_end_texts line) (stranger_note stranger) (unheard_note unheard)
+      s t u a b;
+}
+
+-- what is counted of a line, in the order in which it is written
+pub record CountedOfLine {E : Type 0} (w : Writing E) (line : ℕ × LineId) (tells_more : Bool)
+    (s t : E) : Type 0 where
+  pub unsent : ℕ
+  pub passed : ℕ
+  pub foreign : ℕ
+  pub withheld : ℕ
+  pub held_back : ℕ
+  pub dropped : ℕ
+  pub a : E
+  pub b : E
+  pub c : E
+  pub d : E
+  pub e : E
+  pub says_unsent : SaysEach w (flat_map total_texts (total_if line Unsent unsent)) s a
+  pub says_passed : SaysEach w (flat_map total_texts (total_if line Passed passed)) a b
+  pub says_foreign : SaysEach w (flat_map total_texts (total_if line Foreign foreign)) b c
+  pub says_withheld :
+      SaysEach w (flat_map total_texts (total_if line Withheld (told_if tells_more withheld))) c d
+  pub says_held_back :
+      SaysEach w (flat_map total_texts (total_if line HeldBack (told_if tells_more held_back))) d e
+  pub says_dropped :
+      SaysEach w (flat_map total_texts (total_if line Dropped (told_if tells_more dropped))) e t
+
+-- all totals of a line, and its notes
 pub totals_of_line : {E : Type 0} (w : Writing E) (line : ℕ × LineId) (tells_more : Bool)
-    (unsent passed foreign dropped : ℕ) (s t u v x : E)
-    → SaysEach w (flat_map total_texts (total_if line Unsent unsent)) s t
-    → SaysEach w (flat_map total_texts (total_if line Passed passed)) t u
-    → SaysEach w (flat_map total_texts (total_if line Foreign foreign)) u v
-    → SaysEach w (flat_map total_texts (total_if line Dropped (dropped_if tells_more dropped))) v x
-    → SaysTotals w tells_more (line ∷ []) s x
-totals_of_line w line tells_more unsent passed foreign dropped s t u v x a b c d =
-    let counts : LineTally = record {
+    (s t u : E)
+    → CountedOfLine w line tells_more s t → SaysNotes w tells_more line t u
+    → SaysTotals w tells_more (line ∷ []) s u
+totals_of_line w line tells_more s t u c notes =
+    let tally : LineTally = record {
       line = line;
-      unsent = unsent;
-      passed = passed;
-      foreign = foreign;
-      dropped = dropped;
+      unsent = c.unsent;
+      passed = c.passed;
+      foreign = c.foreign;
+      withheld = c.withheld;
+      held_back = c.held_back;
+      dropped = c.dropped;
+      stranger = notes.stranger;
+      unheard = notes.unheard;
     } in
-    let lost = total_if line Dropped (dropped_if tells_more dropped) in
-    let last = total_if line Foreign foreign ++ lost in
-    let later = total_if line Passed passed ++ last in record {
-      counts = counts ∷ [];
+    let lost = total_if line Dropped (told_if tells_more c.dropped) in
+    let held = total_if line HeldBack (told_if tells_more c.held_back) in
+    let kept = total_if line Withheld (told_if tells_more c.withheld) in
+    let foreign = total_if line Foreign c.foreign in
+    let passed = total_if line Passed c.passed in
+    let totals =
+    each_of_more w total_texts (total_if line Unsent c.unsent)
+    (passed ++ (foreign ++ (kept ++ (held ++ lost)))) s c.a t c.says_unsent
+    (each_of_more w total_texts passed (foreign ++ (kept ++ (held ++ lost))) c.a c.b t
+    c.says_passed
+    (each_of_more w total_texts foreign (kept ++ (held ++ lost)) c.b c.c t c.says_foreign
+    (each_of_more w total_texts kept (held ++ lost) c.c c.d t c.says_withheld
+    (each_of_more w total_texts held lost c.d c.e t c.says_held_back c.says_dropped)))) in record {
+      counts = tally ∷ [];
       one_each = refl;
       says =
-          subst (λ totals. SaysEach w (flat_map total_texts totals) s x)
-          (sym (append-nil (totals_of tells_more counts)))
-          (each_of_more w total_texts (total_if line Unsent unsent) later s t x a
-          (each_of_more w total_texts (total_if line Passed passed) last t u x b
-          (each_of_more w total_texts (total_if line Foreign foreign) lost u v x c d)));
+          each_of_one w (tally_texts tells_more) tally s u
+          (says_each w (flat_map total_texts (totals_of tells_more tally))
+          (flat_map (line_end_texts line) (notes_of tells_more notes.stranger notes.unheard))
+          s t u totals notes.says);
     }
 
 pub more_totals : {E : Type 0} (w : Writing E) (tells_more : Bool)
     (lines more : List (ℕ × LineId)) (s t u : E)
     → SaysTotals w tells_more lines s t → SaysTotals w tells_more more t u
     → SaysTotals w tells_more (lines ++ more) s u
-more_totals w tells_more lines more s t u a b =
-    let first = flat_map (totals_of tells_more) a.counts in
-    let last = flat_map (totals_of tells_more) b.counts in record {
-      counts = a.counts ++ b.counts;
-      one_each =
-          map-append (λ c. c.line) a.counts b.counts
-          ∙ ap (λ first. first ++ map (λ c. c.line) b.counts) a.one_each
-          ∙ ap (λ rest. lines ++ rest) b.one_each;
-      says =
-          subst (λ totals. SaysEach w (flat_map total_texts totals) s u)
-          (sym (flat_map-append (totals_of tells_more) a.counts b.counts))
-          (each_of_more w total_texts first last s t u a.says b.says);
-    }
+more_totals w tells_more lines more s t u a b = record {
+  counts = a.counts ++ b.counts;
+  one_each =
+      map-append (λ c. c.line) a.counts b.counts
+      ∙ ap (λ first. first ++ map (λ c. c.line) b.counts) a.one_each
+      ∙ ap (λ rest. lines ++ rest) b.one_each;
+  says = each_of_more w (tally_texts tells_more) a.counts b.counts s t u a.says b.says;
+}

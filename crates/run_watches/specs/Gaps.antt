@@ -3,6 +3,7 @@ use Rattle.std.specs.Prelude.{◌≡◌, ℕ, ◌+◌, ◌-◌, ◌/◌, ◌^◌
 use Rattle.run_settings.specs.declared.listen_settings.ListenSettings.{ListenSettings}
 use Rattle.feed_text.specs.Devices.{Writing}
 use Rattle.feed_text.specs.StandardError.{SaysEach}
+use Rattle.line_arbiter.specs.Counts.{shown}
 use Rattle.line_arbiter.specs.declared.arbiter.ArbiterStatus.{ArbiterStatus}
 use Rattle.mold_packet.specs.declared.request.Request.{Request}
 use Rattle.run_watches.specs.GapNews.{gap_news_texts, gap_texts_if}
@@ -124,17 +125,11 @@ rule_of settings = record { join = settings.join; after_ms = settings.skip_after
 abbrev pub gives_up : GapRule → Bool
 gives_up rule = rule.join || is_some rule.after_ms
 
--- for this many milliseconds, if for any number
+-- A gap that has stood for this long is to be given up: where that is asked for, one that has stood
+-- for as long as is asked for.
 abbrev pub has_stood : Option ℕ → ℕ → Bool
 has_stood None stood = false
 has_stood (Some ms) stood = nat_le ms stood
-
--- A gap that has stood for this long is to be given up: where that is asked for, one in front of
--- which all was given up before, and nothing was taken in sequence, once it is seen again; and one
--- that has stood for as long as is asked for.
-abbrev pub is_due : GapRule → (passed front stood : ℕ) → Bool
-is_due rule passed front stood =
-    (rule.join && nat_le front passed && nat_lt 0 stood) || has_stood rule.after_ms stood
 
 -- The message to go on from: where none is held the one after all that is known of, and else the
 -- first one that is held. No number is past the greatest one.
@@ -144,15 +139,15 @@ gap_next cursors gap =
     then min (cursors.known + 1) (2 ^ 64 - 1) else min (gap.number + gap.count) (2 ^ 64 - 1)
 
 -- what is to be given up of a gap that has stood for this long, of a venue with these cursors
-abbrev pub due_of : GapRule → (passed stood : ℕ) → ArbiterStatus → Option Request → Option DueGap
-due_of rule passed stood cursors None = None
-due_of rule passed stood cursors (Some gap) =
-    if is_due rule passed cursors.front stood
+abbrev pub due_of : GapRule → (stood : ℕ) → ArbiterStatus → Option Request → Option DueGap
+due_of rule stood cursors None = None
+due_of rule stood cursors (Some gap) =
+    if has_stood rule.after_ms stood
     then Some (record { number = gap.number; next = gap_next cursors gap }) else None
 
--- up to which number all was given up, and nothing was taken in sequence, after these messages were
-abbrev pub passed_then : ℕ → DueGap → ℕ
-passed_then passed due = if nat_le (due.number - 1) passed then due.next - 1 else passed
+-- how many messages are given up
+abbrev pub due_count : DueGap → ℕ
+due_count due = due.next - due.number
 
 -- the news of these messages of a venue
 abbrev pub news_of : (second venue : ℕ) → DueGap → GapNews
@@ -160,7 +155,7 @@ news_of second venue due = record {
   second = second;
   venue = venue;
   change = GivenUp;
-  run = record { number = due.number; count = due.next - due.number };
+  run = record { number = due.number; count = due_count due };
 }
 
 -- Where it was answered that the messages are given up, the texts of these news, and nothing else;
@@ -176,20 +171,45 @@ pub record TellsIfDone {E : Type 0} (writing : Writing E) (answers : Bool → Ty
 abbrev pub GivesUpDue : {E : Type 0} → Writing E → (answers : ℕ → Bool → Type 0) → GapRule
     → GapWatch → (now : ℕ) → VenueStatus → (before after : E) → Type 0
 GivesUpDue writing answers rule watch now status before after =
-    MatchOption (due_of rule watch.passed (stood_of watch.standing now) status.cursors status.gap)
+    MatchOption (due_of rule (stood_of watch.standing now) status.cursors status.gap)
     (after ≡ before)
     (λ due. TellsIfDone writing (answers due.next) (news_of (now / 1000) watch.venue due) before
     after)
 
+-- ---- which messages were given up where a session was joined
+
+-- Since the last look as many were given up at joins, each time from the first message on: they are
+-- told where sessions are joined.
+abbrev pub joined_run : GapRule → GapWatch → VenueStatus → Option MissingRun
+joined_run rule watch status =
+    if rule.join && nat_lt watch.before_join status.before_join
+    then Some (record { number = 1; count = status.before_join - watch.before_join }) else None
+
+-- how many were given up of the messages that are told
+abbrev pub run_count : Option MissingRun → ℕ
+run_count None = 0
+run_count (Some run) = run.count
+
+-- the watch once that was told
+abbrev pub after_joins : GapRule → GapWatch → VenueStatus → GapWatch
+after_joins rule watch status = record watch {
+  before_join = status.before_join;
+  given_up = shown (watch.given_up + run_count (joined_run rule watch status));
+}
+
 -- ---- a look
 
--- what is new of the gap, and then what was given up of it
+-- where sessions were joined, what is new of the gap, and then what was given up of it
 pub record SaysOfGap {E : Type 0} (writing : Writing E) (answers : ℕ → Bool → Type 0)
     (rule : GapRule) (watch : GapWatch) (now : ℕ) (status : VenueStatus) (before after : E)
     : Type 0 where
+  pub joined : E
+  pub tells_joins : SaysEach writing
+      (gap_texts_if (now / 1000) watch.venue GivenUp (joined_run rule watch status)) before joined
   pub told : E
-  pub tells : TellsStanding writing watch now status before told
-  pub gives_up : GivesUpDue writing answers rule watch now status told after
+  pub tells : TellsStanding writing (after_joins rule watch status) now status joined told
+  pub gives_up : GivesUpDue writing answers rule (after_joins rule watch status) now status
+      told after
 
 -- A venue is looked at at this time: that is said of its gap by what is shown of the venue, and
 -- nothing where nothing is shown.

@@ -1,9 +1,8 @@
--- What is watched of a run: its lines, each by its venue's number, the gaps of its venues, and
--- whether its counts are written.
-use Rattle.std.specs.Prelude.{ℕ, ◌/◌, ◌%◌, ◌==◌, Bool, List, [], is_some, map, take, vec_len, if◌then◌else◌}
+-- What is watched of a run: its lines, each by its venue's number, the gaps of its venues, whether
+-- its rows are printed as they come, and whether its counts are written.
+use Rattle.std.specs.Prelude.{ℕ, Bool, List, [], is_some, map, vec_len, if◌then◌else◌}
 use Rattle.std.specs.List.{range_with_len}
 use Rattle.feed_types.specs.declared.line.LineId.{LineId}
-use Rattle.feed_types.specs.declared.line.LineId.TheVariants.{A, B}
 use Rattle.run_settings.specs.declared.listen_settings.ListenSettings.{ListenSettings}
 use Rattle.run_settings.specs.FurtherOptions.{has_further_options}
 use Rattle.run_watches.specs.Gaps.{rule_of}
@@ -19,28 +18,18 @@ pub record WatchedGaps : Type 0 where
   pub rule : GapRule
   pub venues : List ℕ
 
--- the lines, and whether it is told with which sessions they ended, and what the system dropped
+-- the lines, and whether more is told of them: with which sessions they ended, which others they
+-- brought, whether they are silent, what they held back, and what the system dropped
 pub record WatchedLines : Type 0 where
   pub tells_more : Bool
   pub lines : List (ℕ × LineId)
 
--- the lines, the gaps, and whether counts are written
+-- the lines, the gaps, whether rows are printed as they come, and whether counts are written
 pub record WatchedRun : Type 0 where
   pub lines : WatchedLines
   pub gaps : WatchedGaps
+  pub follows : Bool
   pub counted : Bool
-
--- the line of an address: line A's and then line B's, those of venue 0 first
-abbrev pub line_at : ℕ → LineId
-line_at place = if place % 2 == 0 then A else B
-
--- the same with its venue
-abbrev pub listened_line : ℕ → ℕ × LineId
-listened_line place = (place / 2, line_at place)
-
--- the lines of the settings, in their order
-abbrev pub listened_lines : ListenSettings → List (ℕ × LineId)
-listened_lines settings = map listened_line (range_with_len 0 (vec_len settings.lines))
 
 -- the line that is watched
 abbrev pub watched : LineWatch → ℕ × LineId
@@ -53,11 +42,11 @@ watched_lines watches = record {
   lines = map watched watches.lines.items;
 }
 
--- the lines of the settings over so many sockets, which receive the first of them
-abbrev pub heard_lines : ListenSettings → ℕ → WatchedLines
-heard_lines settings sockets = record {
+-- these lines of a run of the settings
+abbrev pub heard_lines : ListenSettings → List (ℕ × LineId) → WatchedLines
+heard_lines settings lines = record {
   tells_more = has_further_options settings;
-  lines = take sockets (listened_lines settings);
+  lines = lines;
 }
 
 -- the gaps that are watched by the settings: of each venue where they have a further option, and
@@ -70,11 +59,12 @@ told_gaps settings = record {
       then range_with_len 0 (vec_len settings.feed.sessions) else [];
 }
 
--- the run of the settings over so many sockets, which receive the first lines
-abbrev pub listened_run : ListenSettings → ℕ → WatchedRun
-listened_run settings sockets = record {
-  lines = heard_lines settings sockets;
+-- the run of the settings that has these lines
+abbrev pub listened_run : ListenSettings → List (ℕ × LineId) → WatchedRun
+listened_run settings lines = record {
+  lines = heard_lines settings lines;
   gaps = told_gaps settings;
+  follows = settings.follow;
   counted = is_some settings.stats;
 }
 
@@ -94,5 +84,6 @@ abbrev pub watched_run : RunWatches → WatchedRun
 watched_run watches = record {
   lines = watched_lines watches.lines;
   gaps = watched_gaps watches.gaps;
+  follows = watches.output.follows;
   counted = is_some watches.counts;
 }

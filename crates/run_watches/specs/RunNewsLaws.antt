@@ -1,13 +1,13 @@
 -- Laws of what standard error has of a run: of nothing, and of one thing after the other.
-use Rattle.std.proofs.Common.{List, [], ◌∷◌, ◌++◌, ◌≡◌, ◌<◌, ℕ, flat_map, map, refl, sym, subst, ap, arith}
-use Rattle.std.specs.Prelude.{Bool, true, false}
+use Rattle.std.proofs.Common.{List, [], ◌∷◌, ◌++◌, ◌≡◌, ℕ, flat_map, map, refl, sym, subst, ap, arith}
+use Rattle.std.specs.Prelude.{Bool, true, false, None}
 use Rattle.std.proofs.lemmas.Grind.{flat_map-append}
 use Rattle.std.proofs.lemmas.List.Elements.{All-append}
 use Rattle.feed_types.specs.declared.line.LineId.{LineId}
 use Rattle.feed_text.specs.Devices.{Writing}
 use Rattle.feed_text.specs.StandardError.{SaysEach}
 use Rattle.feed_text.specs.laws.SaidTexts.{says_each}
-use Rattle.run_watches.specs.News.{LineTally, SaysTotals, total_texts, totals_of}
+use Rattle.run_watches.specs.News.{LineTally, SaysTotals, tally_texts}
 use Rattle.run_watches.specs.RunLines.{WatchedRun}
 use Rattle.run_watches.specs.RunNews.{IsNewsOf, RunNews, SaysCounts, SaysNews, SaysOfRun, SaysRunNews, SaysTable, run_news_texts}
 
@@ -36,14 +36,24 @@ more_news w P s t u a b = record {
 -- counts of 0 for each line
 abbrev uncounted : List (ℕ × LineId) → List LineTally
 uncounted lines =
-    map (λ line. record { line = line; unsent = 0; passed = 0; foreign = 0; dropped = 0 }) lines
+    map (λ line. record {
+      line = line;
+      unsent = 0;
+      passed = 0;
+      foreign = 0;
+      withheld = 0;
+      held_back = 0;
+      dropped = 0;
+      stranger = None;
+      unheard = false;
+    }) lines
 
 each_uncounted : (lines : List (ℕ × LineId)) → map (λ c. c.line) (uncounted lines) ≡ lines
 each_uncounted [] = refl
 each_uncounted (line ∷ lines) = ap (λ more. line ∷ more) (each_uncounted lines)
 
 none_counted : (tells_more : Bool) (lines : List (ℕ × LineId))
-    → flat_map (totals_of tells_more) (uncounted lines) ≡ []
+    → flat_map (tally_texts tells_more) (uncounted lines) ≡ []
 none_counted tells_more [] = refl
 none_counted true (line ∷ lines) = none_counted true lines
 none_counted false (line ∷ lines) = none_counted false lines
@@ -53,7 +63,7 @@ pub no_totals : {E : Type 0} (w : Writing E) (tells_more : Bool) (lines : List (
 no_totals w tells_more lines s = record {
   counts = uncounted lines;
   one_each = each_uncounted lines;
-  says = subst (λ totals. SaysEach w (flat_map total_texts totals) s s)
+  says = subst (λ (texts : List (List ℕ)). SaysEach w texts s s)
       (sym (none_counted tells_more lines)) refl;
 }
 

@@ -1,6 +1,6 @@
 //! The counts of venues and lines as JSON: an object for each venue, on a line of its own.
 
-use crate::line_figures::REFUSALS;
+use crate::line_figures::{REFUSALS, state_counts};
 use crate::moment::Moment;
 use crate::venue_statuses::AllFigures;
 use run_metrics::{LineState, VenueFigures, datagram_count, lacking, lag, message_count};
@@ -32,18 +32,30 @@ fn refusals_json(alloc: Global, refused: &[u64; REFUSALS]) -> Result<String, All
     Ok(text)
 }
 
-/// The member of how many datagrams the system dropped, where it did.
-fn dropped_json(alloc: Global, state: &LineState) -> Result<String, AllocError> {
-    match state.dropped {
-        Some(count) if count > 0 => format!(in alloc; ",\"dropped\":{count}"),
-        _ => Ok(String::new(alloc)),
+/// The members of what else was counted of a line, where there was any.
+fn state_json(alloc: Global, state: &LineState) -> Result<String, AllocError> {
+    let mut text = String::new(alloc);
+    for (name, count) in state_counts(state) {
+        if count > 0 {
+            text.push_str(format!(in alloc; ",\"{name}\":{count}")?.as_str())?;
+        }
+    }
+    Ok(text)
+}
+
+/// The member of how many messages of a venue were given up, where there were any.
+fn given_up_json(alloc: Global, count: u64) -> Result<String, AllocError> {
+    if count > 0 {
+        format!(in alloc; "\"given_up\":{count},")
+    } else {
+        Ok(String::new(alloc))
     }
 }
 
 /// The object of what a line has brought.
 fn line_json(alloc: Global, counts: &LineCounts, state: &LineState) -> Result<String, AllocError> {
     let refusals = refusals_json(alloc, &counts.refused)?;
-    let dropped = dropped_json(alloc, state)?;
+    let states = state_json(alloc, state)?;
     format!(in alloc;
         "{{\"packets\":{},\"messages\":{},\"new\":{},\"repeated\":{},\
          \"heartbeats\":{},\"ends\":{},\"ahead\":{},\"refused\":{{{}}}{}}}",
@@ -55,8 +67,17 @@ fn line_json(alloc: Global, counts: &LineCounts, state: &LineState) -> Result<St
         counts.ends,
         counts.ahead,
         refusals.as_str(),
-        dropped.as_str()
+        states.as_str()
     )
+}
+
+/// The member of what line R has brought, where the venue has that line.
+fn recovery_json(alloc: Global, figures: &VenueFigures) -> Result<String, AllocError> {
+    let Some(state) = &figures.recovery else {
+        return Ok(String::new(alloc));
+    };
+    let counts = line_json(alloc, &figures.status.recovery, state)?;
+    format!(in alloc; ",\"R\":{}", counts.as_str())
 }
 
 /// The members of a venue and its lines.
@@ -64,16 +85,20 @@ fn venue_json(alloc: Global, place: usize, figures: &VenueFigures) -> Result<Str
     let venue = &figures.status;
     let a = line_json(alloc, &venue.a, &figures.a)?;
     let b = line_json(alloc, &venue.b, &figures.b)?;
+    let recovery = recovery_json(alloc, figures)?;
+    let given_up = given_up_json(alloc, figures.given_up)?;
     format!(in alloc;
         "\"venue\":{place},\"sent\":{},\"known\":{},\"lag\":{},\"lacks\":{},\
-         \"requests\":{},\"lines\":{{\"A\":{},\"B\":{}}}",
+         \"requests\":{},{}\"lines\":{{\"A\":{},\"B\":{}{}}}",
         venue.cursors.sent,
         venue.cursors.known,
         lag(venue),
         lacking(venue),
         venue.requests,
+        given_up.as_str(),
         a.as_str(),
-        b.as_str()
+        b.as_str(),
+        recovery.as_str()
     )
 }
 

@@ -1,13 +1,13 @@
 //! The counts of venues and lines as text: a line for each venue and period, and a table at the
 //! end.
 
-use crate::line_figures::REFUSALS;
+use crate::line_figures::{REFUSALS, state_counts};
 use crate::venue_statuses::AllFigures;
 use run_metrics::{
     LineState, VenueFigures, datagram_count, lacking, lag, message_count, refused_count,
 };
 use std::alloc::{AllocError, Global};
-use venue_lines::{LineCounts, VenueStatus};
+use venue_lines::LineCounts;
 
 /// The heads of the table's columns, of lines and of venues.
 const LINE_HEADS: &str =
@@ -26,18 +26,30 @@ fn refusals_text(alloc: Global, refused: &[u64; REFUSALS]) -> Result<String, All
     Ok(text)
 }
 
-/// How many datagrams the system dropped, where it did: ` dropped 17`.
-fn dropped_text(alloc: Global, state: &LineState) -> Result<String, AllocError> {
-    match state.dropped {
-        Some(count) if count > 0 => format!(in alloc; " dropped {count}"),
-        _ => Ok(String::new(alloc)),
+/// What else was counted of a line, where there was any: ` dropped 17 withheld 1`.
+fn state_text(alloc: Global, state: &LineState) -> Result<String, AllocError> {
+    let mut text = String::new(alloc);
+    for (name, count) in state_counts(state) {
+        if count > 0 {
+            text.push_str(format!(in alloc; " {name} {count}")?.as_str())?;
+        }
+    }
+    Ok(text)
+}
+
+/// How many messages of a venue were given up, where there were any: ` gave up 16`.
+fn given_up_text(alloc: Global, count: u64) -> Result<String, AllocError> {
+    if count > 0 {
+        format!(in alloc; " gave up {count}")
+    } else {
+        Ok(String::new(alloc))
     }
 }
 
 /// What a line has brought in a period.
 fn line_text(alloc: Global, counts: &LineCounts, state: &LineState) -> Result<String, AllocError> {
     let numbers = refusals_text(alloc, &counts.refused)?;
-    let dropped = dropped_text(alloc, state)?;
+    let states = state_text(alloc, state)?;
     format!(in alloc;
         "packets {} messages {} new {} repeated {} ahead {} refused {}{}{}",
         datagram_count(counts),
@@ -47,8 +59,17 @@ fn line_text(alloc: Global, counts: &LineCounts, state: &LineState) -> Result<St
         counts.ahead,
         refused_count(counts),
         numbers.as_str(),
-        dropped.as_str()
+        states.as_str()
     )
+}
+
+/// What line R has brought in a period, where the venue has that line.
+fn recovery_text(alloc: Global, figures: &VenueFigures) -> Result<String, AllocError> {
+    let Some(state) = &figures.recovery else {
+        return Ok(String::new(alloc));
+    };
+    let counts = line_text(alloc, &figures.status.recovery, state)?;
+    format!(in alloc; " R {}", counts.as_str())
 }
 
 /// Returns the line of a venue after `seconds` seconds, of what was counted in a period.
@@ -61,16 +82,20 @@ pub fn period_text(
     let venue = &figures.status;
     let a = line_text(alloc, &venue.a, &figures.a)?;
     let b = line_text(alloc, &venue.b, &figures.b)?;
+    let recovery = recovery_text(alloc, figures)?;
+    let given_up = given_up_text(alloc, figures.given_up)?;
     format!(in alloc;
         "nbbo: second {seconds} venue {place} \
-         sent {} known {} lag {} lacks {} requests {} A {} B {}\n",
+         sent {} known {} lag {} lacks {} requests {}{} A {} B {}{}\n",
         venue.cursors.sent,
         venue.cursors.known,
         lag(venue),
         lacking(venue),
         venue.requests,
+        given_up.as_str(),
         a.as_str(),
-        b.as_str()
+        b.as_str(),
+        recovery.as_str()
     )
 }
 
@@ -83,7 +108,7 @@ fn line_row(
     state: &LineState,
 ) -> Result<String, AllocError> {
     let numbers = refusals_text(alloc, &counts.refused)?;
-    let dropped = dropped_text(alloc, state)?;
+    let states = state_text(alloc, state)?;
     format!(in alloc;
         "nbbo: {place:>5} {line:>4} {:>10} {:>10} {:>10} {:>10} {:>10} {:>10} {:>10}{}{}\n",
         datagram_count(counts),
@@ -94,19 +119,33 @@ fn line_row(
         counts.ahead,
         refused_count(counts),
         numbers.as_str(),
-        dropped.as_str()
+        states.as_str()
     )
 }
 
+/// The table's rows of a venue's lines.
+fn line_rows(alloc: Global, place: usize, venue: &VenueFigures) -> Result<String, AllocError> {
+    let status = &venue.status;
+    let mut text = line_row(alloc, place, "A", &status.a, &venue.a)?;
+    text.push_str(line_row(alloc, place, "B", &status.b, &venue.b)?.as_str())?;
+    if let Some(state) = &venue.recovery {
+        text.push_str(line_row(alloc, place, "R", &status.recovery, state)?.as_str())?;
+    }
+    Ok(text)
+}
+
 /// The table's row of a venue.
-fn venue_row(alloc: Global, place: usize, venue: &VenueStatus) -> Result<String, AllocError> {
+fn venue_row(alloc: Global, place: usize, figures: &VenueFigures) -> Result<String, AllocError> {
+    let venue = &figures.status;
+    let given_up = given_up_text(alloc, figures.given_up)?;
     format!(in alloc;
-        "nbbo: {place:>5}   {:>10} {:>10} {:>10} {:>10} {:>10}\n",
+        "nbbo: {place:>5}   {:>10} {:>10} {:>10} {:>10} {:>10}{}\n",
         venue.cursors.sent,
         venue.cursors.known,
         lag(venue),
         lacking(venue),
-        venue.requests
+        venue.requests,
+        given_up.as_str()
     )
 }
 
@@ -116,15 +155,13 @@ pub fn table_text(alloc: Global, venues: &AllFigures) -> Result<String, AllocErr
     text.push_str(LINE_HEADS)?;
     for (place, venue) in venues.iter().enumerate() {
         if let Some(venue) = venue {
-            let VenueFigures { status, a, b, .. } = venue;
-            text.push_str(line_row(alloc, place, "A", &status.a, a)?.as_str())?;
-            text.push_str(line_row(alloc, place, "B", &status.b, b)?.as_str())?;
+            text.push_str(line_rows(alloc, place, venue)?.as_str())?;
         }
     }
     text.push_str(VENUE_HEADS)?;
     for (place, venue) in venues.iter().enumerate() {
         if let Some(venue) = venue {
-            text.push_str(venue_row(alloc, place, &venue.status)?.as_str())?;
+            text.push_str(venue_row(alloc, place, venue)?.as_str())?;
         }
     }
     Ok(text)

@@ -1,14 +1,14 @@
 //! Which gaps of a run's venues are given up.
 ghost use Rattle.std.specs.Prelude.{◌≡◌};
-ghost use Rattle.run_watches.specs.Gaps.{has_stood, is_due, rule_of};
+ghost use Rattle.run_watches.specs.Gaps.{has_stood, rule_of};
 
 use run_settings::ListenSettings;
 
 /// Which gaps of a run's venues are given up while it goes on.
 #[derive(Clone, Copy, Debug, PartialEq, Eq)]
 pub struct GapRule {
-    /// Whether those are in front of which nothing was taken in sequence, once they are seen a
-    /// second time.
+    /// Whether those are before the first packet of a session: its venue's lock gives them up, and
+    /// they are told here.
     pub join: bool,
     /// After how many milliseconds the others are, if after any number.
     pub after_ms: Option<u32>,
@@ -35,14 +35,10 @@ impl GapRule {
         }
     }
 
-    /// Whether a gap is to be given up that has stood for so long since it was seen first. Messages
-    /// are taken in sequence, or were given up, up to `front`, and up to `passed` all were given
-    /// up.
-    pub fn is_due(&self, passed: u64, front: u64, stood_ms: u64) -> bool
-        ensures { result ≡ is_due self.now passed front stood_ms }
+    /// Whether a gap is to be given up that has stood for so long since it was seen first.
+    pub fn is_due(&self, stood_ms: u64) -> bool
+        ensures { result ≡ has_stood self.now.after_ms stood_ms }
     {
-        let is_first = front <= passed;
-        let is_seen_again = stood_ms > 0;
-        (self.join && is_first && is_seen_again) || has_stood(self.after_ms, stood_ms)
+        has_stood(self.after_ms, stood_ms)
     }
 }

@@ -1,10 +1,11 @@
 //! The gap of a venue as the thread beside the run sees it: since when it stands, what was told of
 //! it, and when it is given up.
-ghost use Rattle.std.specs.Prelude.{◌≡◌, None, false};
+ghost use Rattle.std.specs.Prelude.{◌≡◌, ◌+◌, ◌/◌, None, false};
+ghost use Rattle.line_arbiter.specs.Counts.{shown};
 ghost use Rattle.feed_text.specs.Devices.{Writing};
 ghost use Rattle.feed_text.specs.StandardError.{SaysEach};
 ghost use Rattle.run_watches.specs.GapNews.{gap_texts_if};
-ghost use Rattle.run_watches.specs.Gaps.{GivesUpDue, LooksAt, TellsIfDone, TellsStanding, closed_run, due_of, gap_next, has_come, is_unanswered, lacking_of, news_of, passed_then, run_of, said_then, standing_at, stands, stood_of, told_still, told_then, unanswered_of};
+ghost use Rattle.run_watches.specs.Gaps.{GivesUpDue, LooksAt, TellsIfDone, TellsStanding, after_joins, closed_run, due_count, due_of, gap_next, has_come, is_unanswered, joined_run, lacking_of, news_of, run_count, run_of, said_then, standing_at, stands, stood_of, told_still, told_then, unanswered_of};
 
 use crate::gap_news::{GapChange, GapNews, MissingRun, write_gap_news};
 use crate::gap_rule::GapRule;
@@ -38,6 +39,13 @@ pub struct DueGap {
     pub number: u64,
     /// The first message after them.
     pub next: u64,
+}
+
+/// How many messages are to be given up.
+fn due_count(due: &DueGap) -> u64
+    ensures { result ≡ due_count due.now }
+{
+    due.next.saturating_sub(due.number)
 }
 
 /// The gap that stands at a look that finds this one. At the look before the venue's lines had sent
@@ -165,6 +173,16 @@ fn said_then(has_told: bool, unanswered: Option<MissingRun>) -> bool
     }
 }
 
+/// How many messages these are; 0 where there are none.
+fn run_count(run: Option<MissingRun>) -> u64
+    ensures { result ≡ run_count run }
+{
+    match run {
+        Some(run) => run.count,
+        None => 0,
+    }
+}
+
 /// The first message after those that are missing and to be given up: the first one that is held,
 /// or where none is the one after all that is known of.
 fn gap_next(cursors: &ArbiterStatus, gap: &Request) -> u64
@@ -187,8 +205,10 @@ pub struct GapWatch {
     /// What was told to be lacking and hasn't come yet.
     told: Option<MissingRun>,
     has_told_unanswered: bool,
-    /// Up to this number all messages were given up, and none was taken in sequence.
-    passed: u64,
+    /// How many messages were given up where sessions were joined, up to the last look.
+    before_join: u64,
+    /// How many messages were given up.
+    given_up: u64,
 }
 
 impl GapWatch {
@@ -200,7 +220,8 @@ impl GapWatch {
           requests = 0;
           told = None;
           has_told_unanswered = false;
-          passed = 0;
+          before_join = 0;
+          given_up = 0;
         } }
     {
         GapWatch {
@@ -209,8 +230,16 @@ impl GapWatch {
             requests: 0,
             told: None,
             has_told_unanswered: false,
-            passed: 0,
+            before_join: 0,
+            given_up: 0,
         }
+    }
+
+    /// How many messages were given up.
+    pub fn given_up(&self) -> u64
+        ensures { result ≡ self.now.given_up }
+    {
+        self.given_up
     }
 
     /// Notes which gap stands at a look, and since when.
@@ -279,14 +308,14 @@ impl GapWatch {
 
     /// What is to be given up now of the gap that stands, if anything is.
     fn due(&self, rule: &GapRule, now_ms: u64, status: &VenueStatus) -> Option<DueGap>
-        ensures { result ≡ due_of rule.now self.now.passed (stood_of self.now.standing now_ms)
+        ensures { result ≡ due_of rule.now (stood_of self.now.standing now_ms)
             status.now.cursors status.now.gap }
     {
         let Some(gap) = &status.gap else {
             return None;
         };
         let stood_ms = stood_of(self.standing, now_ms);
-        if !rule.is_due(self.passed, status.cursors.front, stood_ms) {
+        if !rule.is_due(stood_ms) {
             return None;
         }
         Some(DueGap {
@@ -295,19 +324,15 @@ impl GapWatch {
         })
     }
 
-    /// Notes that these messages were given up, of which nothing more is to be told then: where
-    /// nothing was taken in sequence before them, nothing was before what comes next either.
+    /// Notes that these messages were given up, of which nothing more is to be told then.
     fn pass(&mut self, due: &DueGap)
         ensures { self.new ≡ record (self.old) {
           told = None;
-          passed = passed_then self.old.passed due.now;
+          given_up = shown (self.old.given_up + due_count due.now);
         } }
     {
         self.told = None;
-        let last_before = due.number.saturating_sub(1);
-        if last_before <= self.passed {
-            self.passed = due.next.saturating_sub(1);
-        }
+        self.given_up = self.given_up.saturating_add(due_count(due));
     }
 
     /// Gives up what is due, where `skip` does so, and says it then. `skip` goes on from a message
@@ -332,7 +357,7 @@ impl GapWatch {
             change: GapChange::GivenUp,
             run: MissingRun {
                 number: due.number,
-                count: due.next.saturating_sub(due.number),
+                count: due_count(due),
             },
         };
         write_gap_news(&news, errors);
@@ -361,8 +386,41 @@ impl GapWatch {
         self.give_up_due(&due, now_ms / 1_000, skip, errors);
     }
 
-    /// Looks at the venue, by the status that `status` returns: says what is new of its gap, and
-    /// gives up what is due of it, where `skip` does so.
+    /// What was given up since the last look where sessions were joined, if anything was.
+    fn joined(&self, rule: &GapRule, status: &VenueStatus) -> Option<MissingRun>
+        ensures { result ≡ joined_run rule.now self.now status.now }
+    {
+        if !rule.join || status.before_join <= self.before_join {
+            return None;
+        }
+        Some(MissingRun {
+            number: 1,
+            count: status.before_join - self.before_join,
+        })
+    }
+
+    /// Says what was given up since the last look where sessions were joined.
+    fn tell_joins<E: TextOut>(
+        &mut self,
+        rule: &GapRule,
+        now_ms: u64,
+        status: &VenueStatus,
+        errors: &mut E,
+    )
+        ensures watch { self.new ≡ after_joins rule.now self.old status.now }
+        ensures tells { SaysEach (record { adds = E.adds; failures = E.failures })
+            (gap_texts_if (now_ms / 1000) self.old.venue GapChange.GivenUp
+            (joined_run rule.now self.old status.now)) errors.old errors.new }
+    {
+        let joined = self.joined(rule, status);
+        self.say(now_ms / 1_000, GapChange::GivenUp, joined, errors);
+        self.before_join = status.before_join;
+        self.given_up = self.given_up.saturating_add(run_count(joined));
+    }
+
+    /// Looks at the venue, by the status that `status` returns: says what was given up where a
+    /// session was joined, and what is new of its gap, and gives up what is due of it, where `skip`
+    /// does so.
     pub fn look<S, K, E>(&mut self, rule: &GapRule, now_ms: u64, status: S, skip: K, errors: &mut E)
     where
         S: Fn(VenueId) -> Option<VenueStatus>,
@@ -379,6 +437,7 @@ impl GapWatch {
             return;
         };
         self.stand(now_ms, &status);
+        self.tell_joins(rule, now_ms, &status, errors);
         self.tell(now_ms, &status, errors);
         self.give_up(rule, now_ms, &status, skip, errors);
     }

@@ -43,6 +43,14 @@ impl GapWatches {
         })
     }
 
+    /// How many messages of the venue at a place were given up; 0 where there is none.
+    pub(crate) fn given_up(&self, place: usize) -> u64 {
+        match self.gaps.get(place) {
+            Some(gap) => gap.given_up(),
+            None => 0,
+        }
+    }
+
     /// Looks at the venue at a place, if there is one.
     fn look_at<S, K, E>(
         &mut self,

@@ -1,6 +1,6 @@
 //! What is counted of a venue and its lines, from one moment to another.
 
-use run_metrics::VenueFigures;
+use run_metrics::{LineState, VenueFigures};
 use venue_lines::{LineCounts, VenueStatus};
 
 /// The refusals of a datagram have numbers below this.
@@ -29,12 +29,35 @@ fn dropped_since(now: Option<u64>, earlier: Option<u64>) -> Option<u64> {
     }
 }
 
+/// What is known of a line, with what was counted since the earlier state.
+fn state_since(now: &LineState, earlier: &LineState) -> LineState {
+    let mut since = *now;
+    since.dropped = dropped_since(now.dropped, earlier.dropped);
+    since.foreign = now.foreign.saturating_sub(earlier.foreign);
+    since.withheld = now.withheld.saturating_sub(earlier.withheld);
+    since.unsent = now.unsent.saturating_sub(earlier.unsent);
+    since.held_back = now.held_back.saturating_sub(earlier.held_back);
+    since
+}
+
+/// What is counted of a line beside what it has brought, each with its name.
+pub fn state_counts(state: &LineState) -> [(&'static str, u64); 5] {
+    [
+        ("dropped", state.dropped.unwrap_or(0)),
+        ("withheld", state.withheld),
+        ("other_senders", state.foreign),
+        ("unsent", state.unsent),
+        ("held_back", state.held_back),
+    ]
+}
+
 /// The status of a venue, with what was counted since the earlier one.
 fn status_since(now: &VenueStatus, earlier: &VenueStatus) -> VenueStatus {
     let mut since = *now;
     since.requests = now.requests.saturating_sub(earlier.requests);
     since.a = line_since(&now.a, &earlier.a);
     since.b = line_since(&now.b, &earlier.b);
+    since.recovery = line_since(&now.recovery, &earlier.recovery);
     since
 }
 
@@ -43,8 +66,13 @@ pub fn figures_since(now: &VenueFigures, earlier: Option<&VenueFigures>) -> Venu
     let mut since = *now;
     if let Some(earlier) = earlier {
         since.status = status_since(&now.status, &earlier.status);
-        since.a.dropped = dropped_since(now.a.dropped, earlier.a.dropped);
-        since.b.dropped = dropped_since(now.b.dropped, earlier.b.dropped);
+        since.given_up = now.given_up.saturating_sub(earlier.given_up);
+        since.a = state_since(&now.a, &earlier.a);
+        since.b = state_since(&now.b, &earlier.b);
+        since.recovery = match (&now.recovery, &earlier.recovery) {
+            (Some(now), Some(earlier)) => Some(state_since(now, earlier)),
+            _ => now.recovery,
+        };
     }
     since
 }

@@ -2,7 +2,7 @@
 ghost use Rattle.std.specs.Prelude.{◌≡◌, decimal};
 ghost use Rattle.feed_text.specs.Devices.{Writing};
 ghost use Rattle.feed_text.specs.StandardError.{Says, SaysEach};
-ghost use Rattle.run_watches.specs.News.{change_text, change_texts, counted_text, counted_texts, letter_text, line_end_texts, line_name_texts, news_texts, session_of_texts, ended_session_texts, time_texts, total_texts, verb_text};
+ghost use Rattle.run_watches.specs.News.{change_text, change_texts, counted_text, counted_texts, letter_text, line_end_texts, line_name_texts, ms_texts, news_texts, rest_texts, named_session_texts, time_texts, total_texts, verb_text};
 
 use feed_text::{TextOut, write_number, write_stderr};
 use feed_types::{LineId, VenueId};
@@ -25,6 +25,20 @@ pub enum LineChange {
     Passed,
     /// It passed over a datagram of a sender whose datagrams aren't taken, for the first time.
     Foreign,
+    /// It withheld a datagram since it isn't plausible, for the first time.
+    Withheld,
+    /// It held a request back, for the first time.
+    HeldBack,
+    /// It brought this session, which isn't its venue's.
+    Stranger([u8; 10]),
+    /// It has brought nothing for this many milliseconds.
+    Silent(u64),
+    /// The same, and its address is that of a group that isn't joined.
+    Unjoined(u64),
+    /// It has brought something after a silence.
+    Heard,
+    /// It has never brought a datagram.
+    Unheard,
 }
 
 /// What has happened to a line, and when.
@@ -51,6 +65,10 @@ pub enum LineCounted {
     Foreign,
     /// Datagrams that the system dropped at its socket.
     Dropped,
+    /// Datagrams that were withheld since they aren't plausible.
+    Withheld,
+    /// Requests that weren't sent since too many were.
+    HeldBack,
 }
 
 /// How much was counted of a line.
@@ -77,7 +95,8 @@ fn letter(line: LineId) -> &'static str
     }
 }
 
-/// The end of the line about what has happened, up to a session's name where that is told.
+/// The end of the line about what has happened, up to a session's name or a number where that is
+/// told.
 fn change_end(change: LineChange) -> &'static str
     ensures { result.now ≡ change_text change }
 {
@@ -89,6 +108,12 @@ fn change_end(change: LineChange) -> &'static str
         LineChange::Unsent => " can't send requests\n",
         LineChange::Passed => " goes on after an end of session\n",
         LineChange::Foreign => " passes over datagrams of senders not in --from\n",
+        LineChange::Withheld => " withholds datagrams that aren't plausible\n",
+        LineChange::HeldBack => " holds requests back\n",
+        LineChange::Stranger(_) => " brings session ",
+        LineChange::Silent(_) | LineChange::Unjoined(_) => " has brought nothing for ",
+        LineChange::Heard => " is heard again\n",
+        LineChange::Unheard => " had no datagram\n",
     }
 }
 
@@ -101,6 +126,8 @@ fn verb(counted: LineCounted) -> &'static str
         LineCounted::Passed => " went on after ",
         LineCounted::Foreign => " passed over ",
         LineCounted::Dropped => " lost ",
+        LineCounted::Withheld => " withheld ",
+        LineCounted::HeldBack => " held back ",
     }
 }
 
@@ -109,14 +136,16 @@ fn counted_end(counted: LineCounted, count: u64) -> &'static str
     ensures { result.now ≡ counted_text counted count }
 {
     match counted {
-        LineCounted::Unsent if count == 1 => " request\n",
-        LineCounted::Unsent => " requests\n",
+        LineCounted::Unsent | LineCounted::HeldBack if count == 1 => " request\n",
+        LineCounted::Unsent | LineCounted::HeldBack => " requests\n",
         LineCounted::Passed if count == 1 => " end of session\n",
         LineCounted::Passed => " ends of session\n",
         LineCounted::Foreign if count == 1 => " datagram of senders not in --from\n",
         LineCounted::Foreign => " datagrams of senders not in --from\n",
         LineCounted::Dropped if count == 1 => " datagram that the system dropped\n",
         LineCounted::Dropped => " datagrams that the system dropped\n",
+        LineCounted::Withheld if count == 1 => " datagram that isn't plausible\n",
+        LineCounted::Withheld => " datagrams that aren't plausible\n",
     }
 }
 
@@ -139,22 +168,37 @@ fn write_line_name<E: TextOut>(venue: VenueId, line: LineId, errors: &mut E)
     write_stderr(letter(line), errors);
 }
 
-/// Writes the name of a session, and ends the line.
-fn write_session<E: TextOut>(session: &[u8; 10], errors: &mut E)
+/// Writes the name of a session, and then this text.
+fn write_session<E: TextOut>(session: &[u8; 10], end: &str, errors: &mut E)
     ensures { SaysEach (record { adds = E.adds; failures = E.failures })
-        (ended_session_texts session.now) errors.old errors.new }
+        (named_session_texts session.now end.now) errors.old errors.new }
 {
     write_session_name(session, errors);
-    write_stderr("\n", errors);
+    write_stderr(end, errors);
 }
 
-/// Writes the session's name, where that is told.
-fn write_session_if<E: TextOut>(change: LineChange, errors: &mut E)
+/// Writes how many milliseconds they are, and then this text.
+fn write_ms<E: TextOut>(ms: u64, end: &str, errors: &mut E)
     ensures { SaysEach (record { adds = E.adds; failures = E.failures })
-        (session_of_texts change) errors.old errors.new }
+        (ms_texts ms end.now) errors.old errors.new }
 {
-    if let LineChange::EndedWith(session) = change {
-        write_session(&session, errors);
+    write_number(ms, errors);
+    write_stderr(end, errors);
+}
+
+/// Writes the session's name, or the number, and ends the line, where that is told.
+fn write_rest<E: TextOut>(change: LineChange, errors: &mut E)
+    ensures { SaysEach (record { adds = E.adds; failures = E.failures })
+        (rest_texts change) errors.old errors.new }
+{
+    match change {
+        LineChange::EndedWith(session) => write_session(&session, "\n", errors),
+        LineChange::Stranger(session) => {
+            write_session(&session, ", which isn't its venue's\n", errors)
+        }
+        LineChange::Silent(ms) => write_ms(ms, " ms\n", errors),
+        LineChange::Unjoined(ms) => write_ms(ms, " ms, its group isn't joined\n", errors),
+        _ => {}
     }
 }
 
@@ -164,7 +208,7 @@ fn write_change<E: TextOut>(change: LineChange, errors: &mut E)
         (change_texts change) errors.old errors.new }
 {
     write_stderr(change_end(change), errors);
-    write_session_if(change, errors);
+    write_rest(change, errors);
 }
 
 /// Writes what has happened to a line.

@@ -1,14 +1,18 @@
 //! The lines of a run as the thread beside it sees them: what is news of them, and what was
 //! counted.
-ghost use Rattle.std.specs.Prelude.{◌≡◌, ◌∷◌, [], Bool, IfSome, false, flat_map, is_some, map};
+ghost use Rattle.std.specs.Prelude.{◌≡◌, ◌∷◌, [], Bool, IfSome, false, flat_map, is_some, map, true};
 ghost use Rattle.feed_text.specs.Devices.{Writing};
 ghost use Rattle.feed_text.specs.StandardError.{SaysEach};
-ghost use Rattle.run_watches.specs.News.{SaysTotals, total_if, total_texts};
+ghost use Rattle.run_watches.specs.News.{SaysNotes, SaysTotals, line_end_texts, stranger_note, told_if, total_if, total_texts, unheard_note};
 ghost use Rattle.run_watches.specs.RunLines.{watched, watched_lines};
 ghost use Rattle.run_watches.specs.RunNews.{IsNewsOfLine, IsNewsOfLines, IsTold, SaysNews};
 
 use crate::drop_table::DropTable;
-use crate::line_news::{LineChange, LineCounted, LineNews, LineTotal, write_news, write_total};
+use crate::line_news::{
+    LineChange, LineCounted, LineNews, LineTotal, write_line_end, write_news, write_total,
+};
+use crate::line_silence::{LineSilence, Silence};
+use crate::moment::Moment;
 use crate::socket_tables::SocketTables;
 use feed_text::TextOut;
 use feed_types::{LineId, VenueId};
@@ -28,16 +32,22 @@ pub struct LineWatch {
     has_said_unsent: bool,
     has_said_passed: bool,
     has_said_foreign: bool,
+    has_said_withheld: bool,
+    has_said_held_back: bool,
+    has_said_stranger: bool,
     has_said_end: bool,
+    silence: LineSilence,
 }
 
 impl LineWatch {
-    /// A line of which nothing was said yet.
+    /// A line of which nothing was said yet. Once it has brought nothing for `silent_after`
+    /// milliseconds that is said, of lines A and B.
     pub fn new(
         venue: VenueId,
         line: LineId,
         progress: LineProgress,
         address: Option<SocketAddr>,
+        silent_after: Option<u32>,
     ) -> LineWatch
         ensures { watched result ≡ (venue, line) }
     {
@@ -49,7 +59,11 @@ impl LineWatch {
             has_said_unsent: false,
             has_said_passed: false,
             has_said_foreign: false,
+            has_said_withheld: false,
+            has_said_held_back: false,
+            has_said_stranger: false,
             has_said_end: false,
+            silence: LineSilence::of(line, silent_after),
         }
     }
 
@@ -102,6 +116,73 @@ impl LineWatch {
         }
         self.has_said_foreign = true;
         Some(LineChange::Foreign)
+    }
+
+    /// That a datagram was withheld, where that is told and wasn't said yet.
+    fn new_withheld(&mut self, tells_more: bool) -> Option<LineChange>
+        ensures line { watched self.new ≡ watched self.old }
+        ensures told { IfSome result (IsTold tells_more) }
+    {
+        if !tells_more || self.has_said_withheld || self.progress.withheld() == 0 {
+            return None;
+        }
+        self.has_said_withheld = true;
+        Some(LineChange::Withheld)
+    }
+
+    /// That a request was held back, where that is told and wasn't said yet.
+    fn new_held_back(&mut self, tells_more: bool) -> Option<LineChange>
+        ensures line { watched self.new ≡ watched self.old }
+        ensures told { IfSome result (IsTold tells_more) }
+    {
+        if !tells_more || self.has_said_held_back || self.progress.held_back() == 0 {
+            return None;
+        }
+        self.has_said_held_back = true;
+        Some(LineChange::HeldBack)
+    }
+
+    /// Which session it brought that isn't its venue's, where that is told and wasn't said yet.
+    fn new_stranger(&mut self, tells_more: bool) -> Option<LineChange>
+        ensures line { watched self.new ≡ watched self.old }
+        ensures told { IfSome result (IsTold tells_more) }
+    {
+        if !tells_more || self.has_said_stranger {
+            return None;
+        }
+        let session = self.progress.stranger()?;
+        self.has_said_stranger = true;
+        Some(LineChange::Stranger(session))
+    }
+
+    /// Whether its address is that of a group that isn't joined, by the system's tables.
+    fn is_unjoined(&self, tables: Option<&SocketTables>) -> bool {
+        match (tables, self.address) {
+            (Some(tables), Some(address)) => tables.groups().lacks(address),
+            _ => false,
+        }
+    }
+
+    /// What is new of its silence, where that is told and the line hasn't ended.
+    fn new_silence(
+        &mut self,
+        moment: Moment,
+        tells_more: bool,
+        tables: Option<&SocketTables>,
+    ) -> Option<LineChange>
+        ensures line { watched self.new ≡ watched self.old }
+        ensures told { IfSome result (IsTold tells_more) }
+    {
+        let silence = self.silence.look(moment, self.progress.heard_ms());
+        if !tells_more || self.has_said_end {
+            return None;
+        }
+        match silence {
+            Some(Silence::Begun(ms)) if self.is_unjoined(tables) => Some(LineChange::Unjoined(ms)),
+            Some(Silence::Begun(ms)) => Some(LineChange::Silent(ms)),
+            Some(Silence::Over) => Some(LineChange::Heard),
+            None => None,
+        }
     }
 
     /// How the line has ended, if it has, where that wasn't said yet.
@@ -171,21 +252,50 @@ impl LineWatch {
         self.write_change(second, tells_more, session, errors);
     }
 
-    /// Writes what is new of the line, and where more is told with which session it ended.
-    fn write_news<E: TextOut>(&mut self, second: u64, tells_more: bool, errors: &mut E)
+    /// Writes the one thing that has happened to the line, and then the other.
+    fn write_both<E: TextOut>(
+        &self,
+        second: u64,
+        tells_more: bool,
+        changes: (Option<LineChange>, Option<LineChange>),
+        errors: &mut E,
+    )
+        requires first { IfSome changes.0 (IsTold tells_more) }
+        requires last { IfSome changes.1 (IsTold tells_more) }
+        ensures { SaysNews (record { adds = E.adds; failures = E.failures })
+            (IsNewsOfLine tells_more (watched self.now)) errors.old errors.new }
+    {
+        let (first, last) = changes;
+        self.write_change(second, tells_more, first, errors);
+        self.write_change(second, tells_more, last, errors);
+    }
+
+    /// Writes what is new of the line, and where more is told with which session it ended, which
+    /// other session it brought, what it held back, and whether it is silent. The system has these
+    /// tables.
+    fn write_news<E: TextOut>(
+        &mut self,
+        moment: Moment,
+        tells_more: bool,
+        tables: Option<&SocketTables>,
+        errors: &mut E,
+    )
         ensures line { watched self.new ≡ watched self.old }
         ensures news { SaysNews (record { adds = E.adds; failures = E.failures })
             (IsNewsOfLine tells_more (watched self.old)) errors.old errors.new }
     {
+        let second = moment.second();
         // A line ends after all that it has counted, and its end is looked at first, so that
         // nothing is said after it.
         let end = self.new_end();
-        let unsent = self.new_unsent();
-        let passed = self.new_passed();
-        let foreign = self.new_foreign();
-        self.write_change(second, tells_more, unsent, errors);
-        self.write_change(second, tells_more, passed, errors);
-        self.write_change(second, tells_more, foreign, errors);
+        let requests = (self.new_unsent(), self.new_held_back(tells_more));
+        let passed = (self.new_passed(), self.new_foreign());
+        let refused = (self.new_stranger(tells_more), self.new_withheld(tells_more));
+        let silence = self.new_silence(moment, tells_more, tables);
+        self.write_both(second, tells_more, requests, errors);
+        self.write_both(second, tells_more, passed, errors);
+        self.write_both(second, tells_more, refused, errors);
+        self.write_change(second, tells_more, silence, errors);
         self.write_end(second, tells_more, end, errors);
     }
 
@@ -238,23 +348,89 @@ impl LineWatch {
         LineState {
             dropped: self.dropped(drops),
             end: self.cause(),
+            heard: self.silence.heard(),
+            foreign: self.progress.foreign(),
+            withheld: self.progress.withheld(),
+            unsent: self.progress.unsent(),
+            held_back: self.progress.held_back(),
         }
     }
 
-    /// Writes what was counted of the line, and where it is looked for what the system dropped.
+    /// Writes which session it brought that isn't its venue's, if there was one.
+    fn write_stranger<E: TextOut>(&self, stranger: Option<[u8; 10]>, errors: &mut E)
+        ensures { SaysEach (record { adds = E.adds; failures = E.failures })
+            (flat_map (line_end_texts (watched self.now)) (stranger_note stranger))
+            errors.old errors.new }
+    {
+        if let Some(session) = stranger {
+            write_line_end(self.venue, self.line, LineChange::Stranger(session), errors);
+        }
+    }
+
+    /// Writes that it never brought a datagram, where that is so.
+    fn write_unheard<E: TextOut>(&self, unheard: bool, errors: &mut E)
+        ensures { SaysEach (record { adds = E.adds; failures = E.failures })
+            (flat_map (line_end_texts (watched self.now)) (unheard_note unheard))
+            errors.old errors.new }
+    {
+        if unheard {
+            write_line_end(self.venue, self.line, LineChange::Unheard, errors);
+        }
+    }
+
+    /// Whether it never brought a datagram, as lines A and B are to.
+    fn is_unheard(&self) -> bool {
+        self.line != LineId::Recovery && self.progress.heard_ms().is_none()
+    }
+
+    /// Writes what else there is to note of the line at the end.
+    fn write_all_notes<E: TextOut>(&self, errors: &mut E)
+        ensures { SaysNotes (record { adds = E.adds; failures = E.failures })
+            true (watched self.now) errors.old errors.new }
+    {
+        self.write_stranger(self.progress.stranger(), errors);
+        self.write_unheard(self.is_unheard(), errors);
+    }
+
+    /// Writes what else there is to note of the line at the end, where more is told.
+    fn write_notes<E: TextOut>(&self, tells_more: bool, errors: &mut E)
+        ensures { SaysNotes (record { adds = E.adds; failures = E.failures })
+            tells_more (watched self.now) errors.old errors.new }
+    {
+        if !tells_more {
+            return;
+        }
+        self.write_all_notes(errors);
+    }
+
+    /// Writes what was counted of the line, and where it is looked for what the system dropped, and
+    /// what else there is to note of it.
     fn write_totals<E: TextOut>(&self, drops: Option<&DropTable>, errors: &mut E)
         ensures { SaysTotals (record { adds = E.adds; failures = E.failures })
             (is_some drops.entry) (watched self.now ∷ []) errors.old errors.new }
     {
+        let tells_more = drops.is_some();
+        let withheld = told_count(tells_more, self.progress.withheld());
+        let held_back = told_count(tells_more, self.progress.held_back());
         self.write_total(LineCounted::Unsent, self.progress.unsent(), errors);
         self.write_total(LineCounted::Passed, self.progress.passed(), errors);
         self.write_total(LineCounted::Foreign, self.progress.foreign(), errors);
+        self.write_total(LineCounted::Withheld, withheld, errors);
+        self.write_total(LineCounted::HeldBack, held_back, errors);
         self.write_total(LineCounted::Dropped, self.dropped_count(drops), errors);
+        self.write_notes(tells_more, errors);
     }
 }
 
-/// The lines of a run, in the order of the settings, and the system's tables of their sockets,
-/// where more is told of the lines.
+/// A count where more is told; else 0.
+fn told_count(tells_more: bool, count: u64) -> u64
+    ensures { result ≡ told_if tells_more count }
+{
+    if tells_more { count } else { 0 }
+}
+
+/// The lines of a run, in the order of the settings, and the system's tables of their sockets and
+/// groups, where more is told of the lines.
 #[derive(Drop)]
 pub struct LineWatches {
     lines: Vec<LineWatch>,
@@ -262,8 +438,9 @@ pub struct LineWatches {
 }
 
 impl LineWatches {
-    /// These lines. Where there are tables it is told with which sessions the lines ended, and how
-    /// many datagrams the system dropped.
+    /// These lines. Where there are tables it is told with which sessions the lines ended, which
+    /// others they brought, which lines are silent, what they held back, and how many datagrams the
+    /// system dropped.
     pub fn new(lines: Vec<LineWatch>, tables: Option<SocketTables>) -> LineWatches
         ensures { result ≡ record { lines = lines; tables = tables } }
     {
@@ -280,29 +457,33 @@ impl LineWatches {
         }
     }
 
-    /// What is known of a venue's line beside what it has brought.
-    fn state(&self, venue: VenueId, line: LineId, drops: Option<&DropTable>) -> LineState {
+    /// What is known of a venue's line beside what it has brought, if it is watched.
+    fn state(&self, venue: VenueId, line: LineId, drops: Option<&DropTable>) -> Option<LineState> {
         for watch in self.lines.as_slice() {
             if watch.venue == venue && watch.line == line {
-                return watch.state(drops);
+                return Some(watch.state(drops));
             }
         }
-        UNKNOWN_STATE
+        None
     }
 
-    /// What a venue that has this status has come to, with those requests alone that its lines have
-    /// sent, and what is known of these.
+    /// What a venue that has this status has come to, of which `given_up` messages were given up,
+    /// with those requests alone that its lines have sent, and what is known of these.
     pub(crate) fn figures(
         &self,
         venue: VenueId,
         status: Option<VenueStatus>,
+        given_up: u64,
         drops: Option<&DropTable>,
     ) -> Option<VenueFigures> {
+        let state = |line| self.state(venue, line, drops);
         Some(VenueFigures {
             venue,
             status: self.with_sent(venue, status)?,
-            a: self.state(venue, LineId::A, drops),
-            b: self.state(venue, LineId::B, drops),
+            given_up,
+            a: state(LineId::A).unwrap_or(UNKNOWN_STATE),
+            b: state(LineId::B).unwrap_or(UNKNOWN_STATE),
+            recovery: state(LineId::Recovery),
         })
     }
 
@@ -325,26 +506,27 @@ impl LineWatches {
     }
 
     /// Writes what is new of the line at a place, if there is one.
-    fn write_news_at<E: TextOut>(&mut self, place: usize, second: u64, errors: &mut E)
+    fn write_news_at<E: TextOut>(&mut self, place: usize, moment: Moment, errors: &mut E)
         ensures lines { watched_lines self.new ≡ watched_lines self.old }
         ensures news { SaysNews (record { adds = E.adds; failures = E.failures })
             (IsNewsOfLines (watched_lines self.old)) errors.old errors.new }
     {
         let tells_more = self.tables.is_some();
+        let tables = self.tables.as_ref();
         match self.lines.get_mut(place) {
-            Some(line) => line.write_news(second, tells_more, errors),
+            Some(line) => line.write_news(moment, tells_more, tables, errors),
             None => {}
         }
     }
 
-    /// Writes what is new of the lines, `second` seconds after the beginning.
-    pub fn write_news<E: TextOut>(&mut self, second: u64, errors: &mut E)
+    /// Writes what is new of the lines at this moment of the run.
+    pub fn write_news<E: TextOut>(&mut self, moment: Moment, errors: &mut E)
         ensures lines { watched_lines self.new ≡ watched_lines self.old }
         ensures news { SaysNews (record { adds = E.adds; failures = E.failures })
             (IsNewsOfLines (watched_lines self.old)) errors.old errors.new }
     {
         for place in 0..self.lines.len() {
-            self.write_news_at(place, second, errors);
+            self.write_news_at(place, moment, errors);
         }
     }
 

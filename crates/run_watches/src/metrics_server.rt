@@ -1,8 +1,10 @@
 //! The counts of a run, served to clients that ask for them by HTTP.
 
 use crate::drop_table::DropTable;
+use crate::gap_watches::GapWatches;
 use crate::line_watch::LineWatches;
 use crate::metrics_client::MetricsClient;
+use crate::output_watch::OutputWatch;
 use feed_types::{MAX_VENUES, VenueId};
 use run_metrics::{Reply, RunFigures, VenueFigures, answer};
 use std::alloc::{AllocError, Global};
@@ -50,11 +52,21 @@ pub struct MetricsServer {
     due_ms: u64,
 }
 
-/// The figures of the venues of these lines, at whose sockets the system has dropped this, and of
-/// which `status` returns what one has come to, or None where there is none.
+/// What is seen of a run that is served.
+#[derive(Clone, Copy)]
+pub(crate) struct RunSeen<'a> {
+    /// How many milliseconds it has gone on.
+    pub elapsed_ms: u64,
+    pub lines: &'a LineWatches,
+    pub gaps: &'a GapWatches,
+    pub output: &'a OutputWatch,
+}
+
+/// The figures of the venues of a run, at whose sockets the system has dropped this, and of which
+/// `status` returns what one has come to, or None where there is none.
 fn venues_by<S: Fn(VenueId) -> Option<VenueStatus>>(
     alloc: Global,
-    lines: &LineWatches,
+    seen: &RunSeen<'_>,
     drops: Option<&DropTable>,
     status: S,
 ) -> Result<Vec<VenueFigures>, AllocError>
@@ -63,39 +75,41 @@ fn venues_by<S: Fn(VenueId) -> Option<VenueStatus>>(
     let mut venues = Vec::new(alloc);
     for place in 0..MAX_VENUES {
         let venue = VenueId::at(place);
-        if let Some(figures) = lines.figures(venue, status(venue), drops) {
+        let given_up = seen.gaps.given_up(place);
+        if let Some(figures) = seen.lines.figures(venue, status(venue), given_up, drops) {
             venues.push(figures)?;
         }
     }
     Ok(venues)
 }
 
-/// How long a run has gone on, and how many changes of the national best were taken from it.
-#[derive(Clone, Copy, Debug)]
-pub struct RunProgress {
-    pub elapsed_ms: u64,
-    pub changes: u64,
+/// The figures of a run with these venues.
+fn run_figures<'a>(seen: &RunSeen<'_>, venues: &'a [VenueFigures]) -> RunFigures<'a> {
+    let rows = seen.output.rows();
+    RunFigures {
+        seconds: seen.elapsed_ms / 1_000,
+        changes: rows.taken(),
+        waiting: seen.output.waiting(),
+        printed: rows.printed(),
+        timed: rows.timed(),
+        latency: rows.latency(),
+        untaken: seen.output.untaken(),
+        venues,
+    }
 }
 
-/// The answer of a reply, of a run of these lines that has come so far, at whose sockets the system
-/// has dropped this.
+/// The answer of a reply, of a run at whose lines' sockets the system has dropped this.
 fn answer_by<S: Fn(VenueId) -> Option<VenueStatus>>(
     alloc: Global,
     reply: Reply,
-    progress: RunProgress,
-    lines: &LineWatches,
+    seen: &RunSeen<'_>,
     drops: Option<&DropTable>,
     status: S,
 ) -> Result<Vec<u8>, AllocError>
     requires { S.IsAlwaysCallable status }
 {
-    let venues = venues_by(alloc, lines, drops, status)?;
-    let figures = RunFigures {
-        seconds: progress.elapsed_ms / 1_000,
-        changes: progress.changes,
-        venues: venues.as_slice(),
-    };
-    answer(alloc, reply, &figures)
+    let venues = venues_by(alloc, seen, drops, status)?;
+    answer(alloc, reply, &run_figures(seen, venues.as_slice()))
 }
 
 impl MetricsServer {
@@ -130,7 +144,7 @@ impl MetricsServer {
     }
 
     /// Goes on with the client at a place.
-    fn go_on_at<S>(&mut self, place: usize, progress: RunProgress, lines: &LineWatches, status: S)
+    fn go_on_at<S>(&mut self, place: usize, seen: &RunSeen<'_>, status: S)
     where
         S: Fn(VenueId) -> Option<VenueStatus>,
         requires { S.IsAlwaysCallable status }
@@ -140,27 +154,27 @@ impl MetricsServer {
             return;
         };
         if let Some(reply) = client.read_request() {
-            let drops = self.drops.at(progress.elapsed_ms, lines);
-            client.give(answer_by(alloc, reply, progress, lines, drops, status));
+            let drops = self.drops.at(seen.elapsed_ms, seen.lines);
+            client.give(answer_by(alloc, reply, seen, drops, status));
         }
-        client.go_on(progress.elapsed_ms);
+        client.go_on(seen.elapsed_ms);
     }
 
     /// Looks at the clients, unless it has done so just before: takes new ones, reads what they
     /// ask, writes what they take, and lets those go that have gone or whose time is over. `status`
-    /// returns what a venue of these lines has come to, or None where there is none.
-    pub(crate) fn serve<S>(&mut self, progress: RunProgress, lines: &LineWatches, status: S)
+    /// returns what a venue of the run has come to, or None where there is none.
+    pub(crate) fn serve<S>(&mut self, seen: &RunSeen<'_>, status: S)
     where
         S: Fn(VenueId) -> Option<VenueStatus>,
         requires { S.IsAlwaysCallable status }
     {
-        if progress.elapsed_ms < self.due_ms {
+        if seen.elapsed_ms < self.due_ms {
             return;
         }
-        self.due_ms = progress.elapsed_ms.saturating_add(LOOK_MS);
-        self.accept(progress.elapsed_ms);
+        self.due_ms = seen.elapsed_ms.saturating_add(LOOK_MS);
+        self.accept(seen.elapsed_ms);
         for place in 0..self.clients.len() {
-            self.go_on_at(place, progress, lines, &status);
+            self.go_on_at(place, seen, &status);
         }
         self.clients.retain(|client| !client.is_gone());
     }

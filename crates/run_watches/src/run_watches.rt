@@ -8,40 +8,45 @@ use crate::drop_table::DropTable;
 use crate::gap_watches::GapWatches;
 use crate::line_watch::LineWatches;
 use crate::listen_counts::ListenCounts;
-use crate::metrics_server::{MetricsServer, RunProgress};
+use crate::metrics_server::{MetricsServer, RunSeen};
 use crate::moment::Moment;
+use crate::output_watch::OutputWatch;
 use crate::venue_statuses::{AllFigures, NO_FIGURES, VenueStatuses, statuses_by};
 use feed_text::TextOut;
 use feed_types::{MAX_VENUES, VenueId};
 use venue_lines::VenueStatus;
 
-/// The lines of a run, the gaps of its venues, what is counted, if anything is, and to whom that is
-/// served, if to anyone.
+/// The lines of a run, the gaps of its venues, what is printed of it, what is counted, if anything
+/// is, and to whom that is served, if to anyone.
 #[derive(Drop)]
 pub struct RunWatches {
     lines: LineWatches,
     gaps: GapWatches,
+    output: OutputWatch,
     counts: Option<ListenCounts>,
     metrics: Option<MetricsServer>,
 }
 
 impl RunWatches {
-    /// These lines, gaps and counts, and this server.
+    /// These lines, gaps, output and counts, and this server.
     pub fn new(
         lines: LineWatches,
         gaps: GapWatches,
+        output: OutputWatch,
         counts: Option<ListenCounts>,
         metrics: Option<MetricsServer>,
     ) -> RunWatches
         ensures { watched_run result ≡ record {
           lines = watched_lines lines;
           gaps = watched_gaps gaps;
+          follows = output.follows;
           counted = is_some counts;
         } }
     {
         RunWatches {
             lines,
             gaps,
+            output,
             counts,
             metrics,
         }
@@ -55,13 +60,14 @@ impl RunWatches {
         }
     }
 
-    /// Writes what is new of the lines, `second` seconds after the beginning.
-    pub fn write_news<E: TextOut>(&mut self, second: u64, errors: &mut E)
+    /// Writes what is new of what is printed, and then of the lines, at this moment of the run.
+    pub fn write_news<E: TextOut>(&mut self, moment: Moment, errors: &mut E)
         ensures run { watched_run self.new ≡ watched_run self.old }
         ensures news { SaysRunNews (record { adds = E.adds; failures = E.failures })
             (watched_run self.old) errors.old errors.new }
     {
-        self.lines.write_news(second, errors);
+        self.output.write_news(moment.elapsed_ms, errors);
+        self.lines.write_news(moment, errors);
     }
 
     /// Writes the counts of each venue, where they are due. `status` returns what a venue has come
@@ -76,27 +82,36 @@ impl RunWatches {
             (watched_run self.old) errors.old errors.new }
     {
         let lines = &self.lines;
+        let gaps = &self.gaps;
         let elapsed_ms = moment.elapsed_ms;
         if let Some(counts) = &mut self.counts {
             if counts.due_ms() <= elapsed_ms {
                 let drops = lines.drops();
-                let figures = |venue| lines.figures(venue, status(venue), drops.as_ref());
+                let figures = |venue: VenueId| {
+                    let given_up = gaps.given_up(venue.index());
+                    lines.figures(venue, status(venue), given_up, drops.as_ref())
+                };
                 counts.write_period(moment, figures, errors);
             }
         }
     }
 
-    /// Serves the metrics of a run that has come so far to who asks for them, if to anyone.
+    /// Serves the metrics of a run that has gone on for so long to who asks for them, if to anyone.
     /// `status` returns what a venue has come to, or None where there is none.
-    pub fn serve_metrics<S>(&mut self, progress: RunProgress, status: S)
+    pub fn serve_metrics<S>(&mut self, elapsed_ms: u64, status: S)
     where
         S: Fn(VenueId) -> Option<VenueStatus>,
         requires { S.IsAlwaysCallable status }
         ensures { watched_run self.new ≡ watched_run self.old }
     {
-        let lines = &self.lines;
         if let Some(metrics) = &mut self.metrics {
-            metrics.serve(progress, lines, status);
+            let seen = RunSeen {
+                elapsed_ms,
+                lines: &self.lines,
+                gaps: &self.gaps,
+                output: &self.output,
+            };
+            metrics.serve(&seen, status);
         }
     }
 
@@ -131,9 +146,12 @@ impl RunWatches {
     fn figures(&self, statuses: &VenueStatuses, drops: Option<&DropTable>) -> AllFigures {
         let mut figures = NO_FIGURES;
         for place in 0..MAX_VENUES {
-            figures[place] = self
-                .lines
-                .figures(VenueId::at(place), statuses[place], drops);
+            figures[place] = self.lines.figures(
+                VenueId::at(place),
+                statuses[place],
+                self.gaps.given_up(place),
+                drops,
+            );
         }
         figures
     }

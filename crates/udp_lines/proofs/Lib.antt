@@ -1,1 +1,3 @@
+pub mod Judging
+pub mod Meeting
 pub mod Seeing

@@ -1,13 +1,11 @@
--- What is handed on of what a socket brings.
+-- What is heard of what a socket brings.
 use Rattle.std.specs.Prelude.{ℕ, ◌≤◌, List, length, take, Option, Some, None, Result, Ok, Err}
 use Rattle.std.specs.declared.net.socket_addr.SocketAddr.{SocketAddr}
 use Rattle.venue_lines.specs.declared.source.SourceFault.{SourceFault}
-use Rattle.venue_lines.specs.declared.source.SourceFault.TheVariants.{NoMemory, Device, TooManyTurns}
-use Rattle.venue_lines.specs.Datagrams.{bytes_of}
 use Rattle.run_settings.specs.Senders.{IsTakenFrom}
 use Rattle.run_settings.specs.declared.sender.Sender.{Sender}
-use Rattle.udp_lines.specs.declared.datagram_in.Received.{Received}
-use Rattle.udp_lines.specs.declared.datagram_in.Received.TheVariants.{Taken, Foreign, Failed, NoneYet}
+use Rattle.udp_lines.specs.declared.line_socket.Received.{Received}
+use Rattle.udp_lines.specs.declared.line_socket.Received.TheVariants.{Taken, Foreign, Failed, NoneYet}
 
 -- Calls that brought none, and then one that brought a datagram of these bytes from this address.
 pub record HearsFrom {S : Type 0} (brings : S → SocketAddr → List ℕ → S → Type 0)
@@ -35,18 +33,15 @@ IsReceived brings waits buffer before (Ok (Some (count, sender))) after =
 IsReceived brings waits buffer before (Ok None) after = waits before after
 IsReceived brings waits buffer before (Err fault) after = waits before after
 
--- What is handed on, by cases on it: a datagram that the socket has brought from one of the
--- senders; or it has brought one from elsewhere, or one of theirs for which memory was refused, or
--- none.
-abbrev pub IsHandedOn : {S : Type 0} → (S → SocketAddr → List ℕ → S → Type 0)
-    → (S → S → Type 0) → Option (List Sender) → S → Received → S → Type 0
-IsHandedOn brings waits senders before (Taken datagram) after =
-    HearsOf brings waits (IsTakenFrom senders) before (bytes_of datagram) after
-IsHandedOn brings waits senders before Foreign after =
+-- The same of a line's socket: a datagram of one of the senders is at the front of the buffer; or
+-- the socket has brought one from elsewhere, or none.
+abbrev pub IsHandedOver : {S : Type 0} → (S → SocketAddr → List ℕ → S → Type 0)
+    → (S → S → Type 0) → Option (List Sender) → S → Received → (buffer : List ℕ) → S → Type 0
+IsHandedOver brings waits senders before (Taken count) buffer after =
+    (count ≤ length buffer)
+    × HearsOf brings waits (IsTakenFrom senders) before (take count buffer) after
+IsHandedOver brings waits senders before Foreign buffer after =
     (bytes : List ℕ)
     × HearsOf brings waits (λ sender. IsTakenFrom senders sender → ⊥) before bytes after
-IsHandedOn brings waits senders before (Failed NoMemory) after =
-    (bytes : List ℕ) × HearsOf brings waits (IsTakenFrom senders) before bytes after
-IsHandedOn brings waits senders before (Failed Device) after = waits before after
-IsHandedOn brings waits senders before (Failed TooManyTurns) after = waits before after
-IsHandedOn brings waits senders before NoneYet after = waits before after
+IsHandedOver brings waits senders before (Failed fault) buffer after = waits before after
+IsHandedOver brings waits senders before NoneYet buffer after = waits before after

@@ -1,16 +1,23 @@
 -- A line that is received by UDP, as contracts see it.
-use Rattle.std.specs.Prelude.{◌≡◌, ◌⊎◌, ℕ, ◌==◌, ◌&&◌, not, Bool, true, false, IsTrue, List, Option, Some, None, is_some}
-use Rattle.mold_packet.specs.Content.{Content, Spells}
-use Rattle.mold_packet.specs.declared.packet.Kind.TheVariants.{End}
+use Rattle.std.specs.Prelude.{◌≡◌, ◌⊎◌, ℕ, ◌==◌, ◌&&◌, not, Bool, true, false, IsTrue, List, [], ◌∷◌, ◌++◌, Option, Some, None, Result, Ok, is_some}
+use Rattle.std.specs.declared.net.socket_addr.SocketAddr.{SocketAddr}
+use Rattle.udp_lines.specs.declared.intake.Intake.{Intake}
+use Rattle.run_settings.specs.Senders.{senders_of}
+use Rattle.venue_lines.specs.declared.datagram.Datagram.{Datagram}
+use Rattle.venue_lines.specs.declared.source.SourceFault.{SourceFault}
+use Rattle.venue_lines.specs.Datagrams.{bytes_of}
 use Rattle.run_settings.specs.declared.end_rule.EndRule.{EndRule}
 use Rattle.run_settings.specs.declared.sender.Sender.{Sender}
 use Rattle.run_settings.specs.declared.end_rule.EndRule.TheVariants.{AnySession, OwnSession, NoSession}
+use Rattle.udp_lines.specs.EndsOfSessions.{SpellsEndOf}
+use Rattle.udp_lines.specs.Brought.{HasMet, Kept, SortingRule}
 
 -- the venue, its session, which ends of session end the line, the senders whose datagrams it
 -- brings, where any are named, how many it may still read, if there is any limit, whether its
 -- socket has failed, whether an end that was its last datagram has ended it, or its time, and the
--- session of such an end
-pub record UdpLineState : Type 0 where
+-- session of such an end; the most that a number may be ahead, if that is asked; the socket, what
+-- the line keeps of what that has brought, and the datagram that is there for the next call
+pub record UdpLineState (S : Type 0) : Type 0 where
   pub venue : ℕ
   pub session : List ℕ
   pub rule : EndRule
@@ -19,6 +26,59 @@ pub record UdpLineState : Type 0 where
   pub failed : Bool
   pub ended : Bool
   pub ender : Option (List ℕ)
+  pub most_ahead : Option ℕ
+  pub socket : S
+  pub kept : Kept
+  pub waiting : List (List ℕ)
+
+-- by what the line sorts datagrams
+abbrev pub sorting_of : {S : Type 0} → UdpLineState S → SortingRule
+sorting_of line = record {
+  session = line.session;
+  end = line.rule;
+  most_ahead = line.most_ahead;
+  senders = line.senders;
+}
+
+-- the end that waits until another line has brought it
+abbrev pub held_in : Option Datagram → Option (List ℕ)
+held_in None = None
+held_in (Some datagram) = Some (bytes_of datagram)
+
+-- what a line keeps, by what it has
+abbrev pub kept_in : {S : Type 0} → Intake S → Kept
+kept_in intake = record {
+  held = held_in intake.held;
+  highest = intake.check.highest;
+  foreign = intake.foreign;
+  withheld = intake.withheld;
+}
+
+-- by what it sorts datagrams
+abbrev pub sorting_by : {S : Type 0} → Intake S → SortingRule
+sorting_by intake = record {
+  session = intake.check.session;
+  end = intake.check.end_rule;
+  most_ahead = intake.check.most_ahead;
+  senders = senders_of intake.line_socket.senders;
+}
+
+-- The datagrams of these bytes are what the line has brought from one state to the other: what its
+-- socket has brought meanwhile, and what was there before, but for what is there still, and what by
+-- its rule it has passed over, withheld or holds.
+pub record HasBrought {S : Type 0} (brings : S → SocketAddr → List ℕ → S → Type 0)
+    (waits : S → S → Type 0) (old : UdpLineState S) (bytes : List (List ℕ)) (new : UdpLineState S)
+    : Type 0 where
+  pub venue : new.venue ≡ old.venue
+  pub sorting : sorting_of new ≡ sorting_of old
+  pub handed_on : List (List ℕ)
+  pub met : HasMet brings waits (sorting_of old) old.socket old.kept handed_on new.socket new.kept
+  pub all : old.waiting ++ handed_on ≡ bytes ++ new.waiting
+
+-- the datagram that is there for the next call
+abbrev pub waiting_in : Option (Result Datagram SourceFault) → List (List ℕ)
+waiting_in (Some (Ok datagram)) = bytes_of datagram ∷ []
+waiting_in _ = []
 
 -- A line asks its socket for nothing once that has failed, so there is one failure at most.
 abbrev pub failures_of : Bool → ℕ
@@ -31,20 +91,12 @@ is_none_left None = false
 is_none_left (Some count) = count == 0
 
 -- the line has ended
-abbrev pub IsOver : UdpLineState → Type 0
+abbrev pub IsOver : {S : Type 0} → UdpLineState S → Type 0
 IsOver line = (line.failed ≡ true) ⊎ (is_none_left line.left ≡ true)
 
 -- the line has ended since it has read as many datagrams as it may
-abbrev pub is_read_out : UdpLineState → Bool
+abbrev pub is_read_out : {S : Type 0} → UdpLineState S → Bool
 is_read_out line = not line.failed && (not line.ended && is_none_left line.left)
-
--- the bytes are an end of this session
-pub record SpellsEndOf (session bytes : List ℕ) : Type 0 where
-  pub packet : Content
-  pub rest : List ℕ
-  pub spells : Spells bytes packet rest
-  pub is : packet.kind ≡ End
-  pub of : packet.session ≡ session
 
 -- the bytes are an end of session that by this rule ends a line of a venue's session
 abbrev pub EndsLine : EndRule → List ℕ → List ℕ → Type 0
@@ -54,7 +106,7 @@ EndsLine NoSession session bytes = ⊥
 
 -- Such an end, by these bytes, has ended the line: it reads nothing more, and which session's end
 -- that was is known.
-pub record IsEndedBy (bytes : List ℕ) (line : UdpLineState) : Type 0 where
+pub record IsEndedBy {S : Type 0} (bytes : List ℕ) (line : UdpLineState S) : Type 0 where
   pub none_left : line.left ≡ Some 0
   pub ended : line.ended ≡ true
   pub ender : (session : List ℕ) → SpellsEndOf session bytes → line.ender ≡ Some session

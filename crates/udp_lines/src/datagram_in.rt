@@ -2,18 +2,15 @@
 //!
 //! What the network brings can't be known, so the trait speaks of a socket by relations between its
 //! states, with laws. Of a socket of the system they say nothing.
-ghost use Rattle.std.specs.Prelude.{◌≡◌, ◌≢◌, ◌≤◌, List, ℕ, IfErr, IfOk, IsOk, OnErr, length, take, vec_capacity};
+ghost use Rattle.std.specs.Prelude.{◌≡◌, ◌≢◌, ◌≤◌, List, ℕ, IfErr, IfOk, OnErr, length, take};
 ghost use Rattle.std.specs.declared.net.socket_addr.SocketAddr.{SocketAddr};
 ghost use Rattle.venue_lines.specs.declared.source.SourceFault.TheVariants.{NoMemory};
-ghost use Rattle.venue_lines.specs.Datagrams.{bytes_of};
-ghost use Rattle.run_settings.specs.Senders.{senders_of};
-ghost use Rattle.udp_lines.specs.Sockets.{IsHandedOn, IsReceived};
+ghost use Rattle.udp_lines.specs.Sockets.{IsReceived};
 
-use run_settings::Senders;
-use std::alloc::{AllocError, Global};
 use std::io::ErrorKind;
 use std::net::{SocketAddr, UdpSocket};
-use venue_lines::{Datagram, SourceFault};
+use std::time::Duration;
+use venue_lines::SourceFault;
 
 /// How many times one call asks the socket at most.
 pub const MAX_TURNS: u32 = 1_000_000;
@@ -45,6 +42,13 @@ pub trait DatagramIn {
             (λ came. brings self.old came.1 (take came.0 buffer.new) self.new) }
         ensures waits { OnErr result (waits self.old self.new) };
 
+    /// Sends the bytes to this address as one datagram, and returns whether that could be done. A
+    /// call that was interrupted is made again, a million times at most.
+    fn send_datagram(&self, bytes: &[u8], to: SocketAddr) -> bool;
+
+    /// Has each call of `receive` wait so long from now on.
+    fn wait_each(&self, time: Duration);
+
     /// No calls bring none.
     ghost waits_not: { (s : Self) → waits s s };
 
@@ -63,7 +67,13 @@ impl DatagramIn for UdpSocket {
 
     fn receive(&mut self, buffer: &mut [u8]) -> Result<(usize, SocketAddr), ReceiveStop> {
         match self.recv_from(buffer) {
-            Ok((count, from)) => Ok((count, from)),
+            // A socket of both versions shows a sender of version four by a mapped address.
+            Ok((count, from)) => {
+                Ok((
+                    count,
+                    SocketAddr::new(from.ip().to_canonical(), from.port()),
+                ))
+            }
             Err(error) => Err(match error.kind() {
                 ErrorKind::Interrupted => ReceiveStop::Interrupted,
                 ErrorKind::WouldBlock => ReceiveStop::NoneYet,
@@ -71,28 +81,21 @@ impl DatagramIn for UdpSocket {
             }),
         }
     }
-}
 
-/// A line's socket, and whose datagrams are taken from it.
-#[derive(Drop)]
-pub struct LineSocket<S> {
-    pub socket: S,
-    pub senders: Senders,
-    /// The memory of a datagram that came back, for the next one.
-    pub used: Option<Vec<u8>>,
-}
+    fn send_datagram(&self, bytes: &[u8], to: SocketAddr) -> bool {
+        for _ in 0..MAX_TURNS {
+            match self.send_to(bytes, to) {
+                Ok(_) => return true,
+                Err(error) if error.kind() == ErrorKind::Interrupted => {}
+                Err(_) => return false,
+            }
+        }
+        false
+    }
 
-/// What a wait for a datagram came to.
-#[derive(Drop)]
-pub enum Received {
-    /// A datagram of a sender whose datagrams are taken.
-    Taken(Datagram),
-    /// A datagram of another sender, which is passed over.
-    Foreign,
-    /// Why there is none.
-    Failed(SourceFault),
-    /// None has come.
-    NoneYet,
+    fn wait_each(&self, time: Duration) {
+        let _ = self.set_read_timeout(Some(time));
+    }
 }
 
 /// Waits a while for a datagram, puts it at the front of the buffer, and returns how many bytes it
@@ -100,7 +103,7 @@ pub enum Received {
 /// made again.
 ///
 /// Device where the socket failed, TooManyTurns where it was interrupted a million times.
-fn receive<S: DatagramIn>(
+pub(crate) fn receive<S: DatagramIn>(
     socket: &mut S,
     buffer: &mut [u8],
 ) -> Result<Option<(usize, SocketAddr)>, SourceFault>
@@ -116,44 +119,4 @@ fn receive<S: DatagramIn>(
         }
     }
     Err(SourceFault::TooManyTurns)
-}
-
-/// A datagram of these bytes, in memory that was used before. Where that has room for them, no more
-/// is asked for.
-fn datagram_of(used: Vec<u8>, bytes: &[u8]) -> Result<Datagram, AllocError>
-    ensures bytes { IfOk result (λ datagram. bytes_of datagram ≡ bytes.now) }
-    ensures room { length bytes.now ≤ vec_capacity used → IsOk result }
-{
-    let mut used = used;
-    used.clear();
-    used.extend_from_slice(bytes)?;
-    Ok(Datagram::new(used))
-}
-
-impl<S: DatagramIn> LineSocket<S> {
-    /// Waits a while for a datagram, and returns it where it is taken, or why there is none.
-    /// NoMemory where memory for it was refused: it is lost then.
-    pub fn try_receive(&mut self, alloc: Global, buffer: &mut [u8]) -> Received
-        ensures handed_on { IsHandedOn S.brings S.waits (senders_of self.old.senders)
-            self.old.socket result self.new.socket }
-        ensures senders { self.new.senders ≡ self.old.senders }
-    {
-        match receive(&mut self.socket, buffer) {
-            Ok(None) => Received::NoneYet,
-            Ok(Some((count, from))) => {
-                if !self.senders.takes_from(&from) {
-                    return Received::Foreign;
-                }
-                let used = match self.used.take() {
-                    Some(used) => used,
-                    None => Vec::new(alloc),
-                };
-                match datagram_of(used, &buffer[..count]) {
-                    Ok(datagram) => Received::Taken(datagram),
-                    Err(_) => Received::Failed(SourceFault::NoMemory),
-                }
-            }
-            Err(fault) => Received::Failed(fault),
-        }
-    }
 }

@@ -1,25 +1,30 @@
 //! A line that is received by UDP.
-ghost use Rattle.std.specs.Prelude.{◌≡◌, ◌+◌, ◌*◌, ◌/◌, ◌-◌, ◌^◌, ◌↔◌, ℕ, List, Bool, min, IfOk, IfErr, IfSome, IsTrue, OnErr, Ok, Some, None, true, false, option_map};
+ghost use Rattle.std.specs.Prelude.{◌≡◌, ◌+◌, ◌*◌, ◌/◌, ◌^◌, ◌-◌, ℕ, List, [], Bool, min, IfOk, IfErr, OnErr, Ok, Some, None, true, false, option_map};
 ghost use Rattle.std.specs.Duration.{as_nanos};
 ghost use Rattle.venue_lines.specs.Datagrams.{bytes_of};
-ghost use Rattle.venue_lines.specs.Sources.{failures_after};
+ghost use Rattle.venue_lines.specs.Sources.{brought_in, failures_after};
 ghost use Rattle.run_settings.specs.Senders.{senders_of};
-ghost use Rattle.udp_lines.specs.UdpLines.{EndsLine, IsEndedBy, IsLast, IsOver, SpellsEndOf, failures_of, is_none_left, is_read_out};
+ghost use Rattle.udp_lines.specs.Brought.{nothing_kept, withheld_of};
+ghost use Rattle.udp_lines.specs.EndsOfSessions.{SpellsEndOf};
+ghost use Rattle.udp_lines.specs.UdpLines.{EndsLine, HasBrought, IsEndedBy, IsOver, failures_of, is_none_left, is_read_out, waiting_in};
 
-use crate::datagram_in::{LineSocket, MAX_TURNS, Received};
+use crate::datagram_in::DatagramIn;
+use crate::intake::Intake;
+use crate::line_ends::{ended_session, is_last};
 use crate::line_progress::LineProgress;
+use crate::line_socket::{LineSocket, MAX_DATAGRAM};
+use crate::line_use::LineUse;
+use crate::number_check::{HeldFor, NO_ROW, NumberCheck};
+use crate::requests::{RequestPace, Requests};
+use crate::venue_marks::VenueMarks;
 use feed_types::{Anything, VenueId};
-use mold_packet::{Kind, Request, one_reading, read_packet, write_request};
+use mold_packet::{Request, write_request};
 use run_settings::{EndRule, Senders};
 use std::alloc::{AllocError, Global};
-use std::io::ErrorKind;
 use std::marker::Model;
-use std::net::{SocketAddr, UdpSocket};
+use std::mem;
 use std::time::{Clock, Duration};
 use venue_lines::{Datagram, LineSource, SourceFault};
-
-/// The most bytes that a datagram can have.
-const MAX_DATAGRAM: usize = 65_535;
 
 /// How many bytes a request has.
 const REQUEST_LEN: usize = 20;
@@ -29,24 +34,33 @@ const REQUEST_LEN: usize = 20;
 const WAIT_MS: u64 = 100;
 
 /// What a line is made for.
-#[derive(Debug, Drop)]
+#[derive(Drop)]
 pub struct UdpLineSettings {
     /// The venue whose datagrams it brings.
     pub venue: VenueId,
+    /// Which of the venue's lines it is.
+    pub line: LineUse,
     /// The venue's session.
     pub session: [u8; 10],
-    /// Which ends of session end it.
+    /// Which ends of session end it. A line of replies goes on after each.
     pub end: EndRule,
     /// The most datagrams that it reads, if there is any limit.
     pub datagrams: Option<u32>,
     /// After how many seconds it reads none any more, if after any number.
     pub seconds: Option<u32>,
-    /// Where its requests go. Where there is no such address they are dropped.
-    pub requests_to: Option<SocketAddr>,
+    /// How its requests leave.
+    pub requests: Requests,
     /// The senders whose datagrams it brings.
     pub senders: Senders,
-    /// Whether its datagrams have the time at which they were received.
+    /// Whether its datagrams have the time at which they were read.
     pub timed: bool,
+    /// The most that a number may be ahead of the highest that the venue's lines have brought. With
+    /// None no number and no end is withheld for what it is.
+    pub most_ahead: Option<u64>,
+    /// What it shares with the venue's other lines.
+    pub marks: VenueMarks,
+    /// Whether it marks when it heard a datagram.
+    pub marks_heard: bool,
 }
 
 /// A line of a venue that is received by UDP. It ends after as many datagrams or seconds as it was
@@ -55,14 +69,14 @@ pub struct UdpLineSettings {
 /// Once its socket has failed the line has ended: it asks the socket for nothing more. A request
 /// that can't be sent ends nothing. What has become of the line is marked in its progress.
 #[derive(Drop)]
-pub struct UdpLine<C> {
+pub struct UdpLine<S, C> {
     line_venue: VenueId,
-    own_session: [u8; 10],
-    end_rule: EndRule,
-    line_socket: LineSocket<UdpSocket>,
-    requests_to: Option<SocketAddr>,
+    line_use: LineUse,
+    intake: Intake<S>,
+    requests: Requests,
+    pace: RequestPace,
     timed: bool,
-    progress: LineProgress,
+    marks_heard: bool,
     clock: C,
     moment_ms: u64,
     /// The moment of the clock after which it reads no datagram, if there is any.
@@ -74,69 +88,28 @@ pub struct UdpLine<C> {
     ender: Option<[u8; 10]>,
     /// What the socket has brought for the next call: a datagram, or why there is none.
     received: Option<Result<Datagram, SourceFault>>,
-    alloc: Global,
-    buffer: Vec<u8>,
 }
 
-impl<C> Model for UdpLine<C> {
+impl<S, C> Model for UdpLine<S, C> {
     ghost use Rattle.run_settings.specs.Senders.{senders_of};
-    ghost use Rattle.udp_lines.specs.UdpLines.{UdpLineState};
+    ghost use Rattle.udp_lines.specs.UdpLines.{UdpLineState, kept_in, waiting_in};
 
-    ghost Value = { UdpLineState };
+    ghost Value = { UdpLineState S };
 
     ghost view = { λ l. record {
       venue = l.line_venue;
-      session = l.own_session;
-      rule = l.end_rule;
-      senders = senders_of l.line_socket.senders;
+      session = l.intake.check.session;
+      rule = l.intake.check.end_rule;
+      senders = senders_of l.intake.line_socket.senders;
       left = l.to_read;
       failed = l.broken;
       ended = l.at_end;
       ender = l.ender;
+      most_ahead = l.intake.check.most_ahead;
+      socket = l.intake.line_socket.socket;
+      kept = kept_in l.intake;
+      waiting = waiting_in l.received;
     } };
-}
-
-/// Sends the bytes as one datagram, and returns whether that could be done. A call that was
-/// interrupted is made again, a million times at most.
-fn has_sent(socket: &UdpSocket, bytes: &[u8], to: SocketAddr) -> bool {
-    for _ in 0..MAX_TURNS {
-        match socket.send_to(bytes, to) {
-            Ok(_) => return true,
-            Err(error) if error.kind() == ErrorKind::Interrupted => {}
-            Err(_) => return false,
-        }
-    }
-    false
-}
-
-/// The session that the bytes are an end of; None where they are no end of session.
-fn ended_session(bytes: &[u8]) -> Option<[u8; 10]>
-    ensures end { IfSome result (λ session. SpellsEndOf session bytes.now) }
-    ensures only { (session : List ℕ) → SpellsEndOf session bytes.now → result ≡ Some session }
-{
-    one_reading();
-    match read_packet(bytes) {
-        Ok(packet) => {
-            if packet.kind() == Kind::End {
-                Some(packet.session())
-            } else {
-                None
-            }
-        }
-        Err(_) => None,
-    }
-}
-
-/// Whether a datagram ends a line of this session by the rule; `ended` is the session that it is an
-/// end of, if it is an end of session.
-fn is_last(rule: EndRule, session: [u8; 10], ended: Option<[u8; 10]>) -> bool
-    ensures { IsTrue result ↔ IsLast rule session ended }
-{
-    match rule {
-        EndRule::AnySession => ended.is_some(),
-        EndRule::OwnSession => ended == Some(session),
-        EndRule::NoSession => false,
-    }
 }
 
 /// The moment of the clock `seconds` seconds from now, in milliseconds; None where there is no such
@@ -177,40 +150,56 @@ fn one_fewer(left: Option<u32>) -> Option<u32>
     }
 }
 
-impl<C: Clock + Drop> UdpLine<C> {
-    /// The line of these settings that this socket receives, and from which its requests go.
+impl<S: DatagramIn + Drop, C: Clock + Drop> UdpLine<S, C> {
+    /// The line of these settings that this socket receives.
     ///
     /// The socket waits 100 ms for a datagram from now on. Where the system refuses that, it waits
     /// for ever, and so does a run that is to stop.
     pub fn new(
         alloc: Global,
         settings: UdpLineSettings,
-        socket: UdpSocket,
+        socket: S,
         clock: C,
-    ) -> Result<UdpLine<C>, AllocError>
+    ) -> Result<UdpLine<S, C>, AllocError>
         ensures venue { IfOk result (λ line. line.venue ≡ settings.venue) }
         ensures session { IfOk result (λ line. line.session ≡ settings.session) }
         ensures rule { IfOk result (λ line. line.rule ≡ settings.end) }
         ensures senders { IfOk result (λ line. line.senders ≡ senders_of settings.senders) }
         ensures left { IfOk result (λ line. line.left ≡ settings.datagrams) }
+        ensures most_ahead { IfOk result (λ line. line.most_ahead ≡ settings.most_ahead) }
         ensures whole { IfOk result (λ line. line.failed ≡ false) }
         ensures unended { IfOk result (λ line. line.ended ≡ false) }
         ensures ender { IfOk result (λ line. line.ender ≡ None) }
+        ensures kept { IfOk result (λ line. line.kept ≡ nothing_kept) }
+        ensures waiting { IfOk result (λ line. line.waiting ≡ []) }
     {
-        let _ = socket.set_read_timeout(Some(Duration::from_millis(WAIT_MS)));
+        socket.wait_each(Duration::from_millis(WAIT_MS));
         let deadline_ms = deadline_of(&clock, settings.seconds);
+        let line_socket = LineSocket {
+            socket,
+            senders: settings.senders,
+            buffer: vec![in alloc; 0; MAX_DATAGRAM]?,
+        };
+        let check = NumberCheck {
+            session: settings.session,
+            end_rule: settings.end,
+            most_ahead: settings.most_ahead,
+            line: settings.line.line(),
+            marks: settings.marks,
+            progress: LineProgress::new(alloc)?,
+            highest: 0,
+            far: NO_ROW,
+            ends: NO_ROW,
+            held_for: HeldFor::Nothing,
+        };
         Ok(UdpLine {
             line_venue: settings.venue,
-            own_session: settings.session,
-            end_rule: settings.end,
-            line_socket: LineSocket {
-                socket,
-                senders: settings.senders,
-                used: None,
-            },
-            requests_to: settings.requests_to,
+            line_use: settings.line,
+            intake: Intake::new(alloc, line_socket, check),
+            requests: settings.requests,
+            pace: RequestPace::new(),
             timed: settings.timed,
-            progress: LineProgress::new(alloc)?,
+            marks_heard: settings.marks_heard,
             clock,
             moment_ms: 0,
             deadline_ms,
@@ -219,8 +208,6 @@ impl<C: Clock + Drop> UdpLine<C> {
             at_end: false,
             ender: None,
             received: None,
-            alloc,
-            buffer: vec![in alloc; 0; MAX_DATAGRAM]?,
         })
     }
 
@@ -235,8 +222,8 @@ impl<C: Clock + Drop> UdpLine<C> {
         }
     }
 
-    /// Ends the line where its time is over, unless it has ended before, or a datagram waits that
-    /// was received before.
+    /// Ends the line where its time is over, or the lines have ended with which it ends, unless it
+    /// has ended before, or a datagram waits that was received before.
     fn end_in_time(&mut self)
         ensures rest { self.new
             ≡ record (self.old) { left = self.new.left; ended = self.new.ended } }
@@ -245,7 +232,7 @@ impl<C: Clock + Drop> UdpLine<C> {
         if self.broken || is_none_left(self.to_read) || self.received.is_some() {
             return;
         }
-        if self.is_late() {
+        if self.is_late() || self.line_use.is_over() {
             self.to_read = Some(0);
             self.at_end = true;
         }
@@ -262,41 +249,70 @@ impl<C: Clock + Drop> UdpLine<C> {
         }
     }
 
+    /// Marks when a datagram of the line's senders came, if one has come and that is marked.
+    fn mark_heard(&mut self)
+        ensures { self.new ≡ self.old }
+    {
+        if !mem::replace(&mut self.intake.has_heard, false) || !self.marks_heard {
+            return;
+        }
+        if let Ok(time) = self.clock.monotonic() {
+            self.intake.check.progress.hear(millis(time));
+        }
+    }
+
+    /// Waits a while for a datagram, where none is there for the next call.
+    #[tactic(auto, using(crate::proofs::Meeting::polled))]
+    fn ask(&mut self)
+        requires { self.old.waiting ≡ [] }
+        ensures brought { HasBrought S.brings S.waits self.old [] self.new }
+        ensures rest { self.new ≡ record (self.old) {
+          socket = self.new.socket;
+          kept = self.new.kept;
+          waiting = self.new.waiting;
+        } }
+    {
+        self.received = match self.intake.next() {
+            Some(Ok(datagram)) => Some(Ok(datagram.received_at(self.time()))),
+            other => other,
+        };
+        self.mark_heard();
+    }
+
     /// Waits a while for a datagram, and returns whether the next one needn't be waited for: it is
     /// there, or the socket has failed, or the line has ended.
     fn poll(&mut self) -> bool
-        ensures { self.new ≡ self.old }
+        ensures brought { HasBrought S.brings S.waits self.old [] self.new }
+        ensures rest { self.new ≡ record (self.old) {
+          socket = self.new.socket;
+          kept = self.new.kept;
+          waiting = self.new.waiting;
+        } }
     {
         if self.broken || is_none_left(self.to_read) || self.received.is_some() {
             return true;
         }
-        let buffer = self.buffer.as_mut_slice();
-        self.received = match self.line_socket.try_receive(self.alloc, buffer) {
-            Received::Taken(datagram) => Some(Ok(datagram.received_at(self.time()))),
-            Received::Failed(fault) => Some(Err(fault)),
-            Received::Foreign => {
-                self.progress.count_foreign();
-                None
-            }
-            Received::NoneYet => None,
-        };
+        self.ask();
         self.received.is_some()
     }
 }
 
-impl<C: Drop> UdpLine<C> {
+impl<S: Drop, C: Drop> UdpLine<S, C> {
     /// The progress of the line, for another thread. AllocError where it can't be shared any
     /// further.
     pub fn share_progress(&self) -> Result<LineProgress, AllocError> {
-        self.progress.share()
+        self.intake.check.progress.share()
     }
 
     /// Marks how the line has ended, if it has by a datagram.
     fn mark_end(&self) {
         if let Some(session) = self.ender {
-            self.progress.end(&session, session == self.own_session);
+            self.intake
+                .check
+                .progress
+                .end(&session, session == self.intake.check.session);
         } else if is_none_left(self.to_read) {
-            self.progress.read_out();
+            self.intake.check.progress.read_out();
         }
     }
 
@@ -309,7 +325,7 @@ impl<C: Drop> UdpLine<C> {
         ensures failed { failures_of self.new.failed
             ≡ failures_after (failures_of self.old.failed) fault }
     {
-        self.progress.fail();
+        self.intake.check.progress.fail();
         match fault {
             SourceFault::NoMemory => {}
             _ => self.broken = true,
@@ -332,9 +348,9 @@ impl<C: Drop> UdpLine<C> {
             × (self.new.ended ≡ false) × (self.new.ender ≡ self.old.ender) }
     {
         let ended = ended_session(bytes);
-        self.at_end = is_last(self.end_rule, self.own_session, ended);
+        self.at_end = is_last(self.intake.check.end_rule, self.intake.check.session, ended);
         if ended.is_some() && !self.at_end {
-            self.progress.count_passed();
+            self.intake.check.progress.count_passed();
         }
         if self.at_end {
             self.ender = ended;
@@ -352,6 +368,14 @@ impl<C: Drop> UdpLine<C> {
         self.ender
     }
 
+    /// How many datagrams of its senders the line has read and not handed on. One that waits until
+    /// it is confirmed is among them.
+    pub fn withheld(&self) -> u64
+        ensures { result ≡ withheld_of self.now.kept }
+    {
+        self.intake.withheld_so_far()
+    }
+
     /// Whether the line has ended since it has read as many datagrams as it may.
     pub fn is_read_out(&self) -> bool
         ensures { result ≡ is_read_out self.now }
@@ -360,7 +384,31 @@ impl<C: Drop> UdpLine<C> {
     }
 }
 
-impl<C: Clock + Drop> UdpLine<C> {
+impl<S: DatagramIn + Drop, C: Clock + Drop> UdpLine<S, C> {
+    /// Waits until the next datagram is there, or why there is none, or until the line has ended.
+    fn wait_for_next(&mut self)
+        ensures brought { HasBrought S.brings S.waits self.old [] self.new }
+        ensures rest { self.new ≡ record (self.old) {
+          socket = self.new.socket;
+          kept = self.new.kept;
+          waiting = self.new.waiting;
+        } }
+    {
+        for _ in 0..u64::MAX {
+            if self.poll() {
+                break;
+            }
+        }
+    }
+
+    /// Takes what was received for the next call.
+    fn take_received(&mut self) -> Option<Result<Datagram, SourceFault>>
+        ensures waiting { waiting_in result ≡ self.old.waiting }
+        ensures rest { self.new ≡ record (self.old) { waiting = [] } }
+    {
+        self.received.take()
+    }
+
     /// Receives the next datagram; None once the line has ended, and only then. An end of session
     /// that by the line's rule ends it is its last, and so is the last datagram that it may read.
     ///
@@ -376,10 +424,7 @@ impl<C: Clock + Drop> UdpLine<C> {
             → (EndsLine self.old.rule self.old.session (bytes_of datagram) → ⊥)
             → (option_map (λ left. left + 1) self.new.left ≡ self.old.left)
             × (self.new.ended ≡ false) × (self.new.ender ≡ self.old.ender) }
-        ensures venue { self.new.venue ≡ self.old.venue }
-        ensures session { self.new.session ≡ self.old.session }
-        ensures rule { self.new.rule ≡ self.old.rule }
-        ensures senders { self.new.senders ≡ self.old.senders }
+        ensures brought { HasBrought S.brings S.waits self.old (brought_in result) self.new }
         ensures ended_by { OnErr result (self.new.ended ≡ self.old.ended) }
         ensures ender { OnErr result (self.new.ender ≡ self.old.ender) }
         ensures sound { IfOk result
@@ -389,16 +434,12 @@ impl<C: Clock + Drop> UdpLine<C> {
     {
         if self.broken || is_none_left(self.to_read) {
             if self.is_read_out() {
-                self.progress.read_out();
+                self.intake.check.progress.read_out();
             }
             return Ok(None);
         }
-        for _ in 0..u64::MAX {
-            if self.poll() {
-                break;
-            }
-        }
-        match self.received.take() {
+        self.wait_for_next();
+        match self.take_received() {
             Some(Ok(datagram)) => {
                 self.count_read(datagram.bytes());
                 Ok(Some(datagram))
@@ -409,20 +450,49 @@ impl<C: Clock + Drop> UdpLine<C> {
     }
 }
 
-impl<C: Clock + Drop> LineSource<Anything> for UdpLine<C> {
-    ghost use Rattle.std.specs.Prelude.{◌≡◌, refl};
-    ghost use Rattle.std.proofs.Common.{◌∙◌};
-    ghost use Rattle.udp_lines.specs.UdpLines.{failures_of};
+impl<S: DatagramIn + Drop, C: Clock + Drop> UdpLine<S, C> {
+    /// The milliseconds of the line's clock, or those read last where it can't be read.
+    fn read_clock(&mut self) -> u64
+        ensures { self.new ≡ self.old }
+    {
+        if let Ok(time) = self.clock.monotonic() {
+            self.moment_ms = millis(time);
+        }
+        self.moment_ms
+    }
+
+    /// Sends these bytes as a request, and counts it. Where requests are dropped it
+    /// isn't counted.
+    fn send_request(&mut self, bytes: &[u8])
+        ensures { self.new ≡ self.old }
+    {
+        if self.requests.are_dropped() {
+            return;
+        }
+        let now_ms = self.read_clock();
+        if !self.pace.may_send(now_ms) {
+            self.intake.check.progress.count_held_back();
+        } else if self.requests.send(&self.intake.line_socket.socket, bytes) {
+            self.intake.check.progress.count_sent();
+        } else {
+            self.intake.check.progress.count_unsent();
+        }
+    }
+}
+
+impl<S: DatagramIn + Drop, C: Clock + Drop> LineSource<Anything> for UdpLine<S, C> {
+    ghost use Rattle.udp_lines.specs.UdpLines.{HasBrought, failures_of};
+    ghost use Rattle.udp_lines.specs.laws.Bringing.{brings_more, brings_nothing};
 
     ghost venue_of = { λ l. l.venue };
 
     ghost failures = { λ l. failures_of l.failed };
 
-    ghost brings = { λ l _ m. m.venue ≡ l.venue };
+    ghost brings = { λ l bytes m. HasBrought S.brings S.waits l bytes m };
 
-    ghost brings_nothing = { λ l. refl };
+    ghost brings_nothing = { brings_nothing S.brings S.waits S.waits_not };
 
-    ghost brings_more = { λ l m n _ _ a b. b ∙ a };
+    ghost brings_more = { brings_more S.brings S.waits S.waits_more };
 
     fn venue(&self) -> VenueId {
         self.line_venue
@@ -438,36 +508,29 @@ impl<C: Clock + Drop> LineSource<Anything> for UdpLine<C> {
     }
 
     /// Keeps the datagram's memory for the next one.
-    fn recycle(&mut self, datagram: Datagram)
+    fn recycle(&mut self, datagram: Datagram, _place: u64)
         ensures { self.new ≡ self.old }
     {
-        self.line_socket.used = Some(datagram.into_bytes());
+        self.intake.used = datagram.into_bytes();
     }
 
-    fn now_ms(&mut self) -> u64 {
-        if let Ok(time) = self.clock.monotonic() {
-            self.moment_ms = millis(time);
-        }
-        self.moment_ms
+    fn now_ms(&mut self) -> u64
+        ensures { self.new ≡ self.old }
+    {
+        self.read_clock()
     }
 
-    /// Sends a request, and counts it. That it can't be sent is no fault of the line.
+    /// Sends a request, and counts it. That it can't be sent, or isn't since too many were, is no
+    /// fault of the line.
     fn request(&mut self, request: &Request) -> Result<(), SourceFault>
         ensures taken { result ≡ Ok tt }
         ensures same { self.new ≡ self.old }
     {
-        let Some(to) = self.requests_to else {
-            return Ok(());
-        };
         let mut bytes = [0; REQUEST_LEN];
         if self.broken || write_request(request, &mut bytes).is_err() {
             return Ok(());
         }
-        if has_sent(&self.line_socket.socket, &bytes, to) {
-            self.progress.count_sent();
-        } else {
-            self.progress.count_unsent();
-        }
+        self.send_request(&bytes);
         Ok(())
     }
 }

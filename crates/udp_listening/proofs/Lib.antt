@@ -1,7 +1,8 @@
+pub mod Binding
 pub mod Ends
 pub mod Following
 pub mod Lacks
 pub mod Noting
 pub mod Monitored
-pub mod Watching
+pub mod Sourced
 pub mod Wholes

@@ -1,6 +1,6 @@
--- What a run that was monitored came to.
+-- What a run came to that was followed and monitored.
 use Rattle.std.proofs.Common.{◌≡◌, inl, inr, ◌∙◌, ℕ, List, [], ◌∷◌, Option, Some, None, ap, length, map, refl, subst, sym, arith}
-use Rattle.std.specs.Prelude.{true, IfOk, Result, Ok, Err, take, vec_len}
+use Rattle.std.specs.Prelude.{true, IfOk, Result, Ok, Err, vec_len}
 use Rattle.feed_types.specs.declared.line.LineId.{LineId}
 use Rattle.feed_text.specs.Devices.{Writing}
 use Rattle.best_rows.specs.declared.style.RowStyle.{RowStyle}
@@ -10,43 +10,43 @@ use Rattle.live_feed.specs.declared.run.whole.FeedReport.{FeedReport}
 use Rattle.live_feed.specs.declared.run.whole.LineTask.{LineTask}
 use Rattle.live_feed.specs.declared.subscriber.logged.Logged.{Logged}
 use Rattle.live_feed.specs.run.Runs.{HasTaken, LineHasEnded, Pairwise}
-use Rattle.live_feed.specs.run.Wholes.{HasAttended, IsBegun, IsWholeRun, line_report, logs_with}
+use Rattle.live_feed.specs.run.Wholes.{HasAttended, HasWatched, IsBegun, IsWholeRun, line_report, logs_with}
 use Rattle.live_feed.specs.settle.Settlements.{IsSettlement, SettlementState}
 use Rattle.live_feed.specs.subscriber.Logs.{SubscriberLogState}
 use Rattle.live_feed.specs.venue.Seats.{SeatState, new_seat}
 use Rattle.udp_listening.specs.Listening.{HasListenedOn, IsFollowing, IsUnprinted}
 use Rattle.udp_listening.specs.SettledNotices.{HasNoted, settled_forgotten, settled_log}
-use Rattle.udp_listening.specs.Monitors.{HasMonitored}
+use Rattle.udp_listening.specs.Monitors.{FollowsRows, HasMonitored}
 use Rattle.run_settings.specs.declared.listen_settings.ListenSettings.{ListenSettings}
 use Rattle.udp_listening.specs.Reports.{IsListened, IsReportOfFeed, IsReportOfRun, any_lines, reported_line, seat_line, task_line}
-use Rattle.run_watches.specs.RunLines.{listened_lines, watched_run}
+use Rattle.run_watches.specs.RunLines.{watched_run}
+use Rattle.udp_listening.specs.Lines.{LineState, run_lines}
 use Rattle.run_watches.specs.RunNews.{SaysOfRun}
 use Rattle.udp_listening.specs.Settings.{feed_setting}
-use Rattle.udp_lines.specs.UdpLines.{UdpLineState}
 use Rattle.udp_listening.specs.declared.console.Console.{Console}
 use Rattle.udp_listening.specs.declared.listen_report.ListenReport.{ListenReport}
+use Rattle.udp_listening.specs.declared.listen_sockets.BoundLine.{BoundLine}
 use Rattle.udp_listening.specs.declared.listening.ListenFault.{ListenFault}
+use Rattle.udp_listening.specs.declared.row_follower.RowFollower.{RowFollower}
 use Rattle.udp_listening.specs.declared.run_monitor.RunMonitor.{RunMonitor}
 use Rattle.run_watches.specs.RunNewsLaws.{nothing_of_run}
 use Rattle.udp_listening.proofs.Noting.{noted_new}
 use Rattle.udp_listening.proofs.Wholes.{settled_forgotten_of, settled_log_of}
 
 -- What is printed of a log by the end: from whichever output on there was only the header.
-abbrev pub Shows : {C W E : Type 0} → Writing W → RunMonitor C W E → RunMonitor C W E
+abbrev pub Shows : {C W : Type 0} → Writing W → RowFollower C W → RowFollower C W
     → List Logged → ℕ → Type 0
 Shows {C} {W} writing before after log printed =
     (style : RowStyle) (first : W) → IsUnprinted writing style first before.console
     → IsFollowing writing style first log printed after.console
 
--- the one log of a run that was monitored, what was printed of it, and which symbols are left
+-- the one log of a run that was followed, what was printed of it, and which symbols are left
 -- unchanged of those that the console had at first
-pub record Monitored {C W E : Type 0} (writing : Writing W) (telling : Writing E)
-    (before after : RunMonitor C W E) (logs : List SubscriberLogState) : Type 0 where
+pub record Followed {C W : Type 0} (writing : Writing W) (before after : RowFollower C W)
+    (logs : List SubscriberLogState) : Type 0 where
   pub log : SubscriberLogState
   pub one : logs ≡ log ∷ []
   pub shows : Shows writing before after log.lines log.forgotten
-  pub says : SaysOfRun telling (watched_run before.watches) before.console.errors
-      after.console.errors
   pub notes : (symbols : List (List ℕ)) → before.console.unchanged ≡ symbols
       → HasNoted symbols log.lines log.forgotten after.console.unchanged
 
@@ -56,60 +56,58 @@ alone : (log : SubscriberLogState) (others : List SubscriberLogState) → length
 alone log [] none = refl
 alone log (other ∷ others) none = absurd (omega (arith, none))
 
-pub monitored : {C W E : Type 0} (writing : Writing W) (telling : Writing E)
-    (before after : RunMonitor C W E) (log later : Option SubscriberLogState)
-    (others : List SubscriberLogState)
-    → IsBegun true log → HasMonitored writing telling before log after later → length others ≡ 0
-    → Monitored writing telling before after (logs_with later others)
-monitored writing telling before after None later others begun attended none = absurd cc
-monitored writing telling before after (Some log) None others begun attended none = absurd attended
-monitored writing telling before after (Some log) (Some later) others begun attended none = record {
+pub followed : {C W : Type 0} (writing : Writing W) (before after : RowFollower C W)
+    (log later : Option SubscriberLogState) (others : List SubscriberLogState)
+    → IsBegun true log → FollowsRows writing before log after later → length others ≡ 0
+    → Followed writing before after (logs_with later others)
+followed writing before after None later others begun follows none = absurd cc
+followed writing before after (Some log) None others begun follows none = absurd follows
+followed writing before after (Some log) (Some later) others begun follows none = record {
   log = later;
   one = alone later others none;
   shows =
       λ style first unprinted.
-      attended.0 style first
+      follows.0 style first
       (subst (λ n. IsFollowing writing style first log.lines n before.console) (sym begun.2)
       (unprinted log.lines));
-  says = attended.1;
   notes =
       λ symbols same.
-      attended.2 symbols (noted_new symbols log before.console.unchanged begun.2 same);
+      follows.1 symbols (noted_new symbols log before.console.unchanged begun.2 same);
 }
 
--- What a monitor has printed and said that attended a run, or none.
-pub record MonitoredIfRun {C W E : Type 0} (writing : Writing W) (telling : Writing E)
-    (before after : RunMonitor C W E) : Type 0 where
+-- What was printed by who followed a run, or none.
+pub record FollowedIfRun {C W : Type 0} (writing : Writing W) (before after : RowFollower C W)
+    : Type 0 where
   pub lines : List Logged
   pub printed : ℕ
   pub shows : Shows writing before after lines printed
-  pub says : SaysOfRun telling (watched_run before.watches) before.console.errors
-      after.console.errors
 
-pub monitored_if_run : {C W E : Type 0} (writing : Writing W) (telling : Writing E)
-    (before after : RunMonitor C W E)
-    → HasAttended (HasMonitored writing telling) true before after
-    → MonitoredIfRun writing telling before after
-monitored_if_run writing telling before after (inl same) =
-    subst (λ m. MonitoredIfRun writing telling before m) (sym same) (record {
+pub followed_if_run : {C W : Type 0} (writing : Writing W) (before after : RowFollower C W)
+    → HasAttended (FollowsRows writing) true before after
+    → FollowedIfRun writing before after
+followed_if_run writing before after (inl same) =
+    subst (λ m. FollowedIfRun writing before m) (sym same) (record {
       lines = [];
       printed = 0;
       shows = λ style first unprinted. unprinted [];
-      says = nothing_of_run telling (watched_run before.watches) before.console.errors;
     })
-monitored_if_run writing telling before after (inr ran) =
-    let m = monitored writing telling before after ran.0 ran.1 [] ran.2 ran.3 refl
-    in record {
-      lines = m.log.lines;
-      printed = m.log.forgotten;
-      shows = m.shows;
-      says = m.says;
-    }
+followed_if_run writing before after (inr ran) =
+    let f = followed writing before after ran.0 ran.1 [] ran.2 ran.3 refl
+    in record { lines = f.log.lines; printed = f.log.forgotten; shows = f.shows }
+
+-- what a monitor has said that watched a run, or none
+pub said_if_run : {C E : Type 0} (telling : Writing E) (before after : RunMonitor C E)
+    → HasWatched (HasMonitored telling) before after
+    → SaysOfRun telling (watched_run before.watches) before.errors after.errors
+said_if_run telling before after (inl same) =
+    subst (λ m. SaysOfRun telling (watched_run before.watches) before.errors m.errors) (sym same)
+    (nothing_of_run telling (watched_run before.watches) before.errors)
+said_if_run telling before after (inr said) = said
 
 -- the lines that have ended are those that were run
 pub lines_of : {G N : Type 0} (takes : SeatState → List (List ℕ) → SeatState → Type 0)
-    (brings : UdpLineState → List (List ℕ) → UdpLineState → Type 0) (failures : UdpLineState → ℕ)
-    (tasks : List (LineTask UdpLineState)) (ends : List (LineEnd G N UdpLineState))
+    (brings : LineState → List (List ℕ) → LineState → Type 0) (failures : LineState → ℕ)
+    (tasks : List (LineTask LineState)) (ends : List (LineEnd G N LineState))
     → Pairwise (λ task. LineHasEnded takes brings failures
     (new_seat task.source.venue task.line) task.source) tasks ends
     → map seat_line (map (λ e. e.seat) ends) ≡ map task_line tasks
@@ -123,21 +121,19 @@ lines_of takes brings failures (task ∷ tasks) (e ∷ ends) each =
     ∙ ap (λ lines. task_line task ∷ lines) (lines_of takes brings failures tasks ends each.1)
 
 -- and what is reported of each is of its seat
-pub reported_of : {G N : Type 0} (ends : List (LineEnd G N UdpLineState))
+pub reported_of : {G N : Type 0} (ends : List (LineEnd G N LineState))
     → map reported_line (map line_report ends) ≡ map seat_line (map (λ e. e.seat) ends)
 reported_of [] = refl
 reported_of (e ∷ ends) = ap (λ lines. seat_line e.seat ∷ lines) (reported_of ends)
 
-module _ {G N C W E : Type 0} (settings : ListenSettings) (writing : Writing W)
-    (telling : Writing E) (lanes : FeedLanes)
-    (brings : UdpLineState → List (List ℕ) → UdpLineState → Type 0) (failures : UdpLineState → ℕ)
-    (tasks : List (LineTask UdpLineState)) (count : ℕ) (none : count ≡ 0)
-    (before after : RunMonitor C W E) (whole : FeedReport UdpLineState)
+module _ {G N C W : Type 0} (settings : ListenSettings) (writing : Writing W) (lanes : FeedLanes)
+    (brings : LineState → List (List ℕ) → LineState → Type 0) (failures : LineState → ℕ)
+    (tasks : List (LineTask LineState)) (count : ℕ) (none : count ≡ 0)
+    (before after : RowFollower C W) (whole : FeedReport LineState)
     (w : IsWholeRun G N any_lines lanes (λ l. l.venue) brings failures
-    (HasMonitored writing telling) tasks true count before after whole) where
-  ended : Monitored writing telling before after (logs_with w.later w.others)
-  ended = monitored writing telling before after w.log w.later w.others w.begun w.attended
-      (w.all ∙ none)
+    (FollowsRows writing) tasks true count before after whole) where
+  ended : Followed writing before after (logs_with w.later w.others)
+  ended = followed writing before after w.log w.later w.others w.begun w.attended (w.all ∙ none)
 
   seated : map seat_line (map (λ e. e.seat) w.ends) ≡ map task_line tasks
   seated = lines_of (HasTaken any_lines lanes) brings failures tasks w.ends w.lines
@@ -180,11 +176,11 @@ module _ {G N C W E : Type 0} (settings : ListenSettings) (writing : Writing W)
       (λ i. (sym log i, sym forgotten i)) (ended.shows style first unprinted))
 
 -- a report of a run is one of the settings' feed, where the run's lanes and lines are theirs
-pub listened_if_run : (settings : ListenSettings) (sockets : ℕ) (lanes : FeedLanes)
+pub listened_if_run : (settings : ListenSettings) (sockets : List BoundLine) (lanes : FeedLanes)
     (lines : List (ℕ × LineId)) (outcome : Result ListenReport ListenFault)
     → lanes.setting ≡ feed_setting settings
     → length lanes.venues ≡ vec_len settings.feed.sessions
-    → lines ≡ take sockets (listened_lines settings)
+    → lines ≡ run_lines settings sockets
     → IfOk outcome (IsReportOfRun settings lanes lines) → IfOk outcome (IsListened settings sockets)
 listened_if_run settings sockets lanes lines (Ok report) setting venues same run = record {
   lanes = lanes;
@@ -195,7 +191,7 @@ listened_if_run settings sockets lanes lines (Ok report) setting venues same run
 listened_if_run settings sockets lanes lines (Err fault) setting venues same run = tt
 
 -- what was printed, by cases on whether there is a report
-pub listened_by : {W E : Type 0} (writing : Writing W) (before after : Console W E)
+pub listened_by : {C W : Type 0} (writing : Writing W) (before after : Console C W)
     (P : ListenReport → Type 0) (outcome : Result ListenReport ListenFault)
     → ((report : ListenReport) → P report → HasListenedOn writing before (Ok report) after)
     → ((fault : ListenFault) → HasListenedOn writing before (Err fault) after)

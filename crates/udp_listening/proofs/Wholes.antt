@@ -187,9 +187,9 @@ module _ {W E : Type 0} (writing : Writing W) (telling : Writing E) (more : More
   of_followed Failed silent told status h e = of_failed silent told status h e.0 e.1
 
 -- what was printed while a run went on, then its end
-pub listened : {W E : Type 0} (writing : Writing W) (telling : Writing E) → More writing
+pub listened : {C W E : Type 0} (writing : Writing W) (telling : Writing E) → More writing
     → (style : RowStyle) (outcome : Result ListenReport ListenFault) (first : W)
-    → (console : Console W E) (after : W) (silent told : E) (status : ℕ)
+    → (console : Console C W) (after : W) (silent told : E) (status : ℕ)
     → HasListened writing style first outcome console
     → PrintsEnd writing telling console.style outcome console.live_output console.output after
     silent told status

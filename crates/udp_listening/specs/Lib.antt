@@ -1,3 +1,5 @@
+pub mod Bound
+pub mod Lines
 pub mod Listening
 pub mod Monitors
 pub mod Reports

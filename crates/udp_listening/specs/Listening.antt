@@ -20,6 +20,7 @@ use Rattle.run_notes.specs.AbsentSymbols.{absent_texts, unchanged_texts}
 use Rattle.run_watches.specs.News.{line_end_texts}
 use Rattle.run_watches.specs.RunLines.{listened_run}
 use Rattle.run_watches.specs.RunNews.{SaysOfRun}
+use Rattle.udp_listening.specs.Lines.{run_lines}
 use Rattle.udp_listening.specs.Reports.{IsListened}
 use Rattle.udp_listening.specs.Settings.{row_style}
 use Rattle.udp_listening.specs.SettledNotices.{HasNoted, notices_of, settled_forgotten, settled_log, settled_notices}
@@ -30,6 +31,7 @@ use Rattle.run_settings.specs.declared.formats.BestFormat.{BestFormat}
 use Rattle.run_settings.specs.declared.formats.BestFormat.TheVariants.{Text, Csv, Json}
 use Rattle.run_settings.specs.declared.listen_settings.ListenSettings.{ListenSettings}
 use Rattle.run_watches.specs.declared.line_news.LineChange.TheVariants as changes
+use Rattle.udp_listening.specs.declared.listen_sockets.BoundLine.{BoundLine}
 use Rattle.udp_listening.specs.declared.listening.ListenFault.{ListenFault}
 use Rattle.udp_listening.specs.declared.listening.ListenFault.TheVariants.{NoMemory, Unsettled}
 use Rattle.udp_listening.specs.declared.listen_report.EndedLine.{EndedLine}
@@ -109,39 +111,39 @@ HasFollowed writing style first log Failed printed now = HasFailed writing style
 HasFollowed writing style first log _ printed now = HasPrinted writing style first log printed now
 
 -- So it is of the output of a console that writes rows in this style.
-abbrev pub IsFollowing : {W E : Type 0} → Writing W → RowStyle → W → List Logged → (printed : ℕ)
-    → Console W E → Type 0
+abbrev pub IsFollowing : {C W : Type 0} → Writing W → RowStyle → W → List Logged → (printed : ℕ)
+    → Console C W → Type 0
 IsFollowing writing style first log printed console =
     (console.style ≡ style)
     × HasFollowed writing style first log console.live_output printed console.output
 
 -- The log has grown, and the console has gone on: from whichever output on the console had printed
 -- what the log has forgotten before, it has printed what the longer log has forgotten now.
-abbrev pub KeepsFollowing : {W E : Type 0} → Writing W → SubscriberLogState → Console W E
-    → SubscriberLogState → Console W E → Type 0
-KeepsFollowing {W} writing log before longer after =
+abbrev pub KeepsFollowing : {C W : Type 0} → Writing W → SubscriberLogState → Console C W
+    → SubscriberLogState → Console C W → Type 0
+KeepsFollowing {C} {W} writing log before longer after =
     (style : RowStyle) (first : W)
     → IsFollowing writing style first log.lines log.forgotten before
     → IsFollowing writing style first longer.lines longer.forgotten after
 
 -- The log has grown, and of whichever symbols the console has had those that the forgotten notices
 -- of the log left unchanged, it has those that are left by what the longer log has forgotten now.
-abbrev pub KeepsNoting : {W E : Type 0} → SubscriberLogState → Console W E
-    → SubscriberLogState → Console W E → Type 0
+abbrev pub KeepsNoting : {C W : Type 0} → SubscriberLogState → Console C W
+    → SubscriberLogState → Console C W → Type 0
 KeepsNoting log before longer after =
     (symbols : List (List ℕ))
     → HasNoted symbols log.lines log.forgotten before.unchanged
     → HasNoted symbols longer.lines longer.forgotten after.unchanged
 
 -- From this output on no row is printed yet, of whatever log: only the header.
-abbrev pub IsUnprinted : {W E : Type 0} → Writing W → RowStyle → W → Console W E → Type 0
+abbrev pub IsUnprinted : {C W : Type 0} → Writing W → RowStyle → W → Console C W → Type 0
 IsUnprinted writing style first console =
     (log : List Logged) → IsFollowing writing style first log 0 console
 
 -- The end of a run: from the output `first` on the rows that the settled log has forgotten were
 -- written; or where there is no report, those of some log's first notices.
-abbrev pub HasListened : {W E : Type 0} → Writing W → RowStyle → W
-    → Result ListenReport ListenFault → Console W E → Type 0
+abbrev pub HasListened : {C W : Type 0} → Writing W → RowStyle → W
+    → Result ListenReport ListenFault → Console C W → Type 0
 HasListened writing style first (Ok report) console =
     IsFollowing writing style first (settled_log report.settlement)
     (settled_forgotten report.settlement) console
@@ -150,9 +152,9 @@ HasListened writing style first (Err fault) console =
 
 -- A run went on with a console: from whichever output on there was only the header, it has come to
 -- this end.
-abbrev pub HasListenedOn : {W E : Type 0} → Writing W → Console W E
-    → Result ListenReport ListenFault → Console W E → Type 0
-HasListenedOn {W} writing before outcome after =
+abbrev pub HasListenedOn : {C W : Type 0} → Writing W → Console C W
+    → Result ListenReport ListenFault → Console C W → Type 0
+HasListenedOn {C} {W} writing before outcome after =
     (style : RowStyle) (first : W) → IsUnprinted writing style first before
     → HasListened writing style first outcome after
 
@@ -302,16 +304,17 @@ complete_status complete (Ok report) ended =
     if (ended == 0) && (complete && lacks_any report.lacking.items) then 3 else ended
 complete_status complete (Err fault) ended = ended
 
--- However it is asked to end and to print, listening over so many sockets ends in one of these
--- ways. A report is that of the settings' feed. Before the end standard error has what is said of
--- the run: news of its lines, gaps and, where the settings ask for them, counts, and then totals.
+-- However it is asked to end and to print, listening over these sockets ends in one of these ways.
+-- A report is that of the settings' feed. Before the end standard error has what is said of the
+-- run: news of its lines, gaps and, where the settings ask for them, counts, and then totals.
 pub record Listens {W E : Type 0} (writing : Writing W) (telling : Writing E)
-    (settings : ListenSettings) (sockets : ℕ) (before after : W) (silent told : E) (status : ℕ)
+    (settings : ListenSettings) (sockets : List BoundLine) (before after : W) (silent told : E)
+    (status : ℕ)
     : Type 0 where
   pub outcome : Result ListenReport ListenFault
   pub listened : IfOk outcome (IsListened settings sockets)
   pub said : E
-  pub says : SaysOfRun telling (listened_run settings sockets) silent said
+  pub says : SaysOfRun telling (listened_run settings (run_lines settings sockets)) silent said
   pub ended : ℕ
   pub ends : ListensToEnd writing telling (row_style settings) outcome before after said told ended
   pub status_is : status ≡ complete_status settings.complete outcome ended

@@ -1,5 +1,5 @@
 -- What is reported of a feed that was listened to.
-use Rattle.std.specs.Prelude.{◌≡◌, ℕ, Bool, true, false, ◌&&◌, not, List, [], ◌∷◌, Option, None, Some, flat_map, is_some, length, map, take, vec_len, if◌then◌else◌}
+use Rattle.std.specs.Prelude.{◌≡◌, ℕ, Bool, true, false, ◌&&◌, not, List, [], ◌∷◌, Option, None, Some, flat_map, is_some, length, map, vec_len, if◌then◌else◌}
 use Rattle.feed_types.specs.declared.genuine.Anything.{Anything}
 use Rattle.feed_types.specs.declared.genuine.Genuine.{Ghosts as Genuine}
 use Rattle.feed_types.specs.declared.journal.Entry.{Entry}
@@ -15,12 +15,13 @@ use Rattle.live_feed.specs.venue.Seats.{SeatState}
 use Rattle.run_notes.specs.AbsentSymbols.{absent_among, unchanged_among}
 use Rattle.run_settings.specs.FurtherOptions.{has_further_options}
 use Rattle.run_settings.specs.declared.listen_settings.ListenSettings.{ListenSettings}
-use Rattle.run_watches.specs.RunLines.{listened_lines}
+use Rattle.udp_listening.specs.Lines.{LineState, run_lines}
 use Rattle.udp_listening.specs.Settings.{feed_setting}
 use Rattle.udp_listening.specs.SettledLacks.{settled_lacks}
 use Rattle.udp_listening.specs.SettledNotices.{settled_notices}
-use Rattle.udp_lines.specs.UdpLines.{UdpLineState, is_read_out}
+use Rattle.udp_lines.specs.UdpLines.{is_read_out}
 use Rattle.udp_listening.specs.declared.listen_report.EndedLine.{EndedLine}
+use Rattle.udp_listening.specs.declared.listen_sockets.BoundLine.{BoundLine}
 use Rattle.udp_listening.specs.declared.listen_report.ListenReport.{ListenReport}
 
 -- lines that may carry anything
@@ -38,11 +39,11 @@ abbrev pub seat_line : SeatState → ℕ × LineId
 seat_line seat = (seat.venue, seat.line)
 
 -- the line that is to be run
-abbrev pub task_line : LineTask UdpLineState → ℕ × LineId
+abbrev pub task_line : LineTask LineState → ℕ × LineId
 task_line task = (task.source.venue, task.line)
 
 -- the line of which this is reported
-abbrev pub reported_line : LineReport UdpLineState → ℕ × LineId
+abbrev pub reported_line : LineReport LineState → ℕ × LineId
 reported_line report = (report.venue, report.line)
 
 -- the line, where it is one of these
@@ -50,11 +51,11 @@ abbrev pub line_if : Bool → ℕ × LineId → List (ℕ × LineId)
 line_if is_one line = if is_one then line ∷ [] else []
 
 -- the lines that ended with a fault
-abbrev pub failed_lines : List (LineReport UdpLineState) → List (ℕ × LineId)
+abbrev pub failed_lines : List (LineReport LineState) → List (ℕ × LineId)
 failed_lines lines = flat_map (λ r. line_if (is_some r.fault) (reported_line r)) lines
 
 -- the lines that have read as many datagrams as they may
-abbrev pub read_out_lines : List (LineReport UdpLineState) → List (ℕ × LineId)
+abbrev pub read_out_lines : List (LineReport LineState) → List (ℕ × LineId)
 read_out_lines lines = flat_map (λ r. line_if (is_read_out r.source) (reported_line r)) lines
 
 abbrev pub ended_if : ℕ × LineId → Option (List ℕ) → List EndedLine
@@ -63,15 +64,15 @@ ended_if line (Some session) =
     record { venue = line.0; line = line.1; session = session } ∷ []
 
 -- the line and the session whose end has ended it, if one has
-abbrev pub ended_line : LineReport UdpLineState → List EndedLine
+abbrev pub ended_line : LineReport LineState → List EndedLine
 ended_line r = ended_if (reported_line r) r.source.ender
 
 -- the lines that an end of session has ended
-abbrev pub ended_lines : List (LineReport UdpLineState) → List EndedLine
+abbrev pub ended_lines : List (LineReport LineState) → List EndedLine
 ended_lines lines = flat_map ended_line lines
 
 -- the same where that is told
-abbrev pub told_ends : Bool → List (LineReport UdpLineState) → List EndedLine
+abbrev pub told_ends : Bool → List (LineReport LineState) → List EndedLine
 told_ends is_told lines = if is_told then ended_lines lines else []
 
 -- whether it is told which symbols never came: by settings with further options, where all entries
@@ -103,7 +104,7 @@ noted_symbols settings =
 -- This is told of the whole life of the settings' feed: which of its lines failed and which have
 -- read out, why it stopped early, what its venues lack, which session's end ended which line, which
 -- symbols never came, of which no change of the national best was told, and what was settled.
-pub record IsReportOfFeed (settings : ListenSettings) (whole : FeedReport UdpLineState)
+pub record IsReportOfFeed (settings : ListenSettings) (whole : FeedReport LineState)
     (told : ListenReport) : Type 0 where
   pub failed : told.failed.items ≡ failed_lines whole.lines.items
   pub stopped : told.stopped ≡ whole.stopped
@@ -122,16 +123,16 @@ pub record IsReportOfRun (settings : ListenSettings) (lanes : FeedLanes)
   pub seats : List SeatState
   pub seated : map seat_line seats ≡ lines
   pub log : SubscriberLogState
-  pub whole : FeedReport UdpLineState
+  pub whole : FeedReport LineState
   pub reported : map reported_line whole.lines.items ≡ lines
   pub settled : IsSettlement any_lines lanes seats (log ∷ []) whole.settlement
   pub tells : IsReportOfFeed settings whole report
 
--- The feed of the settings, with a venue for each of their sessions, was run over so many of their
--- lines, and settled, and the report is that of its whole life.
-pub record IsListened (settings : ListenSettings) (sockets : ℕ) (report : ListenReport)
-    : Type 0 where
+-- The feed of the settings, with a venue for each of their sessions, was run over the lines of
+-- these sockets, and settled, and the report is that of its whole life.
+pub record IsListened (settings : ListenSettings) (sockets : List BoundLine)
+    (report : ListenReport) : Type 0 where
   pub lanes : FeedLanes
   pub setting : lanes.setting ≡ feed_setting settings
   pub venues : length lanes.venues ≡ vec_len settings.feed.sessions
-  pub run : IsReportOfRun settings lanes (take sockets (listened_lines settings)) report
+  pub run : IsReportOfRun settings lanes (run_lines settings sockets) report

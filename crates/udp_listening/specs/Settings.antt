@@ -1,11 +1,16 @@
 -- The settings of `nbbo listen`, as a feed and its lines take them.
-use Rattle.std.specs.Prelude.{◌≡◌, ℕ, false, true, None, Some, slice_get, if◌then◌else◌}
+use Rattle.std.specs.Prelude.{◌≡◌, ℕ, false, true, Option, None, Some, slice_get, if◌then◌else◌}
 use Rattle.feed_types.specs.declared.config.FeedConfig.{FeedConfig}
+use Rattle.feed_types.specs.declared.line.LineId.{LineId}
+use Rattle.feed_types.specs.declared.line.LineId.TheVariants.{A, B, Recovery}
 use Rattle.best_rows.specs.declared.style.RowStyle.{RowStyle}
 use Rattle.live_feed.specs.Lanes.{FeedSetting}
+use Rattle.run_settings.specs.FurtherOptions.{most_lead}
+use Rattle.run_settings.specs.declared.end_rule.EndRule.{EndRule}
+use Rattle.run_settings.specs.declared.end_rule.EndRule.TheVariants.{NoSession}
 use Rattle.run_settings.specs.Senders.{senders_of}
 use Rattle.run_settings.specs.declared.listen_settings.ListenSettings.{ListenSettings}
-use Rattle.udp_lines.specs.UdpLines.{UdpLineState}
+use Rattle.udp_listening.specs.Lines.{LineState}
 
 -- the most notices of a log: as many as the journal's entries, unless they are printed as they come
 -- and forgotten
@@ -36,14 +41,29 @@ feed_setting settings = record {
   kept = settings.kept;
 }
 
--- the line reads datagrams for the venue, of the senders and as many as the settings say, and ends
--- with an end of session as they say
-pub record IsSourceOf (settings : ListenSettings) (venue : ℕ) (line : UdpLineState) : Type 0 where
+-- which ends of session end a line: those that the settings say, and none line R
+abbrev pub end_rule_of : LineId → EndRule → EndRule
+end_rule_of A end = end
+end_rule_of B end = end
+end_rule_of Recovery end = NoSession
+
+-- how many datagrams it reads: as many as the settings say, and line R any number
+abbrev pub most_read_of : LineId → Option ℕ → Option ℕ
+most_read_of A datagrams = datagrams
+most_read_of B datagrams = datagrams
+most_read_of Recovery datagrams = None
+
+-- The source reads datagrams for the venue, of the senders that the settings say, and withholds
+-- what is as far ahead as they say. Lines A and B read as many and end with an end of session as
+-- the settings say; line R goes on.
+pub record IsSourceOf (settings : ListenSettings) (venue : ℕ) (of : LineId) (line : LineState)
+    : Type 0 where
   pub venue_is : line.venue ≡ venue
   pub session : slice_get settings.feed.sessions.items venue ≡ Some line.session
-  pub rule : line.rule ≡ settings.end
-  pub senders : line.senders ≡ senders_of settings.from
-  pub left : line.left ≡ settings.datagrams
+  pub rule : line.rule ≡ end_rule_of of settings.end
+  pub senders : line.senders ≡ senders_of settings.senders
+  pub most_ahead : line.most_ahead ≡ most_lead settings
+  pub left : line.left ≡ most_read_of of settings.datagrams
   pub whole : line.failed ≡ false
   pub unended : line.ended ≡ false
   pub ender : line.ender ≡ None

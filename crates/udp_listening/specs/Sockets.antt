@@ -6,4 +6,4 @@ use Rattle.udp_listening.specs.declared.sockets.BindFault.TheVariants as binds
 -- the text where no socket was opened, without the address
 abbrev pub bind_fault_text : BindFault → List ℕ
 bind_fault_text binds.NoMemory = codes "nbbo: no memory\n"
-bind_fault_text (binds.Refused address) = codes "nbbo: bind failed\n"
+bind_fault_text (binds.Refused address refusal) = codes "nbbo: bind failed\n"

@@ -5,6 +5,7 @@ ghost use Rattle.best_rows.specs.NoticeRows.{AreRowsOf};
 ghost use Rattle.udp_listening.specs.Listening.{IsUnprinted, KeepsFollowing, KeepsNoting};
 ghost use Rattle.udp_listening.specs.SettledNotices.{notices_of};
 
+use crate::row_marks::RowMarks;
 use crate::timed_rows::put_timed;
 use crate::unchanged::note_log;
 use best_rows::{RowStyle, header_line};
@@ -13,6 +14,7 @@ use live_feed::{FeedName, SubscriberLog};
 use run_notes::AbsentList;
 use std::alloc::Global;
 use std::sync::Wait;
+use std::time::Clock;
 
 /// The most notices that are taken before their lines are written.
 pub const MOST: usize = 1_024;
@@ -29,78 +31,49 @@ pub enum LiveOutput {
     Failed,
 }
 
-/// Standard output and standard error, and whether lines are printed while the run goes on. What
-/// was printed of a log it has forgotten.
+/// Standard output, and whether lines are printed while the run goes on. What was printed of a log
+/// it has forgotten.
 #[derive(Drop)]
-pub struct Console<W, E> {
+pub struct Console<C, W> {
     pub output: W,
-    pub errors: E,
     pub live_output: LiveOutput,
     /// How rows are written.
     pub style: RowStyle,
-    /// How many changes of the national best were taken of the log.
-    pub changes: u64,
+    /// Where it is marked how far the rows are, if anywhere.
+    pub marks: Option<RowMarks<C>>,
     /// Of the symbols of which it is told at the end, those of which no change is among what the
     /// log has forgotten.
     pub unchanged: AbsentList,
 }
 
-/// Polls once, and returns whether a notice was taken. Where that is refused, a run isn't to wait
-/// for the subscriber until its lane was found empty again.
+/// Polls once, and returns whether a notice was taken.
 fn has_polled<N: FeedName, R: Wait>(rt: &R, log: &mut SubscriberLog<N>) -> bool
     ensures lines { IsPrefix log.old.lines log.new.lines }
     ensures forgotten { log.new.forgotten ≡ log.old.forgotten }
 {
     match log.poll_holding(rt) {
-        Ok(Some(_)) => true,
-        Ok(None) => {
-            log.begin_polls();
-            false
-        }
-        Err(_) => {
-            log.end_polls();
-            false
-        }
+        Ok(polled) => polled.is_some(),
+        Err(_) => false,
     }
 }
 
-/// Takes the notices that the log's subscriber is offered, 1,024 at most, and returns whether there
-/// were any.
-fn poll_some<N: FeedName, R: Wait>(rt: &R, log: &mut SubscriberLog<N>) -> bool
+/// Takes the notices that the log's subscriber is offered, 1,024 at most.
+fn poll_some<N: FeedName, R: Wait>(rt: &R, log: &mut SubscriberLog<N>)
     ensures lines { IsPrefix log.old.lines log.new.lines }
     ensures forgotten { log.new.forgotten ≡ log.old.forgotten }
 {
-    let mut has_taken = false;
     for _ in 0..MOST {
         if !has_polled(rt, log) {
             break;
         }
-        has_taken = true;
-    }
-    has_taken
-}
-
-/// The number of the last change in the log that isn't forgotten, if there is one.
-fn last_number<N: FeedName>(log: &SubscriberLog<N>) -> Option<u64> {
-    match log.log().last() {
-        Some(last) => Some(last.notice.number),
-        None => None,
     }
 }
 
-impl<W: TextOut, E> Console<W, E> {
+impl<C: Clock, W: TextOut> Console<C, W> {
     /// Prints what stands before the first row. At the end it is told of no symbol that it never
     /// had a best.
-    pub fn new(
-        alloc: Global,
-        output: W,
-        errors: E,
-        live_output: LiveOutput,
-        style: RowStyle,
-    ) -> Console<W, E>
+    pub fn new(alloc: Global, output: W, live_output: LiveOutput, style: RowStyle) -> Console<C, W>
         requires { live_output ≢ LiveOutput.Failed }
-        ensures errors { result.errors ≡ errors }
-        ensures changes { result.changes ≡ 0 }
         ensures unprinted { IsUnprinted (record { adds = W.adds; failures = W.failures })
             style output result }
     {
@@ -111,17 +84,37 @@ impl<W: TextOut, E> Console<W, E> {
         };
         Console {
             output,
-            errors,
             live_output,
             style,
-            changes: 0,
+            marks: None,
             unchanged: AbsentList::none(alloc),
+        }
+    }
+
+    /// Marks that all that the log has was taken.
+    fn mark_taken<N: FeedName>(&self, log: &SubscriberLog<N>) {
+        if let Some(marks) = &self.marks {
+            marks.take(log);
+        }
+    }
+
+    /// Marks that a write begins. One that fails is never over.
+    fn mark_write(&self) {
+        if let Some(marks) = &self.marks {
+            marks.begin_write();
+        }
+    }
+
+    /// Marks that the log's rows are written.
+    fn mark_written<N: FeedName>(&self, log: &SubscriberLog<N>) {
+        if let Some(marks) = &self.marks {
+            marks.end_write(log);
         }
     }
 
     /// Takes what the log's subscriber is offered, 1,024 notices at most, and where lines are
     /// printed as they come prints those of the log that aren't printed yet, with their times, and
-    /// has the log forget them. Returns whether it took anything.
+    /// has the log forget them.
     ///
     /// Where memory for the lines is refused they are printed at the end, with all that follow, and
     /// without times.
@@ -130,19 +123,17 @@ impl<W: TextOut, E> Console<W, E> {
         rt: &R,
         text: &mut LineBuffer,
         log: &mut SubscriberLog<N>,
-    ) -> bool
+    )
         ensures log { IsPrefix log.old.lines log.new.lines }
         ensures shows { KeepsFollowing (record { adds = W.adds; failures = W.failures })
             log.old self.old log.new self.new }
         ensures notes { KeepsNoting log.old self.old log.new self.new }
-        ensures errors { self.new.errors ≡ self.old.errors }
     {
-        let has_taken = poll_some(rt, log);
-        self.changes = last_number(log).unwrap_or(self.changes);
+        poll_some(rt, log);
+        self.mark_taken(log);
         if self.live_output == LiveOutput::On {
             self.print_rest(text, log);
         }
-        has_taken
     }
 
     /// Prints the rows of the log that aren't printed yet, with their times, and has the log forget
@@ -153,7 +144,6 @@ impl<W: TextOut, E> Console<W, E> {
         ensures shows { KeepsFollowing (record { adds = W.adds; failures = W.failures })
             log.old self.old log.new self.new }
         ensures notes { KeepsNoting log.old self.old log.new self.new }
-        ensures errors { self.new.errors ≡ self.old.errors }
     {
         if log.log().is_empty() {
             return;
@@ -175,11 +165,12 @@ impl<W: TextOut, E> Console<W, E> {
         ensures shows { KeepsFollowing (record { adds = W.adds; failures = W.failures })
             log.old self.old log.new self.new }
         ensures notes { KeepsNoting log.old self.old log.new self.new }
-        ensures errors { self.new.errors ≡ self.old.errors }
     {
         let count = log.log().len();
+        self.mark_write();
         match write_all(text, &mut self.output) {
             Ok(()) => {
+                self.mark_written(log);
                 note_log(&mut self.unchanged, log.log());
                 log.forget(count);
             }

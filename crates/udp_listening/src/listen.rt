@@ -1,5 +1,5 @@
 //! `nbbo listen`.
-ghost use Rattle.std.specs.Prelude.{◌≡◌, ◌≢◌, length};
+ghost use Rattle.std.specs.Prelude.{◌≡◌, ◌≢◌};
 ghost use Rattle.feed_text.specs.Devices.{Writing};
 ghost use Rattle.feed_text.specs.StandardError.{Says};
 ghost use Rattle.udp_listening.specs.Settings.{row_style};
@@ -9,7 +9,11 @@ use crate::console::{Console, LiveOutput};
 use crate::listen_lines::write_report_lines;
 use crate::listen_report::ListenReport;
 use crate::listen_sockets::ListenSockets;
+use crate::listen_streams::ListenStreams;
 use crate::listening::{ListenFault, Listened, feed_of, run_feed};
+use crate::output_state::OutputState;
+use crate::row_follower::RowFollower;
+use crate::row_marks::RowMarks;
 use crate::run_monitor::RunMonitor;
 use crate::run_time::RunTime;
 use crate::sources::lines_over;
@@ -20,9 +24,8 @@ use feed_text::{Lack, TextOut, write_all, write_stderr};
 use feed_types::{LineId, VenueId};
 use live_feed::Stop;
 use run_settings::ListenSettings;
-use run_watches::{GapWatches, ListenCounts, MetricsServer, RunWatches};
+use run_watches::{GapWatches, ListenCounts, MetricsServer, OutputWatch, RowProgress, RunWatches};
 use std::alloc::{AllocError, Global};
-use std::io::Stdin;
 use std::marker::Brand;
 use std::rt::Clock;
 use std::sync::Wait;
@@ -101,33 +104,28 @@ fn fault_line(fault: ListenFault) -> &'static str
 
 /// Prints the end of listening, and returns the status of the program: 0, or 1 where a line failed,
 /// the run stopped early, or not all was printed.
-fn print_end<W: TextOut, E: TextOut>(
+fn print_end<C: Clock, W: TextOut, E: TextOut>(
     alloc: Global,
     outcome: &Result<ListenReport, ListenFault>,
-    console: &mut Console<W, E>,
+    console: &mut Console<C, W>,
+    errors: &mut E,
 ) -> u8
     ensures { PrintsEnd
         (record { adds = W.adds; failures = W.failures })
         (record { adds = E.adds; failures = E.failures })
         console.old.style outcome.now console.old.live_output
-        console.old.output console.new.output console.old.errors console.new.errors result }
+        console.old.output console.new.output errors.old errors.new result }
 {
     match outcome {
         Ok(report) => {
             if console.live_output == LiveOutput::Failed {
-                print_failed_report(report, &mut console.errors)
+                print_failed_report(report, errors)
             } else {
                 let style = console.style;
-                print_report(
-                    alloc,
-                    style,
-                    report,
-                    &mut console.output,
-                    &mut console.errors,
-                )
+                print_report(alloc, style, report, &mut console.output, errors)
             }
         }
-        Err(fault) => fail(fault_line(*fault), &mut console.errors),
+        Err(fault) => fail(fault_line(*fault), errors),
     }
 }
 
@@ -170,11 +168,35 @@ fn style_of(settings: &ListenSettings) -> RowStyle
     }
 }
 
-/// Listens on these sockets, in the order of the settings' lines, until all have ended or the
-/// settings end the run; then prints the report for a subscriber that wants every change. Returns
-/// the status of the program: 0, or 1 where a line failed, the run stopped early, or not all was
-/// printed; and 3 in place of 0 where the settings ask for a complete run and a venue lacks
-/// messages.
+/// What the monitor of a run shares with the thread of its rows, and the clock of each.
+#[derive(Drop)]
+struct RunShares<C> {
+    marks: RowMarks<C>,
+    progress: RowProgress,
+    state: OutputState,
+    clock: C,
+}
+
+/// Returns what is shared in a run by this clock, whose output has this state.
+fn shares_of<C: Clock + Clone + Drop>(
+    alloc: Global,
+    clock: &C,
+    state: &OutputState,
+) -> Result<RunShares<C>, AllocError> {
+    let progress = RowProgress::new(alloc)?;
+    Ok(RunShares {
+        marks: RowMarks::new(progress.share()?, clock.clone()?),
+        progress,
+        state: state.share()?,
+        clock: clock.clone()?,
+    })
+}
+
+/// Listens on these sockets until all lines have ended or the settings end the run; then prints the
+/// report for a subscriber that wants every change. Returns the status of the program: 0, or 1
+/// where a line failed, the run stopped early, or not all was printed; and 3 in place of 0 where
+/// the settings ask for a complete run and a venue lacks messages. Of the sockets it leaves out
+/// those of venues that the settings haven't.
 ///
 /// Where the settings ask for it, best lines or rows are printed as they come, and counts on
 /// standard error; and metrics are served where there is a socket for them. Standard error has also
@@ -182,50 +204,66 @@ fn style_of(settings: &ListenSettings) -> RowStyle
 /// at the end what was counted of the lines; where the settings have further options also with
 /// which sessions lines ended, what the system dropped, and which symbols never came, or where not
 /// all entries are kept never had a best.
+///
+/// Who doesn't read the rows holds up nothing else: what is watched has a thread of its own.
 pub fn listen_with<R, C, W, E>(
     rt: &R,
     clock: &C,
     alloc: Global,
     settings: &ListenSettings,
     sockets: ListenSockets,
-    input: Stdin,
-    output: W,
-    errors: E,
+    streams: ListenStreams<W, E>,
 ) -> (u8, W, E)
 where
     R: Threads + Wait + Sync,
     C: Clock + Clone + Drop + Send,
     W: TextOut + Drop,
-    E: TextOut + Drop,
+    E: TextOut + Drop + Send,
     ensures { Listens
         (record { adds = W.adds; failures = W.failures })
         (record { adds = E.adds; failures = E.failures })
-        settings.now (length sockets.lines.items) output result.1 errors result.2 result.0 }
+        settings.now sockets.lines.items
+        streams.output result.1 streams.errors result.2 result.0 }
 {
-    let live_output = live_output_of(settings);
-    let mut console = Console::new(alloc, output, errors, live_output, style_of(settings));
-    let clock_copy: Result<C, AllocError> = clock.clone();
-    let (Ok(feed), Ok(lines), Ok(gaps), Ok(unchanged), Ok(clock)) = (
+    let ListenStreams {
+        input,
+        output,
+        errors,
+        output_state,
+        errors_progress,
+    } = streams;
+    let mut errors = errors;
+    let mut console = Console::new(alloc, output, live_output_of(settings), style_of(settings));
+    let (Ok(feed), Ok(lines), Ok(gaps), Ok(unchanged), Ok(shares)) = (
         feed_of(alloc, settings),
         lines_over(alloc, settings, sockets.lines, sockets.tables, clock),
         GapWatches::of(alloc, settings),
         noted_symbols(alloc, settings),
-        clock_copy,
+        shares_of(alloc, clock, &output_state),
     ) else {
-        let status = print_end(alloc, &Err(ListenFault::NoMemory), &mut console);
-        return (status, console.output, console.errors);
+        let status = print_end(
+            alloc,
+            &Err(ListenFault::NoMemory),
+            &mut console,
+            &mut errors,
+        );
+        return (status, console.output, errors);
     };
     console.unchanged = unchanged;
+    console.marks = Some(shares.marks);
     let counts = ListenCounts::of(alloc, settings);
     let metrics = MetricsServer::of(alloc, sockets.metrics);
-    let watches = RunWatches::new(lines.watches, gaps, counts, metrics);
-    let time = RunTime::new(settings, input, clock);
-    let monitor = RunMonitor::new(alloc, time, console, watches);
+    let of_output = OutputWatch::new(settings.follow, shares.progress, errors_progress);
+    let watches = RunWatches::new(lines.watches, gaps, of_output, counts, metrics);
+    let time = RunTime::new(settings, input, shares.clock);
+    let follower = RowFollower::new(alloc, console, shares.state);
+    let monitor = RunMonitor::new(time, errors, watches, output_state, settings.follow);
     let Listened {
         outcome,
         mut console,
-    } = run_feed::<Brand, R, C, W, E>(rt, alloc, settings, feed, lines.tasks, monitor);
-    let ended = print_end(alloc, &outcome, &mut console);
+        mut errors,
+    } = run_feed::<Brand, R, C, W, E>(rt, alloc, settings, feed, lines.tasks, follower, monitor);
+    let ended = print_end(alloc, &outcome, &mut console, &mut errors);
     let status = complete_status(settings.complete, &outcome, ended);
-    (status, console.output, console.errors)
+    (status, console.output, errors)
 }

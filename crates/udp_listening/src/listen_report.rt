@@ -7,6 +7,7 @@ ghost use Rattle.udp_listening.specs.SettledNotices.{HasNoted, settled_forgotten
 
 use crate::listening::ListenFault;
 use crate::settled_lacks::settled_lacks;
+use crate::sources::UdpSource;
 use crate::unchanged::settled_unchanged;
 use feed_text::Lack;
 use feed_types::{LineId, VenueId};
@@ -14,7 +15,6 @@ use live_feed::{FeedReport, LineReport, Settlement, Stop};
 use run_notes::AbsentList;
 use run_settings::ListenSettings;
 use std::alloc::{AllocError, Global};
-use udp_lines::UdpLine;
 
 /// A line that an end of this session has ended.
 #[derive(Clone, Copy, Debug, PartialEq, Eq)]
@@ -66,7 +66,7 @@ fn append_if(
 /// The lines that failed, in order.
 fn failed_in<C: Drop>(
     alloc: Global,
-    lines: &[LineReport<UdpLine<C>>],
+    lines: &[LineReport<UdpSource<C>>],
 ) -> Result<Vec<(VenueId, LineId)>, AllocError>
     ensures { IfOk result (λ failed. failed.items ≡ failed_lines lines.now) }
 {
@@ -80,7 +80,7 @@ fn failed_in<C: Drop>(
 /// The lines that have read as many datagrams as they may, in order.
 fn read_out_in<C: Drop>(
     alloc: Global,
-    lines: &[LineReport<UdpLine<C>>],
+    lines: &[LineReport<UdpSource<C>>],
 ) -> Result<Vec<(VenueId, LineId)>, AllocError>
     ensures { IfOk result (λ read_out. read_out.items ≡ read_out_lines lines.now) }
 {
@@ -99,7 +99,7 @@ fn read_out_in<C: Drop>(
 /// Appends a line to the list where an end of session has ended it.
 fn append_ended<C: Drop>(
     list: &mut Vec<EndedLine>,
-    report: &LineReport<UdpLine<C>>,
+    report: &LineReport<UdpSource<C>>,
 ) -> Result<(), AllocError>
     ensures { OnOk result (list.new.items ≡ list.old.items ++ ended_line report.now) }
 {
@@ -116,7 +116,7 @@ fn append_ended<C: Drop>(
 /// The lines that an end of session has ended, in order.
 fn ended_in<C: Drop>(
     alloc: Global,
-    lines: &[LineReport<UdpLine<C>>],
+    lines: &[LineReport<UdpSource<C>>],
 ) -> Result<Vec<EndedLine>, AllocError>
     ensures { IfOk result (λ ended. ended.items ≡ ended_lines lines.now) }
 {
@@ -131,7 +131,7 @@ fn ended_in<C: Drop>(
 fn ended_if_told<C: Drop>(
     alloc: Global,
     is_told: bool,
-    lines: &[LineReport<UdpLine<C>>],
+    lines: &[LineReport<UdpSource<C>>],
 ) -> Result<Vec<EndedLine>, AllocError>
     ensures { IfOk result (λ ended. ended.items ≡ told_ends is_told lines.now) }
 {
@@ -146,7 +146,7 @@ fn ended_if_told<C: Drop>(
 fn ended_of<C: Drop>(
     alloc: Global,
     settings: &ListenSettings,
-    lines: &[LineReport<UdpLine<C>>],
+    lines: &[LineReport<UdpSource<C>>],
 ) -> Result<Vec<EndedLine>, AllocError>
     ensures { IfOk result (λ ended.
         ended.items ≡ told_ends (has_further_options settings.now) lines.now) }
@@ -199,7 +199,7 @@ fn absent_of(
 pub fn report_of<C: Drop>(
     alloc: Global,
     settings: &ListenSettings,
-    whole: FeedReport<UdpLine<C>>,
+    whole: FeedReport<UdpSource<C>>,
     unchanged: AbsentList,
 ) -> Result<ListenReport, ListenFault>
     requires { HasNoted (noted_symbols settings.now) (settled_log whole.settlement)

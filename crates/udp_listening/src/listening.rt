@@ -9,14 +9,16 @@ ghost use Rattle.udp_listening.specs.Settings.{IsFeedOf, feed_setting, most_logg
 
 use crate::console::{Console, MOST};
 use crate::listen_report::{ListenReport, report_of};
+use crate::row_follower::RowFollower;
 use crate::run_monitor::RunMonitor;
+use crate::sources::UdpSource;
 use best_rows::has_times;
 use feed_text::TextOut;
 use feed_types::{Anything, FeedConfig};
 use filter_terms::{Filter, Strategy, Terms};
 use live_feed::{
-    CoreFault, FeedEnd, FeedName, FeedTask, JournalFault, LineTask, LiveFeed, SettleFault,
-    Subscription, WholeFault,
+    CoreFault, FeedEnd, FeedName, FeedTask, JournalFault, LineTask, LiveFeed, RunRules,
+    SettleFault, Subscription, WholeFault,
 };
 use run_notes::AbsentList;
 use run_settings::ListenSettings;
@@ -25,7 +27,6 @@ use std::mem;
 use std::rt::Clock;
 use std::sync::Wait;
 use std::thread::Threads;
-use udp_lines::UdpLine;
 
 /// The number of items that a venue's lane, and a subscriber's, holds.
 const LANE: u32 = 1_024;
@@ -73,10 +74,11 @@ fn config_of(settings: &ListenSettings) -> FeedConfig<'_>
 
 /// How many changes at most wait to be printed, where they are printed as they come: those that the
 /// journal has room for, which are twice as many as the subscriber may be behind and one for each
-/// symbol; those in the subscriber's lane; and those that it has taken.
+/// symbol; those in the subscriber's lane; and those that it has taken, the one that it has waited
+/// for among them.
 fn most_unprinted(settings: &ListenSettings) -> usize {
     let kept = settings.kept.unwrap_or(0) as usize;
-    kept * 2 + settings.feed.symbols.len() + LANE as usize + MOST
+    kept * 2 + settings.feed.symbols.len() + LANE as usize + MOST + 1
 }
 
 /// The feed of the settings, to which nothing came yet, with a venue for each session. Where best
@@ -112,11 +114,21 @@ pub fn feed_of(alloc: Global, settings: &ListenSettings) -> Result<LiveFeed<Anyt
 
 /// The end of listening: a report, or why there is none, and where the program prints.
 #[derive(Drop)]
-pub struct Listened<W, E> {
+pub struct Listened<C, W, E> {
     /// The report, or why there is none.
     pub outcome: Result<ListenReport, ListenFault>,
-    /// Where the program prints.
-    pub console: Console<W, E>,
+    /// Standard output.
+    pub console: Console<C, W>,
+    /// Standard error.
+    pub errors: E,
+}
+
+/// How the lines of the settings are run.
+fn rules_of(settings: &ListenSettings) -> RunRules {
+    RunRules {
+        request_after_ms: u64::from(settings.request_wait()),
+        join: settings.join,
+    }
 }
 
 /// The fault of listening where the feed has no report.
@@ -130,29 +142,31 @@ fn fault_of(fault: WholeFault) -> ListenFault {
 }
 
 /// Runs the settings' feed over these lines until all have ended, with one subscriber, which wants
-/// every change, and settles it. The calling thread has the monitor, which polls that subscriber.
+/// every change, and settles it. The follower polls that subscriber in the calling thread; the
+/// monitor has a thread of its own.
 pub fn run_feed<N, R, C, W, E>(
     rt: &R,
     alloc: Global,
     settings: &ListenSettings,
     feed: LiveFeed<Anything>,
-    lines: Vec<LineTask<UdpLine<C>>>,
-    monitor: RunMonitor<C, W, E>,
-) -> Listened<W, E>
+    lines: Vec<LineTask<UdpSource<C>>>,
+    follower: RowFollower<C, W>,
+    monitor: RunMonitor<C, E>,
+) -> Listened<C, W, E>
 where
     N: FeedName + Send + Sync,
     R: Threads + Wait + Sync,
     C: Clock + Drop + Send,
     W: TextOut + Drop,
-    E: TextOut + Drop,
+    E: TextOut + Drop + Send,
     requires lanes { feed ≡ N.lanes }
-    requires unchanged { monitor.console.unchanged ≡ noted_symbols settings.now }
+    requires unchanged { follower.console.unchanged ≡ noted_symbols settings.now }
     ensures listened { HasListenedOn (record { adds = W.adds; failures = W.failures })
-        monitor.console result.outcome result.console }
+        follower.console result.outcome result.console }
     ensures run { IfOk result.outcome
         (IsReportOfRun settings.now N.lanes (map task_line lines.items)) }
     ensures says { SaysOfRun (record { adds = E.adds; failures = E.failures })
-        (watched_run monitor.watches) monitor.console.errors result.console.errors }
+        (watched_run monitor.watches) monitor.errors result.errors }
 {
     let subscription = Subscription {
         filter: Filter::of(Terms::All),
@@ -162,18 +176,24 @@ where
         lines,
         attended: Some(subscription),
         subscriptions: Vec::new(alloc),
+        rules: rules_of(settings),
     };
     let FeedEnd {
         outcome,
-        mut attendant,
-    } = feed.run_whole::<N, UdpLine<C>, RunMonitor<C, W, E>, R>(rt, alloc, task, monitor);
-    let unchanged = mem::replace(&mut attendant.console.unchanged, AbsentList::none(alloc));
+        attendant,
+        watcher,
+    } = feed.run_whole::<N, UdpSource<C>, RowFollower<C, W>, RunMonitor<C, E>, R>(
+        rt, alloc, task, follower, monitor,
+    );
+    let mut console = attendant.console;
+    let unchanged = mem::replace(&mut console.unchanged, AbsentList::none(alloc));
     let outcome = match outcome {
         Ok(whole) => report_of(alloc, settings, whole, unchanged),
         Err(fault) => Err(fault_of(fault)),
     };
     Listened {
         outcome,
-        console: attendant.console,
+        console,
+        errors: watcher.errors,
     }
 }

@@ -1,7 +1,8 @@
 //! The socket of a server of metrics.
 
-use crate::sockets::BindFault;
+use crate::sockets::{BindFault, refusal_of};
 use std::alloc::{AllocError, Global};
+use std::io;
 use std::net::{Net, SocketAddr, TcpListener, TcpStream};
 
 /// Opens a socket at the address, which doesn't wait for clients. Where that fails it is refused.
@@ -9,13 +10,10 @@ pub fn bind_metrics<R>(net: &R, address: SocketAddr) -> Result<TcpListener, Bind
 where
     R: Net<Listener = TcpListener, Stream = TcpStream>,
 {
-    let Ok(listener) = TcpListener::bind(net, address) else {
-        return Err(BindFault::Refused(address));
-    };
-    match listener.set_nonblocking(true) {
-        Ok(()) => Ok(listener),
-        Err(_) => Err(BindFault::Refused(address)),
-    }
+    let refused = |error: io::Error| BindFault::Refused(address, refusal_of(error.kind()));
+    let listener = TcpListener::bind(net, address).map_err(refused)?;
+    listener.set_nonblocking(true).map_err(refused)?;
+    Ok(listener)
 }
 
 /// The line that says where metrics are served: with the port that the system picked. Where the

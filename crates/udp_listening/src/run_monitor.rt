@@ -1,238 +1,194 @@
-//! The monitor of a run, in a thread beside its own: it takes what the run's subscriber is offered,
-//! prints it where that is asked for, says what is new of the lines and of gaps and what was
-//! counted, gives up the gaps that are to be given up, serves metrics, and stops the run where it
-//! is to end.
+//! The monitor of a run, in a thread beside its own: it says what is new of the lines and of gaps
+//! and what was counted, gives up the gaps that are to be given up, serves metrics, and stops the
+//! run where it is to end. It never waits for who reads the rows.
 ghost use Rattle.std.specs.Prelude.{◌≡◌};
 ghost use Rattle.feed_text.specs.Devices.{Writing};
-ghost use Rattle.udp_listening.specs.Listening.{KeepsFollowing, KeepsNoting};
 ghost use Rattle.run_watches.specs.RunLines.{watched_run};
 ghost use Rattle.run_watches.specs.RunNews.{SaysOfRun, SaysRunEnd, SaysRunNews};
 
-use crate::console::{Console, LiveOutput};
+use crate::output_state::OutputState;
 use crate::run_time::RunTime;
-use feed_text::{LineBuffer, TextOut};
+use feed_text::TextOut;
 use feed_types::Anything;
-use live_feed::{Attendant, FeedName, OwnLog, RunView, SubscriberLog};
-use run_watches::{RunProgress, RunWatches};
-use std::alloc::Global;
+use live_feed::{FeedName, RunView, Watcher};
+use run_watches::RunWatches;
 use std::sync::Wait;
+use std::thread::Threads;
 use std::time::Clock;
 
 /// How long the monitor waits between two looks at a run, in milliseconds.
-const WAIT_MS: u64 = 20;
+const WAIT_MS: u64 = 10;
 
-/// How long it waits where lines are printed as they come.
-const LIVE_WAIT_MS: u64 = 5;
-
-/// The monitor of a run: by its time it knows when the run is to end, what it says is of what it
-/// watches, and where the program prints is its console.
+/// The monitor of a run: by its time it knows when the run is to end, and what it says is of what
+/// it watches.
 #[derive(Drop)]
-pub struct RunMonitor<C, W, E> {
+pub struct RunMonitor<C, E> {
     time: RunTime<C>,
-    pub console: Console<W, E>,
+    pub errors: E,
     pub watches: RunWatches,
-    /// Where lines are put together.
-    text: LineBuffer,
+    /// How standard output does.
+    output: OutputState,
+    /// Whether a run that is ended from outside waits no longer for who reads its rows.
+    leaves_rows: bool,
     has_stopped: bool,
 }
 
-impl<C, W, E> RunMonitor<C, W, E> {
-    /// The monitor of a run that begins now.
+impl<C, E> RunMonitor<C, E> {
+    /// Returns the monitor of a run that begins now. Where the run is ended from outside and
+    /// `leaves_rows`, it doesn't wait for ever for who reads its rows.
     pub fn new(
-        alloc: Global,
         time: RunTime<C>,
-        console: Console<W, E>,
+        errors: E,
         watches: RunWatches,
-    ) -> RunMonitor<C, W, E>
-        ensures console { result.console ≡ console }
+        output: OutputState,
+        leaves_rows: bool,
+    ) -> RunMonitor<C, E>
+        ensures errors { result.errors ≡ errors }
         ensures watches { result.watches ≡ watches }
     {
         RunMonitor {
             time,
-            console,
+            errors,
             watches,
-            text: LineBuffer::new(alloc),
+            output,
+            leaves_rows,
             has_stopped: false,
         }
     }
 }
 
-impl<C: Clock + Drop, W: TextOut + Drop, E: TextOut + Drop> RunMonitor<C, W, E> {
+impl<C: Clock + Drop, E: TextOut + Drop> RunMonitor<C, E> {
     /// How long to wait at most until the next look: not past the time at which counts are due.
     fn wait_ms(&self) -> u64 {
-        let most = if self.console.live_output == LiveOutput::On {
-            LIVE_WAIT_MS
-        } else {
-            WAIT_MS
-        };
         match self.watches.counts_due_ms() {
-            Some(due_ms) => most.min(due_ms.saturating_sub(self.time.passed_ms())),
-            None => most,
+            Some(due_ms) => WAIT_MS.min(due_ms.saturating_sub(self.time.passed_ms())),
+            None => WAIT_MS,
         }
     }
 
     /// Stops the run where it is to end, or the output has failed, and hasn't been stopped yet.
     fn stop<N: FeedName>(&mut self, run: &RunView<'_, Anything, N>)
-        ensures console { self.new.console ≡ self.old.console }
+        ensures errors { self.new.errors ≡ self.old.errors }
         ensures watches { self.new.watches ≡ self.old.watches }
     {
-        let is_to_end = self.time.is_over() || self.console.live_output == LiveOutput::Failed;
-        if is_to_end && !self.has_stopped {
+        let is_over = self.time.is_over();
+        if is_over && self.leaves_rows {
+            self.output.end();
+        }
+        if (is_over || self.output.has_failed()) && !self.has_stopped {
             self.has_stopped = true;
             run.stop();
         }
     }
 
-    /// Writes the counts that are due, says what is new of gaps, gives up those that are due, and
-    /// serves metrics, unless the run is over: nothing is printed of what comes then.
+    /// Writes the counts that are due, says what is new of gaps, and gives up those that are due,
+    /// unless the run is over: nothing is said of what comes then.
     fn watch<N: FeedName, R: Wait>(&mut self, rt: &R, run: &RunView<'_, Anything, N>)
-        ensures console { self.new.console
-            ≡ record (self.old.console) { errors = self.new.console.errors } }
         ensures run { watched_run self.new.watches ≡ watched_run self.old.watches }
         ensures news { SaysRunNews (record { adds = E.adds; failures = E.failures })
-            (watched_run self.old.watches) self.old.console.errors self.new.console.errors }
+            (watched_run self.old.watches) self.old.errors self.new.errors }
     {
         if run.is_over() {
             return;
         }
         let moment = self.time.moment();
-        let ms = moment.elapsed_ms;
-        let errors = &mut self.console.errors;
+        let errors = &mut self.errors;
         self.watches
             .write_counts(moment, |venue| run.status(rt, venue).ok(), errors);
         self.watches.look_at_gaps(
-            ms,
+            moment.elapsed_ms,
             |venue| run.status(rt, venue).ok(),
             |venue, number| run.skip_to(rt, venue, number).is_ok(),
             errors,
         );
-        let progress = RunProgress {
-            elapsed_ms: ms,
-            changes: self.console.changes,
-        };
+    }
+
+    /// Serves the metrics of the run.
+    fn serve<N: FeedName, R: Wait>(&mut self, rt: &R, run: &RunView<'_, Anything, N>)
+        ensures errors { self.new.errors ≡ self.old.errors }
+        ensures run { watched_run self.new.watches ≡ watched_run self.old.watches }
+    {
+        let elapsed_ms = self.time.passed_ms();
         self.watches
-            .serve_metrics(progress, |venue| run.status(rt, venue).ok());
+            .serve_metrics(elapsed_ms, |venue| run.status(rt, venue).ok());
     }
 
-    /// Says what is new of the lines.
+    /// Says what is new of the lines, and of the streams.
     fn say_news(&mut self)
-        ensures console { self.new.console
-            ≡ record (self.old.console) { errors = self.new.console.errors } }
         ensures run { watched_run self.new.watches ≡ watched_run self.old.watches }
         ensures news { SaysRunNews (record { adds = E.adds; failures = E.failures })
-            (watched_run self.old.watches) self.old.console.errors self.new.console.errors }
+            (watched_run self.old.watches) self.old.errors self.new.errors }
     {
-        let second = self.time.passed_ms() / 1_000;
-        self.watches.write_news(second, &mut self.console.errors);
+        let moment = self.time.moment();
+        self.watches.write_news(moment, &mut self.errors);
     }
 
-    /// Takes what the subscriber is offered, says what is new of the lines, and returns whether
-    /// anything was taken.
-    fn take<N: FeedName, R: Wait>(&mut self, rt: &R, log: &mut SubscriberLog<N>) -> bool
-        ensures shows { KeepsFollowing (record { adds = W.adds; failures = W.failures })
-            log.old self.old.console log.new self.new.console }
-        ensures notes { KeepsNoting log.old self.old.console log.new self.new.console }
+    /// Looks at the run once, does what is due, and waits. Returns whether all is done: the run is
+    /// over, and its rows are printed.
+    fn turn<N: FeedName, R: Wait>(&mut self, rt: &R, run: &RunView<'_, Anything, N>) -> bool
         ensures run { watched_run self.new.watches ≡ watched_run self.old.watches }
         ensures news { SaysRunNews (record { adds = E.adds; failures = E.failures })
-            (watched_run self.old.watches) self.old.console.errors self.new.console.errors }
+            (watched_run self.old.watches) self.old.errors self.new.errors }
     {
-        let has_taken = self.console.follow(rt, &mut self.text, log);
+        let is_done = run.is_over() && self.output.is_done();
         self.say_news();
-        has_taken
-    }
-
-    /// Looks at the run once, takes what the subscriber is offered, does what is due, and waits
-    /// where there is nothing to do. Returns whether all is done: the run is over, and all was
-    /// taken.
-    fn turn<N: FeedName, R: Wait>(
-        &mut self,
-        rt: &R,
-        run: &RunView<'_, Anything, N>,
-        log: &mut SubscriberLog<N>,
-    ) -> bool
-        ensures shows { KeepsFollowing (record { adds = W.adds; failures = W.failures })
-            log.old self.old.console log.new self.new.console }
-        ensures notes { KeepsNoting log.old self.old.console log.new self.new.console }
-        ensures run { watched_run self.new.watches ≡ watched_run self.old.watches }
-        ensures news { SaysRunNews (record { adds = E.adds; failures = E.failures })
-            (watched_run self.old.watches) self.old.console.errors self.new.console.errors }
-    {
-        let is_over = run.is_over();
-        let has_taken = self.take(rt, log);
-        if is_over {
-            return !has_taken;
+        if is_done {
+            return true;
         }
         self.stop(run);
         self.watch(rt, run);
-        let most_ms = if has_taken { 0 } else { self.wait_ms() };
+        self.serve(rt, run);
+        let most_ms = self.wait_ms();
         self.time.wait(most_ms);
         false
     }
 
     /// Looks at what the venues of a run that is over have come to, and says what was counted.
     fn close<N: FeedName, R: Wait>(&mut self, rt: &R, run: &RunView<'_, Anything, N>)
-        ensures console { self.new.console
-            ≡ record (self.old.console) { errors = self.new.console.errors } }
-        ensures says { SaysRunEnd (record { adds = E.adds; failures = E.failures })
-            (watched_run self.old.watches) self.old.console.errors self.new.console.errors }
+        ensures { SaysRunEnd (record { adds = E.adds; failures = E.failures })
+            (watched_run self.old.watches) self.old.errors self.new.errors }
     {
         let statuses = self.watches.statuses(|venue| run.status(rt, venue).ok());
         let moment = self.time.moment();
-        self.watches
-            .write_end(moment, &statuses, &mut self.console.errors);
+        self.watches.write_end(moment, &statuses, &mut self.errors);
     }
 
-    /// Attends the run until it is over and all that its subscriber is offered was taken.
-    fn follow_run<N: FeedName, R: Wait>(
+    /// Watches the run until it is over and its rows are printed.
+    fn watch_run<N: FeedName, R: Wait>(
         self,
         rt: &R,
         run: &RunView<'_, Anything, N>,
-        log: SubscriberLog<N>,
-    ) -> (RunMonitor<C, W, E>, SubscriberLog<N>)
-        ensures shows { KeepsFollowing (record { adds = W.adds; failures = W.failures })
-            log self.console result.1 result.0.console }
-        ensures notes { KeepsNoting log self.console result.1 result.0.console }
-        ensures says { SaysOfRun (record { adds = E.adds; failures = E.failures })
-            (watched_run self.watches) self.console.errors result.0.console.errors }
+    ) -> RunMonitor<C, E>
+        ensures { SaysOfRun (record { adds = E.adds; failures = E.failures })
+            (watched_run self.watches) self.errors result.errors }
     {
         let mut monitor = self;
-        let mut log = log;
         for _ in rt.forever() {
-            if monitor.turn(rt, run, &mut log) {
+            if monitor.turn(rt, run) {
                 break;
             }
         }
         monitor.close(rt, run);
-        (monitor, log)
+        monitor
     }
 }
 
-impl<N, C, W, E> Attendant<Anything, N, OwnLog<N>> for RunMonitor<C, W, E>
+impl<N, C, E> Watcher<Anything, N> for RunMonitor<C, E>
 where
     N: FeedName,
     C: Clock + Drop,
-    W: TextOut + Drop,
     E: TextOut + Drop,
 {
     ghost use Rattle.udp_listening.specs.Monitors.{HasMonitored};
 
-    ghost attends = { λ before log after later. HasMonitored
-        (record { adds = W.adds; failures = W.failures })
-        (record { adds = E.adds; failures = E.failures }) before log after later };
+    ghost watches = { λ before after. HasMonitored
+        (record { adds = E.adds; failures = E.failures }) before after };
 
-    /// Attends the run with the log of its subscriber. Without one it does nothing.
-    fn attend<R: Wait>(
+    fn watch<R: Threads + Wait + Sync>(
         self,
         rt: &R,
         run: &RunView<'_, Anything, N>,
-        log: OwnLog<N>,
-    ) -> (RunMonitor<C, W, E>, OwnLog<N>) {
-        match log {
-            Some(log) => {
-                let (monitor, log) = self.follow_run(rt, run, log);
-                (monitor, Some(log))
-            }
-            None => (self, None),
-        }
+    ) -> RunMonitor<C, E> {
+        self.watch_run(rt, run)
     }
 }

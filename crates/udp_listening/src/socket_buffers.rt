@@ -1,5 +1,6 @@
 //! The buffers of the lines' sockets, in which the system keeps what has come until it is read.
 
+use crate::listen_sockets::BoundLine;
 use libc::net as c;
 use std::alloc::{AllocError, Global};
 use std::net::UdpSocket;
@@ -28,11 +29,11 @@ fn size_of(socket: &UdpSocket) -> Option<u32> {
 
 /// Asks for a buffer of this many bytes at each socket, and returns the line that says how many the
 /// smallest one has then.
-pub fn enlarge(alloc: Global, sockets: &[UdpSocket], bytes: u32) -> Result<String, AllocError> {
+pub fn enlarge(alloc: Global, lines: &[BoundLine], bytes: u32) -> Result<String, AllocError> {
     let mut least = u32::MAX;
-    for socket in sockets {
-        ask_for(socket, bytes);
-        least = least.min(size_of(socket).unwrap_or(0));
+    for bound in lines {
+        ask_for(&bound.socket, bytes);
+        least = least.min(size_of(&bound.socket).unwrap_or(0));
     }
     if least < bytes {
         return format!(in alloc;

@@ -9,3 +9,4 @@ pub mod NewVenues
 pub mod OfSessions
 pub mod SessionParts
 pub mod WithoutSkips
+pub mod Joins

@@ -28,7 +28,7 @@ pub record CellState : Type 0 where
 
 -- a gap is asked for again after this many milliseconds
 abbrev pub new_pace : Pace
-new_pace = record { interval = 250; last = None }
+new_pace = record { interval = 250; seen = None; last = None }
 
 -- the cell of an arbiter and a lane, where nothing came yet
 abbrev pub new_cell : State → LaneEnd Numbered → CellState

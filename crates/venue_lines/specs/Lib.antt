@@ -5,6 +5,8 @@ pub mod Brought
 pub mod Seats
 pub mod Cells
 pub mod Sections
+-- sessions that are joined at their first packet
+pub mod Joins
 pub mod Datagrams
 -- what the sources of lines bring
 pub mod Sources

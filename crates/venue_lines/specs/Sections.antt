@@ -235,28 +235,32 @@ pub record PushesAndSkips (number : ℕ)
   pub pushed : ℕ
   pub pushes : Pushes (2 ^ 64 - 1) pushed between new
 
--- The answer to who gives up what the venue lacks below the number, by cases. Where the lock was
--- another venue's, nothing is missing.
-abbrev pub SkipsVenue : {S : Type 0} → Genuine S → FeedLanes → ℕ → ℕ
-    → Result (Unit {0}) GapFault → Type 0
-SkipsVenue premise lanes venue number (Ok done) =
+-- The answer to who gives up what the venue lacks below the number, by cases, whatever is told of a
+-- skip. Where the lock was another venue's, nothing is missing.
+abbrev pub SkipsVenue : {S A : Type 0} → Genuine S → FeedLanes → ℕ → ℕ
+    → Result A GapFault → Type 0
+SkipsVenue premise lanes venue number (Ok told) =
     IsPossibleAtVenue premise lanes venue
-    (PushesAndSkips number (Ok done))
+    (PushesAndSkips number (Ok tt))
 SkipsVenue premise lanes venue number (Err (gaps.Venue fault)) =
     IsPossibleAtVenue premise lanes venue
     (PushesAndSkips number (Err fault))
     ⊎ (MayMeetAnother premise lanes venue × (fault ≡ NothingMissing))
 SkipsVenue premise lanes venue number (Err gaps.UnknownVenue) = length lanes.venues ≤ venue
 
--- The request for the gap to send now, if any; only the pace of requests has changed.
-pub record RequestsGap (now_ms : ℕ) (request : Option Request) (old new : CellState) : Type 0 where
-  pub paced : (h : History) → CellFitsHistory old h
-      → IsPaced old.pace
-      (gap_of old.arbiter.session old.arbiter.window old.arbiter.sent h.present.packets) now_ms
-      request new.pace
-  pub kept : new ≡ record old { pace = new.pace }
+-- The request for the gap to send now, if any, where one waits `wait_ms` milliseconds; only the
+-- pace of requests has changed.
+pub record RequestsGap (now_ms wait_ms : ℕ) (request : Option Request) (old new : CellState)
+    : Type 0
+  where
+    pub paced : (h : History) → CellFitsHistory old h
+        → IsPaced old.pace
+        (gap_of old.arbiter.session old.arbiter.window old.arbiter.sent h.present.packets) now_ms
+        wait_ms request new.pace
+    pub kept : new ≡ record old { pace = new.pace }
 
 -- The answer to who asks for the request to send now.
-abbrev pub IsDueAt : {S : Type 0} → Genuine S → FeedLanes → ℕ → ℕ → Option Request → Type 0
-IsDueAt premise lanes venue now_ms request =
-    IsPossibleCall premise lanes venue (RequestsGap now_ms request) (request ≡ None)
+abbrev pub IsDueAt : {S : Type 0} → Genuine S → FeedLanes → ℕ → (now_ms wait_ms : ℕ)
+    → Option Request → Type 0
+IsDueAt premise lanes venue now_ms wait_ms request =
+    IsPossibleCall premise lanes venue (RequestsGap now_ms wait_ms request) (request ≡ None)

@@ -1,21 +1,24 @@
 //! The calls of a feed that take only a venue's lock.
 
-ghost use Rattle.std.specs.Prelude.{◌≡◌, ◌≤◌, ◌↔◌, ◌-◌, ◌^◌, None, IfOk, IsErrOf, length};
+ghost use Rattle.std.specs.Prelude.{◌≡◌, ◌≤◌, ◌↔◌, ◌-◌, ◌^◌, None, Err, IfOk, IsErrOf, false, length};
 ghost use Rattle.line_arbiter.specs.Histories.{History};
 ghost use Rattle.feed_steps.specs.Premises.{IsGenuinePacket};
 ghost use Rattle.venue_lines.specs.Seats.{new_seat, seat_after, seat_refusing};
-ghost use Rattle.venue_lines.specs.Cells.{CellFitsHistory};
+ghost use Rattle.venue_lines.specs.Cells.{CellFitsHistory, IsPossibleCall};
 ghost use Rattle.venue_lines.specs.Brought.{requests_after};
 ghost use Rattle.venue_lines.specs.Sections.{AcceptsTheirPacket, HasSkippedPast, AnswersAtVenue, IsDueAt, FlushesVenue, RenewsVenue, SkipsVenue, KeepsButPushed, Pushes, RequestsGap, TakesPacket};
 ghost use Rattle.venue_lines.specs.Datagrams.{AreGenuineBytes, AcceptsTheirs, IsAnsweredAt, TakesDatagram, bytes_of};
+ghost use Rattle.venue_lines.specs.Joins.{IsAnsweredJoining, JoinsAndTakes, TakesJoining, before_join_after};
 
 use crate::cell::VenueCell;
 use crate::datagram::Datagram;
 use crate::faults::{FeedFault, GapFault, RenewalFault, TakeFault};
+use crate::joining::join_if_asked;
 use crate::locked_venue::LockedVenue;
 use crate::locks::{VenueLocks, lock_spinning};
+use crate::looked::Looked;
 use crate::seat::LineSeat;
-use crate::timing::{last_sent, note_time};
+use crate::timing::{last_sent, note_join, note_time};
 use feed_steps::{FeedName, Unsent};
 use feed_types::{Genuine, LineId, VenueId};
 use line_arbiter::{LineFault, Outcome, SkipFault};
@@ -83,7 +86,7 @@ fn has_news(answer: &Result<Outcome, LineFault>) -> bool {
     matches!(answer, Ok(Outcome::Taken { new: 1.., .. }))
 }
 
-/// Takes a packet of the cell's venue. Most bring the next message alone.
+/// Takes a packet of the cell's venue. Most repeat what was sent, or bring the next message alone.
 fn take_one<G: Genuine, N: FeedName, W: Wait>(
     rt: &W,
     cell: &mut VenueCell<G, N>,
@@ -99,50 +102,103 @@ fn take_one<G: Genuine, N: FeedName, W: Wait>(
     ensures accepts { AcceptsTheirPacket G.Genuine seat.old.venue packet.now result }
     ensures early { HasSkippedPast G.Genuine cell.old packet.now result }
 {
+    if let Some(outcome) = cell.take_repeat(seat, packet) {
+        return Ok(outcome);
+    }
     if let Some(outcome) = cell.take_and_push(rt, seat, packet) {
         return Ok(outcome);
     }
     cell.take(seat, packet)
 }
 
-/// Takes the packet where the cell is of the seat's venue, and pushes what is ready then. Returns
-/// the answer, and what `push_ready` returned.
+/// What became of a packet under its venue's lock.
+#[derive(Clone, Copy)]
+struct PacketTaken {
+    /// Whether the venue's session was joined at it.
+    joined: bool,
+    answer: Result<Outcome, LineFault>,
+    /// How many items were pushed then, and whether something may be ready still.
+    pushed: (u64, bool),
+}
+
+/// Takes the packet where the cell is of the seat's venue, and pushes what is ready then. Where
+/// that is asked for and nothing of its session came before, the session is joined at it first.
 fn take_in<G: Genuine, N: FeedName, W: Wait>(
     rt: &W,
     cell: &mut VenueCell<G, N>,
     seat: &mut LineSeat<G, N>,
     packet: &Packet<'_>,
-) -> (Result<Outcome, LineFault>, (u64, bool))
+    join: bool,
+) -> PacketTaken
     requires { IsGenuinePacket G.Genuine seat.old.venue packet.now }
-    ensures seat { seat.new ≡ seat_after seat.old packet.now result.0 }
-    ensures answer { IsAnsweredAt G.Genuine N.lanes seat.old packet.now result.0 }
-    ensures accepts { AcceptsTheirPacket G.Genuine seat.old.venue packet.now result.0 }
-    ensures early { HasSkippedPast G.Genuine cell.old packet.now result.0 }
+    ensures seat { seat.new ≡ seat_after seat.old packet.now result.answer }
+    ensures answer { IsAnsweredAt G.Genuine N.lanes seat.old packet.now result.answer }
+    ensures joins { IsPossibleCall G.Genuine N.lanes seat.old.venue
+        (JoinsAndTakes join seat.old.line packet.now result.joined result.answer)
+        ((result.answer ≡ Err LineFault.OtherSession) × (result.joined ≡ false)) }
+    ensures accepts { AcceptsTheirPacket G.Genuine seat.old.venue packet.now result.answer }
+    ensures early { HasSkippedPast G.Genuine cell.old packet.now result.answer }
 {
     cell.show_lock_invariant();
     if cell.venue() != seat.venue() {
-        return (Err(LineFault::OtherSession), (0, false));
+        return PacketTaken {
+            joined: false,
+            answer: Err(LineFault::OtherSession),
+            pushed: (0, false),
+        };
     }
+    let joined = join_if_asked(join, cell, packet);
+    cell.show_lock_invariant();
     let answer = take_one(rt, cell, seat, packet);
     let pushed = push_ready(rt, cell, u64::MAX);
     cell.show_lock_invariant();
-    (answer, pushed)
+    PacketTaken {
+        joined,
+        answer,
+        pushed,
+    }
 }
 
-/// Returns the request for the gap to send now, where the cell is of this venue.
+/// Takes the packet as `take_in` does, and counts the messages that were given up where the session
+/// was joined at it.
+fn take_and_count<G: Genuine, N: FeedName, W: Wait>(
+    rt: &W,
+    locked: &mut LockedVenue<G, N>,
+    seat: &mut LineSeat<G, N>,
+    packet: &Packet<'_>,
+    join: bool,
+) -> PacketTaken
+    requires { IsGenuinePacket G.Genuine seat.old.venue packet.now }
+    ensures seat { seat.new ≡ seat_after seat.old packet.now result.answer }
+    ensures answer { IsAnsweredAt G.Genuine N.lanes seat.old packet.now result.answer }
+    ensures joins { IsAnsweredJoining G.Genuine N.lanes join seat.old packet.now result.answer }
+    ensures accepts { AcceptsTheirPacket G.Genuine seat.old.venue packet.now result.answer }
+    ensures counted { locked.new ≡ record locked.old {
+      cell = locked.new.cell;
+      before_join = before_join_after result.joined packet.now.number locked.old.before_join;
+    } }
+{
+    let taken = take_in(rt, &mut locked.cell, seat, packet, join);
+    locked.count_join(taken.joined, packet.number());
+    taken
+}
+
+/// Returns the request for the gap to send now, where the cell is of this venue: for one that has
+/// been there for `wait_ms` milliseconds.
 #[tactic(auto, using(crate::proofs::CellMoves::at_venue, crate::proofs::CellMoves::at_another))]
 fn due_in<G: Genuine, N: FeedName>(
     cell: &mut VenueCell<G, N>,
     venue: VenueId,
     now_ms: u64,
+    wait_ms: u64,
 ) -> Option<Request>
-    ensures { IsDueAt G.Genuine N.lanes venue now_ms result }
+    ensures { IsDueAt G.Genuine N.lanes venue now_ms wait_ms result }
 {
     cell.show_lock_invariant();
     if cell.venue() != venue {
         return None;
     }
-    let request = cell.due(now_ms);
+    let request = cell.due_after(now_ms, wait_ms);
     cell.show_lock_invariant();
     request
 }
@@ -152,14 +208,15 @@ fn due_and_counted<G: Genuine, N: FeedName>(
     locked: &mut LockedVenue<G, N>,
     venue: VenueId,
     now_ms: u64,
+    wait_ms: u64,
 ) -> Option<Request>
-    ensures due { IsDueAt G.Genuine N.lanes venue now_ms result }
+    ensures due { IsDueAt G.Genuine N.lanes venue now_ms wait_ms result }
     ensures counted { locked.new ≡ record locked.old {
       cell = locked.new.cell;
       requests = requests_after result locked.old.requests;
     } }
 {
-    let request = due_in(&mut locked.cell, venue, now_ms);
+    let request = due_in(&mut locked.cell, venue, now_ms, wait_ms);
     if request.is_some() {
         locked.requests = locked.requests.saturating_add(1);
     }
@@ -221,63 +278,86 @@ fn skip_in<G: Genuine, N: FeedName, W: Wait>(
 impl<G: Genuine, N: FeedName> VenueLocks<G, N> {
     /// Takes a datagram that came on the seat's line, which is genuine at its venue, and answers
     /// what became of it: the packet's fault, else the line's, else the outcome. What is ready
-    /// then, after a fault too, is pushed, until nothing is or the lane is full. Stores in `gap`
-    /// whether there is a gap then, all under the venue's lock taken once; after a datagram that is
-    /// no packet it stores true. The datagram is read before the lock is taken.
+    /// then, after a fault too, is pushed, until nothing is or the lane is full. Where `join` is
+    /// true, and the packet is the first one of the venue's session and begins past its first
+    /// message, what is missing before it is given up first. Stores in `looked` what the line sees
+    /// then, all under the venue's lock taken once. The datagram is read before the lock is taken.
     pub fn take_and_look<W: Wait>(
         &self,
         rt: &W,
         seat: &mut LineSeat<G, N>,
         datagram: &Datagram,
-        gap: &mut bool,
+        join: bool,
+        looked: &mut Looked,
     ) -> Result<Outcome, TakeFault>
         requires { AreGenuineBytes G.Genuine seat.old.venue (bytes_of datagram.now) }
         ensures taken { TakesDatagram G.Genuine N.lanes (bytes_of datagram.now)
             seat.old result seat.new }
+        ensures joins { TakesJoining G.Genuine N.lanes join (bytes_of datagram.now) seat.old
+            result }
         ensures accepts { AcceptsTheirs G.Genuine seat.old.venue (bytes_of datagram.now) result }
     {
         match read_packet(datagram.bytes()) {
-            Ok(packet) => match self.take_packet(rt, seat, &packet, datagram.time(), gap) {
+            Ok(packet) => match self.take_packet(rt, seat, &packet, datagram.time(), join, looked) {
                 Ok(outcome) => Ok(outcome),
                 Err(fault) => {
-                    self.refuse(rt, seat, TakeFault::Line(fault));
+                    seat.refuse(TakeFault::Line(fault));
                     Err(TakeFault::Line(fault))
                 }
             },
             Err(fault) => {
-                let _pushed = self.flush_some(rt, seat.venue(), u64::MAX);
-                *gap = true;
-                self.refuse(rt, seat, TakeFault::Packet(fault));
+                let _pushed = self.take_unread(rt, seat, TakeFault::Packet(fault), looked);
                 Err(TakeFault::Packet(fault))
             }
         }
     }
 
-    /// Counts one more datagram of the seat that was refused with this fault, and has the venue's
-    /// status show it.
-    fn refuse<W: Wait>(&self, rt: &W, seat: &mut LineSeat<G, N>, fault: TakeFault)
-        ensures { seat.new ≡ seat_refusing fault seat.old }
+    /// Counts a datagram that is no packet, on the seat and at its venue, pushes what is ready
+    /// there, and stores in `looked` what the line sees then. Returns how many items were pushed.
+    fn take_unread<W: Wait>(
+        &self,
+        rt: &W,
+        seat: &mut LineSeat<G, N>,
+        fault: TakeFault,
+        looked: &mut Looked,
+    ) -> u64
+        ensures seat { seat.new ≡ seat_refusing fault seat.old }
+        ensures pushed { FlushesVenue G.Genuine N.lanes seat.old.venue (2 ^ 64 - 1) result }
     {
         seat.refuse(fault);
-        if let Some(lock) = self.get(seat.venue()) {
-            lock_spinning(rt, lock).cell.refuse(seat.line(), fault);
+        let venue = seat.venue();
+        let Some(lock) = self.get(venue) else {
+            return 0;
+        };
+        let mut locked = lock_spinning(rt, lock);
+        let (pushed, has_backlog) = flush_cell(rt, &mut locked.cell, venue, u64::MAX);
+        locked.cell.refuse(seat.line(), fault);
+        *looked = locked.look();
+        let is_new = self.set_backlog(venue, has_backlog);
+        drop(locked);
+        if pushed > 0 || is_new {
+            self.bells().ring_work();
         }
+        pushed
     }
 
     /// Takes a packet that was read, whose datagram was received at this time, under the lock of
-    /// the seat's venue, pushes what is ready, counts the packet, and stores in `gap` whether there
-    /// is a gap then.
+    /// the seat's venue, whose session is joined at it where that is asked for and nothing of it
+    /// came before. Pushes what is ready, counts the packet, and stores in `looked` what the line
+    /// sees then.
     fn take_packet<W: Wait>(
         &self,
         rt: &W,
         seat: &mut LineSeat<G, N>,
         packet: &Packet<'_>,
         time: Option<u64>,
-        gap: &mut bool,
+        join: bool,
+        looked: &mut Looked,
     ) -> Result<Outcome, LineFault>
         requires { IsGenuinePacket G.Genuine seat.old.venue packet.now }
         ensures seat { seat.new ≡ seat_after seat.old packet.now result }
         ensures answer { IsAnsweredAt G.Genuine N.lanes seat.old packet.now result }
+        ensures joins { IsAnsweredJoining G.Genuine N.lanes join seat.old packet.now result }
         ensures accepts { AcceptsTheirPacket G.Genuine seat.old.venue packet.now result }
     {
         let Some(lock) = self.get(seat.venue()) else {
@@ -285,11 +365,17 @@ impl<G: Genuine, N: FeedName> VenueLocks<G, N> {
         };
         let mut locked = lock_spinning(rt, lock);
         note_time(&locked.cell, self.bells().times(), time);
-        let (answer, (pushed, has_backlog)) = take_in(rt, &mut locked.cell, seat, packet);
-        self.set_backlog(seat.venue(), has_backlog);
-        *gap = locked.cell.has_gap();
+        let taken = take_and_count(rt, &mut locked, seat, packet, join);
+        note_join(&locked.cell, self.bells().times(), taken.joined, packet);
+        let (pushed, has_backlog) = taken.pushed;
+        let answer = taken.answer;
+        if let Err(fault) = answer {
+            locked.cell.refuse(seat.line(), TakeFault::Line(fault));
+        }
+        *looked = locked.look();
+        let is_new = self.set_backlog(seat.venue(), has_backlog);
         drop(locked);
-        if pushed > 0 || has_backlog || has_news(&answer) {
+        if pushed > 0 || is_new || has_news(&answer) {
             self.bells().ring_work();
         }
         answer
@@ -306,7 +392,7 @@ impl<G: Genuine, N: FeedName> VenueLocks<G, N> {
         };
         let mut locked = lock_spinning(rt, lock);
         let (pushed, has_backlog) = flush_cell(rt, &mut locked.cell, venue, most);
-        self.set_backlog(venue, has_backlog);
+        let _is_new = self.set_backlog(venue, has_backlog);
         drop(locked);
         if pushed > 0 {
             self.bells().ring_work();
@@ -316,9 +402,10 @@ impl<G: Genuine, N: FeedName> VenueLocks<G, N> {
 
     /// Gives up the messages of the venue that are missing below `number`, and goes on from it: its
     /// next item is `Skipped`, with the number before. What is ready is pushed before and after.
-    /// The refusals, in this order: UnknownVenue, ItemsReady (the lane is full), PastEnd,
-    /// NothingMissing, HeldBelow.
-    pub fn skip_to<W: Wait>(&self, rt: &W, venue: VenueId, number: u64) -> Result<(), GapFault>
+    /// Returns the skip's place among the datagrams and skips of the venue, in the order in which
+    /// they were taken, from 1. The refusals, in this order: UnknownVenue, ItemsReady (the lane is
+    /// full), PastEnd, NothingMissing, HeldBelow.
+    pub fn skip_to<W: Wait>(&self, rt: &W, venue: VenueId, number: u64) -> Result<u64, GapFault>
         ensures skipped { SkipsVenue G.Genuine N.lanes venue number result }
         ensures unknown { IsErrOf result GapFault.UnknownVenue
             ↔ (length N.lanes.venues ≤ venue) }
@@ -333,9 +420,13 @@ impl<G: Genuine, N: FeedName> VenueLocks<G, N> {
         self.bells()
             .times()
             .go_on_from(venue, from, last_sent(&locked.cell));
-        self.set_backlog(venue, has_backlog);
+        let answer = match answer {
+            Ok(()) => Ok(locked.next_place()),
+            Err(fault) => Err(fault),
+        };
+        let is_new = self.set_backlog(venue, has_backlog);
         drop(locked);
-        if pushed > 0 {
+        if pushed > 0 || is_new {
             self.bells().ring_work();
         }
         answer
@@ -375,21 +466,23 @@ impl<G: Genuine, N: FeedName> VenueLocks<G, N> {
         Ok(self.flush_some(rt, venue, u64::MAX))
     }
 
-    /// Returns the request for the venue's gap to send now, if any, and counts it. UnknownVenue
-    /// where there is no such venue.
+    /// Returns the request for the venue's gap to send now, if any, and counts it: for a gap that
+    /// has been there for `wait_ms` milliseconds. UnknownVenue where there is no such venue.
     #[tactic(auto, using(crate::proofs::CellMoves::at_one))]
     pub fn request_due<W: Wait>(
         &self,
         rt: &W,
         venue: VenueId,
         now_ms: u64,
+        wait_ms: u64,
     ) -> Result<Option<Request>, FeedFault>
-        ensures { AnswersAtVenue G.Genuine N.lanes venue (RequestsGap now_ms) None result }
+        ensures { AnswersAtVenue G.Genuine N.lanes venue (RequestsGap now_ms wait_ms) None result }
     {
         let Some(lock) = self.get(venue) else {
             return Err(FeedFault::UnknownVenue);
         };
-        Ok(due_and_counted(&mut lock_spinning(rt, lock), venue, now_ms))
+        let mut locked = lock_spinning(rt, lock);
+        Ok(due_and_counted(&mut locked, venue, now_ms, wait_ms))
     }
 
     /// Begins the venue's session of this ordinal and name, once End of the one before it was sent,

@@ -222,6 +222,33 @@ impl<G: Genuine, N: FeedName> VenueCell<G, N> {
         }
     }
 
+    /// Takes a packet of messages of the present session that were all sent, as on the line that
+    /// comes second: it does what `take` does. `None` for any other packet; then nothing has
+    /// changed, and `take` takes it.
+    #[inline(always)]
+    pub(crate) fn take_repeat(
+        &mut self,
+        seat: &mut LineSeat<G, N>,
+        packet: &Packet<'_>,
+    ) -> Option<Outcome>
+        requires venue { seat.old.venue ≡ self.old.arbiter.venue }
+        requires genuine { IsGenuinePacket G.Genuine seat.old.venue packet.now }
+        ensures packet { (h : History) → CellFitsHistory self.old h
+            → IfSome result (λ outcome. TakesPacket seat.old.line packet.now (Ok outcome) h
+            self.old self.new) }
+        ensures kept { IfSome result (λ _. KeepsButPackets self.old self.new) }
+        ensures seat { IfSome result (λ outcome. seat.new
+            ≡ seat_after seat.old packet.now (Ok outcome)) }
+        ensures none { IfNone result ((self.new ≡ self.old) × (seat.new ≡ seat.old)) }
+    {
+        let outcome = self.lines.repeat(packet)?;
+        let line = seat.line();
+        let repeated = AcceptedPacket::new(packet, outcome);
+        self.counted.count(line, &repeated);
+        seat.count(&repeated);
+        Some(outcome)
+    }
+
     /// Takes a packet of one message, which is the next one where nothing is held, and pushes its
     /// item, which needn't be held first: it does what `take` and then `push_one` do. `None` for
     /// any other packet, and where the lane is full; then nothing has changed, and `take` takes it.
@@ -326,16 +353,17 @@ impl<G: Genuine, N: FeedName> VenueCell<G, N> {
     }
 
     /// Whether messages are missing: the session is known to go past the front.
+    #[inline(always)]
     pub(crate) fn has_gap(&self) -> bool {
         let status = self.lines.status();
         status.front < status.known
     }
 
-    /// Returns the request for the gap to send now, if any: see [`Pacer::due`].
-    pub fn due(&mut self, now_ms: u64) -> Option<Request>
-        ensures { RequestsGap now_ms result self.old self.new }
+    /// Returns the request for the gap to send now, if any: see [`Pacer::due_after`].
+    pub fn due_after(&mut self, now_ms: u64, wait_ms: u64) -> Option<Request>
+        ensures { RequestsGap now_ms wait_ms result self.old self.new }
     {
         let gap = self.lines.gap();
-        self.pacer.due(gap, now_ms)
+        self.pacer.due_after(gap, now_ms, wait_ms)
     }
 }

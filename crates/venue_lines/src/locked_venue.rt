@@ -1,21 +1,27 @@
-//! The part that a venue's lock guards: its cell, and the seats that were handed out.
+//! The part that a venue's lock guards: its cell, the seats that were handed out, and the order of
+//! what was taken.
 
 ghost use Rattle.std.specs.Prelude.{◌≡◌, IfOk};
 ghost use Rattle.venue_lines.specs.Seats.{GivesSeat, new_seat};
+ghost use Rattle.venue_lines.specs.Joins.{before_join_after};
 
 use crate::cell::VenueCell;
 use crate::faults::FeedFault;
+use crate::looked::Looked;
 use crate::seat::LineSeat;
 use feed_steps::FeedName;
 use feed_types::{Genuine, LineId, PerLine};
 
-/// The part that a venue's lock guards: the cell, which lines have their seats, and how many
-/// requests were handed out.
+/// The part that a venue's lock guards: the cell, which lines have their seats, how many requests
+/// were handed out, how many datagrams and skips were taken, and how many messages were given up
+/// where sessions were joined at their first packets.
 #[derive(Drop)]
 pub struct LockedVenue<G: Genuine, N: FeedName> {
     pub cell: VenueCell<G, N>,
     pub seated: PerLine<bool>,
     pub requests: u64,
+    pub(crate) places: u64,
+    pub(crate) before_join: u64,
 }
 
 impl<G: Genuine, N: FeedName> LockedVenue<G, N> {
@@ -31,5 +37,41 @@ impl<G: Genuine, N: FeedName> LockedVenue<G, N> {
         }
         self.seated.set(line, true);
         Ok(LineSeat::new(self.cell.venue(), line))
+    }
+
+    /// Returns the place of one more datagram or skip in the order in which they were taken, from
+    /// 1.
+    #[inline(always)]
+    pub(crate) fn next_place(&mut self) -> u64
+        ensures cell { self.new.cell ≡ self.old.cell }
+        ensures place { result ≡ self.new.places }
+    {
+        self.places = self.places.saturating_add(1);
+        self.places
+    }
+
+    /// Returns what a line sees once its datagram, the next one of the venue, was taken.
+    #[inline(always)]
+    pub(crate) fn look(&mut self) -> Looked
+        ensures cell { self.new.cell ≡ self.old.cell }
+        ensures place { result.place ≡ self.new.places }
+    {
+        Looked {
+            gap: self.cell.has_gap(),
+            place: self.next_place(),
+        }
+    }
+
+    /// Counts the messages that were given up, where the session was joined at a packet of this
+    /// number.
+    pub(crate) fn count_join(&mut self, joined: bool, number: u64)
+        ensures { self.new ≡ record self.old {
+          before_join = before_join_after joined number self.old.before_join;
+        } }
+    {
+        if joined {
+            let missing = number.saturating_sub(1);
+            self.before_join = self.before_join.saturating_add(missing);
+        }
     }
 }

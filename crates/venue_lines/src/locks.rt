@@ -45,8 +45,9 @@ pub type VenueLock<G, N> = CachePadded<Mutex<LockedVenue<G, N>>>;
 pub struct VenueLocks<G: Genuine, N: FeedName> {
     locks: Vec<VenueLock<G, N>>,
     /// By venue, whether something may be ready that wasn't pushed. It changes under the
-    /// venue's lock alone, and is stored only where it differs.
-    backlogged: [AtomicBool; 16],
+    /// venue's lock alone, and is stored only where it differs. It lies on cache lines of its own,
+    /// apart from what each datagram reads.
+    backlogged: CachePadded<[AtomicBool; 16]>,
     bells: Arc<Bells, Global>,
 }
 
@@ -67,7 +68,7 @@ impl<G: Genuine, N: FeedName> VenueLocks<G, N> {
     {
         VenueLocks {
             locks,
-            backlogged: array::from_fn(|_| AtomicBool::new(false)),
+            backlogged: CachePadded::new(array::from_fn(|_| AtomicBool::new(false))),
             bells,
         }
     }
@@ -87,11 +88,15 @@ impl<G: Genuine, N: FeedName> VenueLocks<G, N> {
         self.backlogged[venue.index()].load(Ordering::SeqCst)
     }
 
-    /// Notes whether something may be ready at the venue that wasn't pushed.
-    pub(crate) fn set_backlog(&self, venue: VenueId, has_backlog: bool) {
-        if self.has_backlog(venue) != has_backlog {
+    /// Notes whether something may be ready at the venue that wasn't pushed, and returns whether
+    /// that is new: nothing was before. A consolidator that has looked since an older note knows of
+    /// it, and sleeps only where it couldn't go on.
+    pub(crate) fn set_backlog(&self, venue: VenueId, has_backlog: bool) -> bool {
+        let had_backlog = self.has_backlog(venue);
+        if had_backlog != has_backlog {
             self.backlogged[venue.index()].store(has_backlog, Ordering::SeqCst);
         }
+        has_backlog && !had_backlog
     }
 
     /// The number of venues.

@@ -20,6 +20,7 @@ fn status_in<G: Genuine, N: FeedName>(
 ) -> Result<VenueStatus, FeedFault>
     ensures status { IsPossibleStatus G.Genuine N.lanes venue result }
     ensures requests { IfOk result (λ status. status.requests ≡ locked.now.requests) }
+    ensures before_join { IfOk result (λ status. status.before_join ≡ locked.now.before_join) }
     ensures counts { IfOk result (λ status. (line : LineId)
         → ShowsBrought (on_line line locked.now.cell.brought) (status_on line status)) }
 {

@@ -84,13 +84,16 @@ pub trait LineSource<G: Genuine>: Drop {
         ensures failed { IfErr result (λ fault. failures self.new
             ≡ failures_after (failures self.old) fault) };
 
-    /// Takes back a datagram that `next` returned, once it was read, so that its memory can be used
-    /// for a later one. A source that has no body of its own for it lets that go.
-    fn recycle(&mut self, datagram: Datagram)
+    /// Takes back a datagram that `next` returned, once it was taken, so that its memory can be
+    /// used for a later one. `place` is its place among the datagrams and skips of the venue, in
+    /// the order in which these were taken, from 1 ([`crate::Looked`]). A source that has no body
+    /// of its own for it lets the datagram go.
+    fn recycle(&mut self, datagram: Datagram, place: u64)
         ensures venue { venue_of self.new ≡ venue_of self.old }
         ensures brings { brings self.old [] self.new }
         ensures sound { failures self.new ≡ failures self.old }
     {
+        let _unused = place;
         drop(datagram);
     }
 

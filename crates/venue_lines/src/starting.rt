@@ -74,6 +74,8 @@ fn locked<G: Genuine, N: FeedName>(
             cell,
             seated: PerLine::all(false),
             requests: 0,
+            places: 0,
+            before_join: 0,
         })));
     }
     venues

@@ -30,6 +30,9 @@ pub struct VenueStatus {
     /// were given to send, and those that [`crate::VenueLocks::request_due`] returned. It stays at
     /// 2^64 - 1 once it is there.
     pub requests: u64,
+    /// How many messages were given up where sessions were joined at their first packets, in all
+    /// sessions. It stays at 2^64 - 1 once it is there.
+    pub before_join: u64,
     pub a: LineCounts,
     pub b: LineCounts,
     pub recovery: LineCounts,
@@ -54,6 +57,7 @@ impl VenueStatus {
             → ShowsHistory locked.now.cell.arbiter.window h locked.now.cell.brought result }
         ensures sent { result.cursors.sent ≡ locked.now.cell.arbiter.sent }
         ensures requests { result.requests ≡ locked.now.requests }
+        ensures before_join { result.before_join ≡ locked.now.before_join }
         ensures counts { (line : LineId)
             → ShowsBrought (on_line line locked.now.cell.brought) (status_on line result) }
     {
@@ -64,6 +68,7 @@ impl VenueStatus {
             cursors: arbiter.status(),
             gap: arbiter.gap(),
             requests: locked.requests,
+            before_join: locked.before_join,
             a: line_counts(&locked.cell, LineId::A),
             b: line_counts(&locked.cell, LineId::B),
             recovery: line_counts(&locked.cell, LineId::Recovery),

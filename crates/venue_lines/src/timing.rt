@@ -3,6 +3,7 @@
 use crate::cell::VenueCell;
 use feed_steps::{FeedName, FeedTimes};
 use feed_types::Genuine;
+use mold_packet::Packet;
 
 /// The number of the last item of the venue's session that was pushed, or 0.
 pub(crate) fn last_sent<G: Genuine, N: FeedName>(cell: &VenueCell<G, N>) -> u64 {
@@ -27,5 +28,18 @@ pub(crate) fn note_time<G: Genuine, N: FeedName>(
 ) {
     if times.are_kept() {
         times.note_datagram(cell.venue(), last_ready(cell), time);
+    }
+}
+
+/// Notes where the numbers of the cell's venue go on, where its session was joined at the packet:
+/// nothing was pushed before it, and its first item is that of the number before.
+pub(crate) fn note_join<G: Genuine, N: FeedName>(
+    cell: &VenueCell<G, N>,
+    times: &FeedTimes,
+    joined: bool,
+    packet: &Packet<'_>,
+) {
+    if joined {
+        times.go_on_from(cell.venue(), 0, packet.number().saturating_sub(2));
     }
 }

@@ -41,6 +41,10 @@ HasAttended attends asked before after =
     ⊎ ((log : Option SubscriberLogState) × (later : Option SubscriberLogState)
     × IsBegun asked log × attends before log after later)
 
+-- The watcher watched no run; or it did watch one.
+abbrev pub HasWatched : {W : Type 0} → (W → W → Type 0) → (before after : W) → Type 0
+HasWatched watches before after = (after ≡ before) ⊎ watches before after
+
 -- A feed's whole life. Each line, which began with a new seat, took what its source brought, and
 -- what is reported of it is so. The attendant attended the run, with a new log where one was asked
 -- for. The settlement is that of the lines' seats and of the logs: the attendant's, if there is

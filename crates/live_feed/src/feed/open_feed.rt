@@ -24,7 +24,9 @@ use line_arbiter::Outcome;
 use mold_packet::Request;
 use std::alloc::Global;
 use std::sync::{Mutex, Wait};
-use venue_lines::{Datagram, FeedFault, GapFault, LineSeat, RenewalFault, TakeFault, VenueLocks};
+use venue_lines::{
+    Datagram, FeedFault, GapFault, LineSeat, Looked, RenewalFault, TakeFault, VenueLocks,
+};
 
 /// An open feed: each venue is under a lock of its own, and the journal with all lanes' other ends
 /// under the consolidator's. No call holds two of them.
@@ -68,8 +70,8 @@ impl<G: Genuine, N: FeedName> OpenFeed<G, N> {
         // where it isn't of the present one, or as an end that is too early.
         ensures accepts { AcceptsTheirs G.Genuine seat.old.venue (bytes_of datagram.now) result }
     {
-        let mut gap = false;
-        self.venues.take_and_look(rt, seat, datagram, &mut gap)
+        self.venues
+            .take_and_look(rt, seat, datagram, false, &mut Looked::default())
     }
 
     /// Pushes what is ready of the venue, until nothing is or the lane is full, and returns how
@@ -89,9 +91,9 @@ impl<G: Genuine, N: FeedName> OpenFeed<G, N> {
         venue: VenueId,
         now_ms: u64,
     ) -> Result<Option<Request>, FeedFault>
-        ensures { AnswersAtVenue G.Genuine N.lanes venue (RequestsGap now_ms) None result }
+        ensures { AnswersAtVenue G.Genuine N.lanes venue (RequestsGap now_ms 0) None result }
     {
-        self.venues.request_due(rt, venue, now_ms)
+        self.venues.request_due(rt, venue, now_ms, 0)
     }
 
     /// Begins the venue's session of this ordinal and name, once End of the one before it was sent,
@@ -114,9 +116,11 @@ impl<G: Genuine, N: FeedName> OpenFeed<G, N> {
 
     /// Gives up the messages of the venue that are missing below `number`, and goes on from it: its
     /// next item is `Skipped`, with the number before. What is ready is pushed before and after.
-    /// The refusals, in this order: UnknownVenue, ItemsReady (the lane is full), PastEnd,
-    /// NothingMissing, HeldBelow. Who joins a session in its middle skips to its first packet.
-    pub fn skip_to<W: Wait>(&self, rt: &W, venue: VenueId, number: u64) -> Result<(), GapFault>
+    /// Returns the skip's place among the datagrams and skips of the venue, in the order in which
+    /// they were taken, from 1. The refusals, in this order: UnknownVenue, ItemsReady (the lane is
+    /// full), PastEnd, NothingMissing, HeldBelow. Who joins a session in its middle skips to its
+    /// first packet.
+    pub fn skip_to<W: Wait>(&self, rt: &W, venue: VenueId, number: u64) -> Result<u64, GapFault>
         ensures skipped { SkipsVenue G.Genuine N.lanes venue number result }
         ensures unknown { IsErrOf result GapFault.UnknownVenue
             ↔ (length N.lanes.venues ≤ venue) }

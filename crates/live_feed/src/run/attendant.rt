@@ -1,23 +1,31 @@
 //! Who stands beside a run.
 
-ghost use Rattle.std.specs.Prelude.{◌≡◌, ◌≤◌, ◌↔◌, length, Err, IsErrOf};
+ghost use Rattle.std.specs.Prelude.{◌≡◌, ◌≤◌, ◌↔◌, length, Err, IfOk, IfSome, IsErrOf};
+ghost use Rattle.live_feed.specs.subscriber.Logs.{Polls};
 ghost use Rattle.venue_lines.specs.Sections.{SkipsVenue};
 ghost use Rattle.venue_lines.specs.Statuses.{IsPossibleStatus};
 
+use crate::run::idle::{back_off, should_sleep};
 use crate::run::signals::Signals;
 use crate::subscriber::log::SubscriberLog;
+use crate::subscriber::logged::PollFault;
 use feed_steps::FeedName;
-use feed_types::{Genuine, VenueId};
+use feed_types::{Genuine, SubscriberId, VenueId};
+use filter_terms::Advice;
 use std::sync::Wait;
+use std::thread::Threads;
 use venue_lines::{FeedFault, GapFault, VenueLocks, VenueStatus};
 
-/// A run as the thread beside it sees it: whether it is over, and its venues. It shows nothing of
-/// the consolidator, beside whose lock the subscribers' filters lie: a program's own attendant may
-/// be handed no value through which a stored closure could be reached.
+/// A run as a thread beside it sees it, that of its attendant or of its watcher: whether it is
+/// over, and its venues. It shows nothing of the consolidator, beside whose lock the subscribers'
+/// filters lie: a program's own attendant may be handed no value through which a stored closure
+/// could be reached.
 #[derive(Drop)]
 pub struct RunView<'r, G: Genuine, N: FeedName> {
     pub(crate) venues: &'r VenueLocks<G, N>,
     pub(crate) signals: &'r Signals,
+    /// The attendant's own subscriber, if it has one.
+    pub(crate) own: Option<SubscriberId>,
 }
 
 impl<'r, G: Genuine, N: FeedName> RunView<'r, G, N> {
@@ -32,6 +40,21 @@ impl<'r, G: Genuine, N: FeedName> RunView<'r, G, N> {
         self.venues.bells().end_runs();
     }
 
+    /// Whether the lines are to read no further datagram, since the run was stopped, from outside
+    /// or early. It needn't be over yet.
+    pub fn is_stopped(&self) -> bool {
+        self.signals.is_stopped() || self.venues.bells().are_runs_ended()
+    }
+
+    /// Says of the attendant that it takes no notices any more, as the
+    /// [`end_polls`](SubscriberLog::end_polls) of its log does. So a watcher has a run end whose
+    /// attendant waits for something else: what isn't offered by then is left for the settlement.
+    pub fn end_polls(&self) {
+        if let Some(id) = self.own {
+            self.venues.bells().set_polled(id, false);
+        }
+    }
+
     /// Returns what the venue has come to at a moment of the call, as
     /// [`crate::OpenFeed::status`] does.
     pub fn status<W: Wait>(&self, rt: &W, venue: VenueId) -> Result<VenueStatus, FeedFault>
@@ -43,12 +66,42 @@ impl<'r, G: Genuine, N: FeedName> RunView<'r, G, N> {
 
     /// Gives up the messages of the venue that are missing below `number`, as
     /// [`crate::OpenFeed::skip_to`] does, with the same refusals.
-    pub fn skip_to<W: Wait>(&self, rt: &W, venue: VenueId, number: u64) -> Result<(), GapFault>
+    pub fn skip_to<W: Wait>(&self, rt: &W, venue: VenueId, number: u64) -> Result<u64, GapFault>
         ensures skipped { SkipsVenue G.Genuine N.lanes venue number result }
         ensures unknown { IsErrOf result GapFault.UnknownVenue
             ↔ (length N.lanes.venues ≤ venue) }
     {
         self.venues.skip_to(rt, venue, number)
+    }
+
+    /// Takes the next notice of the attendant's own subscriber as [`SubscriberLog::poll_holding`]
+    /// does, and waits where there is none: after a few looks the thread sleeps until one is
+    /// offered or the run is over. None where the run is over, and all that was offered in it was
+    /// taken.
+    pub fn await_notice<W: Wait>(
+        &self,
+        rt: &W,
+        log: &mut SubscriberLog<N>,
+    ) -> Result<Option<Advice>, PollFault>
+        ensures polls { Polls result log.old log.new }
+        ensures holds { IfOk result (λ polled. IfSome polled (λ advice. advice ≡ Advice.Hold)) }
+    {
+        let bell = self.venues.bells().notices(log.id());
+        let mut looks: u32 = 0;
+        for _ in rt.forever() {
+            let key = if should_sleep(looks) {
+                Some(bell.prepare_wait())
+            } else {
+                None
+            };
+            let last = self.is_over();
+            match log.poll_holding(rt) {
+                Ok(None) if last => return Ok(None),
+                Ok(None) => looks = back_off(rt, looks, key),
+                polled => return polled,
+            }
+        }
+        log.poll_holding(rt)
     }
 }
 
@@ -60,9 +113,10 @@ pub trait Attendant<G: Genuine, N: FeedName, L: Drop>: Drop {
     /// same attendant with the same subscriber, later on.
     ghost attends: { Self → L → Self → L → Type 0 };
 
-    /// Attends a run, and returns the attendant and its log. Where it returns before the run is
-    /// over, nobody polls its subscriber any more.
-    fn attend<W: Wait>(self, rt: &W, run: &RunView<'_, G, N>, log: L) -> (Self, L)
+    /// Attends a run, and returns the attendant and its log. The run's end waits until all notices
+    /// that its subscriber wants were offered, unless a poll of the log is refused, or the
+    /// attendant says that it polls no more ([`SubscriberLog::end_polls`]) or returns.
+    fn attend<R: Threads + Wait + Sync>(self, rt: &R, run: &RunView<'_, G, N>, log: L) -> (Self, L)
         ensures { attends self log result.0 result.1 };
 }
 
@@ -78,9 +132,9 @@ impl<G: Genuine, N: FeedName> Attendant<G, N, OwnLog<N>> for Unattended {
 
     ghost attends = { λ _ log _ later. later ≡ log };
 
-    fn attend<W: Wait>(
+    fn attend<R: Threads + Wait + Sync>(
         self,
-        _rt: &W,
+        _rt: &R,
         _run: &RunView<'_, G, N>,
         log: OwnLog<N>,
     ) -> (Unattended, OwnLog<N>) {
@@ -98,6 +152,14 @@ pub struct Attended<N: FeedName, A> {
 }
 
 impl<N: FeedName, A> Attended<N, A> {
+    /// The id of the attendant's own subscriber, if it has one.
+    pub(crate) fn id(&self) -> Option<SubscriberId> {
+        match &self.log {
+            Some(log) => Some(log.id()),
+            None => None,
+        }
+    }
+
     /// Says whether the attendant polls its subscriber from now on.
     pub(crate) fn set_polling(&self, polls: bool) {
         if let Some(log) = &self.log {
@@ -110,9 +172,9 @@ impl<N: FeedName, A> Attended<N, A> {
     }
 
     /// Has the attendant attend the run.
-    pub(crate) fn attend<G: Genuine, W: Wait>(
+    pub(crate) fn attend<G: Genuine, R: Threads + Wait + Sync>(
         self,
-        rt: &W,
+        rt: &R,
         run: &RunView<'_, G, N>,
     ) -> Attended<N, A>
     where

@@ -4,6 +4,7 @@ use crate::feed::open_feed::OpenFeed;
 use crate::feed::sharing::Shareable;
 use crate::hub_cell::HubCell;
 use crate::run::idle::{back_off, should_sleep};
+use crate::run::names::name_consolidator;
 use crate::run::report::Stop;
 use crate::run::signals::Signals;
 use feed_steps::{Bells, FeedName};
@@ -142,11 +143,11 @@ fn work_once<G: Genuine, N: FeedName, W: Wait>(
     }
 }
 
-/// Returns whether a notice waits for room in a lane from which a thread of the run takes notices.
-fn is_room_wanted(signals: &Signals, bells: &Bells) -> bool {
+/// Returns whether a notice waits for room in a lane out of which a thread takes notices.
+fn is_room_wanted(bells: &Bells) -> bool {
     for place in 0..MAX_SUBSCRIBERS {
         let id = SubscriberId::at(place);
-        if signals.is_polling(id) && bells.is_room_wanted(id) {
+        if bells.is_polled(id) && bells.is_room_wanted(id) {
             return true;
         }
     }
@@ -156,7 +157,7 @@ fn is_room_wanted(signals: &Signals, bells: &Bells) -> bool {
 /// Journals what the lines bring and offers what the subscribers want, until the lines have ended
 /// and nothing is left to do, and returns why the run stopped early, if journaling was the reason.
 /// Once the lines have ended, what is ready is pushed in any case. It waits for a subscriber that
-/// is behind, as long as a thread takes its notices.
+/// is behind, as long as a thread takes its notices: one of the run's or the attendant.
 ///
 /// It sleeps after it has looked in vain for a while. The wait is announced before the last of
 /// these looks, so whatever comes after that look ends the sleep.
@@ -165,6 +166,9 @@ fn run_consolidator<G: Genuine, N: FeedName, W: Wait>(
     feed: &OpenFeed<G, N>,
     signals: &Signals,
 ) -> Option<Stop> {
+    if !signals.has_spawn_failed() {
+        name_consolidator();
+    }
     let bells = feed.venues.bells();
     let mut stopped = None;
     let mut first = true;
@@ -183,7 +187,7 @@ fn run_consolidator<G: Genuine, N: FeedName, W: Wait>(
         before = look;
         match look {
             Look::Worked | Look::Unpolled => looks = 0,
-            Look::Idle if last && !is_room_wanted(signals, bells) => break,
+            Look::Idle if last && !is_room_wanted(bells) => break,
             Look::Idle | Look::Behind => looks = back_off(rt, looks, key),
         }
     }

@@ -6,6 +6,7 @@ ghost use Rattle.live_feed.specs.run.Runs.{Pairwise, HasTaken, LineHasEnded};
 use crate::lists::made_of_each;
 use crate::run::line::{Line, LineEnd};
 use crate::run::line_work::{LineOf, work_line};
+use crate::run::names::name_line;
 use crate::run::signals::Signals;
 use crate::run::threads::ThreadOf;
 use feed_steps::FeedName;
@@ -43,7 +44,12 @@ where
     let job = move || -> LineEnd<G, N, S>
         ensures { LineHasEnded (HasTaken G.Genuine N.lanes) S.brings S.failures line.seat
             line.source result }
-    { work_line(rt, venues, signals, line) };
+    {
+        if !signals.has_spawn_failed() {
+            name_line(line.seat.venue(), line.seat.line());
+        }
+        work_line(rt, venues, signals, line)
+    };
     match scope.spawn_with(promise, job) {
         Ok(handle) => Ok(handle),
         Err(refused) => {

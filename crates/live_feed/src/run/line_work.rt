@@ -11,7 +11,7 @@ use feed_types::{Genuine, VenueId};
 use std::snapshot::Snapshot;
 use std::sync::Wait;
 use std::thread::Promise;
-use venue_lines::{LineSeat, LineSource, SourceFault, VenueLocks};
+use venue_lines::{LineSeat, LineSource, Looked, SourceFault, VenueLocks};
 
 /// The line that a thread has. What the thread returns is that line, ended.
 #[derive(Drop)]
@@ -27,13 +27,15 @@ impl<G: Genuine, N: FeedName, S: LineSource<G>> Promise<LineEnd<G, N, S>> for Li
         S.failures p.seat.value p.source.value r };
 }
 
-/// Has the source send the request for the venue's gap that is due, if any. Where there is no gap,
-/// nothing is due, and the clock isn't read.
+/// Has the source send the request for the venue's gap that is due, if any: for one that has been
+/// there for `wait_ms` milliseconds. Where there is no gap, nothing is due, and the clock isn't
+/// read.
 fn request_due<G: Genuine, N: FeedName, S: LineSource<G>, W: Wait>(
     rt: &W,
     venues: &VenueLocks<G, N>,
     venue: VenueId,
     gap: bool,
+    wait_ms: u64,
     source: &mut S,
 ) -> Result<(), SourceFault>
     ensures venue { S.venue_of source.new ≡ S.venue_of source.old }
@@ -46,7 +48,7 @@ fn request_due<G: Genuine, N: FeedName, S: LineSource<G>, W: Wait>(
         return Ok(());
     }
     let now_ms = source.now_ms();
-    match venues.request_due(rt, venue, now_ms) {
+    match venues.request_due(rt, venue, now_ms, wait_ms) {
         Ok(Some(request)) => source.request(&request),
         Ok(None) | Err(_) => Ok(()),
     }
@@ -54,26 +56,36 @@ fn request_due<G: Genuine, N: FeedName, S: LineSource<G>, W: Wait>(
 
 /// Waits until the source has its next answer, and returns true; or false where the run is to stop
 /// before that. An answer that is there is for the line, also where the run was stopped meanwhile:
-/// the source has received it, and nobody else will take it.
+/// the source has received it, and nobody else will take it. Where there is a `gap` and gaps wait
+/// until they are asked for, what is due meanwhile is asked for.
 fn is_next_there<G: Genuine, N: FeedName, S: LineSource<G>, W: Wait>(
     rt: &W,
     venues: &VenueLocks<G, N>,
     signals: &Signals,
+    venue: VenueId,
+    gap: bool,
     source: &mut S,
-) -> bool
+) -> Result<bool, SourceFault>
     ensures venue { S.venue_of source.new ≡ S.venue_of source.old }
     ensures brings { S.brings source.old [] source.new }
-    ensures sound { S.failures source.new ≡ S.failures source.old }
+    ensures sound { IfOk result (λ _. S.failures source.new ≡ S.failures source.old) }
+    ensures failed { IfErr result (λ fault. S.failures source.new
+        ≡ failures_after (S.failures source.old) fault) }
 {
+    let wait_ms = signals.rules().request_after_ms;
+    let asks = gap && wait_ms > 0;
     for _ in rt.forever() {
         if signals.is_stopped() || venues.bells().are_runs_ended() {
             break;
         }
         if source.await_next() {
-            return true;
+            return Ok(true);
+        }
+        if let Err(failed) = request_due(rt, venues, venue, asks, wait_ms, source) {
+            return Err(failed);
         }
     }
-    false
+    Ok(false)
 }
 
 /// Reads the line's datagrams, and takes each and asks for what is lacking then, until the source
@@ -94,16 +106,28 @@ pub(crate) fn work_line<G: Genuine, N: FeedName, S: LineSource<G>, W: Wait>(
     let venue = seat.venue();
     let mut datagrams: u64 = 0;
     let mut fault = None;
-    let mut gap = false;
+    let mut looked = Looked::default();
+    let rules = signals.rules();
     for _ in rt.forever() {
-        if !is_next_there(rt, venues, signals, &mut source) {
-            break;
+        match is_next_there(rt, venues, signals, venue, looked.gap, &mut source) {
+            Ok(true) => {}
+            Ok(false) => break,
+            Err(failed) => {
+                fault = Some(failed);
+                break;
+            }
         }
         match source.next() {
             Ok(Some(datagram)) => {
                 datagrams = datagrams.saturating_add(1);
-                let _answer = venues.take_and_look(rt, &mut seat, &datagram, &mut gap);
-                source.recycle(datagram);
+                let _answer = venues.take_and_look(
+                    rt,
+                    &mut seat,
+                    &datagram,
+                    rules.join,
+                    &mut looked,
+                );
+                source.recycle(datagram, looked.place);
             }
             Ok(None) => break,
             Err(failed) => {
@@ -111,7 +135,8 @@ pub(crate) fn work_line<G: Genuine, N: FeedName, S: LineSource<G>, W: Wait>(
                 break;
             }
         }
-        if let Err(failed) = request_due(rt, venues, venue, gap, &mut source) {
+        let wait_ms = rules.request_after_ms;
+        if let Err(failed) = request_due(rt, venues, venue, looked.gap, wait_ms, &mut source) {
             fault = Some(failed);
             break;
         }

@@ -1,12 +1,14 @@
 //! The signals between the threads of a run.
 
+use crate::run::rules::RunRules;
 use feed_types::SubscriberId;
 use std::array;
 use std::sync::atomic::{AtomicBool, AtomicU64, Ordering};
 
-/// The signals between the threads of a run.
+/// The signals between the threads of a run, and the rules by which its lines go on.
 #[derive(Drop)]
 pub(crate) struct Signals {
+    rules: RunRules,
     /// Whether the run stops early.
     stop: AtomicBool,
     /// Whether a thread couldn't be started.
@@ -20,15 +22,22 @@ pub(crate) struct Signals {
 }
 
 impl Signals {
-    /// Returns the signals of a run of `lines` lines that has begun, with no thread yet.
-    pub(crate) fn new(lines: u64) -> Signals {
+    /// Returns the signals of a run of `lines` lines by these rules that has begun, with no thread
+    /// yet.
+    pub(crate) fn new(lines: u64, rules: RunRules) -> Signals {
         Signals {
+            rules,
             stop: AtomicBool::new(false),
             no_thread: AtomicBool::new(false),
             lines_left: AtomicU64::new(lines),
             offered: AtomicBool::new(false),
             polling: array::from_fn(|_| AtomicBool::new(false)),
         }
+    }
+
+    /// The rules of the run.
+    pub(crate) fn rules(&self) -> RunRules {
+        self.rules
     }
 
     /// Stops the run early.

@@ -4,6 +4,7 @@ ghost use Rattle.std.specs.Prelude.{◌≡◌, ◌<◌, ◌≤◌, [], MatchResu
 ghost use Rattle.live_feed.specs.run.Runs.{Pairwise, HasPolled};
 
 use crate::lists::made_of_each;
+use crate::run::names::name_subscriber;
 use crate::run::signals::Signals;
 use crate::run::subscriber_work::{LogOf, work_subscriber};
 use crate::run::threads::ThreadOf;
@@ -39,7 +40,12 @@ where
     };
     let job = move || -> SubscriberLog<N>
         ensures { HasPolled log result }
-    { work_subscriber(rt, signals, bells, log, strategy) };
+    {
+        if !signals.has_spawn_failed() {
+            name_subscriber(id);
+        }
+        work_subscriber(rt, signals, bells, log, strategy)
+    };
     signals.set_polling(id, true);
     bells.set_polled(id, true);
     match scope.spawn_with(promise, job) {

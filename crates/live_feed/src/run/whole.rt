@@ -1,9 +1,9 @@
 //! The whole life of a feed in one call.
 
-ghost use Rattle.std.specs.Prelude.{◌≡◌, Err, IfOk, is_some, length, map, vec_len};
+ghost use Rattle.std.specs.Prelude.{◌≡◌, Err, IfOk, OnOk, is_some, length, map, vec_len};
 ghost use Rattle.venue_lines.specs.Seats.{new_seat};
 ghost use Rattle.live_feed.specs.run.Runs.{Pairwise};
-ghost use Rattle.live_feed.specs.run.Wholes.{HasAttended, IsBegun, IsWholeRun, line_report, logs_with};
+ghost use Rattle.live_feed.specs.run.Wholes.{HasAttended, HasWatched, IsBegun, IsWholeRun, line_report, logs_with};
 ghost use Rattle.live_feed.specs.settle.Settlements.{IsSettlement};
 
 use crate::feed::LiveFeed;
@@ -11,6 +11,8 @@ use crate::feed::open_feed::OpenFeed;
 use crate::run::attendant::{Attendant, Attended, OwnLog};
 use crate::run::line::{Line, LineEnd};
 use crate::run::report::{RunReport, Stop};
+use crate::run::rules::RunRules;
+use crate::run::watcher::Watcher;
 use crate::settle::fault::SettleFault;
 use crate::settle::settlement::Settlement;
 use crate::subscriber::Subscriber;
@@ -52,6 +54,8 @@ pub struct FeedTask<S> {
     pub attended: Option<Subscription>,
     /// The other subscribers, in the order of their ids.
     pub subscriptions: Vec<Subscription>,
+    /// The rules by which the lines go on.
+    pub rules: RunRules,
 }
 
 /// What is reported of a line.
@@ -74,7 +78,8 @@ pub struct LineReport<S> {
 pub struct FeedReport<S> {
     /// The lines, in the order given.
     pub lines: Vec<LineReport<S>>,
-    /// Why the run stopped early, if it did. A stop by the attendant is no such reason.
+    /// Why the run stopped early, if it did. A stop by the attendant or the watcher is no such
+    /// reason.
     pub stopped: Option<Stop>,
     /// What was taken, and what became of it.
     pub settlement: Settlement,
@@ -103,13 +108,15 @@ impl From<AllocError> for WholeFault {
     }
 }
 
-/// The end of a feed's life: its report or why there is none, and the attendant.
+/// The end of a feed's life: its report or why there is none, and who was beside the run.
 #[derive(Drop)]
-pub struct FeedEnd<S, A> {
+pub struct FeedEnd<S, A, W> {
     /// The report, or why there is none.
     pub outcome: Result<FeedReport<S>, WholeFault>,
     /// The attendant.
     pub attendant: A,
+    /// The watcher.
+    pub watcher: W,
 }
 
 /// What is run of a feed that is open: the lines in their seats, the log of the attendant's own
@@ -216,6 +223,7 @@ fn begin<G: Genuine, N: FeedName, S: LineSource<G>, W: Wait>(
         lines,
         attended,
         subscriptions,
+        rules: _,
     } = task;
     let log = attended_log(rt, alloc, feed, attended)?;
     let subscribers = all_subscribed(rt, alloc, feed, subscriptions)?;
@@ -300,24 +308,27 @@ fn settled<G: Genuine, N: FeedName, S: LineSource<G>, W: Wait>(
 
 impl<G: Genuine + Send + Sync> LiveFeed<G> {
     /// Runs the feed and settles it: opens it, hands out the lines' seats, subscribes, runs each
-    /// line, each subscriber and the consolidator in a thread of its own and the attendant beside
-    /// them, as [`OpenFeed::run`] does, and settles what is left. N names this feed's lanes.
+    /// line, each subscriber, the consolidator and the watcher in a thread of its own and the
+    /// attendant beside them, as [`OpenFeed::run`] does, and settles what is left. N names this
+    /// feed's lanes.
     ///
     /// Nothing is run where memory is refused before, where a line's venue isn't one of the feed's
-    /// or a line is given twice, or where there are more than 32 subscribers: the attendant is
-    /// handed back as it was. Where memory for the settlement is refused, there is no report,
-    /// either.
-    pub fn run_whole<N, S, A, R>(
+    /// or a line is given twice, or where there are more than 32 subscribers: the attendant and the
+    /// watcher are handed back as they were. Where memory for the settlement is refused, there is
+    /// no report, either.
+    pub fn run_whole<N, S, A, W, R>(
         self,
         rt: &R,
         alloc: Global,
         task: FeedTask<S>,
         attendant: A,
-    ) -> FeedEnd<S, A>
+        watcher: W,
+    ) -> FeedEnd<S, A, W>
     where
         N: FeedName + Send + Sync,
         S: LineSource<G> + Send,
         A: Attendant<G, N, OwnLog<N>>,
+        W: Watcher<G, N> + Send,
         R: Threads + Wait + Sync,
         requires { self ≡ N.lanes }
         ensures attendant { HasAttended A.attends (is_some task.attended) attendant
@@ -325,33 +336,46 @@ impl<G: Genuine + Send + Sync> LiveFeed<G> {
         ensures whole { IfOk result.outcome (IsWholeRun G N G.Genuine N.lanes S.venue_of S.brings
             S.failures A.attends task.lines.items (is_some task.attended)
             (vec_len task.subscriptions) attendant result.attendant) }
+        ensures watcher { HasWatched W.watches watcher result.watcher }
+        ensures watched { OnOk result.outcome (W.watches watcher result.watcher) }
     {
         let Ok(feed) = self.open::<N>(alloc) else {
-            return unrun(WholeFault::NoMemory, attendant);
+            return unrun(WholeFault::NoMemory, attendant, watcher);
         };
+        let rules = task.rules;
         let (lines, log, subscribers) = match begin(rt, alloc, &feed, task) {
             Ok(begun) => begun,
-            Err(fault) => return unrun(fault, attendant),
+            Err(fault) => return unrun(fault, attendant, watcher),
         };
         let attended = Attended { attendant, log };
-        let (ran, attended) = feed.run_attended(rt, alloc, lines, subscribers, attended);
+        let (ran, attended, watcher) = feed.run_attended(
+            rt,
+            alloc,
+            lines,
+            subscribers,
+            attended,
+            watcher,
+            rules,
+        );
         let Attended { attendant, log } = attended;
         let Ok(report) = ran else {
-            return unrun(WholeFault::NoMemory, attendant);
+            return unrun(WholeFault::NoMemory, attendant, watcher);
         };
         FeedEnd {
             outcome: settled(rt, alloc, feed, report, log),
             attendant,
+            watcher,
         }
     }
 }
 
 /// The end of a feed that wasn't run.
-fn unrun<S, A>(fault: WholeFault, attendant: A) -> FeedEnd<S, A>
-    ensures { result ≡ record { outcome = Err fault; attendant = attendant } }
+fn unrun<S, A, W>(fault: WholeFault, attendant: A, watcher: W) -> FeedEnd<S, A, W>
+    ensures { result ≡ record { outcome = Err fault; attendant = attendant; watcher = watcher } }
 {
     FeedEnd {
         outcome: Err(fault),
         attendant,
+        watcher,
     }
 }

@@ -171,7 +171,8 @@ impl<N: FeedName> SubscriberLog<N> {
 
     /// Takes the next notice and logs the strategy's advice on it. Where another notice waits for
     /// the room that this makes, the consolidators are woken. It waits for a push that goes on, or
-    /// with no handle for nobody.
+    /// with no handle for nobody. A refused poll ends the polls, as `end_polls` does: a run doesn't
+    /// wait for who can't take what it offers.
     pub(crate) fn poll<W: Wait>(
         &mut self,
         rt: Option<&W>,
@@ -181,9 +182,11 @@ impl<N: FeedName> SubscriberLog<N> {
         ensures asks { AsksForAdvice result self.old self.new strategy.old strategy.new }
     {
         if self.taken.is_full() {
+            self.end_polls();
             return Err(PollFault::LogFull);
         }
         if self.taken.reserve_one().is_err() {
+            self.end_polls();
             return Err(PollFault::NoMemory);
         }
         let Some(notice) = self.notices.pop_by(rt) else {
@@ -203,14 +206,15 @@ impl<N: FeedName> SubscriberLog<N> {
         self.poll(Some(rt), &mut holding_within(self.bounds))
     }
 
-    /// Says that a thread takes the notices from now on. While it does, a run whose journal keeps
-    /// only what is wanted waits for the subscriber where it is behind, and else stops early. The
-    /// threads of a run say so of themselves.
+    /// Says that a thread takes the notices from now on. While it does, a run waits at its end
+    /// until all that is offered has found room, and a run whose journal keeps only what is wanted
+    /// waits for the subscriber where it is behind, and else stops early. The threads of a run say
+    /// so of themselves, and a run says it of its attendant's subscriber.
     pub fn begin_polls(&self) {
         self.bells.set_polled(self.owner, true);
     }
 
-    /// Says that no thread takes the notices any more, as where the log is full.
+    /// Says that no thread takes the notices any more. A refused poll says so by itself.
     pub fn end_polls(&self) {
         self.bells.set_polled(self.owner, false);
     }

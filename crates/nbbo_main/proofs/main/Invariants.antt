@@ -11,3 +11,9 @@ ghosts-run_streams-E-Ledger g a = record { name = a.of_errors.name; parts = a.of
 
 abbrev pub ghosts-run_streams-C-Ledger : goal.ghosts-run_streams-C-Ledger
 ghosts-run_streams-C-Ledger g a = record { name = a.of_calls.name; parts = a.of_calls.parts }
+
+abbrev pub ghosts-run_streams-L-Ledger : goal.ghosts-run_streams-L-Ledger
+ghosts-run_streams-L-Ledger g a = record { name = a.of_rows.name; parts = a.of_rows.parts }
+
+abbrev pub ghosts-run_streams-M-Ledger : goal.ghosts-run_streams-M-Ledger
+ghosts-run_streams-M-Ledger g a = record { name = a.of_texts.name; parts = a.of_texts.parts }

@@ -23,7 +23,7 @@ use Rattle.replay_reports.specs.declared.counts.best_counts.StateCounts.{StateCo
 use Rattle.replay_reports.specs.declared.counts.venue_counts.VenueCounts.{VenueCounts}
 use Rattle.replay_reports.specs.times.Figures.{capped}
 
--- a value for each of so many places, from a place on
+-- a value for each of `count` places, from a place on
 unfoldable pub each_place : (count place : ℕ) → (ℕ → ℕ) → List ℕ
 each_place zero place f = []
 each_place (suc count) place f = f place ∷ each_place count (place + 1) f

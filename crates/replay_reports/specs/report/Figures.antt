@@ -123,9 +123,10 @@ packet_figures s = named (codes "A" ∷ codes "B" ∷ codes "recovery" ∷ [])
 abbrev pub busiest_figures : Peak → Peak → List ShownFigure
 busiest_figures second millisecond = named
     (codes "busiest_second" ∷ codes "busiest_millisecond" ∷ codes "busiest_second_began"
-    ∷ codes "busiest_millisecond_began" ∷ [])
+    ∷ codes "busiest_millisecond_began" ∷ codes "late_for_second" ∷ codes "late_for_millisecond"
+    ∷ [])
     (Count second.messages ∷ Count millisecond.messages ∷ time_if second.began
-    ∷ time_if millisecond.began ∷ [])
+    ∷ time_if millisecond.began ∷ Count second.late ∷ Count millisecond.late ∷ [])
 
 -- ---- of a line those that tell most: what lines A and B lost and brought late, half of the times
 -- by which a line is first, its longest gap

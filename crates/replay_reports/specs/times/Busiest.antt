@@ -3,7 +3,8 @@
 use Rattle.std.specs.Prelude.{◌≡◌, ℕ, ◌+◌, ◌-◌, ◌%◌, nat_lt, List, [], ◌∷◌, ◌++◌, max, min, flat_map, slice_index_or, slice_set, Option, None, Some, Ok, if◌then◌else◌}
 use Rattle.line_arbiter.specs.declared.outcome.Outcome.TheVariants.{Taken}
 use Rattle.feed_text.specs.SinkEvents.{SinkEvent, TimedEvent, told_packet, told_refusal}
-use Rattle.report_rows.specs.PeriodLists.{begun, entered, entered_place}
+use Rattle.feed_types.specs.FullCounts.{count_after}
+use Rattle.report_rows.specs.PeriodLists.{begun, entered, entered_place, is_late}
 use Rattle.report_rows.specs.declared.kept_periods.KeptPeriod.{KeptPeriod}
 use Rattle.replay_reports.specs.declared.times.busiest_period.BusiestPeriod.{BusiestPeriod}
 use Rattle.replay_reports.specs.declared.times.busiest_period.Peak.{Peak}
@@ -78,12 +79,21 @@ busiest_began length (last ∷ earlier) =
     began_with (most_messages length earlier)
     (counts_in length last (periods_of length earlier)) (busiest_began length earlier)
 
+-- how many datagrams came too late for their period: 16 later ones were kept
+abbrev pub late_datagrams : ℕ → List MessagesAt → ℕ
+late_datagrams length [] = 0
+late_datagrams length (last ∷ earlier) =
+    count_after (late_datagrams length earlier)
+    (if is_late (begin_of length last.time) (periods_of length earlier) then 1 else 0)
+
 pub record IsPeak (length : ℕ) (came : List MessagesAt) (p : Peak) : Type 0 where
   pub messages : p.messages ≡ most_messages length came
   pub began : p.began ≡ busiest_began length came
+  pub late : p.late ≡ late_datagrams length came
 
 -- What is held after these messages.
 pub record HoldsBusiest (length : ℕ) (came : List MessagesAt) (b : BusiestPeriod) : Type 0 where
   pub kept : b.kept.kept.items ≡ periods_of length came
   pub messages : b.messages ≡ most_messages length came
   pub began : b.began ≡ busiest_began length came
+  pub late : b.kept.late ≡ late_datagrams length came

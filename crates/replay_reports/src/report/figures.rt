@@ -175,8 +175,9 @@ pub fn packet_figures(s: &PerLine<Option<u64>>) -> [Figure; 3]
     ]
 }
 
-/// Returns the busiest second and the busiest millisecond, and when they began.
-pub fn busiest_figures(second: &Peak, millisecond: &Peak) -> [Figure; 4]
+/// Returns the busiest second and the busiest millisecond, when they began, and how many datagrams
+/// came too late for their second or millisecond.
+pub fn busiest_figures(second: &Peak, millisecond: &Peak) -> [Figure; 6]
     ensures { figures_shown result ≡ busiest_figures second.now millisecond.now }
 {
     [
@@ -191,6 +192,12 @@ pub fn busiest_figures(second: &Peak, millisecond: &Peak) -> [Figure; 4]
             "that millisecond began",
             "busiest_millisecond_began",
             millisecond.began,
+        ),
+        count("too late for a second", "late_for_second", second.late),
+        count(
+            "too late for a millisecond",
+            "late_for_millisecond",
+            millisecond.late,
         ),
     ]
 }

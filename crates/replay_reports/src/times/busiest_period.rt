@@ -9,13 +9,15 @@ use feed_text::Event;
 use line_arbiter::{LineFault, Outcome};
 use report_rows::{KeptPeriod, KeptPeriods};
 
-/// The most messages of a period, and when that began.
+/// The most messages of a period, when that began, and how many datagrams came too late for theirs.
 #[derive(Clone, Copy, Debug, Default, PartialEq, Eq)]
 pub struct Peak {
     pub messages: u64,
     /// In nanoseconds from 1970 on, if there is a message; of several that are as busy the first to
     /// be so.
     pub began: Option<u64>,
+    /// How many datagrams came once 16 later periods were kept.
+    pub late: u64,
 }
 
 /// The most messages that come within one period of the clock, of a length in nanoseconds that each
@@ -102,6 +104,7 @@ impl BusiestPeriod {
     /// No message yet.
     pub(crate) fn new() -> BusiestPeriod
         ensures kept { result.kept.kept.items ≡ [] }
+        ensures late { result.kept.late ≡ 0 }
         ensures messages { result.messages ≡ 0 }
         ensures began { result.began ≡ None }
     {
@@ -136,7 +139,8 @@ impl BusiestPeriod {
         }
     }
 
-    /// Returns the most messages of a period, and when it began.
+    /// Returns the most messages of a period, when it began, and how many datagrams came too late
+    /// for theirs.
     pub(crate) fn peak(&self) -> Peak
         ensures { (length : ℕ) (came : List MessagesAt) → HoldsBusiest length came self.now
             → IsPeak length came result }
@@ -144,6 +148,7 @@ impl BusiestPeriod {
         Peak {
             messages: self.messages,
             began: self.began,
+            late: self.kept.late,
         }
     }
 }

@@ -13,8 +13,9 @@ scoped-requires g c =
         param_send 0 _ (arg_send _ no _ b.send-G),
         param_send 1 _ (arg_send _ no _ b.send-N),
         param_send 2 _ (arg_send _ no _ b.send-S),
+        param_send 4 _ (arg_send _ no _ b.send-W),
         param_sync 0 _ (arg_sync _ no _ b.sync-G),
         param_sync 1 _ (arg_sync _ no _ b.sync-N),
-        param_sync 4 _ (arg_sync _ no _ b.sync-R),
+        param_sync 5 _ (arg_sync _ no _ b.sync-R),
       ),
     ))

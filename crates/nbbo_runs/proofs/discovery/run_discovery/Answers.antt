@@ -1,4 +1,4 @@
-use Rattle.std.proofs.Common.{List, ℕ, Err, refl, subst}
+use Rattle.std.proofs.Common.{List, ℕ, Err, Ok, inr, refl, subst}
 use Rattle.feed_text.specs.declared.replay_stop.ReplayStop.TheVariants.{NoMemory}
 use Rattle.feed_text.specs.Devices.{Reading, Writing}
 use Rattle.feed_text.specs.StandardError.{Says}
@@ -18,8 +18,8 @@ returns-in_default g c =
         read = Err NoMemory;
         mid = c.args.output.now;
         reads = (refl, refl, refl);
-        printed = Err NoMemory;
-        prints = refl;
+        printed = Ok tt;
+        prints = inr (λ begun. begun refl, refl, refl);
         ends = refl;
       };
       says = (

@@ -26,7 +26,7 @@ returns g c =
     let five = c.write_survey_outcome.new.errors in
     let end = c.write_second.new.errors in
     let counts : c.frames-frames.result ≡ progress.counts = c.frames-frames.ensures in
-    let last = second_texts outcome progress.second_start in
+    let last = second_texts outcome progress.second_start progress.position in
     let told = survey_outcome_texts outcome progress.position packets in
     let dropped = dropped_texts (dropped_of progress.drops) in
     says_each w (protocols_texts progress.counts)
@@ -48,5 +48,7 @@ returns g c =
     c.packets.ensures
     (subst (λ (n : ℕ). SaysEach w (survey_outcome_texts outcome n c.packets.result) four five)
     c.position.ensures c.write_survey_outcome.ensures))
-    (subst (λ (n : Option ℕ). SaysEach w (second_texts outcome n) five end)
-    c.second_start.ensures c.write_second.ensures)))))
+    (subst (λ (n : ℕ). SaysEach w (second_texts outcome progress.second_start n) five end)
+    c.position-2.ensures
+    (subst (λ (n : Option ℕ). SaysEach w (second_texts outcome n c.position-2.result) five end)
+    c.second_start.ensures c.write_second.ensures))))))

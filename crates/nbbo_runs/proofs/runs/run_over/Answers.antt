@@ -7,6 +7,7 @@ use Rattle.feed_text.specs.StandardError.{Says}
 use Rattle.feed_text.specs.laws.SaidTexts.{says_each, says_one}
 use Rattle.nbbo_runs.specs.AbsentSymbols.{told_absent}
 use Rattle.run_notes.specs.AbsentSymbols.{symbols_with}
+use Rattle.nbbo_runs.specs.CaptureTexts.{late_texts}
 use Rattle.nbbo_runs.specs.Lacks.{tells_lacks, told_lacks}
 use Rattle.nbbo_runs.specs.Printing.{PrintsAsked, output_asked}
 use Rattle.nbbo_runs.specs.Timeless.{timeless_hint}
@@ -44,7 +45,9 @@ returns g c =
     let lacking = c.tell_lacks.new.errors in
     let said = c.tell_absent.new.errors in
     let told = c.tell_end.new.errors in
-    let end = c.write_stderr-3.new.errors in
+    let hinted_last = c.write_stderr-3.new.errors in
+    let end = c.write_late.new.errors in
+    let late = c.print-printed.result.late in
     let due = tells_lacks settings c.args.terminals in
     let texts = g.F.ToldFormat.end_texts finish outcome in
     let timeless = timeless_hint settings.output (g.F.ToldFormat.is_timed finish) outcome in
@@ -56,15 +59,16 @@ returns g c =
       outcome = outcome;
       lacks = lacks;
       absent = absent;
+      late = late;
       prints = subst (λ (old : List Lack). PrintsAsked reading parsing
           (output_asked reading writing settings) settings due
           c.args.input.now c.print-printed.new.input c.args.format finish c.args.output
-          c.print-printed.result.sink old lacks absent outcome)
+          c.print-printed.result.output old lacks absent late outcome)
           c.new-missing.ensures.lacks
           (subst (λ (is_watched : Bool). PrintsAsked reading parsing
           (output_asked reading writing settings) settings is_watched
           c.args.input.now c.print-printed.new.input c.args.format finish c.args.output
-          c.print-printed.result.sink c.new-missing.result.lacks.items lacks absent outcome)
+          c.print-printed.result.output c.new-missing.result.lacks.items lacks absent late outcome)
           (c.new-missing.ensures.watched ∙ c.tells_lacks-is_told.ensures)
           c.print-printed.ensures);
       says = (
@@ -76,16 +80,18 @@ returns g c =
           subst (λ (text : List ℕ). Says telling text waited hinted) c.symbol_hint.ensures
               c.write_stderr-2.ensures,
           says_each telling (told_lacks outcome due lacks)
-              (told_absent outcome due absent ++ end_texts) hinted lacking end
+              (told_absent outcome due absent ++ (end_texts ++ late_texts late)) hinted lacking end
               (tells_items telling outcome _ due _ lacks hinted lacking
               c.tells_lacks-is_told.ensures c.as_slice.ensures.value c.tell_lacks.ensures)
-              (says_each telling (told_absent outcome due absent) end_texts lacking said end
+              (says_each telling (told_absent outcome due absent) (end_texts ++ late_texts late)
+              lacking said end
               (tells_absent telling outcome _ due _ symbols missing.absent lacking said
               c.tells_lacks-is_told.ensures c.as_slice-symbols.ensures.value c.tell_absent.ensures)
-              (says_each telling texts (timeless ∷ []) said told end c.tell_end.ensures
-              (says_one telling timeless told end
-              (subst (λ (text : List ℕ). Says telling text told end) hint
-              c.write_stderr-3.ensures)))),
+              (says_each telling end_texts (late_texts late) said hinted_last end
+              (says_each telling texts (timeless ∷ []) said told hinted_last c.tell_end.ensures
+              (says_one telling timeless told hinted_last
+              (subst (λ (text : List ℕ). Says telling text told hinted_last) hint
+              c.write_stderr-3.ensures))) c.write_late.ensures)),
         ),
       );
       ends = c.status_of.ensures;

@@ -6,9 +6,8 @@ pub loop-address-preserved : goal.loop-address-preserved
 loop-address-preserved c = record {
   place = search rules;
   lines = listed_more c.args.addresses.now c.loop-address.place c.loop-address.address-index _
-      c.loop-address.lines.items c.push.new.self.items c.captured_line_at.result
-      c.loop-address.invariant.place c.loop-address-test.true c.loop-address.invariant.lines
-      c.captured_line_at.ensures c.in_ok-push.ensures.items;
+      c.loop-address.lines.items c.push_line.new.lines.items c.loop-address.invariant.place
+      c.loop-address-test.true c.loop-address.invariant.lines c.in_ok-push_line.ensures;
 }
 
 pub returns-clause-venues : goal.returns-clause-venues

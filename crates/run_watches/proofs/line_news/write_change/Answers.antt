@@ -13,5 +13,5 @@ returns g c =
       mid,
       subst (λ (text : List ℕ). Says w text c.args.errors.now mid) c.change_end.ensures
           c.write_stderr.ensures,
-      c.write_session_if.ensures,
+      c.write_rest.ensures,
     )

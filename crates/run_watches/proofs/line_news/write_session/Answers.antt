@@ -1,4 +1,4 @@
-use Rattle.std.proofs.Common.{[], ◌∷◌, codes}
+use Rattle.std.proofs.Common.{[], ◌∷◌}
 use Rattle.feed_text.specs.Devices.{Writing}
 use Rattle.feed_text.specs.laws.SaidTexts.{says_each, says_one}
 use Rattle.run_notes.specs.SessionNames.{name_texts}
@@ -10,7 +10,8 @@ returns g c =
       adds = g.E.TextOut.adds;
       failures = g.E.TextOut.failures;
     } in
-    says_each w (name_texts c.args.session.now) (codes "\n" ∷ []) c.args.errors.now
-    c.write_session_name.new.errors c.write_stderr.new.errors c.write_session_name.ensures
-    (says_one w (codes "\n") c.write_session_name.new.errors c.write_stderr.new.errors
-    c.write_stderr.ensures)
+    let named = c.write_session_name.new.errors in
+    let last = c.write_stderr.new.errors in
+    says_each w (name_texts c.args.session.now) (c.args.end.now ∷ []) c.args.errors.now named last
+    c.write_session_name.ensures
+    (says_one w c.args.end.now named last c.write_stderr.ensures)

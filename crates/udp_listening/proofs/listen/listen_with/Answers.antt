@@ -1,7 +1,8 @@
-use Rattle.std.proofs.Common.{[], ◌≡◌, ◌∙◌, Err, ap, length, map, refl, subst, sym}
+use Rattle.std.proofs.Common.{[], ◌≡◌, ◌∙◌, Err, ap, map, refl, subst, sym}
 use Rattle.std.specs.Prelude.{is_some}
 use Rattle.feed_text.specs.Devices.{Writing}
 use Rattle.best_rows.specs.declared.style.RowStyle.{RowStyle}
+use Rattle.udp_listening.specs.Lines.{run_lines}
 use Rattle.udp_listening.specs.Listening.{IsUnprinted, ListensToEnd}
 use Rattle.udp_listening.specs.Reports.{task_line}
 use Rattle.run_watches.specs.RunLines.{heard_lines, listened_run, told_gaps, watched_gaps, watched_run}
@@ -26,23 +27,24 @@ returns-in_default g c =
     let console = c.new-console.result in
     let printed = c.print_end-status in
     let style = c.style_of.result in
-    let run = listened_run c.args.settings.now (length c.args.sockets.lines.items) in
-    let ended : ListensToEnd writing telling style (Err NoMemory) c.args.output
-    printed.new.console.output console.errors printed.new.console.errors printed.result
-    = listened writing telling g.met.W.TextOut.adds_more style (Err NoMemory) c.args.output console
-    printed.new.console.output console.errors printed.new.console.errors printed.result
+    let first = c.args.streams.output in
+    let errors = c.args.streams.errors in
+    let run =
+    listened_run c.args.settings.now (run_lines c.args.settings.now c.args.sockets.lines.items) in
+    let ended : ListensToEnd writing telling style (Err NoMemory) first
+    printed.new.console.output errors printed.new.errors printed.result
+    = listened writing telling g.met.W.TextOut.adds_more style (Err NoMemory) first console
+    printed.new.console.output errors printed.new.errors printed.result
     ([], 0, c.new-console.ensures.unprinted []) printed.ensures in
     record {
       outcome = Err NoMemory;
       listened = tt;
-      said = console.errors;
-      says =
-          subst (λ (said : g.row.E.Denot). SaysOfRun telling run c.args.errors said)
-          (sym c.new-console.ensures.errors) (nothing_of_run telling run c.args.errors);
+      said = errors;
+      says = nothing_of_run telling run errors;
       ended = printed.result;
       ends =
-          subst (λ (s : RowStyle). ListensToEnd writing telling s (Err NoMemory) c.args.output
-          printed.new.console.output console.errors printed.new.console.errors printed.result)
+          subst (λ (s : RowStyle). ListensToEnd writing telling s (Err NoMemory) first
+          printed.new.console.output errors printed.new.errors printed.result)
           c.style_of.ensures ended;
       status_is = refl;
     }
@@ -58,32 +60,48 @@ returns g c =
       failures = g.E.TextOut.failures;
     } in
     let settings = c.args.settings.now in
-    let sockets = length c.args.sockets.lines.items in
+    let sockets = c.args.sockets.lines.items in
+    let of_run = run_lines settings sockets in
+    let lines = heard_lines settings of_run in
+    let first = c.args.streams.output in
+    let silent = c.args.streams.errors in
     let made = c.in-Ok-Ok-Ok-Ok-Ok in
+    let follower = c.new-follower.result in
     let monitor = c.new-monitor.result in
     let ran = c.run_feed-outcome in
     let outcome = ran.result.outcome in
     let console = ran.result.console in
+    let told = ran.result.errors in
     let printed = c.print_end-ended in
     let style = c.style_of.result in
-    let new : monitor.console ≡ record (c.new-console.result) { unchanged = made.unchanged } =
-    c.new-monitor.ensures.console in
-    let unprinted : IsUnprinted writing style c.args.output monitor.console =
-    subst (λ (k : Console g.row.W.Denot g.row.E.Denot). IsUnprinted writing style c.args.output k)
-    (sym new) c.new-console.ensures.unprinted in
-    let lines = heard_lines settings sockets in
-    let run : watched_run monitor.watches ≡ listened_run settings sockets =
+    let unprinted : IsUnprinted writing style first follower.console =
+    subst (λ (k : Console g.row.C.Denot g.row.W.Denot). IsUnprinted writing style first k)
+    (sym c.new-follower.ensures) c.new-console.ensures.unprinted in
+    let follows = settings.follow in
+    let run : watched_run monitor.watches ≡ listened_run settings of_run =
     ap (λ w. watched_run w) c.new-monitor.ensures.watches ∙ c.new-watches.ensures
-    ∙ ap (λ first. record {
-      lines = first;
+    ∙ ap (λ heard. record {
+      lines = heard;
       gaps = watched_gaps made.gaps;
+      follows = c.new-of_output.result.follows;
       counted = is_some c.of-counts.result;
     }) made.ensures'.watches
-    ∙ ap (λ gaps. record { lines = lines; gaps = gaps; counted = is_some c.of-counts.result })
-    made.ensures''
+    ∙ ap (λ gaps. record {
+      lines = lines;
+      gaps = gaps;
+      follows = c.new-of_output.result.follows;
+      counted = is_some c.of-counts.result;
+    }) made.ensures''
+    ∙ ap (λ follows. record {
+      lines = lines;
+      gaps = told_gaps settings;
+      follows = follows;
+      counted = is_some c.of-counts.result;
+    }) c.new-of_output.ensures
     ∙ ap (λ counted. record {
       lines = lines;
       gaps = told_gaps settings;
+      follows = follows;
       counted = counted;
     }) c.of-counts.ensures in
     record {
@@ -91,19 +109,19 @@ returns g c =
       listened =
           listened_if_run settings sockets made.feed (map task_line made.lines.tasks.items) outcome
           made.ensures.setting made.ensures.venues made.ensures'.tasks ran.ensures.run;
-      said = console.errors;
+      said = told;
       says =
-          subst (λ (first : g.row.E.Denot). SaysOfRun telling (listened_run settings sockets) first
-          console.errors) (ap (λ k. k.errors) new ∙ c.new-console.ensures.errors)
-          (subst (λ watched. SaysOfRun telling watched monitor.console.errors console.errors) run
+          subst (λ (s : g.row.E.Denot). SaysOfRun telling (listened_run settings of_run) s told)
+          c.new-monitor.ensures.errors
+          (subst (λ watched. SaysOfRun telling watched monitor.errors told) run
           ran.ensures.says);
       ended = printed.result;
       ends =
-          subst (λ (s : RowStyle). ListensToEnd writing telling s outcome c.args.output
-          printed.new.console.output console.errors printed.new.console.errors printed.result)
+          subst (λ (s : RowStyle). ListensToEnd writing telling s outcome first
+          printed.new.console.output told printed.new.errors printed.result)
           c.style_of.ensures
-          (listened writing telling g.met.W.TextOut.adds_more style outcome c.args.output console
-          printed.new.console.output console.errors printed.new.console.errors printed.result
-          (ran.ensures.listened style c.args.output unprinted) printed.ensures);
+          (listened writing telling g.met.W.TextOut.adds_more style outcome first console
+          printed.new.console.output told printed.new.errors printed.result
+          (ran.ensures.listened style first unprinted) printed.ensures);
       status_is = c.complete_status-status.ensures;
     }

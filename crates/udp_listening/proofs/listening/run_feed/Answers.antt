@@ -6,7 +6,7 @@ use Rattle.udp_listening.specs.Listening.{HasListenedOn}
 use Rattle.udp_listening.specs.Reports.{IsReportOfFeed, IsReportOfRun, noted_symbols, task_line}
 use Rattle.udp_listening.specs.SettledNotices.{HasNoted, settled_forgotten, settled_log}
 use Rattle.udp_listening.specs.declared.listening.ListenFault.{ListenFault}
-use Rattle.udp_listening.proofs.Monitored.{listened_by, monitored_if_run, noted_of, printed_of, run_of, told_by}
+use Rattle.udp_listening.proofs.Monitored.{followed_if_run, listened_by, noted_of, printed_of, run_of, said_if_run, told_by}
 use Rattle.udp_listening.proofs.listening.run_feed.Goals.{in-Ok, in-Err}
 use Rattle.udp_listening.proofs.listening.run_feed.Goals as goal
 
@@ -16,31 +16,23 @@ report_of-outcome-requires g c =
       adds = g.W.TextOut.adds;
       failures = g.W.TextOut.failures;
     } in
-    let w : Writing g.row.E.Denot = record {
-      adds = g.E.TextOut.adds;
-      failures = g.E.TextOut.failures;
-    } in
     let ran = c.run_whole-outcome in
     let symbols = noted_symbols c.args.settings.now in
     let s = c.in-Ok.whole.settlement in
     subst (λ left. HasNoted symbols (settled_log s) (settled_forgotten s) left)
     (sym c.replace-unchanged.ensures.value)
-    (noted_of c.args.settings.now out w _ _ _ _ _ c.new.ensures.len c.args.monitor
+    (noted_of c.args.settings.now out _ _ _ _ _ c.new.ensures.len c.args.follower
     ran.result.attendant c.in-Ok.whole (IfOk-at_ok _ c.in-Ok.is ran.ensures.whole) symbols
     c.requires.unchanged)
 
 pub returns-clause-says : goal.returns-clause-says
 returns-clause-says g c =
-    let out : Writing g.row.W.Denot = record {
-      adds = g.W.TextOut.adds;
-      failures = g.W.TextOut.failures;
-    } in
     let w : Writing g.row.E.Denot = record {
       adds = g.E.TextOut.adds;
       failures = g.E.TextOut.failures;
     } in
     let ran = c.run_whole-outcome in
-    (monitored_if_run out w c.args.monitor ran.result.attendant ran.ensures.attendant).says
+    said_if_run w c.args.monitor ran.result.watcher ran.ensures.watcher
 
 pub returns-clause-listened : goal.returns-clause-listened
 returns-clause-listened g c =
@@ -48,14 +40,10 @@ returns-clause-listened g c =
       adds = g.W.TextOut.adds;
       failures = g.W.TextOut.failures;
     } in
-    let w : Writing g.row.E.Denot = record {
-      adds = g.E.TextOut.adds;
-      failures = g.E.TextOut.failures;
-    } in
     let ran = c.run_whole-outcome in
-    let before = c.args.monitor in
+    let before = c.args.follower in
     let after = ran.result.attendant in
-    let told = monitored_if_run out w before after ran.ensures.attendant in
+    let told = followed_if_run out before after ran.ensures.attendant in
     let shown = record (after.console) { unchanged = c.replace-unchanged.new.dest } in
     let failed : (fault : ListenFault) → HasListenedOn out before.console (Err fault) shown
     = λ fault style first unprinted.
@@ -67,7 +55,7 @@ returns-clause-listened g c =
           (IsReportOfFeed c.args.settings.now w'.in-Ok.whole)
           w'.report_of-outcome.result
           (λ report tells.
-          printed_of c.args.settings.now out w _ _ _ _ _ c.new.ensures.len before after
+          printed_of c.args.settings.now out _ _ _ _ _ c.new.ensures.len before after
           w'.in-Ok.whole (IfOk-at_ok _ w'.in-Ok.is ran.ensures.whole) report tells)
           failed w'.report_of-outcome.ensures)
       | in-Err w' ↦
@@ -81,10 +69,6 @@ returns-clause-run g c =
       adds = g.W.TextOut.adds;
       failures = g.W.TextOut.failures;
     } in
-    let w : Writing g.row.E.Denot = record {
-      adds = g.E.TextOut.adds;
-      failures = g.E.TextOut.failures;
-    } in
     let ran = c.run_whole-outcome in
     let run =
     IsReportOfRun c.args.settings.now g.N.FeedName.lanes (map task_line c.args.lines.items) in
@@ -93,7 +77,7 @@ returns-clause-run g c =
           subst (λ o. IfOk o run) (sym w'.outcome-is)
           (told_by w'.report_of-outcome.result
           (λ report tells.
-          run_of c.args.settings.now out w _ _ _ _ _ c.new.ensures.len c.args.monitor
+          run_of c.args.settings.now out _ _ _ _ _ c.new.ensures.len c.args.follower
           ran.result.attendant
           w'.in-Ok.whole (IfOk-at_ok _ w'.in-Ok.is ran.ensures.whole) report tells)
           w'.report_of-outcome.ensures)

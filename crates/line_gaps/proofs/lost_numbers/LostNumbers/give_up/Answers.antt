@@ -1,7 +1,9 @@
 use Rattle.std.proofs.Common.{◌≡◌, ◌<◌, ◌≤◌, ◌+◌, ℕ, Bool, max, ap, sym, ◌∙◌, arith}
 use Rattle.std.specs.Prelude.{◌||◌, ◌&&◌, not, nat_le, nat_lt}
+use Rattle.feed_types.specs.FullCounts.{count_after}
 use Rattle.line_gaps.specs.Gaps.{number_has_come, is_given_up, is_missing, known_number, was_passed}
-use Rattle.line_gaps.specs.Runs.{is_in_run}
+use Rattle.line_gaps.specs.Runs.{is_in_run, len_of, sum_in}
+use Rattle.line_gaps.proofs.GivenCounts.{given_count}
 use Rattle.line_gaps.proofs.MissingLemmas.{floor_skipped, given_below, given_skipped, missing_from, missing_known, missing_skipped, unknown_from}
 use Rattle.line_gaps.proofs.RunLemmas.{or_none}
 use Rattle.line_gaps.proofs.RunOrders.{and_first, in_span, or_cases}
@@ -80,6 +82,18 @@ returns-clause-fits c = λ events time venue fits.
           ∙ floor_skipped n old.floor number ∙ ap (λ (f : ℕ). nat_lt n f) (sym c.max-self.ensures);
       come = fits.come;
     }
+
+pub returns-clause-count : goal.returns-clause-count
+returns-clause-count c = λ events fits whole.
+    let old = c.args.self.now in
+    c.raised-count.ensures
+    ∙ ap (λ (n : ℕ). count_after c.count_in.result n) c.len.ensures
+    ∙ ap (λ (n : ℕ). count_after n (len_of c.unknown_below-unknown.result))
+    (c.count_in.ensures
+    ∙ ap (λ (l : ℕ). sum_in old.missing.runs.items (record { first = 0; last = l }))
+    c.saturating_sub.ensures)
+    ∙ given_count events old c.unknown_below-unknown.result c.args.number fits whole
+    c.unknown_below-unknown.ensures
 
 pub returns-clause-dropped : goal.returns-clause-dropped
 returns-clause-dropped c =

@@ -4,7 +4,7 @@ use Rattle.venue_lines.specs.Datagrams.{bytes_of}
 use Rattle.live_feed.specs.run.Runs.{HasTaken}
 use Rattle.live_feed.proofs.RunMoves.{brings_still, genuine_at, line_ended, read_more, seat_stays, taken_more}
 use Rattle.live_feed.proofs.run.line_work.work_line.Goals as goal
-use Rattle.live_feed.proofs.run.line_work.work_line.Goals.{in-None, in-Some+then-not-is_next_there, in-Some+else-not-is_next_there+in-Ok-None, in-Some+else-not-is_next_there+in-Err, in-Some+else-not-is_next_there+in-Ok-Some+in-Err-request_due}
+use Rattle.live_feed.proofs.run.line_work.work_line.Goals.{in-None, in-Some+in-Ok-false, in-Some+in-Err, in-Some+in-Ok-true+in-Ok-None, in-Some+in-Ok-true+in-Err-next, in-Some+in-Ok-true+in-Ok-Some+in-Err-request_due}
 
 pub take_and_look-answer-requires : goal.take_and_look-answer-requires
 take_and_look-answer-requires g c =
@@ -66,13 +66,20 @@ returns g c =
           (ended old first before before so_far.0 c.loop.datagrams None i.3 i.4
           so_far.3 so_far.1 so_far.2
           (laws.brings_nothing before) i.6)))))
-      | in-Some+then-not-is_next_there w ↦
+      | in-Some+in-Ok-false w ↦
           rw w.seat-is (rw w.source-is (rw w.datagrams-is (rw w.fault-is (rw i.7
           (ended old first before w.is_next_there.new.source so_far.0 c.loop.datagrams None i.3 i.4
           so_far.3
           so_far.1 so_far.2 w.is_next_there.ensures.brings
-          (w.is_next_there.ensures.sound ∙ i.6))))))
-      | in-Some+else-not-is_next_there+in-Ok-None w ↦
+          (w.in-Ok-false.ensures.sound ∙ i.6))))))
+      | in-Some+in-Err w ↦
+          rw w.seat-is (rw w.source-is (rw w.datagrams-is (rw w.fault-is
+          (ended old first before w.is_next_there.new.source so_far.0 c.loop.datagrams
+          (Some w.in-Err.failed) i.3 i.4
+          so_far.3
+          so_far.1 so_far.2 w.is_next_there.ensures.brings
+          (w.in-Err.ensures.failed ∙ ap (λ n. failures_after n w.in-Err.failed) i.6)))))
+      | in-Some+in-Ok-true+in-Ok-None w ↦
           let waited = w.is_next_there.new.source in
           let waits = still first before waited so_far.0 so_far.2 w.is_next_there.ensures.brings in
           let nothing = subst (λ found. brings waited (brought_in (Ok found))
@@ -81,17 +88,17 @@ returns g c =
           rw w.seat-is (rw w.source-is (rw w.datagrams-is (rw w.fault-is (rw i.7
           (ended old first waited w.next-in-loop.new.self so_far.0 c.loop.datagrams None i.3 i.4
           so_far.3
-          so_far.1 waits nothing (w.in-Ok-None.ensures.sound ∙ w.is_next_there.ensures.sound
+          so_far.1 waits nothing (w.in-Ok-None.ensures.sound ∙ w.in-Ok-true.ensures.sound
           ∙ i.6))))))
-      | in-Some+else-not-is_next_there+in-Err w ↦
+      | in-Some+in-Ok-true+in-Err-next w ↦
           let waited = w.is_next_there.new.source in
           let waits = still first before waited so_far.0 so_far.2 w.is_next_there.ensures.brings in
           rw w.seat-is (rw w.source-is (rw w.datagrams-is (rw w.fault-is
           (ended old first waited w.next-in-loop.new.self so_far.0 c.loop.datagrams
-          (Some w.in-Err.failed) i.3
-          i.4 so_far.3 so_far.1 waits w.in-Err.ensures.brings (w.in-Err.ensures.failed
-          ∙ ap (λ n. failures_after n w.in-Err.failed) (w.is_next_there.ensures.sound ∙ i.6))))))
-      | in-Some+else-not-is_next_there+in-Ok-Some+in-Err-request_due w ↦
+          (Some w.in-Err-next.failed) i.3
+          i.4 so_far.3 so_far.1 waits w.in-Err-next.ensures.brings (w.in-Err-next.ensures.failed
+          ∙ ap (λ n. failures_after n w.in-Err-next.failed) (w.in-Ok-true.ensures.sound ∙ i.6))))))
+      | in-Some+in-Ok-true+in-Ok-Some+in-Err-request_due w ↦
           let waited = w.is_next_there.new.source in
           let waits = still first before waited so_far.0 so_far.2 w.is_next_there.ensures.brings in
           let bytes = bytes_of w.in-Ok-Some.datagram in
@@ -117,6 +124,6 @@ returns g c =
           w.saturating_add-datagrams.ensures)
           took back w.request_due.ensures.brings (failed.ensures.failed
           ∙ ap (λ n. failures_after n failed.failed)
-          (w.recycle.ensures.sound ∙ w.in-Ok-Some.ensures.sound ∙ w.is_next_there.ensures.sound
+          (w.recycle.ensures.sound ∙ w.in-Ok-Some.ensures.sound ∙ w.in-Ok-true.ensures.sound
           ∙ i.6))))))
     ]

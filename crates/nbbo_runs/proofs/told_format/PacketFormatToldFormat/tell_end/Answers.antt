@@ -21,7 +21,7 @@ returns g c =
     let end = c.write_second.new.errors in
     let drops = dropped_texts (dropped_of read.drops) in
     let line = capture_outcome_texts outcome read.position read.counts.to_lines in
-    let second = second_texts outcome read.second_start in
+    let second = second_texts outcome read.second_start read.position in
     let says_frames : SaysEach w (frame_texts read.counts) c.args.errors.now framed =
     subst (λ (n : FrameCounts). SaysEach w (frame_texts n) c.args.errors.now framed)
     c.counts-frames.ensures c.write_counts.ensures in
@@ -35,8 +35,10 @@ returns g c =
     SaysEach w (capture_outcome_texts outcome c.position.result n.to_lines) dropped ended)
     c.counts-frames.ensures c.write_outcome.ensures) in
     let says_second : SaysEach w second ended end =
-    subst (λ (n : Option ℕ). SaysEach w (second_texts outcome n) ended end)
-    c.second_start.ensures c.write_second.ensures in
+    subst (λ (n : ℕ). SaysEach w (second_texts outcome read.second_start n) ended end)
+    c.position-2.ensures
+    (subst (λ (n : Option ℕ). SaysEach w (second_texts outcome n c.position-2.result) ended end)
+    c.second_start.ensures c.write_second.ensures) in
     says_each w (frame_texts read.counts) (drops ++ (line ++ second)) c.args.errors.now framed end
     says_frames
     (says_each w drops (line ++ second) framed dropped end says_dropped

@@ -1,6 +1,9 @@
-use Rattle.std.specs.Prelude.{is_some}
+use Rattle.std.proofs.Common.{◌∷◌, [], ◌∙◌, flat_map, subst, sym}
 use Rattle.feed_text.specs.Devices.{Writing}
+use Rattle.feed_text.specs.StandardError.{SaysEach}
+use Rattle.run_watches.specs.News.{SaysTotals, total_if, total_texts}
 use Rattle.run_watches.specs.RunLines.{watched}
+use Rattle.run_watches.specs.declared.line_news.LineCounted.TheVariants.{HeldBack, Withheld}
 use Rattle.run_watches.proofs.Telling.{dropped_total, totals_of_line}
 use Rattle.run_watches.proofs.line_watch.LineWatch.write_totals.Goals as goal
 
@@ -8,14 +11,40 @@ pub returns : goal.returns
 returns g c =
     let w : Writing g.row.E.Denot = record {
       adds = g.E.TextOut.adds;
-      failures =
-          g.E.TextOut.failures;
+      failures = g.E.TextOut.failures;
     } in
     let line = watched c.args.self.now in
-    let more = is_some c.args.drops in
-    totals_of_line w line more c.unsent.result c.passed.result c.foreign.result
-    c.dropped_count.result c.args.errors.now c.write_total.new.errors c.write_total-2.new.errors
-    c.write_total-3.new.errors c.write_total-4.new.errors c.write_total.ensures
-    c.write_total-2.ensures c.write_total-3.ensures
-    (dropped_total w line more c.dropped_count.result c.write_total-3.new.errors
-    c.write_total-4.new.errors c.write_total-4.ensures c.dropped_count.ensures)
+    let more = c.is_some-tells_more.result in
+    let same = c.is_some-tells_more.ensures in
+    let first = c.args.errors.now in
+    let last = c.write_notes.new.errors in
+    subst (λ told. SaysTotals w told (line ∷ []) first last) same
+    (totals_of_line w line more first c.write_total-6.new.errors last
+    (record {
+      unsent = c.unsent.result;
+      passed = c.passed.result;
+      foreign = c.foreign.result;
+      withheld = c.withheld.result;
+      held_back = c.held_back.result;
+      dropped = c.dropped_count.result;
+      a = c.write_total.new.errors;
+      b = c.write_total-2.new.errors;
+      c = c.write_total-3.new.errors;
+      d = c.write_total-4.new.errors;
+      e = c.write_total-5.new.errors;
+      says_unsent = c.write_total.ensures;
+      says_passed = c.write_total-2.ensures;
+      says_foreign = c.write_total-3.ensures;
+      says_withheld =
+          subst (λ n. SaysEach w (flat_map total_texts (total_if line Withheld n))
+          c.write_total-3.new.errors c.write_total-4.new.errors)
+          c.told_count-withheld.ensures c.write_total-4.ensures;
+      says_held_back =
+          subst (λ n. SaysEach w (flat_map total_texts (total_if line HeldBack n))
+          c.write_total-4.new.errors c.write_total-5.new.errors)
+          c.told_count-held_back.ensures c.write_total-5.ensures;
+      says_dropped =
+          dropped_total w line more c.dropped_count.result c.write_total-5.new.errors
+          c.write_total-6.new.errors c.write_total-6.ensures
+          (λ none. c.dropped_count.ensures (sym same ∙ none));
+    }) c.write_notes.ensures)

@@ -1,5 +1,4 @@
 use Rattle.std.proofs.Common.{◌∙◌, map, subst}
-use Rattle.std.specs.Prelude.{is_some}
 use Rattle.feed_text.specs.Devices.{Writing}
 use Rattle.run_watches.specs.News.{SaysTotals}
 use Rattle.run_watches.specs.RunLines.{watched}

@@ -8,10 +8,10 @@ pub returns-clause-last : goal.returns-clause-last
 returns-clause-last g c =
     λ e.
     let line = c.self.inside in
-    let ends : EndsLine line.end_rule line.own_session c.args.bytes.now =
-    subst (λ (s : UdpLineState). EndsLine s.rule s.session c.args.bytes.now) (sym c.self.view_is) e
-    in
-    let last = last_of_end line.end_rule line.own_session c.args.bytes.now
+    let ends : EndsLine line.intake.check.end_rule line.intake.check.session c.args.bytes.now =
+    subst (λ (s : UdpLineState g.row.S.Denot). EndsLine s.rule s.session c.args.bytes.now)
+    (sym c.self.view_is) e in
+    let last = last_of_end line.intake.check.end_rule line.intake.check.session c.args.bytes.now
     c.ended_session-ended.result
     c.ended_session-ended.ensures.only ends in
     let at_end : c.is_last-self-inside.result ≡ true = c.is_last-self-inside.ensures.1 last in

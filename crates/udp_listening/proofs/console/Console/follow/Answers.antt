@@ -11,7 +11,7 @@ returns-then-eq-clause-shows g c =
           g.W.TextOut.failures;
     } in
     let console = c.args.self.now in
-    let polled = c.poll_some-has_taken in
+    let polled = c.poll_some in
     λ style first h.
     c.print_rest.ensures.shows style first (
       h.0,
@@ -27,7 +27,7 @@ returns-else-eq-clause-shows g c =
           g.W.TextOut.failures;
     } in
     let console = c.args.self.now in
-    let polled = c.poll_some-has_taken in
+    let polled = c.poll_some in
     λ style first h. (
       h.0,
       polled_longer w style first c.args.log.now polled.new.log console.live_output console.output
@@ -36,7 +36,7 @@ returns-else-eq-clause-shows g c =
 
 pub returns-then-eq-clause-notes : goal.returns-then-eq-clause-notes
 returns-then-eq-clause-notes g c =
-    let polled = c.poll_some-has_taken in
+    let polled = c.poll_some in
     λ symbols h.
     c.print_rest.ensures.notes symbols
     (noted_longer symbols c.args.log.now polled.new.log c.args.self.now.unchanged
@@ -44,7 +44,7 @@ returns-then-eq-clause-notes g c =
 
 pub returns-else-eq-clause-notes : goal.returns-else-eq-clause-notes
 returns-else-eq-clause-notes g c =
-    let polled = c.poll_some-has_taken in
+    let polled = c.poll_some in
     λ symbols h.
     noted_longer symbols c.args.log.now polled.new.log c.args.self.now.unchanged
     polled.ensures.lines polled.ensures.forgotten h

@@ -7,8 +7,8 @@ use Rattle.udp_listening.proofs.Wholes.{header_failed, header_printed}
 use Rattle.udp_listening.proofs.console.Console.new.Goals.{in-Ok, in-Err}
 use Rattle.udp_listening.proofs.console.Console.new.Goals as goal
 
-pub returns-clause-unprinted : goal.returns-clause-unprinted
-returns-clause-unprinted g c =
+pub returns : goal.returns
+returns g c =
     let w : Writing g.row.W.Denot = record {
       adds = g.W.TextOut.adds;
       failures = g.W.TextOut.failures;
@@ -19,24 +19,29 @@ returns-clause-unprinted g c =
     let text = c.as_bytes.result.now in
     let header : text ≡ header_of style.format style.timed =
     c.as_bytes.ensures.value ∙ c.header_line.ensures in
-    λ log. (
-      refl,
-      elim c.match-write_all.branch [
-        | in-Ok w' ↦
-            let wrote : g.W.TextOut.adds first text now = search rules in
-            let sound : g.W.TextOut.failures now ≡ g.W.TextOut.failures first = search rules in
-            subst (λ (f : LiveOutput). HasFollowed w style first log f 0 now)
-            (sym w'.live_output-is)
-            (header_printed w style first now
-            (subst (λ (t : List ℕ). g.W.TextOut.adds first t now) header wrote) sound log
-            c.args.live_output c.requires)
-        | in-Err w' ↦
-            let part : Wrote g.W.TextOut.adds first text now = search rules in
-            let failed : g.W.TextOut.failures now ≡ g.W.TextOut.failures first + 1 =
-            search rules in
-            subst (λ (f : LiveOutput). HasFollowed w style first log f 0 now)
-            (sym w'.live_output-is)
-            (header_failed w style first now
-            (subst (λ (t : List ℕ). Wrote g.W.TextOut.adds first t now) header part) failed log)
-      ],
-    )
+    record {
+      unprinted =
+          λ log. (
+            refl,
+            elim c.match-write_all.branch [
+              | in-Ok w' ↦
+                  let wrote : g.W.TextOut.adds first text now = search rules in
+                  let sound : g.W.TextOut.failures now ≡ g.W.TextOut.failures first =
+                  search rules in
+                  subst (λ (f : LiveOutput). HasFollowed w style first log f 0 now)
+                  (sym w'.live_output-is)
+                  (header_printed w style first now
+                  (subst (λ (t : List ℕ). g.W.TextOut.adds first t now) header wrote) sound log
+                  c.args.live_output c.requires)
+              | in-Err w' ↦
+                  let part : Wrote g.W.TextOut.adds first text now = search rules in
+                  let failed : g.W.TextOut.failures now ≡ g.W.TextOut.failures first + 1 =
+                  search rules in
+                  subst (λ (f : LiveOutput). HasFollowed w style first log f 0 now)
+                  (sym w'.live_output-is)
+                  (header_failed w style first now
+                  (subst (λ (t : List ℕ). Wrote g.W.TextOut.adds first t now) header part) failed
+                  log)
+            ],
+          );
+    }

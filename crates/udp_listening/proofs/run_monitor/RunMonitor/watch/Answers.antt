@@ -14,6 +14,6 @@ returns-clause-news g c =
     let run = watched_run c.args.self.now.watches in
     let counted = c.write_counts.new.errors in
     let last = c.look_at_gaps.new.errors in
-    more_run_news w run c.args.self.now.console.errors counted last c.write_counts.ensures.news
+    more_run_news w run c.args.self.now.errors counted last c.write_counts.ensures.news
     (subst (λ r. SaysRunNews w r counted last) c.write_counts.ensures.run
     c.look_at_gaps.ensures.news)

@@ -18,6 +18,7 @@ module _ (g : Over) (c : After-line_counts-3 g) where
     cursors = c.status.result;
     gap = c.gap.result;
     requests = c.args.locked.now.requests;
+    before_join = c.args.locked.now.before_join;
     a = c.line_counts.result;
     b = c.line_counts-2.result;
     recovery = c.line_counts-3.result;

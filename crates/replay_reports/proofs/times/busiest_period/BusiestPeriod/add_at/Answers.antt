@@ -13,4 +13,4 @@ returns c = λ came holds.
     (refill_whole c.enter-place.new.self.kept.items c.raise-period.new.periods
     (c.raise-period.auto.periods ∙ ap length value) ∙ c.raise-period.ensures.put)
     c.began_with-self.ensures
-    c.max-self.ensures
+    c.max-self.ensures c.enter-place.ensures.late

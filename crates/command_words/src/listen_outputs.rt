@@ -1,0 +1,66 @@
+//! What a run of `listen` tells of itself: its metrics, its counts, its best lines.
+ghost use Rattle.std.specs.Prelude.{◌≡◌, codes};
+ghost use Rattle.clap.specs.Matches.{found_of};
+ghost use Rattle.clap.specs.Walk.{first_of, one_of, rows_of};
+ghost use Rattle.command_words.specs.Addresses.{ReadsMetrics};
+ghost use Rattle.command_words.specs.ListenFormats.{listen_format_in};
+ghost use Rattle.command_words.specs.ListenRequests.{ReadsListenOutputs, is_followed};
+ghost use Rattle.command_words.specs.OptionValues.{number_given};
+ghost use Rattle.command_words.specs.StatsFormats.{listen_stats_in};
+
+use crate::addresses::read_metrics;
+use crate::listen_format::read_listen_format;
+use crate::listen_parts::ListenOutputs;
+use crate::option_values::{given_text, number_of};
+use crate::reception::is_followed;
+use crate::refusal::Refusal;
+use crate::stats_format::read_listen_stats;
+use clap::ArgMatches;
+use run_settings::{BestFormat, ListenStats};
+use std::net::SocketAddr;
+
+/// Returns the address at which metrics are served that the option gives, if it is given.
+fn metrics_of(listen: &ArgMatches<'_>) -> Result<Option<SocketAddr>, Refusal>
+    ensures { ReadsMetrics (first_of (codes "metrics") (rows_of (found_of listen.now))) result }
+{
+    read_metrics(given_text(listen, "metrics"))
+}
+
+/// Returns the counts that the options ask for, if for any.
+fn listen_stats_of(listen: &ArgMatches<'_>) -> Result<Option<ListenStats>, Refusal>
+    ensures { result ≡ listen_stats_in (number_given (one_of (codes "stats")
+        (rows_of (found_of listen.now))))
+        (first_of (codes "stats-format") (rows_of (found_of listen.now))) }
+{
+    read_listen_stats(
+        number_of(listen, "stats"),
+        given_text(listen, "stats-format"),
+    )
+}
+
+/// Returns the format of the best lines that the options give.
+fn listen_format_of(listen: &ArgMatches<'_>) -> Result<BestFormat, Refusal>
+    ensures { result ≡ listen_format_in (is_followed (rows_of (found_of listen.now)))
+        (first_of (codes "format") (rows_of (found_of listen.now)))
+        (first_of (codes "times") (rows_of (found_of listen.now))) }
+{
+    read_listen_format(
+        is_followed(listen),
+        given_text(listen, "format"),
+        given_text(listen, "times"),
+    )
+}
+
+/// Returns what the options of `listen` say is told.
+pub fn listen_outputs_of(listen: &ArgMatches<'_>) -> Result<ListenOutputs, Refusal>
+    ensures { ReadsListenOutputs (rows_of (found_of listen.now)) result }
+{
+    let metrics = metrics_of(listen)?;
+    let stats = listen_stats_of(listen)?;
+    let format = listen_format_of(listen)?;
+    Ok(ListenOutputs {
+        metrics,
+        stats,
+        format,
+    })
+}

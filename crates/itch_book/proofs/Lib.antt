@@ -1,0 +1,9 @@
+pub mod Rising
+pub mod Holding
+pub mod Kept
+pub mod BestLaws
+pub mod Sessions
+pub mod Told
+pub mod MapKeys
+pub mod Stored
+pub mod Places

@@ -1,0 +1,27 @@
+-- What a sender of a recording has handed over.
+use Rattle.std.specs.Prelude.{◌≡◌, ◌⊎◌, ℕ, ◌+◌, ◌-◌, ◌^◌, List, [], ◌∷◌, ◌++◌, min}
+use Rattle.rtrb.specs.Ring.{sent}
+use Rattle.line_recordings.specs.declared.placed.Placed.{Placed}
+use Rattle.line_recordings.specs.declared.record_sender.RecordSender.{RecordSender}
+
+-- these bytes at this place
+pub record IsPlaced (place : ℕ) (bytes : List ℕ) (placed : Placed) : Type 0 where
+  pub at : placed.place ≡ place
+  pub holds : placed.bytes.items ≡ bytes
+
+-- one more was handed over: these bytes at this place
+pub record HasHandedOver (old : RecordSender) (place : ℕ) (bytes : List ℕ) (new : RecordSender)
+    : Type 0 where
+  pub placed : Placed
+  pub is : IsPlaced place bytes placed
+  pub sent_is : sent new.records ≡ sent old.records ++ placed ∷ []
+  pub same : new.lost ≡ old.lost
+
+-- one more is lost; the count stays at 2^64 - 1
+pub record HasLost (old new : RecordSender) : Type 0 where
+  pub sent_is : sent new.records ≡ sent old.records
+  pub counted : new.lost ≡ min (old.lost + 1) (2 ^ 64 - 1)
+
+-- what was to be handed over was, or is counted as lost
+abbrev pub SendsOrLoses : RecordSender → ℕ → List ℕ → RecordSender → Type 0
+SendsOrLoses old place bytes new = HasHandedOver old place bytes new ⊎ HasLost old new

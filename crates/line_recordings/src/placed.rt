@@ -1,0 +1,10 @@
+//! What a venue took, at its place.
+
+/// A datagram that a venue took, or a skip, and its place among those of the venue.
+#[derive(Drop)]
+pub struct Placed {
+    /// Its place in the order in which the venue's lock took them, from 1.
+    pub place: u64,
+    /// The bytes of its record: those of the datagram, or the eight of the number of a skip.
+    pub bytes: Vec<u8>,
+}

@@ -1,0 +1,66 @@
+//! The end of a recording where what a line's thread handed over comes out.
+ghost use Rattle.std.specs.Prelude.{◌≡◌, [], ◌∷◌, ◌++◌, MatchOption};
+ghost use Rattle.rtrb.specs.Ring.{received};
+
+use crate::placed::Placed;
+use rtrb::{Consumer, Producer};
+use std::alloc::Global;
+use std::sync::Arc;
+use std::sync::atomic::{AtomicU64, Ordering};
+
+/// Where what a [`crate::RecordSender`] was given comes out, in that order.
+#[derive(Drop)]
+pub struct RecordSource {
+    pub(crate) records: Consumer<Placed>,
+    /// Where memory goes back.
+    pub(crate) used: Producer<Vec<u8>>,
+    /// How many the sender has lost.
+    pub(crate) lost: Arc<AtomicU64, Global>,
+}
+
+impl RecordSource {
+    /// The place of the next one, if one is there.
+    pub(crate) fn next_place(&mut self) -> Option<u64>
+        ensures { received self.new.records ≡ received self.old.records }
+    {
+        if self.records.is_empty() {
+            return None;
+        }
+        Some(self.records.peek_known().place)
+    }
+
+    /// Takes the next one, if one is there.
+    pub(crate) fn take(&mut self) -> Option<Placed>
+        ensures { MatchOption result (received self.new.records ≡ received self.old.records)
+            (λ placed. received self.new.records ≡ received self.old.records ++ placed ∷ []) }
+    {
+        match self.records.pop() {
+            Ok(placed) => Some(placed),
+            Err(_) => None,
+        }
+    }
+
+    /// Gives memory back to the sender.
+    pub(crate) fn give_back(&mut self, memory: Vec<u8>)
+        ensures { self.new ≡ record (self.old) { used = self.new.used } }
+    {
+        if let Err(full) = self.used.push(memory) {
+            drop(full);
+        }
+    }
+
+    /// Whether half of its room is taken, so that it waits for nothing.
+    pub(crate) fn is_crowded(&mut self) -> bool
+        ensures { received self.new.records ≡ received self.old.records }
+    {
+        self.records.slots() >= self.records.capacity() / 2
+    }
+
+    /// How many are lost: those that the sender has lost, and those that are there still.
+    pub(crate) fn left(&mut self) -> u64
+        ensures { received self.new.records ≡ received self.old.records }
+    {
+        let lost = self.lost.load(Ordering::SeqCst);
+        lost.saturating_add(self.records.slots() as u64)
+    }
+}

@@ -1,0 +1,247 @@
+//! What came of a venue, in its order.
+ghost use Rattle.std.specs.Prelude.{◌≡◌, ◌≤◌, ◌<◌, ◌/◌, ◌%◌, ◌++◌, [], ◌∷◌, MatchOption, length};
+ghost use Rattle.line_recordings.specs.Recordings.{ComesFrom, IsTaken, IsUnchanged, NoneComes, PutsRecords, is_next, kind_letter};
+
+use crate::placed::Placed;
+use crate::record_kind::RecordKind;
+use crate::record_source::RecordSource;
+use feed_text::ReadBuffer;
+use feed_types::{LineId, VenueId};
+
+/// How many bytes of records wait at most for the writer.
+pub const PAGE: usize = 131_072;
+
+/// How many may wait before another record is put: as many as leave room for a longest one, which
+/// has 65,539.
+pub(crate) const FULL: usize = 65_533;
+
+/// The most bytes of a record, but for the four before them.
+const LONGEST: usize = 65_535;
+
+/// How many looks one waits for what is before it, which is lost then.
+const PATIENCE: u32 = 5;
+
+/// The most that is taken of a venue at once.
+const MOST: u32 = 65_536;
+
+/// The kinds of records.
+const KINDS: [RecordKind; 4] = [
+    RecordKind::Line(LineId::A),
+    RecordKind::Line(LineId::B),
+    RecordKind::Line(LineId::Recovery),
+    RecordKind::Skip,
+];
+
+/// What is next of a venue.
+#[derive(Drop)]
+pub enum Taken {
+    /// Nothing, for now.
+    Nothing,
+    /// One that is left out.
+    LeftOut,
+    /// The venue's next record.
+    Next(RecordKind, Placed),
+}
+
+/// What came of a venue from its senders, and how far its records are written.
+#[derive(Drop)]
+pub struct VenueRecords {
+    pub(crate) venue: VenueId,
+    /// The place past those of the records that are written.
+    pub(crate) next: u64,
+    /// How many that came were left out.
+    pub(crate) left_out: u64,
+    /// How many looks the next one waits for those before it.
+    waited: u32,
+    pub(crate) of_a: RecordSource,
+    pub(crate) of_b: RecordSource,
+    pub(crate) of_recovery: RecordSource,
+    pub(crate) of_skips: RecordSource,
+}
+
+/// The sources of a venue, one of each kind.
+#[derive(Drop)]
+pub struct VenueSources {
+    pub of_a: RecordSource,
+    pub of_b: RecordSource,
+    pub of_recovery: RecordSource,
+    pub of_skips: RecordSource,
+}
+
+/// Appends the bytes of a record.
+fn put_record(page: &mut ReadBuffer<PAGE>, venue: VenueId, kind: RecordKind, bytes: &[u8])
+    requires len { length bytes.now < 65536 }
+    requires room { length page.old ≤ 65533 }
+    ensures { page.new ≡ page.old ++ (venue ∷ kind_letter kind ∷ length bytes.now / 256
+        ∷ length bytes.now % 256 ∷ bytes.now) }
+{
+    let len = bytes.len();
+    page.push(&[
+        venue.index() as u8,
+        kind.letter(),
+        (len / 256) as u8,
+        (len % 256) as u8,
+    ]);
+    page.push(bytes);
+}
+
+impl VenueRecords {
+    /// What came of the venue, of which nothing is written.
+    pub fn new(venue: VenueId, sources: VenueSources) -> VenueRecords {
+        let VenueSources {
+            of_a,
+            of_b,
+            of_recovery,
+            of_skips,
+        } = sources;
+        VenueRecords {
+            venue,
+            next: 1,
+            left_out: 0,
+            waited: 0,
+            of_a,
+            of_b,
+            of_recovery,
+            of_skips,
+        }
+    }
+
+    /// The place of the next one of this kind, if one is there.
+    fn next_place(&mut self, kind: RecordKind) -> Option<u64>
+        ensures { IsUnchanged self.old self.new }
+    {
+        match kind {
+            RecordKind::Line(LineId::A) => self.of_a.next_place(),
+            RecordKind::Line(LineId::B) => self.of_b.next_place(),
+            RecordKind::Line(LineId::Recovery) => self.of_recovery.next_place(),
+            RecordKind::Skip => self.of_skips.next_place(),
+        }
+    }
+
+    /// Whether half of the room for this kind is taken.
+    fn is_crowded(&mut self, kind: RecordKind) -> bool
+        ensures { IsUnchanged self.old self.new }
+    {
+        match kind {
+            RecordKind::Line(LineId::A) => self.of_a.is_crowded(),
+            RecordKind::Line(LineId::B) => self.of_b.is_crowded(),
+            RecordKind::Line(LineId::Recovery) => self.of_recovery.is_crowded(),
+            RecordKind::Skip => self.of_skips.is_crowded(),
+        }
+    }
+
+    /// Takes the next one of this kind, if one is there.
+    fn take(&mut self, kind: RecordKind) -> Option<Placed>
+        ensures comes { MatchOption result (NoneComes self.old self.new)
+            (λ placed. ComesFrom self.old self.new kind placed) }
+        ensures next { self.new.next ≡ self.old.next }
+        ensures left_out { self.new.left_out ≡ self.old.left_out }
+        ensures venue { self.new.venue ≡ self.old.venue }
+    {
+        match kind {
+            RecordKind::Line(LineId::A) => self.of_a.take(),
+            RecordKind::Line(LineId::B) => self.of_b.take(),
+            RecordKind::Line(LineId::Recovery) => self.of_recovery.take(),
+            RecordKind::Skip => self.of_skips.take(),
+        }
+    }
+
+    /// Gives the memory of a record of this kind back.
+    fn give_back(&mut self, kind: RecordKind, memory: Vec<u8>)
+        ensures { IsUnchanged self.old self.new }
+    {
+        match kind {
+            RecordKind::Line(LineId::A) => self.of_a.give_back(memory),
+            RecordKind::Line(LineId::B) => self.of_b.give_back(memory),
+            RecordKind::Line(LineId::Recovery) => self.of_recovery.give_back(memory),
+            RecordKind::Skip => self.of_skips.give_back(memory),
+        }
+    }
+
+    /// The kind of the one with the lowest place, and that place, if one is there.
+    fn first(&mut self) -> Option<(RecordKind, u64)>
+        ensures { IsUnchanged self.old self.new }
+    {
+        let mut first = None;
+        for kind in KINDS {
+            if let Some(place) = self.next_place(kind) {
+                first = match first {
+                    Some((_, lowest)) if lowest <= place => first,
+                    _ => Some((kind, place)),
+                };
+            }
+        }
+        first
+    }
+
+    /// Whether the first one, of this kind and at this place, waits for those before it: they are
+    /// looked for some times, unless that is the last look, or its sender's room is half full.
+    fn is_early(&mut self, kind: RecordKind, place: u64, is_last: bool) -> bool
+        ensures { IsUnchanged self.old self.new }
+    {
+        place > self.next && !is_last && self.waited < PATIENCE && !self.is_crowded(kind)
+    }
+
+    /// Whether it may be written after those that are.
+    fn is_next(&self, placed: &Placed) -> bool
+        ensures { result ≡ is_next self.now placed.now }
+    {
+        placed.place >= self.next && placed.place < u64::MAX && placed.bytes.len() <= LONGEST
+    }
+
+    /// Takes what is next of the venue. With `is_last` nothing is waited for any more.
+    fn take_next(&mut self, is_last: bool) -> Taken
+        ensures { IsTaken self.old result self.new }
+    {
+        let Some((kind, place)) = self.first() else {
+            return Taken::Nothing;
+        };
+        if self.is_early(kind, place, is_last) {
+            self.waited = self.waited.saturating_add(1);
+            return Taken::Nothing;
+        }
+        let Some(placed) = self.take(kind) else {
+            return Taken::Nothing;
+        };
+        if !self.is_next(&placed) {
+            self.left_out = self.left_out.saturating_add(1);
+            return Taken::LeftOut;
+        }
+        self.next = placed.place + 1;
+        self.waited = 0;
+        Taken::Next(kind, placed)
+    }
+
+    /// Puts the records on the page that are next of the venue, as far as that has room. What is
+    /// missing before them is waited for in some looks, and with `is_last` not any more. Returns
+    /// how many records were put.
+    pub fn put_ready(&mut self, is_last: bool, page: &mut ReadBuffer<PAGE>) -> u64
+        ensures { PutsRecords self.old self.new page.old page.new }
+    {
+        let mut count = 0u64;
+        for _ in 0..MOST {
+            if page.len() > FULL {
+                break;
+            }
+            match self.take_next(is_last) {
+                Taken::Nothing => break,
+                Taken::LeftOut => {}
+                Taken::Next(kind, placed) => {
+                    put_record(page, self.venue, kind, placed.bytes.as_slice());
+                    count = count.saturating_add(1);
+                    self.give_back(kind, placed.bytes);
+                }
+            }
+        }
+        count
+    }
+
+    /// How many aren't written, once nothing more comes.
+    pub(crate) fn without(&mut self) -> u64
+        ensures { IsUnchanged self.old self.new }
+    {
+        let lines = self.of_a.left().saturating_add(self.of_b.left());
+        let others = self.of_recovery.left().saturating_add(self.of_skips.left());
+        self.left_out.saturating_add(lines).saturating_add(others)
+    }
+}

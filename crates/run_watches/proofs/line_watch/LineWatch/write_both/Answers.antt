@@ -1,0 +1,15 @@
+use Rattle.feed_text.specs.Devices.{Writing}
+use Rattle.run_watches.specs.RunLines.{watched}
+use Rattle.run_watches.specs.RunNews.{IsNewsOfLine}
+use Rattle.run_watches.specs.RunNewsLaws.{more_news}
+use Rattle.run_watches.proofs.line_watch.LineWatch.write_both.Goals as goal
+
+pub returns : goal.returns
+returns g c =
+    let w : Writing g.row.E.Denot = record {
+      adds = g.E.TextOut.adds;
+      failures = g.E.TextOut.failures;
+    } in
+    more_news w (IsNewsOfLine c.args.tells_more (watched c.args.self.now)) c.args.errors.now
+    c.write_change.new.errors c.write_change-2.new.errors c.write_change.ensures
+    c.write_change-2.ensures

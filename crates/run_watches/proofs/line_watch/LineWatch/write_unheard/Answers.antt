@@ -1,0 +1,21 @@
+use Rattle.std.proofs.Common.{flat_map, subst, sym}
+use Rattle.feed_text.specs.Devices.{Writing}
+use Rattle.feed_text.specs.StandardError.{SaysEach}
+use Rattle.run_watches.specs.News.{line_end_texts, unheard_note}
+use Rattle.run_watches.specs.RunLines.{watched}
+use Rattle.run_watches.specs.declared.line_news.LineChange.TheVariants.{Unheard}
+use Rattle.run_watches.proofs.Telling.{each_of_one}
+use Rattle.run_watches.proofs.line_watch.LineWatch.write_unheard.Goals as goal
+
+pub returns-then-unheard : goal.returns-then-unheard
+returns-then-unheard g c =
+    let w : Writing g.row.E.Denot = record {
+      adds = g.E.TextOut.adds;
+      failures = g.E.TextOut.failures;
+    } in
+    let texts = line_end_texts (watched c.args.self.now) in
+    let first = c.args.errors.now in
+    let last = c.write_line_end.new.errors in
+    subst (λ unheard. SaysEach w (flat_map texts (unheard_note unheard)) first last)
+    (sym c.if-unheard.true)
+    (each_of_one w texts Unheard first last c.write_line_end.ensures)

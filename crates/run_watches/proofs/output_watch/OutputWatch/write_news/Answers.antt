@@ -1,0 +1,23 @@
+use Rattle.std.proofs.Common.{subst}
+use Rattle.feed_text.specs.Devices.{Writing}
+use Rattle.run_watches.specs.RunNews.{IsNewsOfOutput, SaysNews}
+use Rattle.run_watches.specs.RunNewsLaws.{more_news}
+use Rattle.run_watches.proofs.output_watch.OutputWatch.write_news.Goals as goal
+
+pub write_change-requires : goal.write_change-requires
+write_change-requires g c =
+    c.new_errors-of_errors.ensures c.new_output-of_output.new.self.follows
+
+pub returns-clause-news : goal.returns-clause-news
+returns-clause-news g c =
+    let w : Writing g.row.E.Denot = record {
+      adds = g.E.TextOut.adds;
+      failures = g.E.TextOut.failures;
+    } in
+    let now = c.new_output-of_output.new.self.follows in
+    let first = c.args.errors.now in
+    let last = c.write_change-2.new.errors in
+    subst (λ follows. SaysNews w (IsNewsOfOutput follows) first last)
+    c.new_output-of_output.ensures.follows
+    (more_news w (IsNewsOfOutput now) first c.write_change.new.errors last
+    c.write_change.ensures c.write_change-2.ensures)

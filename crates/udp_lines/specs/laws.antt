@@ -1,0 +1,2 @@
+-- Laws of the definitions, with their proofs, which nobody has to read.
+pub mod Bringing
