@@ -15,7 +15,7 @@ from .program import ROOT, instructions, script
 # The libraries that read a capture and print its lines; with those below them they are the path of `nbbo replay`. Another
 # path is that of other libraries.
 PATH = ('feed_text', 'line_captures')
-BENCHMARKS = ROOT / 'docs' / 'BENCHMARKS.md'
+BENCHMARKS = ROOT / 'bench' / 'BENCHMARKS.md'
 MARK = re.compile(r'<!-- (bench/\w+), sources (\w+) -->')
 LARGE_JOURNAL = ('--journal', '4294967295')
 LOSSY = '--loss-a 0.01 --loss-b 0.01 --recover --reorder 3'
@@ -160,10 +160,10 @@ def tree(path: Sequence[str] = PATH) -> str:
 
 
 def write_table(name: str, measured_on: str, rows: Sequence[str], path: Sequence[str] = PATH) -> None:
-    """Puts a script's table in the place of that in docs/BENCHMARKS.md, with the tree that it was measured on."""
+    """Puts a script's table in the place of that in bench/BENCHMARKS.md, with the tree that it was measured on."""
     text = BENCHMARKS.read_text()
     table = f'<!-- {name}, sources {path_sum(path)} -->\nTree `{measured_on}`:\n\n' + '\n'.join(rows) + '\n<!-- end -->'
     old = re.compile(rf'<!-- {re.escape(name)}, sources .*?<!-- end -->', re.S)
     if len(old.findall(text)) != 1:
-        sys.exit(f'docs/BENCHMARKS.md has no one table of {name}')
+        sys.exit(f'bench/BENCHMARKS.md has no one table of {name}')
     BENCHMARKS.write_text(old.sub(lambda _: table, text))
