@@ -68,6 +68,7 @@ fn gap_cells(venue: VenueId, gap: &EndedGap) -> [Cell<'static>; 9]
 }
 
 /// Appends the row of a gap of the venue.
+#[cold]
 #[inline(never)]
 fn put_gap(text: &mut LineBuffer, format: RowFormat, venue: VenueId, gap: &EndedGap)
     requires { 1024 ≤ text.old.room }

@@ -201,6 +201,7 @@ impl LineGaps {
     }
 
     /// Ends the gaps of whose numbers none is missing.
+    #[cold]
     #[inline(never)]
     fn end_over(&mut self, lost: &LostNumbers, pass: GapPass, ended: &mut EndedGaps)
         requires { length ended.old.gaps.items + 16 ≤ 51 }
@@ -223,6 +224,7 @@ impl LineGaps {
     }
 
     /// Begins a gap of the numbers that a packet passes over, which is over where none is missing.
+    #[cold]
     #[inline(never)]
     fn begin_gap(
         &mut self,
