@@ -1,13 +1,18 @@
 //! A recording that is written as it comes.
-ghost use Rattle.std.specs.Prelude.{◌≡◌, ◌+◌, [], OnErr, OnOk};
+ghost use Rattle.std.specs.Prelude.{◌≡◌, ◌+◌, [], IfOk, OnErr, OnOk};
 ghost use Rattle.feed_text.specs.Devices.{Wrote};
 
+use crate::recording_state::RecordingState;
 use crate::venue_records::{FULL, PAGE, VenueRecords};
 use feed_text::{ReadBuffer, TextOut, WriteStop, write_all};
 use std::alloc::{AllocError, Global};
 
 /// The most rounds of one look.
 const MOST_ROUNDS: u32 = 1_024;
+
+/// The bytes after the last record where one that came isn't written: they begin a record and end
+/// before its number.
+const CUT: [u8; 4] = [0, b'K', 0, 8];
 
 /// A recording of a run: what came of its venues, and where it is written.
 #[derive(Drop)]
@@ -18,6 +23,7 @@ pub struct Recording<W> {
     on_page: u64,
     pub(crate) writer: W,
     has_failed: bool,
+    state: RecordingState,
 }
 
 /// Writes all of the page.
@@ -37,30 +43,53 @@ fn write_page<W: TextOut>(page: &mut ReadBuffer<PAGE>, writer: &mut W) -> Result
 }
 
 impl<W: TextOut + Drop> Recording<W> {
-    /// A recording of these venues, of which nothing is written.
+    /// A recording of these venues, of which nothing is written. It marks in `state` how far it is.
     pub fn new(
         alloc: Global,
         venues: Vec<VenueRecords>,
         writer: W,
-    ) -> Result<Recording<W>, AllocError> {
+        state: RecordingState,
+    ) -> Result<Recording<W>, AllocError>
+        ensures venues { IfOk result (λ recording. recording.venues ≡ venues) }
+        ensures writer { IfOk result (λ recording. recording.writer ≡ writer) }
+        ensures page { IfOk result (λ recording. recording.page ≡ []) }
+    {
         Ok(Recording {
             venues,
             page: ReadBuffer::new(alloc)?,
             on_page: 0,
             writer,
             has_failed: false,
+            state,
         })
     }
 
     /// Writes what is on the page.
     fn write(&mut self) {
-        if self.has_failed || self.page.len() == 0 {
+        if self.has_failed || self.page.is_empty() {
             return;
         }
         match write_page(&mut self.page, &mut self.writer) {
-            Ok(()) => self.on_page = 0,
-            Err(_) => self.has_failed = true,
+            Ok(()) => {
+                self.state.count_written(self.on_page);
+                self.on_page = 0;
+            }
+            Err(_) => {
+                self.has_failed = true;
+                self.state.fail();
+            }
         }
+    }
+
+    /// Puts what is next of the venue at a place on the page, and returns how many records these
+    /// are.
+    fn put_at(&mut self, place: usize, is_last: bool) -> u64 {
+        let put = match self.venues.get_mut(place) {
+            Some(venue) => venue.put_ready(is_last, &mut self.page),
+            None => 0,
+        };
+        self.on_page = self.on_page.saturating_add(put);
+        put
     }
 
     /// Puts what is next of each venue on the page, and returns how many records these are. A page
@@ -68,12 +97,10 @@ impl<W: TextOut + Drop> Recording<W> {
     fn put_all(&mut self, is_last: bool) -> u64 {
         let mut count = 0u64;
         for place in 0..self.venues.len() {
-            let Some(venue) = self.venues.get_mut(place) else {
+            if self.has_failed {
                 break;
-            };
-            let put = venue.put_ready(is_last, &mut self.page);
-            count = count.saturating_add(put);
-            self.on_page = self.on_page.saturating_add(put);
+            }
+            count = count.saturating_add(self.put_at(place, is_last));
             if self.page.len() > FULL {
                 self.write();
             }
@@ -85,7 +112,7 @@ impl<W: TextOut + Drop> Recording<W> {
     /// write has failed nothing is written, nor taken from the senders.
     pub fn turn(&mut self, is_last: bool) {
         for _ in 0..MOST_ROUNDS {
-            if self.has_failed || self.put_all(is_last) == 0 {
+            if self.put_all(is_last) == 0 {
                 break;
             }
         }
@@ -93,21 +120,24 @@ impl<W: TextOut + Drop> Recording<W> {
     }
 
     /// Whether a write has failed.
-    pub fn has_failed(&self) -> bool {
+    pub fn has_failed(&self) -> bool
+        ensures { result ≡ self.now.has_failed }
+    {
         self.has_failed
     }
 
-    /// How many datagrams and skips aren't in the recording, once nothing more comes: those that
-    /// their senders have lost or that are there still, those that came too late, and where a write
-    /// has failed those that were on its page.
-    pub fn without(&mut self) -> u64 {
-        let mut without = self.on_page;
-        for place in 0..self.venues.len() {
-            let Some(venue) = self.venues.get_mut(place) else {
-                break;
-            };
-            without = without.saturating_add(venue.without());
+    /// Ends the recording, of which all is written that came. Where one that came isn't, what is
+    /// written ends within a record, so that a replay of it says so.
+    pub fn close(&mut self) {
+        if !self.has_failed && self.page.len() <= FULL && self.state.without() > 0 {
+            self.page.push(&CUT);
+            self.write();
         }
-        without
+        self.state.finish();
+    }
+
+    /// Whether nothing more comes.
+    pub(crate) fn is_ending(&self) -> bool {
+        self.state.is_ending()
     }
 }
