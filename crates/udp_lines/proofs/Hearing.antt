@@ -10,12 +10,13 @@ use Rattle.udp_lines.specs.declared.line_socket.Received.{Received}
 use Rattle.udp_lines.specs.declared.line_socket.Received.TheVariants.{Taken, Foreign, Failed, NoneYet}
 
 -- any address is one of a sender where none are named
-taken_from_any : (senders : Senders) (sender : SocketAddr) → are_named senders ≡ false
+pub taken_from_any : (senders : Senders) (sender : SocketAddr) → are_named senders ≡ false
     → IsTakenFrom (senders_of senders) sender
 taken_from_any Any sender e = tt
 taken_from_any (These named) sender e = absurd (search (rules, e))
 
-module _ {S : Type 0} (brings : S → SocketAddr → List ℕ → S → Type 0) (waits : S → S → Type 0) where
+module _ {S : Type 0} (brings : S → SocketAddr → List ℕ → S → Type 0)
+    (waits : S → S → Type 0) where
   -- a call brought a datagram of an address of which this is so
   pub heard_of : (waits_not : (s : S) → waits s s) (IsSender : SocketAddr → Type 0) (s t : S)
       (sender : SocketAddr) (bytes : List ℕ) → IsSender sender → brings s sender bytes t
