@@ -35,7 +35,7 @@ pub(crate) enum Received {
 }
 
 /// Asks the socket once for a datagram. Where no senders are named, its address isn't asked for.
-#[tactic(auto, using(crate::proofs::Hearing::from_any, crate::proofs::Hearing::heard_of, crate::proofs::Hearing::taken_from_any))]
+#[tactic(auto, using(crate::proofs::Hearing::from_any, crate::proofs::Hearing::heard_of))]
 fn receive_once<S: DatagramIn>(
     socket: &mut S,
     senders: &Senders,

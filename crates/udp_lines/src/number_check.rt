@@ -233,8 +233,8 @@ impl NumberCheck {
         Verdict::Unconfirmed
     }
 
-    /// What the line sees of the venue's others at this moment. Where no rule is applied, it doesn't
-    /// look.
+    /// What the line sees of the venue's others at this moment. Where no rule is applied, it
+    /// doesn't look.
     pub(crate) fn seen(&self) -> OthersSeen {
         if self.most_ahead.is_none() {
             return NOTHING_SEEN;
