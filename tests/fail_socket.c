@@ -77,6 +77,12 @@ ssize_t recvfrom(int file, void *buffer, size_t size, int flags, struct sockaddr
     return fails("recvfrom", file) ? -1 : next(file, buffer, size, flags, from, length);
 }
 
+/* A call of recv is one of recvfrom that asks for no address. */
+ssize_t recv(int file, void *buffer, size_t size, int flags)
+{
+    return recvfrom(file, buffer, size, flags, NULL, NULL);
+}
+
 ssize_t sendto(int file, const void *bytes, size_t size, int flags, const struct sockaddr *to, socklen_t length)
 {
     static ssize_t (*next)(int, const void *, size_t, int, const struct sockaddr *, socklen_t);

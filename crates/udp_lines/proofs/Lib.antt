@@ -1,3 +1,4 @@
+pub mod Hearing
 pub mod Judging
 pub mod Meeting
 pub mod Seeing

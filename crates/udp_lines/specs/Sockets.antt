@@ -1,11 +1,17 @@
 -- What is heard of what a socket brings.
-use Rattle.std.specs.Prelude.{ℕ, ◌≤◌, List, length, take, Option, Some, None, Result, Ok, Err}
+use Rattle.std.specs.Prelude.{ℕ, ◌≤◌, List, length, take, Option}
 use Rattle.std.specs.declared.net.socket_addr.SocketAddr.{SocketAddr}
 use Rattle.venue_lines.specs.declared.source.SourceFault.{SourceFault}
 use Rattle.run_settings.specs.Senders.{IsTakenFrom}
 use Rattle.run_settings.specs.declared.sender.Sender.{Sender}
 use Rattle.udp_lines.specs.declared.line_socket.Received.{Received}
 use Rattle.udp_lines.specs.declared.line_socket.Received.TheVariants.{Taken, Foreign, Failed, NoneYet}
+
+-- A call brought a datagram of these bytes from some address.
+pub record BringsFromSome {S : Type 0} (brings : S → SocketAddr → List ℕ → S → Type 0)
+    (before : S) (bytes : List ℕ) (after : S) : Type 0 where
+  pub sender : SocketAddr
+  pub brought : brings before sender bytes after
 
 -- Calls that brought none, and then one that brought a datagram of these bytes from this address.
 pub record HearsFrom {S : Type 0} (brings : S → SocketAddr → List ℕ → S → Type 0)
@@ -23,18 +29,9 @@ pub record HearsOf {S : Type 0} (brings : S → SocketAddr → List ℕ → S �
   pub is : IsSender sender
   pub heard : HearsFrom brings waits before sender bytes after
 
--- What was received, by cases on the answer: the first bytes of the buffer, as many as is answered,
--- are the datagram that the socket has brought from that address; else it has brought none.
-abbrev pub IsReceived : {S : Type 0} → (S → SocketAddr → List ℕ → S → Type 0)
-    → (S → S → Type 0) → (buffer : List ℕ) → S → Result (Option (ℕ × SocketAddr)) SourceFault → S
-    → Type 0
-IsReceived brings waits buffer before (Ok (Some (count, sender))) after =
-    (count ≤ length buffer) × HearsFrom brings waits before sender (take count buffer) after
-IsReceived brings waits buffer before (Ok None) after = waits before after
-IsReceived brings waits buffer before (Err fault) after = waits before after
-
--- The same of a line's socket: a datagram of one of the senders is at the front of the buffer; or
--- the socket has brought one from elsewhere, or none.
+-- What a line's socket has received: the first bytes of the buffer, as many as is answered, are a
+-- datagram that it has brought from one of the senders; or it has brought one from elsewhere, or
+-- none.
 abbrev pub IsHandedOver : {S : Type 0} → (S → SocketAddr → List ℕ → S → Type 0)
     → (S → S → Type 0) → Option (List Sender) → S → Received → (buffer : List ℕ) → S → Type 0
 IsHandedOver brings waits senders before (Taken count) buffer after =

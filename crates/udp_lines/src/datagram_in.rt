@@ -2,17 +2,15 @@
 //!
 //! What the network brings can't be known, so the trait speaks of a socket by relations between its
 //! states, with laws. Of a socket of the system they say nothing.
-ghost use Rattle.std.specs.Prelude.{◌≡◌, ◌≢◌, ◌≤◌, List, ℕ, IfErr, IfOk, OnErr, length, take};
+ghost use Rattle.std.specs.Prelude.{◌≡◌, ◌≤◌, List, ℕ, IfOk, OnErr, length, take};
 ghost use Rattle.std.specs.declared.net.socket_addr.SocketAddr.{SocketAddr};
-ghost use Rattle.venue_lines.specs.declared.source.SourceFault.TheVariants.{NoMemory};
-ghost use Rattle.udp_lines.specs.Sockets.{IsReceived};
+ghost use Rattle.udp_lines.specs.Sockets.{BringsFromSome};
 
 use std::io::ErrorKind;
 use std::net::{SocketAddr, UdpSocket};
 use std::time::Duration;
-use venue_lines::SourceFault;
 
-/// How many times one call asks the socket at most.
+/// How many times a datagram is asked for, or sent, at most.
 pub const MAX_TURNS: u32 = 1_000_000;
 
 /// Why a call of a socket brought no datagram.
@@ -42,6 +40,21 @@ pub trait DatagramIn {
             (λ came. brings self.old came.1 (take came.0 buffer.new) self.new) }
         ensures waits { OnErr result (waits self.old self.new) };
 
+    /// Waits a while for a datagram from any address, puts it at the front of the buffer, and
+    /// returns how many bytes it has. A socket that has no body of its own for it lets the address
+    /// go.
+    fn receive_any(&mut self, buffer: &mut [u8]) -> Result<usize, ReceiveStop>
+        ensures count { IfOk result (λ count. count ≤ length buffer.new) }
+        ensures brings { IfOk result
+            (λ count. BringsFromSome brings self.old (take count buffer.new) self.new) }
+        ensures waits { OnErr result (waits self.old self.new) }
+    {
+        match self.receive(buffer) {
+            Ok((count, _from)) => Ok(count),
+            Err(stop) => Err(stop),
+        }
+    }
+
     /// Sends the bytes to this address as one datagram, and returns whether that could be done. A
     /// call that was interrupted is made again, a million times at most.
     fn send_datagram(&self, bytes: &[u8], to: SocketAddr) -> bool;
@@ -54,6 +67,15 @@ pub trait DatagramIn {
 
     /// Calls after calls bring none.
     ghost waits_more: { (s t u : Self) → waits s t → waits t u → waits s u };
+}
+
+/// Why a call of a system's socket brought none, by the kind of its error.
+fn stop_of(kind: ErrorKind) -> ReceiveStop {
+    match kind {
+        ErrorKind::Interrupted => ReceiveStop::Interrupted,
+        ErrorKind::WouldBlock => ReceiveStop::NoneYet,
+        _ => ReceiveStop::Failed,
+    }
 }
 
 impl DatagramIn for UdpSocket {
@@ -74,11 +96,14 @@ impl DatagramIn for UdpSocket {
                     SocketAddr::new(from.ip().to_canonical(), from.port()),
                 ))
             }
-            Err(error) => Err(match error.kind() {
-                ErrorKind::Interrupted => ReceiveStop::Interrupted,
-                ErrorKind::WouldBlock => ReceiveStop::NoneYet,
-                _ => ReceiveStop::Failed,
-            }),
+            Err(error) => Err(stop_of(error.kind())),
+        }
+    }
+
+    fn receive_any(&mut self, buffer: &mut [u8]) -> Result<usize, ReceiveStop> {
+        match self.recv(buffer) {
+            Ok(count) => Ok(count),
+            Err(error) => Err(stop_of(error.kind())),
         }
     }
 
@@ -96,27 +121,4 @@ impl DatagramIn for UdpSocket {
     fn wait_each(&self, time: Duration) {
         let _ = self.set_read_timeout(Some(time));
     }
-}
-
-/// Waits a while for a datagram, puts it at the front of the buffer, and returns how many bytes it
-/// has and from which address it came; None where none has come. A call that was interrupted is
-/// made again.
-///
-/// Device where the socket failed, TooManyTurns where it was interrupted a million times.
-pub(crate) fn receive<S: DatagramIn>(
-    socket: &mut S,
-    buffer: &mut [u8],
-) -> Result<Option<(usize, SocketAddr)>, SourceFault>
-    ensures received { IsReceived S.brings S.waits buffer.new socket.old result socket.new }
-    ensures fault { IfErr result (λ fault. fault ≢ NoMemory) }
-{
-    for _ in 0..MAX_TURNS {
-        match socket.receive(buffer) {
-            Ok(came) => return Ok(Some(came)),
-            Err(ReceiveStop::Interrupted) => {}
-            Err(ReceiveStop::NoneYet) => return Ok(None),
-            Err(ReceiveStop::Failed) => return Err(SourceFault::Device),
-        }
-    }
-    Err(SourceFault::TooManyTurns)
 }

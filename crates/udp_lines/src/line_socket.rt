@@ -1,10 +1,10 @@
 //! A line's socket, whose datagrams are taken from it, and memory for them.
-ghost use Rattle.std.specs.Prelude.{◌≡◌, ◌≤◌, IfOk, length, vec_capacity};
+ghost use Rattle.std.specs.Prelude.{◌≡◌, ◌≤◌, IfOk, OnErr, length, vec_capacity};
 ghost use Rattle.venue_lines.specs.Datagrams.{bytes_of};
 ghost use Rattle.run_settings.specs.Senders.{senders_of};
 ghost use Rattle.udp_lines.specs.Sockets.{IsHandedOver};
 
-use crate::datagram_in::{DatagramIn, receive};
+use crate::datagram_in::{DatagramIn, MAX_TURNS, ReceiveStop};
 use run_settings::Senders;
 use std::alloc::{AllocError, Global};
 use venue_lines::{Datagram, SourceFault};
@@ -34,8 +34,39 @@ pub(crate) enum Received {
     NoneYet,
 }
 
+/// Asks the socket once for a datagram. Where no senders are named, its address isn't asked for.
+#[tactic(auto, using(crate::proofs::Hearing::from_any, crate::proofs::Hearing::heard_of))]
+fn receive_once<S: DatagramIn>(
+    socket: &mut S,
+    senders: &Senders,
+    buffer: &mut [u8],
+) -> Result<Received, ReceiveStop>
+    ensures received { IfOk result (λ received. IsHandedOver S.brings S.waits
+        (senders_of senders.now) socket.old received buffer.new socket.new) }
+    ensures waits { OnErr result (S.waits socket.old socket.new) }
+{
+    if !senders.are_named() {
+        return match socket.receive_any(buffer) {
+            Ok(count) => Ok(Received::Taken(count)),
+            Err(stop) => Err(stop),
+        };
+    }
+    match socket.receive(buffer) {
+        Ok((count, from)) => {
+            if senders.takes_from(&from) {
+                Ok(Received::Taken(count))
+            } else {
+                Ok(Received::Foreign)
+            }
+        }
+        Err(stop) => Err(stop),
+    }
+}
+
 /// Waits a while for a datagram, and returns its length where it is of one of the senders, or why
-/// there is none. Its bytes are at the front of the buffer then.
+/// there is none: Device where the socket failed, TooManyTurns where it was interrupted a million
+/// times. Its bytes are at the front of the buffer then.
+#[tactic(auto, using(crate::proofs::Hearing::handed_over_later))]
 pub(crate) fn try_receive<S: DatagramIn>(
     socket: &mut S,
     senders: &Senders,
@@ -44,17 +75,15 @@ pub(crate) fn try_receive<S: DatagramIn>(
     ensures { IsHandedOver S.brings S.waits (senders_of senders.now) socket.old result buffer.new
         socket.new }
 {
-    match receive(socket, buffer) {
-        Ok(None) => Received::NoneYet,
-        Ok(Some((count, from))) => {
-            if senders.takes_from(&from) {
-                Received::Taken(count)
-            } else {
-                Received::Foreign
-            }
+    for _ in 0..MAX_TURNS {
+        match receive_once(socket, senders, buffer) {
+            Ok(received) => return received,
+            Err(ReceiveStop::Interrupted) => {}
+            Err(ReceiveStop::NoneYet) => return Received::NoneYet,
+            Err(ReceiveStop::Failed) => return Received::Failed(SourceFault::Device),
         }
-        Err(fault) => Received::Failed(fault),
     }
+    Received::Failed(SourceFault::TooManyTurns)
 }
 
 /// Memory with room for this many bytes: this one, where it has it, else some that is asked for.

@@ -5,7 +5,7 @@ ghost use Rattle.udp_lines.specs.EndsOfSessions.{SpellsEndOf};
 ghost use Rattle.udp_lines.specs.Plausible.{Covers, HasHeader, IsAnEnd, IsFar, IsJudged, agrees, announced_by, end_checked, end_verdict, ends_after, far_row_after, far_row_of, far_verdict, header_checked, header_verdict, held_for_far, highest_of, is_confirmed, is_past, number_checked, number_verdict};
 
 use crate::line_progress::LineProgress;
-use crate::venue_marks::{OthersSeen, VenueMarks};
+use crate::venue_marks::{NOTHING_SEEN, OthersSeen, VenueMarks};
 use feed_types::LineId;
 use mold_packet::{Request, read_request, reads_back};
 use run_settings::EndRule;
@@ -233,8 +233,12 @@ impl NumberCheck {
         Verdict::Unconfirmed
     }
 
-    /// What the line sees of the venue's others at this moment.
+    /// What the line sees of the venue's others at this moment. Where no rule is applied, it
+    /// doesn't look.
     pub(crate) fn seen(&self) -> OthersSeen {
+        if self.most_ahead.is_none() {
+            return NOTHING_SEEN;
+        }
         self.marks.seen_by(self.line)
     }
 

@@ -253,7 +253,7 @@ impl<S: DatagramIn + Drop, C: Clock + Drop> UdpLine<S, C> {
     fn mark_heard(&mut self)
         ensures { self.new ≡ self.old }
     {
-        if !mem::replace(&mut self.intake.has_heard, false) || !self.marks_heard {
+        if !self.marks_heard || !mem::replace(&mut self.intake.has_heard, false) {
             return;
         }
         if let Ok(time) = self.clock.monotonic() {
@@ -262,6 +262,7 @@ impl<S: DatagramIn + Drop, C: Clock + Drop> UdpLine<S, C> {
     }
 
     /// Waits a while for a datagram, where none is there for the next call.
+    #[inline(never)]
     #[tactic(auto, using(crate::proofs::Meeting::polled))]
     fn ask(&mut self)
         requires { self.old.waiting ≡ [] }
@@ -281,6 +282,7 @@ impl<S: DatagramIn + Drop, C: Clock + Drop> UdpLine<S, C> {
 
     /// Waits a while for a datagram, and returns whether the next one needn't be waited for: it is
     /// there, or the socket has failed, or the line has ended.
+    #[inline(always)]
     fn poll(&mut self) -> bool
         ensures brought { HasBrought S.brings S.waits self.old [] self.new }
         ensures rest { self.new ≡ record (self.old) {

@@ -26,6 +26,9 @@ pub(crate) struct OthersSeen {
     pub(crate) end: u64,
 }
 
+/// Others that have brought nothing.
+pub(crate) const NOTHING_SEEN: OthersSeen = OthersSeen { highest: 0, end: 0 };
+
 /// How far the lines of a venue have come in its session: each marks it, and all look at it.
 #[derive(Drop)]
 pub struct VenueMarks {
