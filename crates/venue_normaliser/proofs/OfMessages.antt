@@ -14,7 +14,7 @@ use Rattle.line_arbiter.specs.Outcomes.{IsOutcome}
 use Rattle.line_arbiter.specs.OfSession.{IsInputOfMessages, IsOfMessages}
 use Rattle.line_arbiter.specs.laws.Bringing.{number_in}
 use Rattle.line_arbiter.specs.laws.Fronts.{front_is}
-use Rattle.venue_normaliser.specs.Brought.{before_skip, message_at, message_brought, messages_of, taken_message}
+use Rattle.venue_normaliser.specs.Brought.{before_skip, message_at, message_brought, messages_brought, taken_message}
 use Rattle.venue_normaliser.specs.Outputs.{AreMade, GivesItems, IsPutOut}
 use Rattle.venue_normaliser.proofs.Taken.{some_taken}
 

@@ -23,8 +23,8 @@ abbrev pub messages_to : List Input → ℕ → List (List ℕ)
 messages_to packets n = map (message_at packets) (range_with_len 1 n)
 
 -- the messages up to the first gap
-abbrev pub messages_of : List Input → List (List ℕ)
-messages_of packets = messages_to packets (front_of packets)
+abbrev pub messages_brought : List Input → List (List ℕ)
+messages_brought packets = messages_to packets (front_of packets)
 
 -- a gap was given up
 abbrev pub has_skip : List Input → Bool

@@ -11,7 +11,7 @@ use Rattle.itch_book.specs.declared.row.SymbolRow.{SymbolRow}
 use Rattle.itch_book.specs.Books.{FitsRow, TellsOfOne}
 use Rattle.line_arbiter.specs.Packets.{Input, end_of}
 use Rattle.line_arbiter.specs.Streams.{front_of, end_at}
-use Rattle.venue_normaliser.specs.Brought.{messages_of, has_skip, before_skip}
+use Rattle.venue_normaliser.specs.Brought.{messages_brought, has_skip, before_skip}
 
 abbrev pub events_of : List (List ℕ) → List OrderEvent
 events_of messages = map order_event_of messages
@@ -52,7 +52,7 @@ end_put_out packets =
 pub record IsPutOut (keys : List ℕ) (packets : List Input) (output : List Numbered)
     : Type 0 where
   pub items : List Item
-  pub made : AreMade keys (messages_of (before_skip packets)) items
+  pub made : AreMade keys (messages_brought (before_skip packets)) items
   pub is : output ≡ numbered_from 1 items ++ end_put_out packets
 
 -- What is put out of a session of these messages: item n is the one that message n makes after
