@@ -7,7 +7,7 @@ use Rattle.packet_capture.specs.Frames.{FrameContent}
 use Rattle.packet_capture.specs.Written.{WrittenFrame, IsWrittenFrame, record_bytes, written_frame}
 use Rattle.packet_capture.specs.WrittenFrames.{IsWrittenIpv4, ethernet_bytes, ipv4_bytes, udp_bytes}
 use Rattle.capture_writing.specs.declared.destination.Destination.{Destination}
-use Rattle.capture_writing.specs.Frames.{SentDatagram, IsSent, frame_of_datagram, frame_read, frame_bytes, datagram_record_bytes, packet_to, datagram_to, link_address, sender_link}
+use Rattle.capture_writing.specs.Frames.{TimedDatagram, FitsFrame, frame_of_datagram, frame_read, frame_bytes, datagram_record_bytes, packet_to, datagram_to, link_address, sender_link}
 
 -- a list of four numbers
 pub of_four : (P : List ℕ → Type 0) → ((a b c d : ℕ) → P (a ∷ b ∷ c ∷ d ∷ []))
@@ -60,17 +60,17 @@ frame_len to bytes four =
 halves : (time : ℕ) → time / 1000000000 * 1000000000 + time % 1000000000 * 1 ≡ time
 halves time = omega arith
 
-pub same_frames : (ds : List SentDatagram) → AllByRecursion IsSent ds
+pub same_frames : (ds : List TimedDatagram) → AllByRecursion FitsFrame ds
     → map (written_frame true 1) (map frame_of_datagram ds) ≡ map frame_read ds
 same_frames [] all = refl
 same_frames (d ∷ ds) all = rw (halves d.time, same_frames ds all.1) refl
 
-pub same_bytes : (ds : List SentDatagram)
+pub same_bytes : (ds : List TimedDatagram)
     → flat_map (record_bytes Little) (map frame_of_datagram ds) ≡ flat_map datagram_record_bytes ds
 same_bytes [] = refl
 same_bytes (d ∷ ds) = ap (λ (x : List ℕ). datagram_record_bytes d ++ x) (same_bytes ds)
 
-is_written : (d : SentDatagram) → IsSent d → IsWrittenFrame (frame_of_datagram d)
+is_written : (d : TimedDatagram) → FitsFrame d → IsWrittenFrame (frame_of_datagram d)
 is_written d is = record {
   seconds = let h = is.time in omega arith;
   parts = omega arith;
@@ -78,12 +78,12 @@ is_written d is = record {
   short = let h = is.short in omega (arith, frame_len d.to d.bytes is.address);
 }
 
-pub all_written : (ds : List SentDatagram) → AllByRecursion IsSent ds
+pub all_written : (ds : List TimedDatagram) → AllByRecursion FitsFrame ds
     → AllByRecursion IsWrittenFrame (map frame_of_datagram ds)
 all_written [] all = tt
 all_written (d ∷ ds) all = (is_written d all.0, all_written ds all.1)
 
-pub is_packet : (d : SentDatagram) → IsSent d
+pub is_packet : (d : TimedDatagram) → FitsFrame d
     → IsWrittenIpv4 (packet_to d.to d.bytes) (datagram_to d.to d.bytes)
 is_packet d is = record {
   source = refl;

@@ -22,9 +22,9 @@ abbrev pub link_address : List ℕ → List ℕ
 link_address address =
     if slice_index address 0 / 16 == 14
     then 1 ∷ 0 ∷ 94 ∷ slice_index address 1 % 128
-        ∷ slice_index address 2 ∷ slice_index address 3 ∷ []
+    ∷ slice_index address 2 ∷ slice_index address 3 ∷ []
     else 2 ∷ 0 ∷ slice_index address 0 ∷ slice_index address 1
-        ∷ slice_index address 2 ∷ slice_index address 3 ∷ []
+    ∷ slice_index address 2 ∷ slice_index address 3 ∷ []
 
 -- a datagram from the port that it goes to, with this checksum
 abbrev pub datagram_with : ℕ → Destination → List ℕ → WrittenDatagram
@@ -68,20 +68,20 @@ frame_bytes to bytes = ethernet_bytes (link_address to.address ++ sender_link) [
     (ipv4_bytes (packet_to to bytes) (datagram_to to bytes)) []
 
 -- a datagram, the address and port that it goes to, and its time in nanoseconds from 1970 on
-pub record SentDatagram : Type 0 where
+pub record TimedDatagram : Type 0 where
   pub to : Destination
   pub time : ℕ
   pub bytes : List ℕ
 
 -- a savefile has seconds of 32 bits, and IPv4 datagrams of at most 65,507 bytes
-pub record IsSent (d : SentDatagram) : Type 0 where
+pub record FitsFrame (d : TimedDatagram) : Type 0 where
   pub address : length d.to.address ≡ 4
   pub port : d.to.port < 65536
   pub time : d.time < 2 ^ 32 * 1000000000
   pub short : length d.bytes ≤ 65507
 
 -- its frame, which is written whole
-abbrev pub frame_of_datagram : SentDatagram → WrittenFrame
+abbrev pub frame_of_datagram : TimedDatagram → WrittenFrame
 frame_of_datagram d = record {
   seconds = d.time / 1000000000;
   parts = d.time % 1000000000;
@@ -94,15 +94,15 @@ abbrev pub file_header : List ℕ
 file_header = header_bytes Little true 262144 1
 
 -- the packet record of a datagram
-abbrev pub datagram_record_bytes : SentDatagram → List ℕ
+abbrev pub datagram_record_bytes : TimedDatagram → List ℕ
 datagram_record_bytes d = record_bytes Little (frame_of_datagram d)
 
 -- a savefile of datagrams
-abbrev pub capture_of : List SentDatagram → List ℕ
-capture_of datagrams = file_header ++ flat_map datagram_record_bytes datagrams
+abbrev pub savefile_of : List TimedDatagram → List ℕ
+savefile_of datagrams = file_header ++ flat_map datagram_record_bytes datagrams
 
 -- its frames and their datagrams, as they are read
-abbrev pub frame_read : SentDatagram → FrameContent
+abbrev pub frame_read : TimedDatagram → FrameContent
 frame_read d = record {
   link = 1;
   time = Some d.time;
@@ -110,5 +110,5 @@ frame_read d = record {
   bytes = frame_bytes d.to d.bytes;
 }
 
-abbrev pub datagram_read : SentDatagram → DatagramContent
+abbrev pub datagram_read : TimedDatagram → DatagramContent
 datagram_read d = record { address = V4 d.to.address; port = d.to.port; bytes = d.bytes }

@@ -1,7 +1,5 @@
 //! The head of a frame: what stands before the bytes of a datagram in a savefile.
-ghost use Rattle.std.specs.Prelude.{◌≡◌, ◌+◌, ◌/◌, ◌%◌, ◌≤◌, ◌<◌, ◌++◌, [], ◌∷◌, length};
-ghost use Rattle.packet_capture.specs.declared.fields.ByteOrder.TheVariants.{Big, Little};
-ghost use Rattle.packet_capture.specs.Written.{u16_bytes, u32_bytes};
+ghost use Rattle.std.specs.Prelude.{◌≡◌, ◌≤◌, ◌++◌, length};
 ghost use Rattle.capture_writing.specs.Checksums.{checksum_of, datagram_checksum_of};
 ghost use Rattle.capture_writing.specs.Frames as frames;
 
@@ -16,18 +14,6 @@ pub const FRAME_HEAD: usize = 58;
 
 /// The most bytes of a datagram of IPv4.
 pub const MOST_BYTES: usize = 65_507;
-
-/// Returns the 16 bytes before a frame of `len` bytes, which was written whole.
-#[inline(always)]
-fn record_head(time: CaptureTime, len: u32) -> [u8; 16]
-    ensures { result ≡ u32_bytes Little (time / 1000000000)
-        ++ (u32_bytes Little (time % 1000000000) ++ (u32_bytes Little len ++ u32_bytes Little len)) }
-{
-    let [a, b, c, d] = file_u32(time.seconds());
-    let [e, f, g, h] = file_u32(time.parts());
-    let [i, j, k, l] = file_u32(len);
-    [a, b, c, d, e, f, g, h, i, j, k, l, i, j, k, l]
-}
 
 /// Returns the Ethernet address of an address: a group's, or one of this project's own making.
 #[inline(always)]
@@ -73,15 +59,18 @@ fn sum_of_datagram(to: &Destination, datagram: &[u8]) -> u16
     datagram_checksum(add_words(before, datagram))
 }
 
-/// Returns what stands in a savefile before the bytes of a datagram, at its time.
+/// Returns what stands in a savefile before the bytes of `datagram`, which goes to `to`, at `time`:
+/// the head of its packet record, and the headers of Ethernet, IPv4 and UDP, with the lengths and
+/// checksums. The datagram has at most [`MOST_BYTES`] bytes.
 pub fn frame_head(to: &Destination, time: CaptureTime, datagram: &[u8]) -> [u8; FRAME_HEAD]
     requires { length datagram.now ≤ 65507 }
     ensures { result ++ datagram.now ≡ frames.datagram_record_bytes
         (record { to = to.now; time = time; bytes = datagram.now }) }
 {
     let len = datagram.len();
-    let [s0, s1, s2, s3, n0, n1, n2, n3, l0, l1, l2, l3, w0, w1, w2, w3] =
-        record_head(time, 42 + len as u32);
+    let [s0, s1, s2, s3] = file_u32(time.seconds());
+    let [n0, n1, n2, n3] = file_u32(time.parts());
+    let [l0, l1, l2, l3] = file_u32(42 + len as u32);
     let [e0, e1, e2, e3, e4, e5] = link_address(to.address);
     let [t0, t1] = packet_u16(28 + len as u16);
     let [c0, c1] = packet_u16(header_checksum(to, datagram));
@@ -90,7 +79,7 @@ pub fn frame_head(to: &Destination, time: CaptureTime, datagram: &[u8]) -> [u8; 
     let [u0, u1] = packet_u16(8 + len as u16);
     let [k0, k1] = packet_u16(sum_of_datagram(to, datagram));
     [
-        s0, s1, s2, s3, n0, n1, n2, n3, l0, l1, l2, l3, w0, w1, w2, w3, // the packet record
+        s0, s1, s2, s3, n0, n1, n2, n3, l0, l1, l2, l3, l0, l1, l2, l3, // the packet record
         e0, e1, e2, e3, e4, e5, 2, 0, 192, 0, 2, 1, 8, 0, // Ethernet
         69, 0, t0, t1, 0, 0, 64, 0, 1, 17, c0, c1, 192, 0, 2, 1, a, b, c, d, // IPv4
         p0, p1, p0, p1, u0, u1, k0, k1, // UDP

@@ -4,7 +4,7 @@ ghost use Rattle.std.specs.List.{AllByRecursion};
 ghost use Rattle.packet_capture.specs.Captures.{IsCapture};
 ghost use Rattle.packet_capture.specs.Datagrams.{CarriesDatagram};
 ghost use Rattle.capture_writing.specs.Checksums.{checksum_of, datagram_checksum_of};
-ghost use Rattle.capture_writing.specs.Frames.{SentDatagram, IsSent, capture_of, frame_read, frame_bytes, datagram_read};
+ghost use Rattle.capture_writing.specs.Frames.{TimedDatagram, FitsFrame, savefile_of, frame_read, frame_bytes, datagram_read};
 
 use packet_capture::{frames_read_back, savefiles_read_back};
 
@@ -12,9 +12,9 @@ use packet_capture::{frames_read_back, savefiles_read_back};
 /// the datagrams' frames, each at its time, and each frame carries its datagram, to its address and
 /// port. The function does nothing: its contract is a law.
 pub fn captures_read_back()
-    ensures capture { (datagrams : List SentDatagram) → AllByRecursion IsSent datagrams
-        → IsCapture (capture_of datagrams) (map frame_read datagrams) }
-    ensures datagram { (d : SentDatagram) → IsSent d
+    ensures capture { (datagrams : List TimedDatagram) → AllByRecursion FitsFrame datagrams
+        → IsCapture (savefile_of datagrams) (map frame_read datagrams) }
+    ensures datagram { (d : TimedDatagram) → FitsFrame d
         → CarriesDatagram 1 (frame_bytes d.to d.bytes) (datagram_read d) }
 {
     savefiles_read_back();

@@ -6,7 +6,11 @@ pub returns : goal.returns
 returns c =
     let four : length c.args.to.now.address ≡ 4 = omega arith in
     rw (
-      c.record_head.ensures,
+      c.file_u32.ensures,
+      c.file_u32-2.ensures,
+      c.file_u32-3.ensures,
+      c.seconds.ensures,
+      c.parts.ensures,
       c.link_address.ensures,
       c.packet_u16.ensures,
       c.packet_u16-2.ensures,
