@@ -52,7 +52,8 @@ fn most_in(messages: &[&[u8]], room: usize) -> usize
 /// or `None` where the first one doesn't fit, or there is none, and then nothing is written.
 ///
 /// The first message has the number `number`, at least 1; the last one's is at most 2^64 - 1. Each
-/// has at most 65,535 bytes, as has `out`. A `session` is ten bytes, filled on the right with spaces.
+/// has at most 65,535 bytes, as has `out`. A `session` is ten bytes, filled on the right with
+/// spaces.
 pub fn build_packet(
     session: &[u8; 10],
     number: u64,
