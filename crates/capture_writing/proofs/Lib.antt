@@ -1,0 +1,2 @@
+mod ReadingBack
+mod WrittenHead
