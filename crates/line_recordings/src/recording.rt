@@ -1,6 +1,7 @@
 //! A recording that is written as it comes.
-ghost use Rattle.std.specs.Prelude.{◌≡◌, ◌+◌, [], IfOk, OnErr, OnOk};
+ghost use Rattle.std.specs.Prelude.{◌≡◌, ◌+◌, [], IfOk, OnErr, OnOk, false, true};
 ghost use Rattle.feed_text.specs.Devices.{Wrote};
+ghost use Rattle.line_recordings.specs.Written.{HasWritten, HavePut, ClosesRecording};
 
 use crate::recording_state::RecordingState;
 use crate::venue_records::{FULL, PAGE, VenueRecords};
@@ -42,6 +43,22 @@ fn write_page<W: TextOut>(page: &mut ReadBuffer<PAGE>, writer: &mut W) -> Result
     }
 }
 
+/// Puts what is next of the venue at a place on the page, if there is such a venue, and returns how
+/// many records these are.
+fn put_venue(
+    venues: &mut Vec<VenueRecords>,
+    place: usize,
+    is_last: bool,
+    page: &mut ReadBuffer<PAGE>,
+) -> u64
+    ensures { HavePut venues.old.items page.old venues.new.items page.new }
+{
+    if place >= venues.len() {
+        return 0;
+    }
+    venues[place].put_ready(is_last, page)
+}
+
 impl<W: TextOut + Drop> Recording<W> {
     /// A recording of these venues, of which nothing is written. It marks in `state` how far it is.
     pub fn new(
@@ -65,7 +82,13 @@ impl<W: TextOut + Drop> Recording<W> {
     }
 
     /// Writes what is on the page.
-    fn write(&mut self) {
+    #[tactic(auto, using(crate::proofs::Writing::wrote_none, crate::proofs::Writing::front_none))]
+    fn write(&mut self)
+        ensures written { HasWritten W.adds self.old self.new }
+        ensures front { Wrote W.adds self.old.writer self.old.page self.new.writer }
+        ensures kept { self.old.has_failed ≡ true → self.new ≡ self.old }
+        ensures none { self.new.has_failed ≡ false → self.new.page ≡ [] }
+    {
         if self.has_failed || self.page.is_empty() {
             return;
         }
@@ -83,18 +106,22 @@ impl<W: TextOut + Drop> Recording<W> {
 
     /// Puts what is next of the venue at a place on the page, and returns how many records these
     /// are.
-    fn put_at(&mut self, place: usize, is_last: bool) -> u64 {
-        let put = match self.venues.get_mut(place) {
-            Some(venue) => venue.put_ready(is_last, &mut self.page),
-            None => 0,
-        };
+    #[tactic(auto, using(crate::proofs::Writing::wrote_put))]
+    fn put_at(&mut self, place: usize, is_last: bool) -> u64
+        ensures written { HasWritten W.adds self.old self.new }
+        ensures sound { self.new.has_failed ≡ self.old.has_failed }
+    {
+        let put = put_venue(&mut self.venues, place, is_last, &mut self.page);
         self.on_page = self.on_page.saturating_add(put);
         put
     }
 
     /// Puts what is next of each venue on the page, and returns how many records these are. A page
     /// that is full is written.
-    fn put_all(&mut self, is_last: bool) -> u64 {
+    fn put_all(&mut self, is_last: bool) -> u64
+        ensures written { HasWritten W.adds self.old self.new }
+        ensures kept { self.old.has_failed ≡ true → self.new ≡ self.old }
+    {
         let mut count = 0u64;
         for place in 0..self.venues.len() {
             if self.has_failed {
@@ -110,7 +137,11 @@ impl<W: TextOut + Drop> Recording<W> {
 
     /// Writes what has come, venue by venue. With `is_last` nothing is waited for any more. Once a
     /// write has failed nothing is written, nor taken from the senders.
-    pub fn turn(&mut self, is_last: bool) {
+    pub fn turn(&mut self, is_last: bool)
+        ensures written { HasWritten W.adds self.old self.new }
+        ensures kept { self.old.has_failed ≡ true → self.new ≡ self.old }
+        ensures none { self.new.has_failed ≡ false → self.new.page ≡ [] }
+    {
         for _ in 0..MOST_ROUNDS {
             if self.put_all(is_last) == 0 {
                 break;
@@ -128,7 +159,9 @@ impl<W: TextOut + Drop> Recording<W> {
 
     /// Ends the recording, of which all is written that came. Where one that came isn't, what is
     /// written ends within a record, so that a replay of it says so.
-    pub fn close(&mut self) {
+    pub fn close(&mut self)
+        ensures { ClosesRecording W.adds self.old self.new }
+    {
         if !self.has_failed && self.page.len() <= FULL && self.state.without() > 0 {
             self.page.push(&CUT);
             self.write();
