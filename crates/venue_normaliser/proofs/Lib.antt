@@ -1,2 +1,7 @@
+pub mod Making
 pub mod Taken
+pub mod Keeping
+pub mod Sent
+pub mod Readying
+pub mod Whole
 pub mod OfMessages
