@@ -1,11 +1,11 @@
 -- Messages that are kept in slots, by their numbers.
 use Rattle.std.proofs.Common.{◌≡◌, ℕ, ◌+◌, ◌-◌, ◌*◌, ◌<◌, ◌≤◌, Bool, true, false, cond, List, [], ◌∷◌, ◌++◌, length, get_or, set, take, Option, Some, None, refl, sym, ap, subst, ◌∙◌, arith, inl, inr, append_assoc, append-nil, length-append}
-use Rattle.std.specs.Prelude.{◌⊎◌, ◌%◌, ◌/◌, ◌&&◌, nat_eq, nat_le, nat_lt, is_some, slice_get, replicate, if◌then◌else◌}
+use Rattle.std.specs.Prelude.{◌⊎◌, ◌%◌, ◌/◌, ◌&&◌, nat_eq, nat_le, nat_lt, is_some, min, slice_get, unwrap_or, replicate, if◌then◌else◌}
 use Rattle.std.specs.Option.{option_and_then, option_map, option_or}
 use Rattle.std.proofs.lemmas.Bool.{cases_lt, cases_eq, eq-eqb, ne_eqb}
 use Rattle.std.proofs.lemmas.Bool.Decides.{nat_tests}
 use Rattle.std.proofs.lemmas.Nat.{mod_below}
-use Rattle.std.proofs.Math.Nat.{mod-add-div, mul-le-mul_left}
+use Rattle.std.proofs.Math.Nat.{mod-add-div, mul-add, mul-le-mul_left}
 use Rattle.std.proofs.lemmas.List.{length-set, get_or-set_same, get_or-set_other, get_or-replicate, length-replicate}
 use Rattle.std.proofs.Math.Seq.{get_or-append_seam}
 use Rattle.std.proofs.lemmas.Option.{slice_get-get_or}
@@ -19,13 +19,15 @@ use Rattle.venue_normaliser.specs.Slots.{IsStored, KeepsPacket, bytes_of_slot, k
 quotients : (w p q r : ℕ) → r + w * p ≤ r + w * q → r + w * q < r + w * p + w → p ≡ q
 quotients w p q r le lt = elim (cases_lt p q) [
   | inl less ↦
-      let more = mul-le-mul_left {p + 1} {q} w (omega arith) in
-      let spread : w * (p + 1) ≡ w * p + w = omega arith in
+      let more = mul-le-mul_left {m = p + 1} {n = q} w (omega arith) in
+      let spread = mul-add w p 1 in
+      let one : w * 1 ≡ w = omega arith in
       absurd (omega arith)
   | inr ge ↦ elim (cases_lt q p) [
     | inl less ↦
-        let more = mul-le-mul_left {q + 1} {p} w (omega arith) in
-        let spread : w * (q + 1) ≡ w * q + w = omega arith in
+        let more = mul-le-mul_left {m = q + 1} {n = p} w (omega arith) in
+        let spread = mul-add w q 1 in
+        let one : w * 1 ≡ w = omega arith in
         absurd (omega arith)
     | inr le ↦ omega arith
   ]
@@ -48,11 +50,11 @@ slot_at slots m d some =
 
 pub stored_has : (slots : List MessageSlot) (m : ℕ) (slot : MessageSlot) → 1 ≤ length slots
     → slot ≡ get_or slots (m % length slots) slot → slot.number ≡ m
-    → stored_at slots m ≡ Some (take slot.len slot.bytes)
+    → stored_at slots m ≡ Some (take (min slot.len 50) slot.bytes)
 stored_has slots m slot some read is =
     slot_at slots m slot some
     ∙ ap (bytes_of_slot m) (sym read)
-    ∙ ap (λ (b : Bool). cond b (Some (take slot.len slot.bytes)) None) (eq-eqb slot.number m is)
+    ∙ ap (λ (b : Bool). cond b (Some (take (min slot.len 50) slot.bytes)) None) (eq-eqb slot.number m is)
 
 pub stored_not : (slots : List MessageSlot) (m : ℕ) (slot : MessageSlot) → 1 ≤ length slots
     → slot ≡ get_or slots (m % length slots) slot → (slot.number ≡ m → ⊥)
@@ -60,7 +62,27 @@ pub stored_not : (slots : List MessageSlot) (m : ℕ) (slot : MessageSlot) → 1
 stored_not slots m slot some read not =
     slot_at slots m slot some
     ∙ ap (bytes_of_slot m) (sym read)
-    ∙ ap (λ (b : Bool). cond b (Some (take slot.len slot.bytes)) None) (ne_eqb slot.number m not)
+    ∙ ap (λ (b : Bool). cond b (Some (take (min slot.len 50) slot.bytes)) None) (ne_eqb slot.number m not)
+
+-- the message that is read at a number
+pub message_read : (slots : List MessageSlot) (m place len : ℕ) (d : MessageSlot)
+    → 1 ≤ length slots → place ≡ m % length slots → (get_or slots place d).number ≡ m
+    → len ≡ min (get_or slots place d).len 50
+    → take len (get_or slots place d).bytes ≡ unwrap_or (stored_at slots m) []
+message_read slots m place len d some is number cut =
+    let slot = get_or slots place d in
+    ap (λ (k : ℕ). take k slot.bytes) cut
+    ∙ sym (ap (λ (o : Option (List ℕ)). unwrap_or o [])
+    (slot_at slots m d some
+    ∙ ap (λ (k : ℕ). bytes_of_slot m (get_or slots k d)) (sym is)
+    ∙ ap (λ (b : Bool). cond b (Some (take (min slot.len 50) slot.bytes)) None)
+    (eq-eqb slot.number m number)))
+
+-- a message of at most 50 bytes is kept whole
+pub kept_short : (message : List ℕ) → length message ≤ 50 → kept_bytes message ≡ message
+kept_short message short =
+    ap (λ (b : Bool). if b then message else [])
+    (let t : nat_le (length message) 50 ≡ true = grind (arith, nat_tests) in t)
 
 -- empty slots have nothing
 pub stored_none : (n : ℕ) (slot : MessageSlot) (m : ℕ) → slot.number ≡ 0 → 0 < m → 1 ≤ n
@@ -74,7 +96,7 @@ stored_none n slot m zero past some =
     (λ is. omega arith)
 
 pub is_stored : (slots : List MessageSlot) (number : ℕ) (message : List ℕ) (slot : MessageSlot)
-    → 1 ≤ length slots → slot.number ≡ number → take slot.len slot.bytes ≡ kept_bytes message
+    → 1 ≤ length slots → slot.number ≡ number → take (min slot.len 50) slot.bytes ≡ kept_bytes message
     → IsStored number message slots (set slots (number % length slots) slot)
 is_stored slots number message slot some is bytes =
     let place = number % length slots in
@@ -119,7 +141,12 @@ or_none' (Some x) = refl
 kept_to_none : (p : Content) (m n : ℕ) → p.number + n ≤ m → kept_to n p m ≡ None
 kept_to_none p m n past =
     ap (λ (b : Bool). cond b (Some (kept_bytes (get_or p.messages (m - p.number) []))) None)
-    (grind (arith, nat_tests))
+    (second_false (nat_le p.number m) (nat_lt m (p.number + n))
+    (let no : nat_lt m (p.number + n) ≡ false = grind (arith, nat_tests) in no))
+  where
+    second_false : (b c : Bool) → c ≡ false → (b && c) ≡ false
+    second_false true c e = e
+    second_false false c e = refl
 
 kept_to_same : (p : Content) (m n : ℕ) → (m ≡ p.number + n → ⊥)
     → kept_to n p m ≡ kept_to (n + 1) p m
@@ -161,8 +188,9 @@ keeps_none sent p slots rest whole = record {
   where
     none_at : (m : ℕ) → kept_to 0 p m ≡ None
     none_at m = elim (cases_lt m p.number) [
-      | inl lt ↦ ap (λ (b : Bool). cond b (Some (kept_bytes (get_or p.messages (m - p.number) [])))
-          None) (grind (arith, nat_tests))
+      | inl lt ↦ ap (λ (b : Bool). cond (b && nat_lt m (p.number + 0))
+          (Some (kept_bytes (get_or p.messages (m - p.number) []))) None)
+          (let no : nat_le p.number m ≡ false = grind (arith, nat_tests) in no)
       | inr ge ↦ kept_to_none p m 0 (omega arith)
     ]
 
@@ -288,14 +316,14 @@ keeps_step sent p old mid new rest left message place number so next is one pass
           (keeps_passed sent p old mid rest left message place so next
           (λ lt. absurd (omega arith)))
       | inl lt ↦ elim (bool_cases (is_some (stored_at mid number))) [
-        | inl yes ↦ subst (λ (s : List MessageSlot). IsKeptTo sent p old s left (place + 1))
-            (sym (passed (λ _. yes)))
+        | inl there ↦ subst (λ (s : List MessageSlot). IsKeptTo sent p old s left (place + 1))
+            (sym (passed (λ _. there)))
             (keeps_passed sent p old mid rest left message place so next
-            (λ _. ap (λ (k : ℕ). is_some (stored_at mid k)) (sym is) ∙ yes))
-        | inr no ↦ keeps_put sent p old mid new rest left message place so next
+            (λ _. ap (λ (k : ℕ). is_some (stored_at mid k)) (sym is) ∙ there))
+        | inr free ↦ keeps_put sent p old mid new rest left message place so next
             (omega arith) inside
-            (ap (λ (k : ℕ). is_some (stored_at mid k)) (sym is) ∙ no) len
-            (subst (λ (k : ℕ). IsStored k message mid new) is (put lt no))
+            (ap (λ (k : ℕ). is_some (stored_at mid k)) (sym is) ∙ free) len
+            (subst (λ (k : ℕ). IsStored k message mid new) is (put lt free))
       ]
     ]
   where

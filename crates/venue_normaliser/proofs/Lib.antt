@@ -4,4 +4,5 @@ pub mod Keeping
 pub mod Sent
 pub mod Readying
 pub mod Whole
+pub mod Moved
 pub mod OfMessages

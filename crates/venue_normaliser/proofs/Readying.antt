@@ -159,13 +159,13 @@ next_none : (m : ℕ) (held : Option Item) (end : Option ℕ) → None ≡ next_
     → (held ≡ None) × (length (end_at end m) ≡ 0)
 next_none m (Some item) end is = absurd cc
 next_none m None None is = (refl, refl)
-next_none m None (Some e) is = (refl, by_test (e == m) is)
+next_none m None (Some e) is =
+    (refl, by_test (e == m) (record { number = m; item = items.End }) is)
   where
-    by_test : (b : Bool)
-        → None ≡ (if b then Some (record { number = m; item = items.End }) else None)
+    by_test : (b : Bool) (last : Numbered) → None ≡ (if b then Some last else None)
         → length (if b then end_item m ∷ [] else []) ≡ 0
-    by_test true is = absurd cc
-    by_test false is = refl
+    by_test true last is = absurd cc
+    by_test false last is = refl
 
 front_most : (packets : List Input) (n : ℕ) → carried packets (n + 1) ≡ None
     → front_of packets ≤ n
@@ -193,21 +193,21 @@ not_form wanted size kind len long =
     and_false true c e = e
     and_false false c e = refl
 
-passed : {X : Type 0} {b : Bool} {x y z : X} → b ≡ false → y ≡ z → (if b then x else y) ≡ z
-passed {X} {b} {x} {y} {z} e same = ap (λ (c : Bool). if c then x else y) e ∙ same
+passed : {X : Type 0} (b : Bool) (x y z : X) → b ≡ false → y ≡ z → (if b then x else y) ≡ z
+passed b x y z e same = ap (λ (c : Bool). if c then x else y) e ∙ same
 
 long_event : (kind len : ℕ) (message : List ℕ) → 50 < len → event_by kind len message ≡ event.Other
 long_event kind len message long =
-    passed (not_form 0x41 36 kind len (omega arith))
-    (passed (not_form 0x44 19 kind len (omega arith))
-    (passed (not_form 0x45 31 kind len (omega arith))
-    (passed (not_form 0x55 35 kind len (omega arith))
-    (passed (not_form 0x58 23 kind len (omega arith))
-    (passed (not_form 0x46 40 kind len (omega arith))
-    (passed (not_form 0x43 36 kind len (omega arith))
-    (passed (not_form 0x52 39 kind len (omega arith))
-    (passed (not_form 0x48 25 kind len (omega arith))
-    (passed (not_form 0x68 21 kind len (omega arith)) refl)))))))))
+    passed _ _ _ _ (not_form 0x41 36 kind len (omega arith))
+    (passed _ _ _ _ (not_form 0x44 19 kind len (omega arith))
+    (passed _ _ _ _ (not_form 0x45 31 kind len (omega arith))
+    (passed _ _ _ _ (not_form 0x55 35 kind len (omega arith))
+    (passed _ _ _ _ (not_form 0x58 23 kind len (omega arith))
+    (passed _ _ _ _ (not_form 0x46 40 kind len (omega arith))
+    (passed _ _ _ _ (not_form 0x43 36 kind len (omega arith))
+    (passed _ _ _ _ (not_form 0x52 39 kind len (omega arith))
+    (passed _ _ _ _ (not_form 0x48 25 kind len (omega arith))
+    (passed _ _ _ _ (not_form 0x68 21 kind len (omega arith)) refl)))))))))
 
 pub event_kept : (message : List ℕ) → order_event_of (kept_bytes message) ≡ order_event_of message
 unfolding order_event_of
@@ -391,7 +391,7 @@ ready_end packets stored old mid new old_book new_book before between after read
     let most = front_most packets mid.sent (sym (held_is mid packets so.lines) ∙ next.0) in
     let here : mid.sent ≡ front_of packets = omega arith in
     let ends : end_of packets ≡ Some (front_of packets + 1) =
-    sym so.lines.end ∙ next.1.0 ∙ ap (λ (n : ℕ). Some (n + 1)) here in
+    sym so.lines.end ∙ next.1 ∙ ap (λ (n : ℕ). Some (n + 1)) here in
     let one = end_one (end_of packets) (front_of packets + 1) ends in
     record {
       messages = between;
@@ -403,7 +403,7 @@ ready_end packets stored old mid new old_book new_book before between after read
           old_book new_book before between) here so.puts;
       end = put
           ∙ ap (λ (x : Numbered). between ++ x ∷ [])
-          (next.1.1 ∙ ap (λ (n : ℕ). end_item (n + 1)) here)
+          (next.2 ∙ ap (λ (n : ℕ). end_item (n + 1)) here)
           ∙ ap (λ (xs : List Numbered). between ++ xs)
           (sym (end_is (end_of packets) (front_of packets + 1) ends))
           ∙ ap (λ (b : Bool). between ++ (if b then end_here packets else []))

@@ -68,11 +68,15 @@ map_same {X} f g a (suc n) same =
 pub range_join : {X : Type 0} (f : ℕ → X) (a n k : ℕ)
     → map f (range_with_len a (n + k))
     ≡ map f (range_with_len a n) ++ map f (range_with_len (a + n) k)
-range_join {X} f a zero k = ap (λ (b : ℕ). map f (range_with_len b k)) (omega arith)
+range_join {X} f a zero k =
+    ap (λ (n : ℕ). map f (range_with_len a n)) (let n : zero + k ≡ k = omega arith in n)
+    ∙ ap (λ (b : ℕ). map f (range_with_len b k)) (let b : a ≡ a + zero = omega arith in b)
 range_join {X} f a (suc n) k =
-    ap (λ (xs : List X). f a ∷ xs)
+    ap (λ (m : ℕ). map f (range_with_len a m)) (let m : suc n + k ≡ suc (n + k) = omega arith in m)
+    ∙ ap (λ (xs : List X). f a ∷ xs)
     (range_join f (a + 1) n k
-    ∙ ap (λ (b : ℕ). map f (range_with_len (a + 1) n) ++ map f (range_with_len b k)) (omega arith))
+    ∙ ap (λ (b : ℕ). map f (range_with_len (a + 1) n) ++ map f (range_with_len b k))
+    (let b : (a + 1) + n ≡ a + suc n = omega arith in b))
 
 pub front_grows : (packets : List Input) (x : Input)
     → front_of packets ≤ front_of (packets ++ x ∷ [])

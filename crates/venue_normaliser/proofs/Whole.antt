@@ -122,7 +122,7 @@ by_kind : (kind : Kind) (window sent : ℕ) (packets : List Input) (p : Content)
     (answer : Result Outcome LineFault) → ToKind kind window sent packets p answer
     → is_taken answer ≡ true → WasTaken window sent packets p
 by_kind kinds.Messages window sent packets p (Ok (Taken new repeated)) h e =
-    record { before = h.0; within = h.1.0 }
+    record { before = h.0; within = h.1 }
 by_kind kinds.Messages window sent packets p (Ok Heartbeat) h e = absurd (false≢true e)
 by_kind kinds.Messages window sent packets p (Ok Ended) h e = absurd (false≢true e)
 by_kind kinds.Messages window sent packets p (Ok Ahead) h e = absurd (false≢true e)
@@ -693,7 +693,7 @@ takes line packet answer packets old mid new out0 out1 out2 fits brings ready dr
       | inl over ↦
           let all = dropped (brings.given_up ∙ over) in
           takes_over line packet answer packets old mid new out0 out1 out2 fits over brings all.0
-          all.1.1 kept
+          all.2 kept
       | inr going ↦
           takes_open line packet answer packets old mid new out0 out1 out2 fits going brings
           (λ P lines none slots. ready P lines (brings.given_up ∙ going) none slots) kept
@@ -701,28 +701,29 @@ takes line packet answer packets old mid new out0 out1 out2 fits brings ready dr
 
 -- ---- a gap is given up
 
-pub skips : (packets : List Input) (n : ℕ) (old new : NormaliserState) (out0 out1 : List Numbered)
-    → FitsPackets old packets → MaySkip packets n
+pub skips_fit : (packets : List Input) (n : ℕ) (new : NormaliserState)
     → Fits new.lines (packets ++ Skip n ∷ [])
     → AllSent (packets ++ Skip n ∷ []) new.lines.sent
     → new.has_given_up ≡ true
+    → FitsPackets new (packets ++ Skip n ∷ [])
+skips_fit packets n new lines all given = record {
+  lines = lines;
+  all_sent = all;
+  given_up = given ∙ sym (skip_here packets n);
+  session = λ going. absurd (false≢true (sym going ∙ given));
+}
+
+pub skips_output : (packets : List Input) (n : ℕ) (old : NormaliserState)
+    (out0 out1 : List Numbered) → FitsPackets old packets → MaySkip packets n
     → (old.has_given_up ≡ true → out1 ≡ out0)
     → (old.has_given_up ≡ false → out1 ≡ out0 ++ end_item (front_of packets + 1) ∷ [])
-    → Takes packets (packets ++ Skip n ∷ []) old new out0 out1
-skips packets n old new out0 out1 fits may lines all given over ends = record {
-  fits = record {
-    lines = lines;
-    all_sent = all;
-    given_up = given ∙ sym (skip_here packets n);
-    session = λ going. absurd (false≢true (sym going ∙ given));
-  };
-  output = elim (both_cases old.has_given_up) [
-    | inl was ↦ puts_nothing old.book.keys packets (Skip n) out0 out1
-        (sym fits.given_up ∙ was) (over was)
-    | inr going ↦ puts_end old.book.keys packets n out0 out1
-        (sym fits.given_up ∙ going) may (ends going)
-  ];
-}
+    → PutsOut old.book.keys packets (packets ++ Skip n ∷ []) out0 out1
+skips_output packets n old out0 out1 fits may over ends = elim (both_cases old.has_given_up) [
+  | inl was ↦ puts_nothing old.book.keys packets (Skip n) out0 out1
+      (sym fits.given_up ∙ was) (over was)
+  | inr going ↦ puts_end old.book.keys packets n out0 out1
+      (sym fits.given_up ∙ going) may (ends going)
+]
 
 -- ---- nothing came yet
 
@@ -789,15 +790,15 @@ packet_any line packet answer packets old new out0 out1 fits outcome lines same 
     let keeps : old.has_given_up ≡ false
     → KeepsTaken new.slots old.lines.sent (packets ++ Arrived a ∷ []) =
     λ going. elim (both_cases (is_taken answer)) [
-      | inl yes ↦
+      | inl was ↦
           let within = (was_taken old.lines.session old.lines.window old.lines.sent packets packet
-          answer outcome yes).within in
-          arrival_keeps old.slots new.slots old.lines.sent packets a yes
-          (omega arith) count (fits.session going).slots (taken yes)
-      | inr no ↦
+          answer outcome was).within in
+          arrival_keeps old.slots new.slots old.lines.sent packets a was
+          (omega arith) count (fits.session going).slots (taken was)
+      | inr not ↦
           subst (λ (s : List MessageSlot). KeepsTaken s old.lines.sent (packets ++ Arrived a ∷ []))
-          (sym (others no))
-          (untaken_keeps old.slots old.lines.sent packets a no (fits.session going).slots)
+          (sym (others not))
+          (untaken_keeps old.slots old.lines.sent packets a not (fits.session going).slots)
     ] in
     record {
       outcome = outcome;

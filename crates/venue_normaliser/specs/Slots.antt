@@ -1,5 +1,5 @@
 -- The slots of the messages that are held until they are in sequence.
-use Rattle.std.specs.Prelude.{◌≡◌, ℕ, ◌+◌, ◌-◌, ◌%◌, ◌<◌, ◌≤◌, ◌==◌, List, [], length, take, slice_get, slice_index_or, Option, Some, None, if◌then◌else◌}
+use Rattle.std.specs.Prelude.{◌≡◌, ℕ, ◌+◌, ◌-◌, ◌%◌, ◌<◌, ◌≤◌, ◌==◌, List, [], length, min, take, slice_get, slice_index_or, Option, Some, None, if◌then◌else◌}
 use Rattle.std.specs.Option.{option_and_then, option_map, option_or}
 use Rattle.mold_packet.specs.Content.{Content, last_number}
 use Rattle.line_arbiter.specs.Packets.{Input, has_number}
@@ -8,7 +8,7 @@ use Rattle.venue_normaliser.specs.Brought.{kept_bytes, taken_message}
 
 -- the bytes of a slot, where it has this number
 abbrev pub bytes_of_slot : ℕ → MessageSlot → Option (List ℕ)
-bytes_of_slot m slot = if slot.number == m then Some (take slot.len slot.bytes) else None
+bytes_of_slot m slot = if slot.number == m then Some (take (min slot.len 50) slot.bytes) else None
 
 -- the message that is kept at a number: that of its slot, where the slot has its number
 abbrev pub stored_at : List MessageSlot → ℕ → Option (List ℕ)

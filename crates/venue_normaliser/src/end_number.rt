@@ -34,3 +34,23 @@ pub(crate) fn end_after<'a>(packet: &Packet<'_>, bytes: &'a mut [u8; 20]) -> Opt
         Err(_) => None,
     }
 }
+
+/// Returns the end of session with the number that the standard has, written into `bytes`, where
+/// the packet is an end whose number is another; `None` where the packet is read as it is.
+#[inline(always)]
+pub(crate) fn moved_end<'a>(
+    end_number: EndNumber,
+    packet: &Packet<'_>,
+    bytes: &'a mut [u8; 20],
+) -> Option<Packet<'a>>
+    ensures moved { IfSome result (λ end. end ≡ read_as end_number packet.now) }
+    ensures same { IfNone result (read_as end_number packet.now ≡ packet.now) }
+{
+    match end_number {
+        EndNumber::Next => None,
+        EndNumber::Last => match packet.kind() {
+            Kind::Messages | Kind::Heartbeat => None,
+            Kind::End => end_after(packet, bytes),
+        },
+    }
+}

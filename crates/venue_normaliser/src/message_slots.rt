@@ -1,6 +1,6 @@
 //! The messages that are held until they are in sequence, by their numbers.
 
-ghost use Rattle.std.specs.Prelude.{◌≡◌, ℕ, ◌+◌, ◌%◌, ◌<◌, ◌≤◌, [], IfOk, None, false, is_some, length, take, true, unwrap_or};
+ghost use Rattle.std.specs.Prelude.{◌≡◌, ℕ, ◌+◌, ◌%◌, ◌<◌, ◌≤◌, [], IfOk, None, false, is_some, length, min, take, true, unwrap_or};
 ghost use Rattle.venue_normaliser.specs.Brought.{kept_bytes};
 ghost use Rattle.venue_normaliser.specs.Slots.{IsStored, KeepsPacket, stored_at};
 
@@ -57,16 +57,26 @@ pub(crate) fn message_of(slots: &[MessageSlot], number: u64) -> &[u8]
     &slot.bytes[..len]
 }
 
+/// Returns a message of at most 50 bytes, and zeros after it.
+fn padded(message: &[u8]) -> [u8; 50]
+    requires { length message.now ≤ 50 }
+    ensures { take (length message.now) result ≡ message.now }
+{
+    let mut bytes = [0; MOST_BYTES];
+    bytes[..message.len()].copy_from_slice(message);
+    bytes
+}
+
 /// Returns a slot with a message, as it is kept.
 fn slot_of(number: u64, message: &[u8]) -> MessageSlot
-    ensures bytes { take result.len result.bytes ≡ kept_bytes message.now }
+    ensures bytes { take (min result.len 50) result.bytes ≡ kept_bytes message.now }
     ensures number { result.number ≡ number }
 {
     let mut slot = EMPTY;
     slot.number = number;
     if message.len() <= MOST_BYTES {
         slot.len = message.len() as u8;
-        slot.bytes[..message.len()].copy_from_slice(message);
+        slot.bytes = padded(message);
     }
     slot
 }

@@ -13,13 +13,15 @@ ghost use Rattle.line_arbiter.specs.Outcomes.{IsOutcome};
 ghost use Rattle.line_arbiter.specs.Skips.{AllSent, IsSkip};
 ghost use Rattle.line_arbiter.specs.Renewals.{IsRenewal};
 ghost use Rattle.line_arbiter.specs.States.{IsRenewed, KeepsItsPlace, KeepsItsSession, ordinal_of};
-ghost use Rattle.venue_normaliser.specs.Brought.{has_skip};
+ghost use Rattle.venue_normaliser.specs.Brought.{has_skip, messages_brought};
+ghost use Rattle.venue_normaliser.specs.Outputs.{events_of};
+ghost use Rattle.itch_book.specs.Books.{session_orders_of};
 ghost use Rattle.venue_normaliser.specs.Inside.{BringsPacket, PutsMany, PutsReady};
 ghost use Rattle.venue_normaliser.specs.Slots.{KeepsPacket, KeepsTaken};
 ghost use Rattle.venue_normaliser.specs.Ends.{read_as};
 ghost use Rattle.venue_normaliser.specs.States.{FitsPackets, IsNewNormaliser, KeepsItsBook, PutsOut};
 
-use crate::end_number::{END_BYTES, EndNumber, end_after};
+use crate::end_number::{END_BYTES, EndNumber, moved_end};
 use crate::fault::NormaliserFault;
 use crate::message_slot::MessageSlot;
 use crate::message_slots::{clear, empty_slots, keep_packet};
@@ -30,7 +32,7 @@ use itch_book::{BookFault, Oddities, OrderBook};
 use line_arbiter::{
     Arbiter, ArbiterFault, ArbiterStatus, LineFault, Outcome, RenewFault, SkipFault,
 };
-use mold_packet::{Kind, Packet, Request};
+use mold_packet::{Packet, Request};
 use std::alloc::Global;
 use std::marker::Model;
 
@@ -77,7 +79,9 @@ fn has_taken(answer: &Result<Outcome, LineFault>) -> bool
 }
 
 /// Returns the refusal of memory.
-fn no_memory() -> NormaliserFault {
+fn no_memory() -> NormaliserFault
+    ensures { result ≡ NormaliserFault.Book BookFault.NoMemory }
+{
     NormaliserFault::Book(BookFault::NoMemory)
 }
 
@@ -295,11 +299,8 @@ impl VenueNormaliser {
         ensures kept { OnOk result (KeepsItsSession self.old.lines self.new.lines
             × KeepsItsBook self.old self.new) }
     {
-        if self.end_number == EndNumber::Next || packet.kind() != Kind::End {
-            return self.take_read(line, packet, out);
-        }
         let mut bytes = [0; END_BYTES];
-        match end_after(packet, &mut bytes) {
+        match moved_end(self.end_number, packet, &mut bytes) {
             Some(end) => self.take_read(line, &end, out),
             None => self.take_read(line, packet, out),
         }
@@ -422,9 +423,12 @@ impl VenueNormaliser {
     }
 
     /// Returns the numbers of the session's messages that changed no order, or took more than there
-    /// was.
+    /// was, up to the first gap.
     pub fn oddities(&self) -> Oddities
-        ensures { result ≡ self.now.book.oddities }
+        ensures { (packets : List Input) → FitsPackets self.now packets
+            → self.now.has_given_up ≡ false
+            → result ≡ (session_orders_of self.now.book.keys
+            (events_of (messages_brought packets))).oddities }
     {
         self.book.oddities()
     }

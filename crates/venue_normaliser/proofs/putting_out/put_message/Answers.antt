@@ -4,10 +4,10 @@ use Rattle.venue_normaliser.proofs.putting_out.put_message.Goals as goal
 
 pub returns-clause-put : goal.returns-clause-put
 returns-clause-put c =
-    let before = sym c.symbol_count-_rows_before.ensures.rows
-    ∙ c.symbol_count-_rows_before.ensures.keys in
-    let after = sym c.symbol_count-_rows_after.ensures.rows
-    ∙ c.symbol_count-_rows_after.ensures.keys in
+    let before = sym c.symbol_count-rows_before.ensures.rows
+    ∙ c.symbol_count-rows_before.ensures.keys in
+    let after = sym c.symbol_count-rows_after.ensures.rows
+    ∙ c.symbol_count-rows_after.ensures.keys in
     rw (← c.read_event-event.ensures) (record {
       item = c.in_ok-item.item;
       appended = c.in_ok-put_out.ensures;

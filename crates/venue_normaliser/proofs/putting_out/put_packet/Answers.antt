@@ -12,10 +12,6 @@ loop-message-init c =
       amid = amid_none _ _ _ _ _ (sym c.messages-messages.ensures.value);
     }
 
-pub overflow_add-put_message : goal.overflow_add-put_message
-overflow_add-put_message c = let s = ap length c.in-Some.ensures.steps
-    in let r = c.loop-message.invariant.room in omega arith
-
 pub overflow_add-place : goal.overflow_add-place
 overflow_add-place c = let s = ap length c.in-Some.ensures.steps
     in let r = c.loop-message.invariant.room in omega arith

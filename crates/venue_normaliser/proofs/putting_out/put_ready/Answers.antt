@@ -31,8 +31,8 @@ returns-clause-put c =
     c.loop-ready.invariant.kept (c.loop-ready.invariant.each P fits none keeps)
     (sym c.in_default.is ∙ c.take_ready.ensures.value))
 
-pub returns-in_ok-put_out-clause-put : goal.returns-in_ok-put_out-clause-put
-returns-in_ok-put_out-clause-put c = λ P fits none keeps.
+pub returns-then-is_end-clause-put : goal.returns-then-is_end-clause-put
+returns-then-is_end-clause-put c = λ P fits none keeps.
     let so = c.loop-ready.invariant.each P fits none keeps in
     ready_end P _ _ _ _ _ _ _ _ _ c.in-Some.ready none keeps
     (keeping_all_but_sent_is_transitive c.loop-ready.invariant.kept c.in-Some.ensures.after.kept)
