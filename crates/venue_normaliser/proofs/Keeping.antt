@@ -13,7 +13,7 @@ use Rattle.mold_packet.specs.Content.{Content, last_number}
 use Rattle.line_arbiter.specs.Packets.{has_number}
 use Rattle.venue_normaliser.specs.declared.message_slot.MessageSlot.{MessageSlot}
 use Rattle.venue_normaliser.specs.Brought.{kept_bytes}
-use Rattle.venue_normaliser.specs.Slots.{IsStored, KeepsPacket, bytes_of_slot, kept_in, stored_at}
+use Rattle.venue_normaliser.specs.Slots.{IsStored, KeepsPacket, bytes_of_slot, kept_of_packet, stored_at}
 
 -- two numbers of one residue that are less than the modulus apart are one
 quotients : (w p q r : ℕ) → r + w * p ≤ r + w * q → r + w * q < r + w * p + w → p ≡ q
@@ -54,7 +54,8 @@ pub stored_has : (slots : List MessageSlot) (m : ℕ) (slot : MessageSlot) → 1
 stored_has slots m slot some read is =
     slot_at slots m slot some
     ∙ ap (bytes_of_slot m) (sym read)
-    ∙ ap (λ (b : Bool). cond b (Some (take (min slot.len 50) slot.bytes)) None) (eq-eqb slot.number m is)
+    ∙ ap (λ (b : Bool). cond b (Some (take (min slot.len 50) slot.bytes)) None)
+    (eq-eqb slot.number m is)
 
 pub stored_not : (slots : List MessageSlot) (m : ℕ) (slot : MessageSlot) → 1 ≤ length slots
     → slot ≡ get_or slots (m % length slots) slot → (slot.number ≡ m → ⊥)
@@ -62,7 +63,8 @@ pub stored_not : (slots : List MessageSlot) (m : ℕ) (slot : MessageSlot) → 1
 stored_not slots m slot some read not =
     slot_at slots m slot some
     ∙ ap (bytes_of_slot m) (sym read)
-    ∙ ap (λ (b : Bool). cond b (Some (take (min slot.len 50) slot.bytes)) None) (ne_eqb slot.number m not)
+    ∙ ap (λ (b : Bool). cond b (Some (take (min slot.len 50) slot.bytes)) None)
+    (ne_eqb slot.number m not)
 
 -- the message that is read at a number
 pub message_read : (slots : List MessageSlot) (m place len : ℕ) (d : MessageSlot)
@@ -96,7 +98,8 @@ stored_none n slot m zero past some =
     (λ is. omega arith)
 
 pub is_stored : (slots : List MessageSlot) (number : ℕ) (message : List ℕ) (slot : MessageSlot)
-    → 1 ≤ length slots → slot.number ≡ number → take (min slot.len 50) slot.bytes ≡ kept_bytes message
+    → 1 ≤ length slots → slot.number ≡ number
+    → take (min slot.len 50) slot.bytes ≡ kept_bytes message
     → IsStored number message slots (set slots (number % length slots) slot)
 is_stored slots number message slot some is bytes =
     let place = number % length slots in

@@ -10,7 +10,7 @@ use Rattle.itch_messages.specs.declared.event.OrderEvent.{OrderEvent}
 use Rattle.itch_messages.specs.Events.{order_event_of}
 use Rattle.itch_book.specs.Books.{OrderBookState, FitsEvents, TellsOfOne}
 use Rattle.venue_normaliser.specs.Outputs.{AreMade, AreSymbolRows, MakesItem, events_of}
-use Rattle.venue_normaliser.specs.Inside.{PutsMany, PutsOne}
+use Rattle.venue_normaliser.specs.Inside.{PutsMany, PutsOneItem}
 
 moved : (keys : List ℕ) (a b : List (List ℕ)) (x y : List ℕ) (i j : Item)
     → a ≡ b → x ≡ y → i ≡ j
@@ -88,7 +88,7 @@ many_none n book out = record {
 }
 
 pub many_one : (n : ℕ) (message : List ℕ) (old new : OrderBookState)
-    (before after : List Numbered) → PutsOne n (order_event_of message) old new before after
+    (before after : List Numbered) → PutsOneItem n (order_event_of message) old new before after
     → PutsMany n (message ∷ []) old new before after
 many_one n message old new before after one = record {
   items = one.item ∷ [];
@@ -143,12 +143,12 @@ many_join n ms more old mid new before between after a b =
 pub many_more : (n k : ℕ) (ms : List (List ℕ)) (message : List ℕ) (old mid new : OrderBookState)
     (before between after : List Numbered) → PutsMany n ms old mid before between
     → k ≡ n + length ms
-    → PutsOne k (order_event_of message) mid new between after
+    → PutsOneItem k (order_event_of message) mid new between after
     → PutsMany n (ms ++ message ∷ []) old new before after
 many_more n k ms message old mid new before between after many is one =
     many_join n ms (message ∷ []) old mid new before between after many
     (many_one (n + length ms) message mid new between after
-    (subst (λ (j : ℕ). PutsOne j (order_event_of message) mid new between after) is one))
+    (subst (λ (j : ℕ). PutsOneItem j (order_event_of message) mid new between after) is one))
 
 -- some of a packet's messages are done, and the rest is to come
 pub record IsAmid (all rest : List (List ℕ)) (n place : ℕ) (old new : OrderBookState)
@@ -166,7 +166,7 @@ amid_none all rest n book out same =
 pub amid_more : (all rest left : List (List ℕ)) (message : List ℕ) (n k place : ℕ)
     (old mid new : OrderBookState) (before between after : List Numbered)
     → IsAmid all rest n place old mid before between → rest ≡ message ∷ left → k ≡ n + place
-    → PutsOne k (order_event_of message) mid new between after
+    → PutsOneItem k (order_event_of message) mid new between after
     → IsAmid all left n (place + 1) old new before after
 amid_more all rest left message n k place old mid new before between after amid next is one =
     let counted = amid.count in

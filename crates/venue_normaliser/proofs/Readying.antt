@@ -29,7 +29,7 @@ use Rattle.line_arbiter.specs.laws.FitsHistory.{keeping_all_but_sent_is_reflexiv
 use Rattle.venue_normaliser.specs.declared.message_slot.MessageSlot.{MessageSlot}
 use Rattle.venue_normaliser.specs.Brought.{has_skip, kept_bytes, message_at, taken_message}
 use Rattle.venue_normaliser.specs.Slots.{KeepsTaken, stored_at}
-use Rattle.venue_normaliser.specs.Inside.{PutsMany, PutsOne, PutsReady, messages_between}
+use Rattle.venue_normaliser.specs.Inside.{PutsMany, PutsOneItem, PutsReady, messages_between}
 use Rattle.venue_normaliser.proofs.Making.{many_none, many_more}
 
 -- ---- the number of the last one sent, where no gap was given up
@@ -265,7 +265,7 @@ pub up_to_more : (packets : List Input) (stored : List MessageSlot) (old mid new
     → (HasEnded mid.end mid.sent → ⊥)
     → new.sent ≡ mid.sent + 1 → Fits new packets
     → message ≡ unwrap_or (stored_at stored ready.number) [] → ready.number ≡ mid.sent + 1
-    → PutsOne ready.number (order_event_of message) mid_book new_book between after
+    → PutsOneItem ready.number (order_event_of message) mid_book new_book between after
     → IsUpTo packets old new old_book new_book before after
 up_to_more packets stored old mid new old_book mid_book new_book before between after ready message
     none keeps so is not going moved fits read number one =
@@ -294,7 +294,7 @@ up_to_more packets stored old mid new old_book mid_book new_book before between 
           so.puts
           (let len = length-map-range_with_len (message_at packets) (old.sent + 1)
           (mid.sent - old.sent) in omega arith)
-          (subst (λ (e : OrderEvent). PutsOne ready.number e mid_book new_book between after)
+          (subst (λ (e : OrderEvent). PutsOneItem ready.number e mid_book new_book between after)
           bytes one)));
     }
 

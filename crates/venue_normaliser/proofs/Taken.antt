@@ -19,7 +19,8 @@ pub taken-push : (packets : List Input) (x : Input) (m : ℕ)
     ≡ option_or (taken_message packets m) (if brings m x then Some (message_brought x m) else None)
 taken-push packets x m =
     ap (option_map (λ (y : Input). message_brought y m)) (find-append (brings m) packets (x ∷ []))
-    ∙ map_or (λ (y : Input). message_brought y m) (find (brings m) packets) (find (brings m) (x ∷ []))
+    ∙ map_or (λ (y : Input). message_brought y m) (find (brings m) packets)
+    (find (brings m) (x ∷ []))
     ∙ ap (option_or (taken_message packets m))
     (picked (λ (y : Input). message_brought y m) (brings m x) x)
 
@@ -44,7 +45,8 @@ pub none_taken : (packets : List Input) (m : ℕ) → carried packets m ≡ None
 none_taken packets m h = none_either (λ (x : Input). item_brought x m)
     (λ (x : Input). message_brought x m) (bringer packets m) h
 
-or_some : {X : Type 0} (o e : Option X) (d : X) → IsSome o → unwrap_or (option_or o e) d ≡ unwrap_or o d
+or_some : {X : Type 0} (o e : Option X) (d : X) → IsSome o
+    → unwrap_or (option_or o e) d ≡ unwrap_or o d
 or_some None e d h = absurd (false≢true h)
 or_some (Some x) e d h = refl
 

@@ -32,7 +32,7 @@ use Rattle.line_arbiter.specs.laws.Lengths.{end_most}
 use Rattle.venue_normaliser.specs.declared.message_slot.MessageSlot.{MessageSlot}
 use Rattle.venue_normaliser.specs.Brought.{before_skip, has_skip, kept_bytes, message_at, message_brought, messages_brought, messages_to, taken_message}
 use Rattle.venue_normaliser.specs.Outputs.{AreMade, IsPutOut, end_put_out, events_of}
-use Rattle.venue_normaliser.specs.Slots.{KeepsPacket, KeepsTaken, kept_in, stored_at}
+use Rattle.venue_normaliser.specs.Slots.{KeepsPacket, KeepsTaken, kept_of_packet, stored_at}
 use Rattle.venue_normaliser.specs.States.{FitsPackets, NormaliserState, PutsOut}
 use Rattle.venue_normaliser.specs.Inside.{BringsMessages, BringsPacket, PutsMany, PutsReady, messages_between}
 use Rattle.venue_normaliser.proofs.Making.{many_join, many_none, numbered_append}
@@ -57,7 +57,7 @@ arrival_keeps old new sent packets a was_taken within len keeps kept =
       each = λ m past.
           kept within (λ k far. keeps.each k (omega arith)
           ∙ ap (option_map kept_bytes) (keeps.beyond k far)) m past
-          ∙ ap (λ (o : Option (List ℕ)). option_or o (kept_in a.packet m)) (keeps.each m past)
+          ∙ ap (λ (o : Option (List ℕ)). option_or o (kept_of_packet a.packet m)) (keeps.each m past)
           ∙ ap (option_or (option_map kept_bytes (taken_message packets m)))
           (sym (picked kept_bytes (has_number a.packet m) (message_brought (Arrived a) m)))
           ∙ sym (map_or kept_bytes (taken_message packets m)

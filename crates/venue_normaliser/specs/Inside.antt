@@ -24,7 +24,7 @@ use Rattle.venue_normaliser.specs.Slots.{KeepsTaken}
 use Rattle.venue_normaliser.specs.States.{NormaliserState}
 
 -- a message was applied, and its item is put out after what was there
-pub record PutsOne (number : ℕ) (event : OrderEvent) (old new : OrderBookState)
+pub record PutsOneItem (number : ℕ) (event : OrderEvent) (old new : OrderBookState)
     (before after : List Numbered) : Type 0 where
   pub item : Item
   pub appended : after ≡ before ++ record { number = number; item = item } ∷ []

@@ -23,8 +23,8 @@ pub record IsStored (number : ℕ) (message : List ℕ) (old new : List MessageS
       → stored_at new m ≡ stored_at old m
 
 -- the packet's message of this number, as it is kept, if it has one
-abbrev pub kept_in : Content → ℕ → Option (List ℕ)
-kept_in p m =
+abbrev pub kept_of_packet : Content → ℕ → Option (List ℕ)
+kept_of_packet p m =
     if has_number p m then Some (kept_bytes (slice_index_or p.messages (m - p.number) [])) else None
 
 -- Past the last number sent the slots have the messages that were taken, and no others; and none
@@ -42,4 +42,4 @@ KeepsPacket sent p old new =
     last_number p ≤ sent + length old
     → ((m : ℕ) → sent + length old < m → stored_at old m ≡ None)
     → (m : ℕ) → sent < m
-    → stored_at new m ≡ option_or (stored_at old m) (kept_in p m)
+    → stored_at new m ≡ option_or (stored_at old m) (kept_of_packet p m)

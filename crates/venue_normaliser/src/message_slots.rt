@@ -17,11 +17,11 @@ pub(crate) fn empty_slots(alloc: Global, window: u32) -> Result<Vec<MessageSlot>
 }
 
 /// Forgets all messages.
-pub(crate) fn clear(slots: &mut [MessageSlot])
-    ensures none { (m : ℕ) → 0 < m → stored_at slots.new m ≡ None }
-    ensures count { length slots.new ≡ length slots.old }
+pub(crate) fn clear(slots: &mut Vec<MessageSlot>)
+    ensures none { (m : ℕ) → 0 < m → stored_at slots.new.items m ≡ None }
+    ensures count { length slots.new.items ≡ length slots.old.items }
 {
-    slots.fill(EMPTY);
+    slots.as_mut_slice().fill(EMPTY);
 }
 
 /// Returns the place of a number's slot.

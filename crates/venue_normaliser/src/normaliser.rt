@@ -361,7 +361,7 @@ impl VenueNormaliser {
             Ok(ordinal) => ordinal,
             Err(fault) => return Ok(Err(fault)),
         };
-        clear(self.slots.as_mut_slice());
+        clear(&mut self.slots);
         self.book = OrderBook::new(alloc, self.symbols.as_slice(), self.most_orders)?;
         self.has_given_up = false;
         Ok(Ok(ordinal))

@@ -8,7 +8,7 @@ ghost use Rattle.line_arbiter.specs.Skips.{AllSent};
 ghost use Rattle.line_arbiter.specs.States.{KeepsAllButSent};
 ghost use Rattle.venue_normaliser.specs.Brought.{has_skip};
 ghost use Rattle.venue_normaliser.specs.Slots.{KeepsTaken};
-ghost use Rattle.venue_normaliser.specs.Inside.{PutsMany, PutsOne, PutsReady};
+ghost use Rattle.venue_normaliser.specs.Inside.{PutsMany, PutsOneItem, PutsReady};
 
 use crate::message_slot::MessageSlot;
 use crate::message_slots::message_of;
@@ -46,7 +46,7 @@ fn put_message(
     message: &[u8],
     out: &mut Vec<Numbered>,
 ) -> Result<(), BookFault>
-    ensures put { OnOk result (PutsOne number (order_event_of message.now) book.old book.new
+    ensures put { OnOk result (PutsOneItem number (order_event_of message.now) book.old book.new
         out.old.items out.new.items) }
     ensures keys { book.new.keys ≡ book.old.keys }
 {

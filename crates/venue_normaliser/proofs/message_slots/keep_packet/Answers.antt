@@ -17,7 +17,8 @@ overflow_add-place c = let s = ap length c.in-Some.ensures.steps
     in let r = c.loop-message.invariant.room in omega arith
 
 pub keep-requires : goal.keep-requires
-keep-requires c = let l = c.loop-message.invariant.kept.length_is in let s = c.requires in omega arith
+keep-requires c =
+    let l = c.loop-message.invariant.kept.length_is in let s = c.requires in omega arith
 
 pub loop-message-preserved : goal.loop-message-preserved
 loop-message-preserved c =

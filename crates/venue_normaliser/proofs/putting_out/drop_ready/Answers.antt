@@ -8,7 +8,8 @@ loop-ready-init c = record { kept = keeping_all_but_sent_is_reflexive; fits = λ
 
 pub loop-ready-preserved : goal.loop-ready-preserved
 loop-ready-preserved c = record {
-  kept = keeping_all_but_sent_is_transitive c.loop-ready.invariant.kept c.in-Some.ensures.after.kept;
+  kept = keeping_all_but_sent_is_transitive c.loop-ready.invariant.kept
+      c.in-Some.ensures.after.kept;
   fits = λ P fits. c.in-Some.ensures.fits P (c.loop-ready.invariant.fits P fits);
 }
 
