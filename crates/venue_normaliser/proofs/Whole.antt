@@ -57,7 +57,8 @@ arrival_keeps old new sent packets a was_taken within len keeps kept =
       each = λ m past.
           kept within (λ k far. keeps.each k (omega arith)
           ∙ ap (option_map kept_bytes) (keeps.beyond k far)) m past
-          ∙ ap (λ (o : Option (List ℕ)). option_or o (kept_of_packet a.packet m)) (keeps.each m past)
+          ∙ ap (λ (o : Option (List ℕ)). option_or o (kept_of_packet a.packet m))
+          (keeps.each m past)
           ∙ ap (option_or (option_map kept_bytes (taken_message packets m)))
           (sym (picked kept_bytes (has_number a.packet m) (message_brought (Arrived a) m)))
           ∙ sym (map_or kept_bytes (taken_message packets m)
