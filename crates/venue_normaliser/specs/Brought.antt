@@ -1,6 +1,6 @@
 -- The messages that a venue's lines brought in the present session, by their numbers, up to the
 -- first gap; and what is put out of them where a gap was given up: nothing past it.
-use Rattle.std.specs.Prelude.{ℕ, ◌-◌, Bool, true, false, List, [], ◌∷◌, map, Option, unwrap_or, slice_index_or}
+use Rattle.std.specs.Prelude.{ℕ, ◌-◌, ◌||◌, Bool, true, false, nat_le, List, [], ◌∷◌, length, map, Option, unwrap_or, slice_index_or, if◌then◌else◌}
 use Rattle.std.specs.List.{range_with_len}
 use Rattle.std.specs.Option.{option_map}
 use Rattle.line_arbiter.specs.Packets.{Input, Arrived, Skip, bringer}
@@ -37,3 +37,8 @@ abbrev pub before_skip : List Input → List Input
 before_skip [] = []
 before_skip (Arrived a ∷ packets) = Arrived a ∷ before_skip packets
 before_skip (Skip n ∷ packets) = []
+
+-- A message as it is kept until it is in sequence: no form has more than 50 bytes, so that a longer
+-- one is kept as an empty one.
+abbrev pub kept_bytes : List ℕ → List ℕ
+kept_bytes message = if nat_le (length message) 50 then message else []

@@ -1,0 +1,203 @@
+-- Items that messages make, one message after another.
+use Rattle.std.proofs.Common.{◌≡◌, ℕ, ◌+◌, ◌<◌, List, [], ◌∷◌, ◌++◌, length, get_or, take, map, refl, sym, ap, subst, ◌∙◌, arith, inl, inr, append_assoc, append-nil, length-append}
+use Rattle.std.proofs.lemmas.Bool.{cases_lt}
+use Rattle.std.proofs.lemmas.List.{map-append, get_or_append_left, take-append-le}
+use Rattle.std.proofs.Math.Seq.{get_or-append_seam, take-append_seam}
+use Rattle.feed_types.specs.declared.item.Item.{Item}
+use Rattle.feed_types.specs.declared.item.Numbered.{Numbered}
+use Rattle.feed_types.specs.Sessions.{numbered_from}
+use Rattle.itch_messages.specs.declared.event.OrderEvent.{OrderEvent}
+use Rattle.itch_messages.specs.Events.{order_event_of}
+use Rattle.itch_book.specs.Books.{OrderBookState, FitsEvents, TellsOfOne}
+use Rattle.venue_normaliser.specs.Outputs.{AreMade, AreSymbolRows, MakesItem, events_of}
+use Rattle.venue_normaliser.specs.Inside.{PutsMany, PutsOneItem}
+
+moved : (keys : List ℕ) (a b : List (List ℕ)) (x y : List ℕ) (i j : Item)
+    → a ≡ b → x ≡ y → i ≡ j
+    → MakesItem keys (events_of a) (order_event_of x) i
+    → MakesItem keys (events_of b) (order_event_of y) j
+moved keys a b x y i j ab xy ij made =
+    subst (λ (k : Item). MakesItem keys (events_of b) (order_event_of y) k) ij
+    (subst (λ (z : List ℕ). MakesItem keys (events_of b) (order_event_of z) i) xy
+    (subst (λ (c : List (List ℕ)). MakesItem keys (events_of c) (order_event_of x) i) ab made))
+
+pub made_none : (keys : List ℕ) → AreMade keys [] []
+made_none keys = record {
+  count = refl;
+  each = λ k d lt. let none : k < 0 = lt in absurd (omega arith);
+}
+
+pub made_more : (keys : List ℕ) (messages : List (List ℕ)) (message : List ℕ)
+    (items : List Item) (item : Item) → AreMade keys messages items
+    → MakesItem keys (events_of messages) (order_event_of message) item
+    → AreMade keys (messages ++ message ∷ []) (items ++ item ∷ [])
+made_more keys messages message items item made one =
+    let count = made.count in
+    record {
+      count = omega (
+        arith,
+        length-append items (item ∷ []),
+        length-append messages (message ∷ []),
+      );
+      each = λ k d lt. elim (cases_lt k (length messages)) [
+        | inl below ↦
+            moved keys (take k messages) (take k (messages ++ message ∷ []))
+            (get_or messages k []) (get_or (messages ++ message ∷ []) k [])
+            (get_or items k d) (get_or (items ++ item ∷ []) k d)
+            (sym (take-append-le k messages (message ∷ []) (omega arith)))
+            (sym (get_or_append_left messages (message ∷ []) [] k below))
+            (sym (get_or_append_left items (item ∷ []) d k (omega arith)))
+            (made.each k d below)
+        | inr above ↦
+            let grown = length-append messages (message ∷ []) in
+            let last : k ≡ length messages = omega arith in
+            let last_item : k ≡ length items = omega arith in
+            moved keys messages (take k (messages ++ message ∷ []))
+            message (get_or (messages ++ message ∷ []) k [])
+            item (get_or (items ++ item ∷ []) k d)
+            (sym (ap (λ (n : ℕ). take n (messages ++ message ∷ [])) last
+            ∙ take-append_seam messages (message ∷ [])))
+            (sym (ap (λ (n : ℕ). get_or (messages ++ message ∷ []) n []) last
+            ∙ get_or-append_seam messages message [] []))
+            (sym (ap (λ (n : ℕ). get_or (items ++ item ∷ []) n d) last_item
+            ∙ get_or-append_seam items item [] d))
+            one
+      ];
+    }
+
+pub numbered_append : (n : ℕ) (xs ys : List Item)
+    → numbered_from n (xs ++ ys) ≡ numbered_from n xs ++ numbered_from (n + length xs) ys
+numbered_append n [] ys = ap (λ (k : ℕ). numbered_from k ys) (omega arith)
+numbered_append n (x ∷ xs) ys =
+    ap (λ (rest : List Numbered). record { number = n; item = x } ∷ rest)
+    (numbered_append (n + 1) xs ys
+    ∙ ap (λ (k : ℕ). numbered_from (n + 1) xs ++ numbered_from k ys) (omega arith))
+
+pub many_none : (n : ℕ) (book : OrderBookState) (out : List Numbered)
+    → PutsMany n [] book book out out
+many_none n book out = record {
+  items = [];
+  appended = sym (append-nil out);
+  count = refl;
+  keys = refl;
+  fits = λ earlier fits. subst (λ (ms : List (List ℕ)). FitsEvents book (events_of ms))
+      (sym (append-nil earlier)) fits;
+  made = λ earlier was fits made.
+      subst (λ (ms : List (List ℕ)). AreMade book.keys ms (was ++ [])) (sym (append-nil earlier))
+      (subst (λ (is : List Item). AreMade book.keys earlier is) (sym (append-nil was)) made);
+}
+
+pub many_one : (n : ℕ) (message : List ℕ) (old new : OrderBookState)
+    (before after : List Numbered) → PutsOneItem n (order_event_of message) old new before after
+    → PutsMany n (message ∷ []) old new before after
+many_one n message old new before after one = record {
+  items = one.item ∷ [];
+  appended = one.appended;
+  count = refl;
+  keys = one.keys;
+  fits = λ earlier fits. subst (λ (es : List OrderEvent). FitsEvents new es)
+      (sym (map-append order_event_of earlier (message ∷ [])))
+      (one.fits (events_of earlier) fits);
+  made = λ earlier was fits made.
+      made_more old.keys earlier message was one.item made (one.made (events_of earlier) fits);
+}
+
+pub many_join : (n : ℕ) (ms more : List (List ℕ)) (old mid new : OrderBookState)
+    (before between after : List Numbered) → PutsMany n ms old mid before between
+    → PutsMany (n + length ms) more mid new between after
+    → PutsMany n (ms ++ more) old new before after
+many_join n ms more old mid new before between after a b =
+    let counted = a.count in
+    record {
+      items = a.items ++ b.items;
+      appended =
+          b.appended
+          ∙ ap (λ (xs : List Numbered). xs ++ numbered_from (n + length ms) b.items) a.appended
+          ∙ append_assoc before (numbered_from n a.items) (numbered_from (n + length ms) b.items)
+          ∙ ap (λ (k : ℕ). before ++ (numbered_from n a.items ++ numbered_from k b.items))
+          (omega arith)
+          ∙ ap (λ (xs : List Numbered). before ++ xs) (sym (numbered_append n a.items b.items));
+      count = let other = b.count in omega (
+        arith,
+        length-append a.items b.items,
+        length-append ms more,
+      );
+      keys = b.keys ∙ a.keys;
+      fits = λ earlier fits.
+          subst (λ (xs : List (List ℕ)). FitsEvents new (events_of xs))
+          (append_assoc earlier ms more)
+          (b.fits (earlier ++ ms) (a.fits earlier fits));
+      made = λ earlier was fits made.
+          subst (λ (xs : List (List ℕ)). AreMade old.keys xs (was ++ (a.items ++ b.items)))
+          (append_assoc earlier ms more)
+          (subst (λ (is : List Item). AreMade old.keys ((earlier ++ ms) ++ more) is)
+          (append_assoc was a.items b.items)
+          (subst (λ (keys : List ℕ). AreMade keys ((earlier ++ ms) ++ more)
+          ((was ++ a.items) ++ b.items)) a.keys
+          (b.made (earlier ++ ms) (was ++ a.items) (a.fits earlier fits)
+          (subst (λ (keys : List ℕ). AreMade keys (earlier ++ ms) (was ++ a.items)) (sym a.keys)
+          (a.made earlier was fits made)))));
+    }
+
+-- one message more
+pub many_more : (n k : ℕ) (ms : List (List ℕ)) (message : List ℕ) (old mid new : OrderBookState)
+    (before between after : List Numbered) → PutsMany n ms old mid before between
+    → k ≡ n + length ms
+    → PutsOneItem k (order_event_of message) mid new between after
+    → PutsMany n (ms ++ message ∷ []) old new before after
+many_more n k ms message old mid new before between after many is one =
+    many_join n ms (message ∷ []) old mid new before between after many
+    (many_one (n + length ms) message mid new between after
+    (subst (λ (j : ℕ). PutsOneItem j (order_event_of message) mid new between after) is one))
+
+-- some of a packet's messages are done, and the rest is to come
+pub record IsAmid (all rest : List (List ℕ)) (n place : ℕ) (old new : OrderBookState)
+    (before after : List Numbered) : Type 0 where
+  pub done : List (List ℕ)
+  pub whole : all ≡ done ++ rest
+  pub count : length done ≡ place
+  pub puts : PutsMany n done old new before after
+
+pub amid_none : (all rest : List (List ℕ)) (n : ℕ) (book : OrderBookState) (out : List Numbered)
+    → all ≡ rest → IsAmid all rest n 0 book book out out
+amid_none all rest n book out same =
+    record { done = []; whole = same; count = refl; puts = many_none n book out }
+
+pub amid_more : (all rest left : List (List ℕ)) (message : List ℕ) (n k place : ℕ)
+    (old mid new : OrderBookState) (before between after : List Numbered)
+    → IsAmid all rest n place old mid before between → rest ≡ message ∷ left → k ≡ n + place
+    → PutsOneItem k (order_event_of message) mid new between after
+    → IsAmid all left n (place + 1) old new before after
+amid_more all rest left message n k place old mid new before between after amid next is one =
+    let counted = amid.count in
+    record {
+      done = amid.done ++ message ∷ [];
+      whole = amid.whole ∙ ap (λ (xs : List (List ℕ)). amid.done ++ xs) next
+          ∙ sym (append_assoc amid.done (message ∷ []) left);
+      count = omega (arith, length-append amid.done (message ∷ []));
+      puts = many_more n k amid.done message old mid new before between after amid.puts
+          (omega arith) one;
+    }
+
+pub amid_all : (all rest : List (List ℕ)) (n place : ℕ) (old new : OrderBookState)
+    (before after : List Numbered) → IsAmid all rest n place old new before after → rest ≡ []
+    → PutsMany n all old new before after
+amid_all all rest n place old new before after amid none =
+    subst (λ (xs : List (List ℕ)). PutsMany n xs old new before after)
+    (sym (amid.whole ∙ ap (λ (xs : List (List ℕ)). amid.done ++ xs) none ∙ append-nil amid.done))
+    amid.puts
+
+-- the item of a message, by the rows of a book before and after it
+pub makes_item : (old new : OrderBookState) (events : List OrderEvent) (event : OrderEvent)
+    (item : Item) → FitsEvents old events → FitsEvents new (events ++ event ∷ [])
+    → new.keys ≡ old.keys → length old.rows ≡ length old.keys
+    → length new.rows ≡ length new.keys → TellsOfOne old.rows new.rows item
+    → MakesItem old.keys events event item
+makes_item old new events event item was is keys old_rows new_rows told = record {
+  old = old.rows;
+  new = new.rows;
+  was = record { count = old_rows; each = was.rows };
+  is = subst (λ (ks : List ℕ). AreSymbolRows ks (events ++ event ∷ []) new.rows) keys
+      (record { count = new_rows; each = is.rows });
+  told = told;
+}
