@@ -122,6 +122,20 @@ start, too, and another when it is heard again: 1 to " MAX_COUNT ". By default i
 further option, as of --request-after, it has them after " USUAL_SILENCE),
 };
 
+/// `--record FILE`.
+const RECORD: CommandOption<'static> = CommandOption {
+    name: "record",
+    value: "FILE",
+    form: OptionForm::Text,
+    help: "Writes what the lines bring into this file, for 'nbbo replay'",
+    long_help: "\
+Writes what the lines bring into this file, which is made anew: a capture as 'nbbo replay' reads
+it without --lines, in which the datagrams of each venue, and the gaps that were given up, stand
+in the order in which they were taken. The disk holds no line up: what it is too slow for is left
+out and counted. Standard error has the count at the end, and a replay of such a file ends with
+'short record'. It has no times",
+};
+
 /// `--join` of a command that listens.
 const JOIN: CommandOption<'static> = CommandOption {
     name: "join",
@@ -351,6 +365,7 @@ pub const LISTEN_OPTIONS: &[CommandOption<'static>] = &[
     SECONDS,
     UNTIL_INPUT_ENDS,
     SILENT_AFTER,
+    RECORD,
     FOLLOW,
     KEPT,
     FORMAT,

@@ -17,6 +17,9 @@ mod record_kind;
 mod record_sender;
 mod record_source;
 mod recording;
+mod recording_state;
+mod recording_thread;
+mod skip_records;
 mod venue_records;
 
 pub use placed::Placed;
@@ -24,4 +27,7 @@ pub use record_kind::RecordKind;
 pub use record_sender::{RecordSender, recorder_pair};
 pub use record_source::RecordSource;
 pub use recording::Recording;
+pub use recording_state::RecordingState;
+pub use recording_thread::write_recording;
+pub use skip_records::SkipRecords;
 pub use venue_records::{Taken, VenueRecords, VenueSources};

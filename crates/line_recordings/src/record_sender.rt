@@ -19,8 +19,8 @@ pub struct RecordSender {
     spare: Consumer<Vec<u8>>,
     /// How many were lost.
     pub(crate) lost: u64,
-    /// The same, for the other end.
-    shown: Arc<AtomicU64, Global>,
+    /// How many were given, for who counts what isn't written.
+    given: Arc<AtomicU64, Global>,
     alloc: Global,
 }
 
@@ -32,19 +32,19 @@ pub fn recorder_pair(alloc: Global, room: usize) -> Result<(RecordSender, Record
 {
     let (records, source) = RingBuffer::new(alloc, room)?;
     let (used, spare) = RingBuffer::new(alloc, room)?;
-    let lost = Arc::new(alloc, AtomicU64::new(0))?;
-    let shown = Arc::try_clone(&lost)?;
+    let given = Arc::new(alloc, AtomicU64::new(0))?;
+    let counted = Arc::try_clone(&given)?;
     let sender = RecordSender {
         records,
         spare,
         lost: 0,
-        shown,
+        given,
         alloc,
     };
     let source = RecordSource {
         records: source,
         used,
-        lost,
+        given: counted,
     };
     Ok((sender, source))
 }
@@ -74,6 +74,7 @@ impl RecordSender {
     pub fn record(&mut self, place: u64, bytes: &[u8])
         ensures { SendsOrLoses self.old place bytes.now self.new }
     {
+        self.given.fetch_add(1, Ordering::SeqCst);
         if let Ok(bytes) = self.copied(bytes) {
             let placed = Placed { place, bytes };
             match self.records.push(placed) {
@@ -82,6 +83,5 @@ impl RecordSender {
             }
         }
         self.lost = self.lost.saturating_add(1);
-        self.shown.store(self.lost, Ordering::SeqCst);
     }
 }

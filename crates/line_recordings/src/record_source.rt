@@ -4,9 +4,9 @@ ghost use Rattle.rtrb.specs.Ring.{received};
 
 use crate::placed::Placed;
 use rtrb::{Consumer, Producer};
-use std::alloc::Global;
+use std::alloc::{AllocError, Global};
 use std::sync::Arc;
-use std::sync::atomic::{AtomicU64, Ordering};
+use std::sync::atomic::AtomicU64;
 
 /// Where what a [`crate::RecordSender`] was given comes out, in that order.
 #[derive(Drop)]
@@ -14,8 +14,8 @@ pub struct RecordSource {
     pub(crate) records: Consumer<Placed>,
     /// Where memory goes back.
     pub(crate) used: Producer<Vec<u8>>,
-    /// How many the sender has lost.
-    pub(crate) lost: Arc<AtomicU64, Global>,
+    /// How many the sender was given.
+    pub(crate) given: Arc<AtomicU64, Global>,
 }
 
 impl RecordSource {
@@ -56,11 +56,9 @@ impl RecordSource {
         self.records.slots() >= self.records.capacity() / 2
     }
 
-    /// How many are lost: those that the sender has lost, and those that are there still.
-    pub(crate) fn left(&mut self) -> u64
-        ensures { received self.new.records ≡ received self.old.records }
-    {
-        let lost = self.lost.load(Ordering::SeqCst);
-        lost.saturating_add(self.records.slots() as u64)
+    /// How many the sender was given, for another thread. AllocError where it can't be shared any
+    /// further.
+    pub(crate) fn share_given(&self) -> Result<Arc<AtomicU64, Global>, AllocError> {
+        Arc::try_clone(&self.given)
     }
 }

@@ -2,12 +2,17 @@
 ghost use Rattle.std.specs.Prelude.{◌≡◌, ◌+◌, [], OnErr, OnOk};
 ghost use Rattle.feed_text.specs.Devices.{Wrote};
 
+use crate::recording_state::RecordingState;
 use crate::venue_records::{FULL, PAGE, VenueRecords};
 use feed_text::{ReadBuffer, TextOut, WriteStop, write_all};
 use std::alloc::{AllocError, Global};
 
 /// The most rounds of one look.
 const MOST_ROUNDS: u32 = 1_024;
+
+/// The bytes after the last record where one that came isn't written: they begin a record and end
+/// before its number.
+const CUT: [u8; 4] = [0, b'K', 0, 8];
 
 /// A recording of a run: what came of its venues, and where it is written.
 #[derive(Drop)]
@@ -18,6 +23,7 @@ pub struct Recording<W> {
     on_page: u64,
     pub(crate) writer: W,
     has_failed: bool,
+    state: RecordingState,
 }
 
 /// Writes all of the page.
@@ -37,11 +43,12 @@ fn write_page<W: TextOut>(page: &mut ReadBuffer<PAGE>, writer: &mut W) -> Result
 }
 
 impl<W: TextOut + Drop> Recording<W> {
-    /// A recording of these venues, of which nothing is written.
+    /// A recording of these venues, of which nothing is written. It marks in `state` how far it is.
     pub fn new(
         alloc: Global,
         venues: Vec<VenueRecords>,
         writer: W,
+        state: RecordingState,
     ) -> Result<Recording<W>, AllocError> {
         Ok(Recording {
             venues,
@@ -49,6 +56,7 @@ impl<W: TextOut + Drop> Recording<W> {
             on_page: 0,
             writer,
             has_failed: false,
+            state,
         })
     }
 
@@ -58,8 +66,14 @@ impl<W: TextOut + Drop> Recording<W> {
             return;
         }
         match write_page(&mut self.page, &mut self.writer) {
-            Ok(()) => self.on_page = 0,
-            Err(_) => self.has_failed = true,
+            Ok(()) => {
+                self.state.count_written(self.on_page);
+                self.on_page = 0;
+            }
+            Err(_) => {
+                self.has_failed = true;
+                self.state.fail();
+            }
         }
     }
 
@@ -97,17 +111,18 @@ impl<W: TextOut + Drop> Recording<W> {
         self.has_failed
     }
 
-    /// How many datagrams and skips aren't in the recording, once nothing more comes: those that
-    /// their senders have lost or that are there still, those that came too late, and where a write
-    /// has failed those that were on its page.
-    pub fn without(&mut self) -> u64 {
-        let mut without = self.on_page;
-        for place in 0..self.venues.len() {
-            let Some(venue) = self.venues.get_mut(place) else {
-                break;
-            };
-            without = without.saturating_add(venue.without());
+    /// Ends the recording, of which all is written that came. Where one that came isn't, what is
+    /// written ends within a record, so that a replay of it says so.
+    pub fn close(&mut self) {
+        if !self.has_failed && self.state.without() > 0 {
+            self.page.push(&CUT);
+            self.write();
         }
-        without
+        self.state.finish();
+    }
+
+    /// Whether nothing more comes.
+    pub(crate) fn is_ending(&self) -> bool {
+        self.state.is_ending()
     }
 }

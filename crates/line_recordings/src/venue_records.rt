@@ -7,6 +7,9 @@ use crate::record_kind::RecordKind;
 use crate::record_source::RecordSource;
 use feed_text::ReadBuffer;
 use feed_types::{LineId, VenueId};
+use std::alloc::{AllocError, Global};
+use std::sync::Arc;
+use std::sync::atomic::AtomicU64;
 
 /// How many bytes of records wait at most for the writer.
 pub const PAGE: usize = 131_072;
@@ -18,8 +21,8 @@ pub(crate) const FULL: usize = 65_533;
 /// The most bytes of a record, but for the four before them.
 const LONGEST: usize = 65_535;
 
-/// How many looks one waits for what is before it, which is lost then.
-const PATIENCE: u32 = 5;
+/// How many looks one waits for what is before it, which is lost then: half a second.
+pub(crate) const PATIENCE: u32 = 100;
 
 /// The most that is taken of a venue at once.
 const MOST: u32 = 65_536;
@@ -236,12 +239,15 @@ impl VenueRecords {
         count
     }
 
-    /// How many aren't written, once nothing more comes.
-    pub(crate) fn without(&mut self) -> u64
-        ensures { IsUnchanged self.old self.new }
-    {
-        let lines = self.of_a.left().saturating_add(self.of_b.left());
-        let others = self.of_recovery.left().saturating_add(self.of_skips.left());
-        self.left_out.saturating_add(lines).saturating_add(others)
+    /// Adds to the list how many each sender of the venue was given, as it goes on.
+    pub(crate) fn share_given(
+        &self,
+        given: &mut Vec<Arc<AtomicU64, Global>>,
+    ) -> Result<(), AllocError> {
+        given.push(self.of_a.share_given()?)?;
+        given.push(self.of_b.share_given()?)?;
+        given.push(self.of_recovery.share_given()?)?;
+        given.push(self.of_skips.share_given()?)?;
+        Ok(())
     }
 }

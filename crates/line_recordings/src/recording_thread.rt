@@ -1,0 +1,33 @@
+//! The thread of a recording.
+
+use crate::recording::Recording;
+use feed_text::{TextOut, write_stderr};
+use std::time::{Clock, Duration};
+
+/// How long the thread waits between two looks, in milliseconds.
+const LOOK_MS: u64 = 5;
+
+/// The line on standard error where a write has failed.
+const FAILED: &str = "nbbo: recording failed\n";
+
+/// Writes a recording as it comes, until nothing more does or a write fails, which is reported on
+/// `errors`. It may wait in a write for as long as the disk takes nothing.
+pub fn write_recording<C: Clock, W: TextOut + Drop, E: TextOut>(
+    recording: &mut Recording<W>,
+    clock: &C,
+    errors: &mut E,
+) {
+    let _named = os::set_thread_name(b"recording");
+    for _ in 0..u64::MAX {
+        let is_last = recording.is_ending();
+        recording.turn(is_last);
+        if is_last || recording.has_failed() {
+            break;
+        }
+        clock.sleep(Duration::from_millis(LOOK_MS));
+    }
+    recording.close();
+    if recording.has_failed() {
+        write_stderr(FAILED, errors);
+    }
+}

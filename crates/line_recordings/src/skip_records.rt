@@ -1,0 +1,38 @@
+//! Where the skips of a run are handed over.
+
+use crate::record_sender::RecordSender;
+use feed_types::VenueId;
+use std::alloc::{AllocError, Global};
+use std::cell::Cell;
+
+/// Where who gives up gaps hands over the skips of each venue, for a recording, if there is one.
+#[derive(Drop)]
+pub struct SkipRecords {
+    venues: Vec<Cell<Option<RecordSender>>>,
+}
+
+impl SkipRecords {
+    /// Those of a run without a recording.
+    pub fn none(alloc: Global) -> SkipRecords {
+        SkipRecords {
+            venues: Vec::new(alloc),
+        }
+    }
+
+    /// Adds the sender of the skips of the next venue.
+    pub fn push(&mut self, sender: RecordSender) -> Result<(), AllocError> {
+        self.venues.push(Cell::new(Some(sender)))?;
+        Ok(())
+    }
+
+    /// Hands over that the venue has gone on from the message of this number, at this place.
+    pub fn record(&self, venue: VenueId, place: u64, number: u64) {
+        let Some(cell) = self.venues.get(venue.index()) else {
+            return;
+        };
+        if let Some(mut sender) = cell.take() {
+            sender.record(place, &number.to_be_bytes());
+            cell.set(Some(sender));
+        }
+    }
+}
