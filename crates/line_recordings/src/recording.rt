@@ -1,6 +1,7 @@
 //! A recording that is written as it comes.
-ghost use Rattle.std.specs.Prelude.{◌≡◌, ◌+◌, [], OnErr, OnOk};
+ghost use Rattle.std.specs.Prelude.{◌≡◌, ◌+◌, [], IfOk, OnErr, OnOk, false, true};
 ghost use Rattle.feed_text.specs.Devices.{Wrote};
+ghost use Rattle.line_recordings.specs.Written.{HasWritten, IsClosed};
 
 use crate::recording_state::RecordingState;
 use crate::venue_records::{FULL, PAGE, VenueRecords};
@@ -49,7 +50,11 @@ impl<W: TextOut + Drop> Recording<W> {
         venues: Vec<VenueRecords>,
         writer: W,
         state: RecordingState,
-    ) -> Result<Recording<W>, AllocError> {
+    ) -> Result<Recording<W>, AllocError>
+        ensures venues { IfOk result (λ recording. recording.venues ≡ venues) }
+        ensures writer { IfOk result (λ recording. recording.writer ≡ writer) }
+        ensures page { IfOk result (λ recording. recording.page ≡ []) }
+    {
         Ok(Recording {
             venues,
             page: ReadBuffer::new(alloc)?,
@@ -61,8 +66,13 @@ impl<W: TextOut + Drop> Recording<W> {
     }
 
     /// Writes what is on the page.
-    fn write(&mut self) {
-        if self.has_failed || self.page.len() == 0 {
+    #[tactic(auto, using(crate::proofs::Writing::wrote_none))]
+    fn write(&mut self)
+        ensures written { HasWritten W.adds self.old self.new }
+        ensures kept { self.old.has_failed ≡ true → self.new ≡ self.old }
+        ensures none { self.new.has_failed ≡ false → self.new.page ≡ [] }
+    {
+        if self.has_failed || self.page.is_empty() {
             return;
         }
         match write_page(&mut self.page, &mut self.writer) {
@@ -77,17 +87,32 @@ impl<W: TextOut + Drop> Recording<W> {
         }
     }
 
+    /// Puts what is next of the venue at a place on the page, and returns how many records these
+    /// are.
+    fn put_at(&mut self, place: usize, is_last: bool) -> u64
+        ensures written { HasWritten W.adds self.old self.new }
+        ensures sound { self.new.has_failed ≡ self.old.has_failed }
+    {
+        let put = match self.venues.get_mut(place) {
+            Some(venue) => venue.put_ready(is_last, &mut self.page),
+            None => 0,
+        };
+        self.on_page = self.on_page.saturating_add(put);
+        put
+    }
+
     /// Puts what is next of each venue on the page, and returns how many records these are. A page
     /// that is full is written.
-    fn put_all(&mut self, is_last: bool) -> u64 {
+    fn put_all(&mut self, is_last: bool) -> u64
+        ensures written { HasWritten W.adds self.old self.new }
+        ensures kept { self.old.has_failed ≡ true → self.new ≡ self.old }
+    {
         let mut count = 0u64;
         for place in 0..self.venues.len() {
-            let Some(venue) = self.venues.get_mut(place) else {
+            if self.has_failed {
                 break;
-            };
-            let put = venue.put_ready(is_last, &mut self.page);
-            count = count.saturating_add(put);
-            self.on_page = self.on_page.saturating_add(put);
+            }
+            count = count.saturating_add(self.put_at(place, is_last));
             if self.page.len() > FULL {
                 self.write();
             }
@@ -97,9 +122,13 @@ impl<W: TextOut + Drop> Recording<W> {
 
     /// Writes what has come, venue by venue. With `is_last` nothing is waited for any more. Once a
     /// write has failed nothing is written, nor taken from the senders.
-    pub fn turn(&mut self, is_last: bool) {
+    pub fn turn(&mut self, is_last: bool)
+        ensures written { HasWritten W.adds self.old self.new }
+        ensures kept { self.old.has_failed ≡ true → self.new ≡ self.old }
+        ensures none { self.new.has_failed ≡ false → self.new.page ≡ [] }
+    {
         for _ in 0..MOST_ROUNDS {
-            if self.has_failed || self.put_all(is_last) == 0 {
+            if self.put_all(is_last) == 0 {
                 break;
             }
         }
@@ -107,14 +136,18 @@ impl<W: TextOut + Drop> Recording<W> {
     }
 
     /// Whether a write has failed.
-    pub fn has_failed(&self) -> bool {
+    pub fn has_failed(&self) -> bool
+        ensures { result ≡ self.now.has_failed }
+    {
         self.has_failed
     }
 
     /// Ends the recording, of which all is written that came. Where one that came isn't, what is
     /// written ends within a record, so that a replay of it says so.
-    pub fn close(&mut self) {
-        if !self.has_failed && self.state.without() > 0 {
+    pub fn close(&mut self)
+        ensures { IsClosed W.adds self.old self.new }
+    {
+        if !self.has_failed && self.page.len() <= FULL && self.state.without() > 0 {
             self.page.push(&CUT);
             self.write();
         }

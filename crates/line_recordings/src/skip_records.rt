@@ -1,4 +1,5 @@
 //! Where the skips of a run are handed over.
+ghost use Rattle.std.specs.Prelude.{◌↔◌, IsSome, IsTrue};
 
 use crate::record_sender::RecordSender;
 use feed_types::VenueId;
@@ -25,14 +26,20 @@ impl SkipRecords {
         Ok(())
     }
 
-    /// Hands over that the venue has gone on from the message of this number, at this place.
-    pub fn record(&self, venue: VenueId, place: u64, number: u64) {
-        let Some(cell) = self.venues.get(venue.index()) else {
-            return;
+    /// Hands over that the venue has gone on from the message of this number, where it has, at this
+    /// place. Returns whether it has.
+    pub fn took(&self, venue: VenueId, place: Option<u64>, number: u64) -> bool
+        ensures { IsTrue result ↔ IsSome place }
+    {
+        let Some(place) = place else {
+            return false;
         };
-        if let Some(mut sender) = cell.take() {
-            sender.record(place, &number.to_be_bytes());
-            cell.set(Some(sender));
+        if let Some(cell) = self.venues.get(venue.index()) {
+            if let Some(mut sender) = cell.take() {
+                sender.record(place, &number.to_be_bytes());
+                cell.set(Some(sender));
+            }
         }
+        true
     }
 }

@@ -9,7 +9,7 @@ ghost use Rattle.run_watches.specs.RunNews.{SaysOfRun, SaysRunEnd, SaysRunNews};
 use crate::output_state::OutputState;
 use crate::run_time::RunTime;
 use feed_text::TextOut;
-use feed_types::{Anything, VenueId};
+use feed_types::Anything;
 use line_recordings::SkipRecords;
 use live_feed::{FeedName, RunView, Watcher};
 use run_watches::RunWatches;
@@ -63,24 +63,6 @@ impl<C, E> RunMonitor<C, E> {
     }
 }
 
-/// Gives up what is missing of the venue below the number, hands that over, and returns whether it
-/// was taken.
-fn has_skipped<N: FeedName, R: Wait>(
-    rt: &R,
-    run: &RunView<'_, Anything, N>,
-    skips: &SkipRecords,
-    venue: VenueId,
-    number: u64,
-) -> bool {
-    match run.skip_to(rt, venue, number) {
-        Ok(place) => {
-            skips.record(venue, place, number);
-            true
-        }
-        Err(_) => false,
-    }
-}
-
 impl<C: Clock + Drop, E: TextOut + Drop> RunMonitor<C, E> {
     /// How long to wait at most until the next look: not past the time at which counts are due.
     fn wait_ms(&self) -> u64 {
@@ -123,7 +105,7 @@ impl<C: Clock + Drop, E: TextOut + Drop> RunMonitor<C, E> {
         self.watches.look_at_gaps(
             moment.elapsed_ms,
             |venue| run.status(rt, venue).ok(),
-            |venue, number| has_skipped(rt, run, skips, venue, number),
+            |venue, number| skips.took(venue, run.skip_to(rt, venue, number).ok(), number),
             errors,
         );
     }
