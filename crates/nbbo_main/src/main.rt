@@ -378,7 +378,17 @@ where
 }
 
 fn main(rt: HostRuntime) -> ExitCode {
-    ExitCode::from(run_streams::<HostRuntime, Brand, Brand, Brand, Brand, Brand, Brand, Brand, Brand>(
+    ExitCode::from(run_streams::<
+        HostRuntime,
+        Brand,
+        Brand,
+        Brand,
+        Brand,
+        Brand,
+        Brand,
+        Brand,
+        Brand,
+    >(
         &rt,
         &rt,
         Blank::new(1),

@@ -66,7 +66,10 @@ where
     let clock = rt.clone().ok()?;
     let mut recording = recording;
     let mut told = told;
-    match thread::spawn(threads, move || write_recording(&mut recording, &clock, &mut told)) {
+    match thread::spawn(
+        threads,
+        move || write_recording(&mut recording, &clock, &mut told),
+    ) {
         Ok(_thread) => Some(state),
         Err(_) => None,
     }
