@@ -1,5 +1,5 @@
 -- What a recording writes, part after part.
-use Rattle.std.proofs.Common.{◌≡◌, ◌∙◌, ◌++◌, ℕ, Bool, List, [], ◌∷◌, true, false, ap, append_assoc, refl, subst, sym}
+use Rattle.std.proofs.Common.{◌≡◌, ◌∙◌, ◌++◌, ℕ, Bool, List, [], ◌∷◌, true, false, ap, append_assoc, cc, refl, subst, sym}
 use Rattle.std.proofs.lemmas.Grind.{flat_map-append}
 use Rattle.std.proofs.lemmas.List.{append-nil}
 use Rattle.std.specs.Prelude.{Some, flat_map, slice_get, slice_set, take, drop}
@@ -106,3 +106,17 @@ wrote_page adds a b venues wrote page = record {
   wrote = wrote;
   waits = λ _. sym page;
 }
+
+-- what has failed once stays as it was, by one step after another
+pub kept_on : {W : Type 0} (f l n : Recording W) → (f.has_failed ≡ true → l ≡ f)
+    → (l.has_failed ≡ true → n ≡ l) → f.has_failed ≡ true → n ≡ f
+kept_on {W} f l n a b failed =
+    b (subst (λ (r : Recording W). r.has_failed ≡ true) (sym (a failed)) failed) ∙ a failed
+
+-- it hasn't failed before where it hasn't now
+pub kept_never : {W : Type 0} (f l n : Recording W) → (f.has_failed ≡ true → l ≡ f)
+    → l.has_failed ≡ false → f.has_failed ≡ true → n ≡ f
+kept_never {W} f l n a sound failed =
+    let bad : false ≡ true =
+        sym sound ∙ subst (λ (r : Recording W). r.has_failed ≡ true) (sym (a failed)) failed in
+    absurd (cc)
