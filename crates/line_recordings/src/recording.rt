@@ -1,6 +1,7 @@
 //! A recording that is written as it comes.
-ghost use Rattle.std.specs.Prelude.{◌≡◌, ◌+◌, [], IfOk, OnErr, OnOk};
+ghost use Rattle.std.specs.Prelude.{◌≡◌, ◌+◌, [], IfOk, OnErr, OnOk, false, true};
 ghost use Rattle.feed_text.specs.Devices.{Wrote};
+ghost use Rattle.line_recordings.specs.Written.{HasWritten, IsClosed};
 
 use crate::recording_state::RecordingState;
 use crate::venue_records::{FULL, PAGE, VenueRecords};
@@ -65,7 +66,12 @@ impl<W: TextOut + Drop> Recording<W> {
     }
 
     /// Writes what is on the page.
-    fn write(&mut self) {
+    #[tactic(auto, using(crate::proofs::Writing::wrote_none))]
+    fn write(&mut self)
+        ensures written { HasWritten W.adds self.old self.new }
+        ensures kept { self.old.has_failed ≡ true → self.new ≡ self.old }
+        ensures none { self.new.has_failed ≡ false → self.new.page ≡ [] }
+    {
         if self.has_failed || self.page.is_empty() {
             return;
         }
@@ -83,7 +89,10 @@ impl<W: TextOut + Drop> Recording<W> {
 
     /// Puts what is next of the venue at a place on the page, and returns how many records these
     /// are.
-    fn put_at(&mut self, place: usize, is_last: bool) -> u64 {
+    fn put_at(&mut self, place: usize, is_last: bool) -> u64
+        ensures written { HasWritten W.adds self.old self.new }
+        ensures sound { self.new.has_failed ≡ self.old.has_failed }
+    {
         let put = match self.venues.get_mut(place) {
             Some(venue) => venue.put_ready(is_last, &mut self.page),
             None => 0,
@@ -94,7 +103,10 @@ impl<W: TextOut + Drop> Recording<W> {
 
     /// Puts what is next of each venue on the page, and returns how many records these are. A page
     /// that is full is written.
-    fn put_all(&mut self, is_last: bool) -> u64 {
+    fn put_all(&mut self, is_last: bool) -> u64
+        ensures written { HasWritten W.adds self.old self.new }
+        ensures kept { self.old.has_failed ≡ true → self.new ≡ self.old }
+    {
         let mut count = 0u64;
         for place in 0..self.venues.len() {
             if self.has_failed {
@@ -110,7 +122,11 @@ impl<W: TextOut + Drop> Recording<W> {
 
     /// Writes what has come, venue by venue. With `is_last` nothing is waited for any more. Once a
     /// write has failed nothing is written, nor taken from the senders.
-    pub fn turn(&mut self, is_last: bool) {
+    pub fn turn(&mut self, is_last: bool)
+        ensures written { HasWritten W.adds self.old self.new }
+        ensures kept { self.old.has_failed ≡ true → self.new ≡ self.old }
+        ensures none { self.new.has_failed ≡ false → self.new.page ≡ [] }
+    {
         for _ in 0..MOST_ROUNDS {
             if self.put_all(is_last) == 0 {
                 break;
@@ -128,7 +144,9 @@ impl<W: TextOut + Drop> Recording<W> {
 
     /// Ends the recording, of which all is written that came. Where one that came isn't, what is
     /// written ends within a record, so that a replay of it says so.
-    pub fn close(&mut self) {
+    pub fn close(&mut self)
+        ensures { IsClosed W.adds self.old self.new }
+    {
         if !self.has_failed && self.page.len() <= FULL && self.state.without() > 0 {
             self.page.push(&CUT);
             self.write();

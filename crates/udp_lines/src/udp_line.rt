@@ -18,6 +18,7 @@ use crate::number_check::{HeldFor, NO_ROW, NumberCheck};
 use crate::requests::{RequestPace, Requests};
 use crate::venue_marks::VenueMarks;
 use feed_types::{Anything, VenueId};
+use line_recordings::RecordSender;
 use mold_packet::{Request, write_request};
 use run_settings::{EndRule, Senders};
 use std::alloc::{AllocError, Global};
@@ -61,6 +62,8 @@ pub struct UdpLineSettings {
     pub marks: VenueMarks,
     /// Whether it marks when it heard a datagram.
     pub marks_heard: bool,
+    /// Where it hands over what its venue took, if that is recorded.
+    pub records: Option<RecordSender>,
 }
 
 /// A line of a venue that is received by UDP. It ends after as many datagrams or seconds as it was
@@ -88,6 +91,8 @@ pub struct UdpLine<S, C> {
     ender: Option<[u8; 10]>,
     /// What the socket has brought for the next call: a datagram, or why there is none.
     received: Option<Result<Datagram, SourceFault>>,
+    /// Where it hands over what its venue took, if that is recorded.
+    records: Option<RecordSender>,
 }
 
 impl<S, C> Model for UdpLine<S, C> {
@@ -208,6 +213,7 @@ impl<S: DatagramIn + Drop, C: Clock + Drop> UdpLine<S, C> {
             at_end: false,
             ender: None,
             received: None,
+            records: settings.records,
         })
     }
 
@@ -509,10 +515,14 @@ impl<S: DatagramIn + Drop, C: Clock + Drop> LineSource<Anything> for UdpLine<S, 
         self.receive_next()
     }
 
-    /// Keeps the datagram's memory for the next one.
-    fn recycle(&mut self, datagram: Datagram, _place: u64)
+    /// Hands the datagram over at its place, if what the venue took is recorded, and keeps its
+    /// memory for the next one.
+    fn recycle(&mut self, datagram: Datagram, place: u64)
         ensures { self.new ≡ self.old }
     {
+        if let Some(records) = &mut self.records {
+            records.record(place, datagram.bytes());
+        }
         self.intake.used = datagram.into_bytes();
     }
 

@@ -102,6 +102,7 @@ fn source_of<C: Clock + Drop>(
         line,
         socket,
         requests,
+        records,
     } = bound;
     let of_line = UdpLineSettings {
         venue,
@@ -116,6 +117,7 @@ fn source_of<C: Clock + Drop>(
         marks: shares.marks.share()?,
         marks_heard: settings.has_further_options(),
         timed: has_times(settings.format),
+        records,
     };
     let source = UdpLine::new(alloc, of_line, socket, clock)?;
     shares.progress.push(source.share_progress()?)?;
