@@ -1,7 +1,7 @@
 -- What was handed over is what was given.
-use Rattle.std.proofs.Common.{◌≡◌, ◌++◌, ℕ, List, [], ◌∷◌, inl}
+use Rattle.std.proofs.Common.{◌≡◌, ◌++◌, ℕ, List, [], ◌∷◌, Option, Some, inl, refl, subst, sym}
 use Rattle.rtrb.specs.Ring.{sent}
-use Rattle.line_recordings.specs.Placed.{SendsOrLoses}
+use Rattle.line_recordings.specs.Placed.{HandsOver, SendsOrLoses}
 use Rattle.line_recordings.specs.declared.placed.Placed.{Placed}
 use Rattle.line_recordings.specs.declared.record_sender.RecordSender.{RecordSender}
 
@@ -17,3 +17,11 @@ handed old new placed place bytes s a h l = inl (record {
   sent_is = s;
   same = l;
 })
+
+-- it was handed over where it is recorded
+pub handed_if : (records : Option RecordSender) (old new : RecordSender) (place : ℕ)
+    (bytes : List ℕ) → records ≡ Some old → SendsOrLoses old place bytes new
+    → HandsOver records place bytes (Some new)
+handed_if records old new place bytes e sent =
+    subst (λ (r : Option RecordSender). HandsOver r place bytes (Some new)) (sym e)
+    (new, refl, sent)

@@ -1,5 +1,5 @@
 -- What a sender of a recording has handed over.
-use Rattle.std.specs.Prelude.{◌≡◌, ◌⊎◌, ℕ, ◌+◌, ◌-◌, ◌^◌, List, [], ◌∷◌, ◌++◌, min}
+use Rattle.std.specs.Prelude.{◌≡◌, ◌⊎◌, ℕ, ◌+◌, ◌-◌, ◌^◌, List, [], ◌∷◌, ◌++◌, min, Option, None, Some}
 use Rattle.rtrb.specs.Ring.{sent}
 use Rattle.line_recordings.specs.declared.placed.Placed.{Placed}
 use Rattle.line_recordings.specs.declared.record_sender.RecordSender.{RecordSender}
@@ -25,3 +25,9 @@ pub record HasLost (old new : RecordSender) : Type 0 where
 -- what was to be handed over was, or is counted as lost
 abbrev pub SendsOrLoses : RecordSender → ℕ → List ℕ → RecordSender → Type 0
 SendsOrLoses old place bytes new = HasHandedOver old place bytes new ⊎ HasLost old new
+
+-- what the venue took is handed over, where it is recorded
+abbrev pub HandsOver : Option RecordSender → ℕ → List ℕ → Option RecordSender → Type 0
+HandsOver None place bytes new = new ≡ None
+HandsOver (Some old) place bytes new =
+    (sender : RecordSender) × (new ≡ Some sender) × SendsOrLoses old place bytes sender

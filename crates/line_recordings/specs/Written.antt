@@ -1,5 +1,5 @@
 -- What a recording has written of what came of its venues.
-use Rattle.std.specs.Prelude.{◌≡◌, ◌⊎◌, ℕ, Bool, false, List, [], ◌∷◌, ◌++◌, Some, flat_map, slice_get, slice_set}
+use Rattle.std.specs.Prelude.{◌≡◌, ◌⊎◌, ℕ, Bool, false, true, List, [], ◌∷◌, ◌++◌, Some, codes, flat_map, slice_get, slice_set}
 use Rattle.feed_text.specs.Devices.{Wrote}
 use Rattle.line_recordings.specs.Recordings.{Fates, HasRecorded, recorded_text}
 use Rattle.line_recordings.specs.declared.recording.Recording.{Recording}
@@ -30,6 +30,13 @@ HaveCome old (part ∷ parts) new =
     (before after : VenueRecords) × IsPartOf old part before after
     × HaveCome (slice_set old part.place after) parts new
 
+-- Of what came of the venues meanwhile the records were added to the page.
+pub record HavePut (old : List VenueRecords) (before : List ℕ) (new : List VenueRecords)
+    (after : List ℕ) : Type 0 where
+  pub parts : List Part
+  pub come : HaveCome old parts new
+  pub text : after ≡ before ++ flat_map part_text parts
+
 -- Of what came of the venues meanwhile the writer has the records, those that waited on the page
 -- before; but for the rest, which waits on the page, unless a write has failed.
 pub record HasWritten {W : Type 0} (adds : W → List ℕ → W → Type 0) (old new : Recording W)
@@ -58,3 +65,8 @@ pub record IsRecorded {W : Type 0} (adds : W → List ℕ → W → Type 0) (old
   pub last : Recording W
   pub written : HasWritten adds old last
   pub closed : IsClosed adds last new
+
+-- what is reported of a recording: that it has failed, if it has
+abbrev pub failure_texts : (has_failed : Bool) → List (List ℕ)
+failure_texts false = []
+failure_texts true = codes "nbbo: recording failed\n" ∷ []

@@ -24,7 +24,7 @@ mod venue_records;
 
 pub use placed::Placed;
 pub use record_kind::RecordKind;
-pub use record_sender::{RecordSender, recorder_pair};
+pub use record_sender::{RecordSender, hand_over, recorder_pair};
 pub use record_source::RecordSource;
 pub use recording::Recording;
 pub use recording_state::RecordingState;

@@ -1,7 +1,7 @@
 //! The end of a recording that a line's thread has.
 ghost use Rattle.std.specs.Prelude.{◌≡◌, [], IfOk};
 ghost use Rattle.rtrb.specs.Ring.{received, sent};
-ghost use Rattle.line_recordings.specs.Placed.{SendsOrLoses};
+ghost use Rattle.line_recordings.specs.Placed.{HandsOver, SendsOrLoses};
 
 use crate::placed::Placed;
 use crate::record_source::RecordSource;
@@ -83,5 +83,14 @@ impl RecordSender {
             }
         }
         self.lost = self.lost.saturating_add(1);
+    }
+}
+
+/// Hands over what the venue took at this place, where it is recorded.
+pub fn hand_over(records: &mut Option<RecordSender>, place: u64, bytes: &[u8])
+    ensures { HandsOver records.old place bytes.now records.new }
+{
+    if let Some(sender) = records {
+        sender.record(place, bytes);
     }
 }

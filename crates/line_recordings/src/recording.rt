@@ -1,7 +1,7 @@
 //! A recording that is written as it comes.
 ghost use Rattle.std.specs.Prelude.{◌≡◌, ◌+◌, [], IfOk, OnErr, OnOk, false, true};
 ghost use Rattle.feed_text.specs.Devices.{Wrote};
-ghost use Rattle.line_recordings.specs.Written.{HasWritten, IsClosed};
+ghost use Rattle.line_recordings.specs.Written.{HasWritten, HavePut, IsClosed};
 
 use crate::recording_state::RecordingState;
 use crate::venue_records::{FULL, PAGE, VenueRecords};
@@ -43,6 +43,22 @@ fn write_page<W: TextOut>(page: &mut ReadBuffer<PAGE>, writer: &mut W) -> Result
     }
 }
 
+/// Puts what is next of the venue at a place on the page, if there is such a venue, and returns how
+/// many records these are.
+fn put_venue(
+    venues: &mut Vec<VenueRecords>,
+    place: usize,
+    is_last: bool,
+    page: &mut ReadBuffer<PAGE>,
+) -> u64
+    ensures { HavePut venues.old.items page.old venues.new.items page.new }
+{
+    if place >= venues.len() {
+        return 0;
+    }
+    venues[place].put_ready(is_last, page)
+}
+
 impl<W: TextOut + Drop> Recording<W> {
     /// A recording of these venues, of which nothing is written. It marks in `state` how far it is.
     pub fn new(
@@ -66,9 +82,10 @@ impl<W: TextOut + Drop> Recording<W> {
     }
 
     /// Writes what is on the page.
-    #[tactic(auto, using(crate::proofs::Writing::wrote_none))]
+    #[tactic(auto, using(crate::proofs::Writing::wrote_none, crate::proofs::Writing::front_none))]
     fn write(&mut self)
         ensures written { HasWritten W.adds self.old self.new }
+        ensures front { Wrote W.adds self.old.writer self.old.page self.new.writer }
         ensures kept { self.old.has_failed ≡ true → self.new ≡ self.old }
         ensures none { self.new.has_failed ≡ false → self.new.page ≡ [] }
     {
@@ -89,14 +106,12 @@ impl<W: TextOut + Drop> Recording<W> {
 
     /// Puts what is next of the venue at a place on the page, and returns how many records these
     /// are.
+    #[tactic(auto, using(crate::proofs::Writing::wrote_put))]
     fn put_at(&mut self, place: usize, is_last: bool) -> u64
         ensures written { HasWritten W.adds self.old self.new }
         ensures sound { self.new.has_failed ≡ self.old.has_failed }
     {
-        let put = match self.venues.get_mut(place) {
-            Some(venue) => venue.put_ready(is_last, &mut self.page),
-            None => 0,
-        };
+        let put = put_venue(&mut self.venues, place, is_last, &mut self.page);
         self.on_page = self.on_page.saturating_add(put);
         put
     }

@@ -1,4 +1,6 @@
 //! The thread of a recording.
+ghost use Rattle.feed_text.specs.StandardError.{SaysEach};
+ghost use Rattle.line_recordings.specs.Written.{IsRecorded, failure_texts};
 
 use crate::recording::Recording;
 use feed_text::{TextOut, write_stderr};
@@ -16,7 +18,11 @@ pub fn write_recording<C: Clock, W: TextOut + Drop, E: TextOut>(
     recording: &mut Recording<W>,
     clock: &C,
     errors: &mut E,
-) {
+)
+    ensures recorded { IsRecorded W.adds recording.old recording.new }
+    ensures told { SaysEach (record { adds = E.adds; failures = E.failures })
+        (failure_texts recording.new.has_failed) errors.old errors.new }
+{
     let _named = os::set_thread_name(b"recording");
     for _ in 0..u64::MAX {
         let is_last = recording.is_ending();
