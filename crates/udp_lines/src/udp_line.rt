@@ -1,6 +1,7 @@
 //! A line that is received by UDP.
 ghost use Rattle.std.specs.Prelude.{◌≡◌, ◌+◌, ◌*◌, ◌/◌, ◌^◌, ◌-◌, ℕ, List, [], Bool, min, IfOk, IfErr, OnErr, Ok, Some, None, true, false, option_map};
 ghost use Rattle.std.specs.Duration.{as_nanos};
+ghost use Rattle.line_recordings.specs.Placed.{HandsOver};
 ghost use Rattle.venue_lines.specs.Datagrams.{bytes_of};
 ghost use Rattle.venue_lines.specs.Sources.{brought_in, failures_after};
 ghost use Rattle.run_settings.specs.Senders.{senders_of};
@@ -18,7 +19,7 @@ use crate::number_check::{HeldFor, NO_ROW, NumberCheck};
 use crate::requests::{RequestPace, Requests};
 use crate::venue_marks::VenueMarks;
 use feed_types::{Anything, VenueId};
-use line_recordings::RecordSender;
+use line_recordings::{RecordSender, hand_over};
 use mold_packet::{Request, write_request};
 use run_settings::{EndRule, Senders};
 use std::alloc::{AllocError, Global};
@@ -114,6 +115,7 @@ impl<S, C> Model for UdpLine<S, C> {
       socket = l.intake.line_socket.socket;
       kept = kept_in l.intake;
       waiting = waiting_in l.received;
+      records = l.records;
     } };
 }
 
@@ -177,6 +179,7 @@ impl<S: DatagramIn + Drop, C: Clock + Drop> UdpLine<S, C> {
         ensures ender { IfOk result (λ line. line.ender ≡ None) }
         ensures kept { IfOk result (λ line. line.kept ≡ nothing_kept) }
         ensures waiting { IfOk result (λ line. line.waiting ≡ []) }
+        ensures records { IfOk result (λ line. line.records ≡ settings.records) }
     {
         socket.wait_each(Duration::from_millis(WAIT_MS));
         let deadline_ms = deadline_of(&clock, settings.seconds);
@@ -517,12 +520,13 @@ impl<S: DatagramIn + Drop, C: Clock + Drop> LineSource<Anything> for UdpLine<S, 
 
     /// Hands the datagram over at its place, if what the venue took is recorded, and keeps its
     /// memory for the next one.
+    #[tactic(auto, using(crate::proofs::Meeting::recorded_only))]
     fn recycle(&mut self, datagram: Datagram, place: u64)
-        ensures { self.new ≡ self.old }
+        ensures brings { HasBrought S.brings S.waits self.old [] self.new }
+        ensures rest { self.new ≡ record (self.old) { records = self.new.records } }
+        ensures recorded { HandsOver self.old.records place (bytes_of datagram) self.new.records }
     {
-        if let Some(records) = &mut self.records {
-            records.record(place, datagram.bytes());
-        }
+        hand_over(&mut self.records, place, datagram.bytes());
         self.intake.used = datagram.into_bytes();
     }
 
