@@ -95,7 +95,8 @@ fn source_of<C: Clock + Drop>(
     clock: C,
 ) -> Result<UdpSource<C>, AllocError>
     requires { bound.venue < vec_len settings.now.feed.sessions }
-    ensures { IfOk result (IsSourceOf settings.now bound.venue bound.line) }
+    ensures is { IfOk result (IsSourceOf settings.now bound.venue bound.line) }
+    ensures records { IfOk result (λ source. source.records ≡ bound.records) }
 {
     let BoundLine {
         venue,
