@@ -6,7 +6,7 @@ use Rattle.std.proofs.Math.Seq.{take-length}
 use Rattle.feed_text.specs.Devices.{Wrote}
 use Rattle.std.specs.Prelude.{Some, flat_map, slice_get, slice_set, take, drop}
 use Rattle.line_recordings.specs.Recordings.{PutsRecords, recorded_text}
-use Rattle.line_recordings.specs.Written.{HasWritten, HaveCome, HavePut, IsClosed, Part, cut, part_text}
+use Rattle.line_recordings.specs.Written.{HasWritten, HaveCome, HavePut, ClosesRecording, Part, cut, part_text}
 use Rattle.line_recordings.specs.declared.recording.Recording.{Recording}
 use Rattle.line_recordings.specs.declared.venue_records.VenueRecords.{VenueRecords}
 
@@ -87,14 +87,6 @@ wrote_put {W} adds a b put same none = record {
   waits = λ _. refl;
 }
 
--- nothing was put
-pub put_none : (venues : List VenueRecords) (page : List ℕ) → HavePut venues page venues page
-put_none venues page = record {
-  parts = [];
-  come = refl;
-  text = sym (append-nil page);
-}
-
 -- the same, as it is called otherwise
 pub wrote_as : {W : Type 0} (adds : W → List ℕ → W → Type 0) (a b c : Recording W) → c ≡ b
     → HasWritten adds a b → HasWritten adds a c
@@ -114,12 +106,12 @@ front_whole adds s t page wrote = record {
 
 -- a recording is closed: with no more text, or with the bytes at its end
 pub closed_not : {W : Type 0} (adds : W → List ℕ → W → Type 0) (a b : Recording W) → b ≡ a
-    → IsClosed adds a b
+    → ClosesRecording adds a b
 closed_not {W} adds a b e = inl (ap (λ (r : Recording W). r.writer) e)
 
 pub closed_by : {W : Type 0} (adds : W → List ℕ → W → Type 0) (a b c : Recording W)
     (page : List ℕ) → page ≡ a.page ++ cut → Wrote adds a.writer page b.writer → c ≡ b
-    → IsClosed adds a c
+    → ClosesRecording adds a c
 closed_by {W} adds a b c page cuts front e =
     inr (subst (λ (r : Recording W). Wrote adds a.writer (a.page ++ cut) r.writer) (sym e)
     (subst (λ (x : List ℕ). Wrote adds a.writer x b.writer) cuts front))

@@ -17,7 +17,7 @@ abbrev pub part_text : Part → List ℕ
 part_text part = recorded_text part.venue part.fates
 
 -- the part is of the venue at its place, which becomes the other one by it
-pub record IsPartOf (venues : List VenueRecords) (part : Part) (old new : VenueRecords)
+pub record IsRecordedPart (venues : List VenueRecords) (part : Part) (old new : VenueRecords)
     : Type 0 where
   pub there : slice_get venues part.place ≡ Some old
   pub venue_is : part.venue ≡ old.venue
@@ -27,7 +27,7 @@ pub record IsPartOf (venues : List VenueRecords) (part : Part) (old new : VenueR
 abbrev pub HaveCome : List VenueRecords → List Part → List VenueRecords → Type 0
 HaveCome old [] new = new ≡ old
 HaveCome old (part ∷ parts) new =
-    (before after : VenueRecords) × IsPartOf old part before after
+    (before after : VenueRecords) × IsRecordedPart old part before after
     × HaveCome (slice_set old part.place after) parts new
 
 -- Of what came of the venues meanwhile the records were added to the page.
@@ -54,17 +54,17 @@ abbrev pub cut : List ℕ
 cut = 0 ∷ 75 ∷ 0 ∷ 8 ∷ []
 
 -- nothing more is written but the page, and at most the bytes of a recording that isn't whole
-abbrev pub IsClosed : {W : Type 0} → (W → List ℕ → W → Type 0) → Recording W → Recording W
+abbrev pub ClosesRecording : {W : Type 0} → (W → List ℕ → W → Type 0) → Recording W → Recording W
     → Type 0
-IsClosed adds old new =
+ClosesRecording adds old new =
     (new.writer ≡ old.writer) ⊎ Wrote adds old.writer (old.page ++ cut) new.writer
 
 -- a whole recording: its records, and its end
-pub record IsRecorded {W : Type 0} (adds : W → List ℕ → W → Type 0) (old new : Recording W)
+pub record WritesRecording {W : Type 0} (adds : W → List ℕ → W → Type 0) (old new : Recording W)
     : Type 0 where
   pub last : Recording W
   pub written : HasWritten adds old last
-  pub closed : IsClosed adds last new
+  pub closed : ClosesRecording adds last new
 
 -- what is reported of a recording: that it has failed, if it has
 abbrev pub failure_texts : (has_failed : Bool) → List (List ℕ)

@@ -1,7 +1,7 @@
 //! A recording that is written as it comes.
 ghost use Rattle.std.specs.Prelude.{◌≡◌, ◌+◌, [], IfOk, OnErr, OnOk, false, true};
 ghost use Rattle.feed_text.specs.Devices.{Wrote};
-ghost use Rattle.line_recordings.specs.Written.{HasWritten, HavePut, IsClosed};
+ghost use Rattle.line_recordings.specs.Written.{HasWritten, HavePut, ClosesRecording};
 
 use crate::recording_state::RecordingState;
 use crate::venue_records::{FULL, PAGE, VenueRecords};
@@ -160,7 +160,7 @@ impl<W: TextOut + Drop> Recording<W> {
     /// Ends the recording, of which all is written that came. Where one that came isn't, what is
     /// written ends within a record, so that a replay of it says so.
     pub fn close(&mut self)
-        ensures { IsClosed W.adds self.old self.new }
+        ensures { ClosesRecording W.adds self.old self.new }
     {
         if !self.has_failed && self.page.len() <= FULL && self.state.without() > 0 {
             self.page.push(&CUT);

@@ -1,6 +1,6 @@
 //! The thread of a recording.
 ghost use Rattle.feed_text.specs.StandardError.{SaysEach};
-ghost use Rattle.line_recordings.specs.Written.{IsRecorded, failure_texts};
+ghost use Rattle.line_recordings.specs.Written.{WritesRecording, failure_texts};
 
 use crate::recording::Recording;
 use feed_text::{TextOut, write_stderr};
@@ -19,7 +19,7 @@ pub fn write_recording<C: Clock, W: TextOut + Drop, E: TextOut>(
     clock: &C,
     errors: &mut E,
 )
-    ensures recorded { IsRecorded W.adds recording.old recording.new }
+    ensures recorded { WritesRecording W.adds recording.old recording.new }
     ensures told { SaysEach (record { adds = E.adds; failures = E.failures })
         (failure_texts recording.new.has_failed) errors.old errors.new }
 {
