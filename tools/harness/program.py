@@ -39,15 +39,26 @@ def built(program: str) -> str:
     return told.stdout.strip()
 
 
-def instructions(command: Words, capture: str | os.PathLike = os.devnull) -> int:
-    """How many instructions a run of the command takes, by callgrind; the capture is its standard input."""
-    counted = ['valgrind', '--tool=callgrind', '--callgrind-out-file=/dev/null', *command]
+def events_of(command: Words, capture: str | os.PathLike, options: Words) -> dict[str, int]:
+    """The events that callgrind counts of a run of the command, by name; the capture is its standard input."""
+    counted = ['valgrind', '--tool=callgrind', '--callgrind-out-file=/dev/null', *options, *command]
     with open(capture, 'rb') as given:
         told = subprocess.run(counted, stdin=given, stdout=subprocess.DEVNULL, stderr=subprocess.PIPE, check=True)
-    found = re.search(rb'Collected : (\d+)', told.stderr)
-    if found is None:
+    names, counts = (re.search(rb'%s *: (.*)' % title, told.stderr) for title in (b'Events', b'Collected'))
+    if names is None or counts is None:
         sys.exit(f'callgrind gives no count: {told.stderr[-500:].decode(errors="replace")}')
-    return int(found[1])
+    return dict(zip(names[1].decode().split(), map(int, counts[1].split())))
+
+
+def instructions(command: Words, capture: str | os.PathLike = os.devnull) -> int:
+    """How many instructions a run of the command takes."""
+    return events_of(command, capture, [])['Ir']
+
+
+def read_misses(command: Words, capture: str | os.PathLike = os.devnull) -> int:
+    """How many reads of a run miss the second cache of callgrind's model, which is the same on each machine: of 32 KiB
+    before one of 1 MiB. A program's layout decides it, so that a count repeats exactly."""
+    return events_of(command, capture, ['--cache-sim=yes', '--D1=32768,8,64', '--LL=1048576,16,64'])['DLmr']
 
 
 def is_read(pipe: int) -> bool:

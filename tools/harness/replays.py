@@ -4,18 +4,19 @@ import os
 import re
 import subprocess
 import sys
-from collections.abc import Sequence
+from collections.abc import Callable, Sequence
 from dataclasses import dataclass
 from hashlib import sha256
 from pathlib import Path
 
 from .kit import libraries_of
-from .program import ROOT, instructions, script
+from .program import ROOT, Words, instructions, script
 
 # The libraries that read a capture and print its lines; with those below them they are the path of `nbbo replay`. Another
 # path is that of other libraries.
 PATH = ('feed_text', 'line_captures')
-BENCHMARKS = ROOT / 'docs' / 'BENCHMARKS.md'
+BENCHMARKS = ROOT / 'bench' / 'BENCHMARKS.md'
+Events = Callable[[Words, str | os.PathLike], int]
 MARK = re.compile(r'<!-- (bench/\w+), sources (\w+) -->')
 LARGE_JOURNAL = ('--journal', '4294967295')
 LOSSY = '--loss-a 0.01 --loss-b 0.01 --recover --reorder 3'
@@ -50,11 +51,12 @@ class Replay:
         """The words after `replay`."""
         return [*LARGE_JOURNAL, *script('bench/generate').arguments_for(self.settings(0))]
 
-    def count(self, program: str, folder: Path, own: Sequence[str] = ()) -> float:
-        """The instructions a message by callgrind: the difference of the two lengths. The program alone is given `own`."""
+    def count(self, program: str, folder: Path, own: Sequence[str] = (), events: Events = instructions) -> float:
+        """The instructions a message by callgrind, or other events: the difference of the two lengths. The program alone is
+        given `own`."""
         command = [program, 'replay', *self.words(), *own]
         fewer = self.capture(self.fewer, folder) if self.fewer else os.devnull
-        taken = instructions(command, self.capture(self.more, folder)) - instructions(command, fewer)
+        taken = events(command, self.capture(self.more, folder)) - events(command, fewer)
         return taken / ((self.more - self.fewer) * self.venues())
 
 
@@ -160,10 +162,10 @@ def tree(path: Sequence[str] = PATH) -> str:
 
 
 def write_table(name: str, measured_on: str, rows: Sequence[str], path: Sequence[str] = PATH) -> None:
-    """Puts a script's table in the place of that in docs/BENCHMARKS.md, with the tree that it was measured on."""
+    """Puts a script's table in the place of that in bench/BENCHMARKS.md, with the tree that it was measured on."""
     text = BENCHMARKS.read_text()
     table = f'<!-- {name}, sources {path_sum(path)} -->\nTree `{measured_on}`:\n\n' + '\n'.join(rows) + '\n<!-- end -->'
     old = re.compile(rf'<!-- {re.escape(name)}, sources .*?<!-- end -->', re.S)
     if len(old.findall(text)) != 1:
-        sys.exit(f'docs/BENCHMARKS.md has no one table of {name}')
+        sys.exit(f'bench/BENCHMARKS.md has no one table of {name}')
     BENCHMARKS.write_text(old.sub(lambda _: table, text))

@@ -201,6 +201,7 @@ impl LineGaps {
     }
 
     /// Ends the gaps of whose numbers none is missing.
+    #[cold]
     #[inline(never)]
     fn end_over(&mut self, lost: &LostNumbers, pass: GapPass, ended: &mut EndedGaps)
         requires { length ended.old.gaps.items + 16 ≤ 51 }
@@ -223,6 +224,7 @@ impl LineGaps {
     }
 
     /// Begins a gap of the numbers that a packet passes over, which is over where none is missing.
+    #[cold]
     #[inline(never)]
     fn begin_gap(
         &mut self,
@@ -262,7 +264,7 @@ impl LineGaps {
 
     /// Counts messages that are no higher than the highest: those that the line passed over came
     /// late, the others again.
-    #[inline(never)]
+    #[inline(always)]
     fn count_back(&mut self, run: NumberRun)
         ensures sums { (rows : List EndedGap) → AreSumsOf rows self.old.sums
             → AreSumsOf rows self.new.sums }

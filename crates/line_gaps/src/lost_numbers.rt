@@ -56,6 +56,7 @@ impl LostNumbers {
     }
 
     /// Notes that numbers up to this one are missing, but for those known of or given up.
+    #[cold]
     #[inline(never)]
     fn miss(&mut self, below: u64)
         requires { self.old.highest < below }

@@ -152,6 +152,7 @@ impl NumberRuns {
     }
 
     /// Takes the numbers of a run out.
+    #[cold]
     #[inline(never)]
     pub fn cut(&mut self, cut: NumberRun)
         ensures dropped { self.old.dropped ≤ self.new.dropped }

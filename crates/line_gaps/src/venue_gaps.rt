@@ -236,6 +236,7 @@ impl VenueGaps {
     }
 
     /// Takes a packet of which nothing came, but which tells of the numbers up to its last.
+    #[cold]
     #[inline(never)]
     fn take_numbers(&mut self, packet: &HeardPacket, ended: &mut EndedGaps)
         requires { ended.old.gaps.items ≡ [] }
@@ -255,6 +256,7 @@ impl VenueGaps {
 
     /// Takes a packet past the window. It counts once the line's next one of these goes on from
     /// it.
+    #[cold]
     #[inline(never)]
     fn take_far(&mut self, packet: &HeardPacket, ended: &mut EndedGaps)
         requires { ended.old.gaps.items ≡ [] }
@@ -313,6 +315,7 @@ impl VenueGaps {
     }
 
     /// Takes a skip to a number, which was granted.
+    #[cold]
     #[inline(never)]
     fn skip_to(&mut self, number: u64, time: Option<u64>, ended: &mut EndedGaps)
         requires { ended.old.gaps.items ≡ [] }
@@ -352,6 +355,7 @@ impl VenueGaps {
     }
 
     /// Ends the gaps that are open.
+    #[cold]
     #[inline(never)]
     fn close(&mut self, ended: &mut EndedGaps)
         requires { ended.old.gaps.items ≡ [] }
@@ -371,6 +375,7 @@ impl VenueGaps {
     }
 
     /// Begins the next session, which ends the gaps that are open.
+    #[cold]
     #[inline(never)]
     fn renew(&mut self, ended: &mut EndedGaps)
         requires { ended.old.gaps.items ≡ [] }

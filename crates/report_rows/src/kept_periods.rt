@@ -74,7 +74,7 @@ impl<T: Copy + Default> KeptPeriods<T> {
 
     /// Enters the period that began at this time, without figures where it is new, in the place of
     /// the earliest one where 16 are kept. What is earlier than all of 16 goes to the earliest one.
-    #[inline]
+    #[inline(always)]
     pub fn enter(&mut self, begin: u64, none: &T) -> Entered<T>
         ensures { Enters begin none.now self.old self.new result }
     {

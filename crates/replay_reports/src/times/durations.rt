@@ -71,6 +71,7 @@ impl Durations {
     }
 
     /// Counts a duration.
+    #[inline(always)]
     pub(crate) fn add(&mut self, duration: u64)
         ensures { (durations : List ℕ) → AreCounted durations self.old
             → AreCounted (duration ∷ durations) self.new }

@@ -179,7 +179,7 @@ impl LineLeads {
 
     /// Notes that messages from a number on came on a line at a time in nanoseconds. What comes on
     /// Recovery doesn't count.
-    #[inline(never)]
+    #[inline(always)]
     fn note_all(&mut self, line: LineId, number: u64, count: u16, time: u64)
         requires number { 0 < number }
         requires last { number + count ≤ 2 ^ 64 }
