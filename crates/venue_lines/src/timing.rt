@@ -43,3 +43,16 @@ pub(crate) fn note_join<G: Genuine, N: FeedName>(
         times.go_on_from(cell.venue(), 0, packet.number().saturating_sub(2));
     }
 }
+
+/// Notes where the numbers of the cell's venue go on, where its next session has begun at a packet:
+/// `from` was the last item of the one before.
+pub(crate) fn note_renewal<G: Genuine, N: FeedName>(
+    cell: &VenueCell<G, N>,
+    times: &FeedTimes,
+    renewed: bool,
+    from: u64,
+) {
+    if renewed {
+        times.go_on_from(cell.venue(), from, 0);
+    }
+}
