@@ -40,8 +40,10 @@ pub struct UdpLineSettings {
     pub venue: VenueId,
     /// Which of the venue's lines it is.
     pub line: LineUse,
-    /// The venue's session.
+    /// The venue's session; where others follow it, the last one.
     pub session: [u8; 10],
+    /// The sessions that come before that one, whose packets are handed on as they come.
+    pub earlier: Vec<[u8; 10]>,
     /// Which ends of session end it. A line of replies goes on after each.
     pub end: EndRule,
     /// The most datagrams that it reads, if there is any limit.
@@ -182,6 +184,7 @@ impl<S: DatagramIn + Drop, C: Clock + Drop> UdpLine<S, C> {
         };
         let check = NumberCheck {
             session: settings.session,
+            earlier: settings.earlier,
             end_rule: settings.end,
             most_ahead: settings.most_ahead,
             line: settings.line.line(),
