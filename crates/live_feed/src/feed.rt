@@ -59,6 +59,17 @@ impl<G: Genuine> Model for LiveFeed<G> {
         f.starts.items f.from_venues.items f.kept f.spare_lanes.items };
 }
 
+/// Names the sessions that follow the first one of the venue at its place, if there is one.
+fn follow_at<G: Genuine>(starts: &mut [VenueStart<G>], venue: VenueId, names: Vec<[u8; 10]>)
+    requires { AreNextNames G.sessions venue names.items }
+    ensures { starts.new ≡ starts.old }
+{
+    match starts.get_mut(venue.index()) {
+        Some(start) => start.follow_by(venue, names),
+        None => {}
+    }
+}
+
 impl<G: Genuine> LiveFeed<G> {
     /// A feed of this configuration, with the lanes of its venues and of 32 subscribers. The lines
     /// may use its names for the venues' first sessions. All entries and changes are kept.
@@ -160,9 +171,7 @@ impl<G: Genuine> LiveFeed<G> {
         requires { AreNextNames G.sessions venue names.items }
         ensures { self.new ≡ self.old }
     {
-        if let Some(start) = self.starts.get_mut(venue.index()) {
-            start.follow_by(venue, names);
-        }
+        follow_at(self.starts.as_mut_slice(), venue, names);
     }
 
     /// Puts the venues and the journal under their locks. N names this feed's lanes. Where memory

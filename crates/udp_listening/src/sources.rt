@@ -111,7 +111,6 @@ fn source_of<C: Clock + Drop>(
         venue,
         line: shares.use_of(alloc, line),
         session: sessions.last,
-        earlier: sessions.earlier,
         end: end_rule_of(line, end),
         datagrams: most_read_of(line, settings.datagrams),
         seconds: settings.seconds,
@@ -122,7 +121,8 @@ fn source_of<C: Clock + Drop>(
         marks_heard: settings.has_further_options(),
         timed: has_times(settings.format),
     };
-    let source = UdpLine::new(alloc, of_line, socket, clock)?;
+    let mut source = UdpLine::new(alloc, of_line, socket, clock)?;
+    source.follow_after(sessions.earlier);
     shares.progress.push(source.share_progress()?)?;
     Ok(source)
 }
