@@ -1,10 +1,10 @@
 //! The sessions that follow the venues' first ones in a run of `listen`.
 
 use crate::command_line::parsed;
+use crate::option_values::text_of;
 use crate::reception::next_sessions_of;
 use crate::refusal::Refusal;
 use crate::sessions::read_sessions;
-use crate::option_values::text_of;
 use run_settings::NextSession;
 use std::alloc::Global;
 

@@ -8,8 +8,8 @@ ghost use Rattle.run_watches.specs.RunNews.{SaysOfRun};
 ghost use Rattle.udp_listening.specs.Settings.{IsFeedOf, feed_setting, most_logged};
 
 use crate::console::{Console, MOST};
-use crate::next_sessions::name_all;
 use crate::listen_report::{ListenReport, report_of};
+use crate::next_sessions::name_all;
 use crate::row_follower::RowFollower;
 use crate::run_monitor::RunMonitor;
 use crate::sources::UdpSource;

@@ -7,10 +7,10 @@ ghost use Rattle.udp_listening.specs.Reports.{task_line};
 ghost use Rattle.udp_listening.specs.Settings.{IsSourceOf, end_rule_of, most_read_of};
 
 use crate::listen_sockets::BoundLine;
+use crate::next_sessions::{end_by, sessions_of};
 use best_rows::has_times;
 use feed_types::{LineId, VenueId};
 use live_feed::{LineSource, LineTask};
-use crate::next_sessions::{end_by, sessions_of};
 use run_settings::{EndRule, ListenSettings, NextSession};
 use run_watches::{LineWatch, LineWatches, SocketTables};
 use std::alloc::{AllocError, Global};
