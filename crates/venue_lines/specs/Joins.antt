@@ -79,7 +79,7 @@ abbrev pub IsAnsweredNext : {S : Type 0} → Genuine S → FeedLanes → Option 
     → (join : Bool) → SeatState → Content → Result Outcome LineFault → Type 0
 IsAnsweredNext premise lanes next join seat p answer =
     IsPossibleCall premise lanes seat.venue
-    (λ old new. (renewed joined : Bool)
+    (λ old new. (renewed : Bool) × (joined : Bool)
     × RenewsAndTakes next join seat.line p renewed joined answer old new)
     (answer ≡ Err OtherSession)
 
@@ -88,7 +88,7 @@ abbrev pub IsAnsweredJoining : {S : Type 0} → Genuine S → FeedLanes → (joi
     → Content → Result Outcome LineFault → Type 0
 IsAnsweredJoining premise lanes join seat p answer =
     IsPossibleCall premise lanes seat.venue
-    (λ old new. (next : Option NextNames) (renewed joined : Bool)
+    (λ old new. (next : Option NextNames) × (renewed : Bool) × (joined : Bool)
     × RenewsAndTakes next join seat.line p renewed joined answer old new)
     (answer ≡ Err OtherSession)
 

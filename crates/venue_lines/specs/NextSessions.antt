@@ -28,7 +28,7 @@ name_after next venue ordinal =
 
 -- The packet is of the session that is named to follow the venue's present one, which is over, and
 -- all of it was sent: a renewal under this name would begin the one of this ordinal.
-pub record RenewsBefore (next : NextNames) (c : CellState) (h : History) (p : Content) : Type 0
+pub record RenewsAt (next : NextNames) (c : CellState) (h : History) (p : Content) : Type 0
   where
     pub follows : name_after next c.arbiter.venue (ordinal_of c.arbiter) ≡ Some p.session
     pub ordinal : ℕ
@@ -38,21 +38,21 @@ pub record RenewsBefore (next : NextNames) (c : CellState) (h : History) (p : Co
 -- it does, and the session has begun
 pub record BeginsBefore (next : NextNames) (p : Content) (h : History) (old new : CellState)
     : Type 0 where
-  pub before : RenewsBefore next old h p
+  pub before : RenewsAt next old h p
   pub renewed : RenewsSession p.session (Ok before.ordinal) h old new
   pub begun : BeginsNext old new
 
 -- Renew, and whether it was done: where the packet is of the next session and the present one is
 -- over, that begins; else nothing.
-abbrev pub RenewsOrStays : NextNames → Content → (renewed : Bool) → History → CellState → CellState
+abbrev pub RenewsOrKeeps : NextNames → Content → (renewed : Bool) → History → CellState → CellState
     → Type 0
-RenewsOrStays next p true h old new = BeginsBefore next p h old new
-RenewsOrStays next p false h old new = (RenewsBefore next old h p → ⊥) × (new ≡ old)
+RenewsOrKeeps next p true h old new = BeginsBefore next p h old new
+RenewsOrKeeps next p false h old new = (RenewsAt next old h p → ⊥) × (new ≡ old)
 
 -- the same for every history that the cell represents
 abbrev pub RenewsFirst : NextNames → Content → (renewed : Bool) → CellState → CellState → Type 0
 RenewsFirst next p renewed old new =
-    (h : History) → CellFitsHistory old h → RenewsOrStays next p renewed h old new
+    (h : History) → CellFitsHistory old h → RenewsOrKeeps next p renewed h old new
 
 -- the same only where sessions are named to follow; else nothing changes
 abbrev pub RenewsIf : Option NextNames → Content → (renewed : Bool) → CellState → CellState

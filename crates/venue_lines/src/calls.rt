@@ -294,7 +294,7 @@ impl<G: Genuine, N: FeedName> VenueLocks<G, N> {
     /// what became of it: the packet's fault, else the line's, else the outcome. What is ready
     /// then, after a fault too, is pushed, until nothing is or the lane is full. Where the venue's
     /// session is over, all of it was sent, and the packet is of the session that was named to
-    /// follow it ([`VenueStart::follow_by`](crate::VenueStart::follow_by)), that begins first. Where `join` is
+    /// follow it ([`follow_by`](crate::VenueStart::follow_by)), that begins first. Where `join` is
     /// true, and the packet is the first one of the venue's session and begins past its first
     /// message, what is missing before it is given up first. Stores in `looked` what the line sees
     /// then, all under the venue's lock taken once. The datagram is read before the lock is taken.

@@ -1,4 +1,5 @@
-use Rattle.std.proofs.Common.{◌≡◌, ℕ, List, Option, sym, subst, ◌∙◌}
+use Rattle.std.proofs.Common.{◌≡◌, ℕ, ◌-◌, List, Option, sym, subst, ◌∙◌}
+use Rattle.std.specs.Prelude.{slice_get}
 use Rattle.venue_lines.specs.NextSessions.{NextNames, name_after}
 use Rattle.venue_lines.proofs.NextNames.{in_turn, named_in_turn}
 use Rattle.venue_lines.proofs.Statuses.{same_venue}
@@ -11,9 +12,9 @@ returns-clause-name g c =
       names = c.self.inside.in_order.items;
     } in
     let found : Option (List ℕ) = c.name_at.result in
+    let is : found ≡ slice_get next.names (c.args.ordinal - 1) = search in
     subst (λ (v : NextNames). found ≡ name_after v c.args.venue c.args.ordinal) c.self.view_is
-    (c.name_at.ensures
-    ∙ sym (in_turn next c.args.venue c.args.ordinal c.ne.result c.ne.ensures c.if-ne.false))
+    (is ∙ sym (in_turn next c.args.venue c.args.ordinal c.ne.result c.ne.ensures c.if-ne.false))
 
 pub returns-clause-named : goal.returns-clause-named
 returns-clause-named g c =
@@ -21,6 +22,7 @@ returns-clause-named g c =
       venue = c.self.inside.of_venue;
       names = c.self.inside.in_order.items;
     } in
+    let is : c.name_at.result ≡ slice_get next.names (c.args.ordinal - 1) = search in
     named_in_turn g.G.Genuine.sessions next c.args.venue c.args.ordinal c.name_at.result
     c.self.invariant c.requires
-    (same_venue next.venue c.args.venue c.ne.result c.ne.ensures c.if-ne.false) c.name_at.ensures
+    (same_venue next.venue c.args.venue c.ne.result c.ne.ensures c.if-ne.false) is
