@@ -226,7 +226,7 @@ some_joining premise lanes next join renewed joined seat p answer (inl x) = inl 
   venue_is = x.venue_is;
   new = x.new;
   keeps = x.keeps;
-  leads = (renewed, (joined, x.leads));
+  leads = (renewed, joined, x.leads);
 })
 some_joining premise lanes next join renewed joined seat p answer (inr x) = inr (x.0, x.1.0)
 
@@ -241,6 +241,6 @@ some_next premise lanes next join seat p answer (inl x) = inl (record {
   venue_is = x.venue_is;
   new = x.new;
   keeps = x.keeps;
-  leads = (next, x.leads);
+  leads = (next, x.leads.0, x.leads.1, x.leads.2);
 })
 some_next premise lanes next join seat p answer (inr x) = inr x

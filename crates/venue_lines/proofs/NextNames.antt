@@ -16,6 +16,11 @@ use Rattle.venue_lines.specs.Cells.{CellState}
 use Rattle.venue_lines.specs.NextSessions.{AreNextNames, BeginsBefore, NextNames, RenewsIf, name_after}
 use Rattle.venue_lines.specs.Sections.{BeginsNext, HasSkippedPast, RenewsSession}
 
+-- the name at a place of names that are listed
+pub at_place : (found : Option (List ℕ)) (listed names : List (List ℕ)) (p q : ℕ)
+    → found ≡ slice_get listed p → listed ≡ names → p ≡ q → found ≡ slice_get names q
+at_place found listed names p q is same place = is ∙ (λ i. slice_get (same i) (place i))
+
 -- the name in turn, where the names are the venue's
 pub in_turn : (next : NextNames) (venue ordinal : ℕ) (differ : Bool)
     → differ ≡ not (next.venue == venue) → differ ≡ false
