@@ -37,6 +37,7 @@ mod listen_outputs;
 mod listen_parts;
 mod listen_rules;
 mod listen_words;
+mod listened_next;
 mod next_sessions;
 mod option_table;
 mod option_values;
@@ -60,5 +61,6 @@ mod time_words;
 
 pub use command_line::settings;
 pub use explanation::{explanation_of, symbol_words};
+pub use listened_next::listened_next;
 pub use refusal::Refusal;
 pub use task::Task;

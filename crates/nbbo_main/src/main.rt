@@ -16,10 +16,10 @@
 ghost use Rattle.std.specs.Prelude.{◌≡◌, ◌≢◌, ◌<◌};
 ghost use Rattle.command_words.specs.declared.refusal.Refusal.TheVariants.{NoMemory, NotText};
 
-use command_words::{Refusal, explanation_of, symbol_words};
+use command_words::{Refusal, explanation_of, listened_next, symbol_words};
 use feed_text::{CaptureIn, Count, StreamIn, StreamOut, TextOut, write_stderr};
 use nbbo_runs::{Next, RunFacts, Terminals, hint_at_file, journal_hint, refuse, run};
-use run_settings::ListenSettings;
+use run_settings::{ListenSettings, NextSession};
 use std::alloc::{AllocError, Global};
 use std::fs::File;
 use std::io::{ErrorKind, IsTerminal, Stderr, Stdin, Stdout};
@@ -103,8 +103,13 @@ where
     match next {
         Next::Ended(status) => status,
         Next::Listens(settings) => {
+            let Ok(next) = next_of_words(rt) else {
+                write_stderr(NO_MEMORY, &mut errors);
+                return 1;
+            };
             let (of_rows, of_texts) = (Count::new(of_rows), Count::new(of_texts));
-            listen_live::<H, _, L, M>(rt, threads, &settings, of_rows, of_texts, errors)
+            let next = next.as_slice();
+            listen_live::<H, _, L, M>(rt, threads, &settings, next, of_rows, of_texts, errors)
         }
     }
 }
@@ -235,11 +240,21 @@ impl StreamShares {
     }
 }
 
+/// Returns the sessions that follow the venues' first ones by the words of the command line, which
+/// weren't refused.
+fn next_of_words(rt: &HostRuntime) -> Result<Vec<NextSession>, Refusal> {
+    match words_of(rt) {
+        Ok(words) => listened_next(rt.alloc(), words.as_slice()),
+        Err(error) => Err(unread(error.kind())),
+    }
+}
+
 /// Listens on the lines of the settings, and returns the status of the program.
 fn listen_live<H, E, L, M>(
     rt: &HostRuntime,
     threads: &H,
     settings: &ListenSettings,
+    next: &[NextSession],
     of_rows: Count<L>,
     of_texts: Count<M>,
     mut errors: E,
@@ -280,6 +295,7 @@ where
         rt,
         rt.alloc(),
         settings,
+        next,
         sockets,
         streams,
     );
