@@ -211,7 +211,12 @@ in_session watch status =
 -- the news of that
 abbrev pub begun_news : (second : ℕ) → GapWatch → VenueStatus → SessionNews
 begun_news second watch status =
-    record { second = second; venue = watch.venue; session = status.session }
+    record {
+      second = second;
+      venue = watch.venue;
+      session = status.session;
+      missed = status.ordinal - watch.ordinal - 1;
+    }
 
 -- Where a session has begun since the last look, it is said that what was told to be lacking has
 -- come, and then that it has begun; else nothing.

@@ -435,14 +435,15 @@ impl GapWatch {
         }
         let second = now_ms / 1_000;
         self.say(second, GapChange::Closed, self.told, errors);
-        self.told = None;
-        self.standing = None;
-        self.ordinal = status.ordinal;
         let news = SessionNews {
             second,
             venue: self.venue,
             session: status.session,
+            missed: status.ordinal - self.ordinal - 1,
         };
+        self.told = None;
+        self.standing = None;
+        self.ordinal = status.ordinal;
         write_session_news(&news, errors);
     }
 

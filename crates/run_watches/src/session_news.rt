@@ -2,10 +2,10 @@
 ghost use Rattle.std.specs.Prelude.{◌≡◌};
 ghost use Rattle.feed_text.specs.Devices.{Writing};
 ghost use Rattle.feed_text.specs.StandardError.{SaysEach};
-ghost use Rattle.run_watches.specs.SessionNews.{session_news_texts};
+ghost use Rattle.run_watches.specs.SessionNews.{missed_texts, session_news_texts};
 
 use crate::gap_news::write_venue;
-use feed_text::{TextOut, write_stderr};
+use feed_text::{TextOut, write_number, write_stderr};
 use feed_types::VenueId;
 use run_notes::write_session_name;
 
@@ -18,6 +18,22 @@ pub struct SessionNews {
     pub venue: VenueId,
     /// The session's name.
     pub session: [u8; 10],
+    /// How many sessions before it have begun and ended since the last look.
+    pub missed: u64,
+}
+
+/// Writes the end of the line: how many sessions have begun and ended before, if any.
+fn write_missed<E: TextOut>(missed: u64, errors: &mut E)
+    ensures { SaysEach (record { adds = E.adds; failures = E.failures })
+        (missed_texts missed) errors.old errors.new }
+{
+    if missed == 0 {
+        write_stderr("\n", errors);
+        return;
+    }
+    write_stderr(", after ", errors);
+    write_number(missed, errors);
+    write_stderr(" that came and went since the last look\n", errors);
 }
 
 /// Writes that the session has begun.
@@ -28,5 +44,5 @@ pub fn write_session_news<E: TextOut>(news: &SessionNews, errors: &mut E)
     write_venue(news.second, news.venue, errors);
     write_stderr(" begins session ", errors);
     write_session_name(&news.session, errors);
-    write_stderr("\n", errors);
+    write_missed(news.missed, errors);
 }

@@ -1,5 +1,8 @@
 //! The sessions that follow the venues' first ones in a run.
-ghost use Rattle.std.specs.Prelude.{◌≡◌, IfOk};
+ghost use Rattle.std.specs.Prelude.{◌≡◌, ◌∷◌, ◌++◌, [], IfOk, Some};
+ghost use Rattle.std.specs.List.{last_or};
+ghost use Rattle.feed_text.specs.Rules.{names_after};
+ghost use Rattle.udp_listening.specs.Settings.{end_followed};
 
 use feed_types::{Anything, VenueId};
 use live_feed::LiveFeed;
@@ -11,7 +14,9 @@ pub(crate) fn names_after(
     alloc: Global,
     venue: VenueId,
     next: &[NextSession],
-) -> Result<Vec<[u8; 10]>, AllocError> {
+) -> Result<Vec<[u8; 10]>, AllocError>
+    ensures { IfOk result (λ names. names.items ≡ names_after venue next.now) }
+{
     let mut names = Vec::new(alloc);
     for session in next {
         if session.venue == venue {
@@ -44,36 +49,40 @@ pub(crate) fn name_all(
 /// The sessions of a venue, as its lines have them.
 #[derive(Drop)]
 pub(crate) struct VenueSessions {
-    /// Those before the last one.
+    /// Those before the last one, in order.
     pub(crate) earlier: Vec<[u8; 10]>,
     pub(crate) last: [u8; 10],
 }
 
-/// Returns the sessions of a venue, of which `first` is the first.
+/// Returns the sessions of a venue, of which `first` is the first, and these follow.
 pub(crate) fn sessions_of(
     alloc: Global,
-    venue: VenueId,
     first: [u8; 10],
-    next: &[NextSession],
-) -> Result<VenueSessions, AllocError> {
+    following: &[[u8; 10]],
+) -> Result<VenueSessions, AllocError>
+    ensures all { IfOk result (λ sessions. sessions.earlier.items ++ sessions.last ∷ []
+        ≡ first ∷ following.now) }
+    ensures last { IfOk result (λ sessions. last_or (Some first) following.now
+        ≡ Some sessions.last) }
+{
     let mut sessions = VenueSessions {
         earlier: Vec::new(alloc),
         last: first,
     };
-    for session in next {
-        if session.venue == venue {
-            sessions.earlier.push(sessions.last)?;
-            sessions.last = session.name;
-        }
+    for name in following {
+        sessions.earlier.push(sessions.last)?;
+        sessions.last = *name;
     }
     Ok(sessions)
 }
 
-/// Which ends end the lines of a venue in a run that ends with these: where a session follows
-/// another, that of the last one alone.
-pub(crate) fn end_by(sessions: &VenueSessions, end: EndRule) -> EndRule {
+/// Returns which ends end the lines of a venue, whose first session these follow, in a run that
+/// ends with these.
+pub(crate) fn end_by(following: &[[u8; 10]], end: EndRule) -> EndRule
+    ensures { result ≡ end_followed following.now end }
+{
     match end {
-        EndRule::AnySession if !sessions.earlier.is_empty() => EndRule::OwnSession,
+        EndRule::AnySession if !following.is_empty() => EndRule::OwnSession,
         end => end,
     }
 }

@@ -7,7 +7,7 @@ ghost use Rattle.udp_listening.specs.Reports.{task_line};
 ghost use Rattle.udp_listening.specs.Settings.{IsSourceOf, end_rule_of, most_read_of};
 
 use crate::listen_sockets::BoundLine;
-use crate::next_sessions::{end_by, sessions_of};
+use crate::next_sessions::{end_by, names_after, sessions_of};
 use best_rows::has_times;
 use feed_types::{LineId, VenueId};
 use live_feed::{LineSource, LineTask};
@@ -97,7 +97,7 @@ fn source_of<C: Clock + Drop>(
     clock: C,
 ) -> Result<UdpSource<C>, AllocError>
     requires { bound.venue < vec_len settings.now.feed.sessions }
-    ensures { IfOk result (IsSourceOf settings.now bound.venue bound.line) }
+    ensures { IfOk result (IsSourceOf settings.now next.now bound.venue bound.line) }
 {
     let BoundLine {
         venue,
@@ -105,8 +105,10 @@ fn source_of<C: Clock + Drop>(
         socket,
         requests,
     } = bound;
-    let sessions = sessions_of(alloc, venue, settings.feed.sessions[venue.index()], next)?;
-    let end = end_by(&sessions, settings.end);
+    let following = names_after(alloc, venue, next)?;
+    let first = settings.feed.sessions[venue.index()];
+    let sessions = sessions_of(alloc, first, following.as_slice())?;
+    let end = end_by(following.as_slice(), settings.end);
     let of_line = UdpLineSettings {
         venue,
         line: shares.use_of(alloc, line),
