@@ -9,7 +9,7 @@ use Rattle.feed_text.specs.StandardError.{SaysEach}
 use Rattle.line_arbiter.specs.declared.arbiter.ArbiterStatus.{ArbiterStatus}
 use Rattle.mold_packet.specs.declared.request.Request.{Request}
 use Rattle.run_watches.specs.GapNews.{gap_texts_if}
-use Rattle.run_watches.specs.Gaps.{LooksAt, SaysBegun, SaysOfGap, SaysOfVenue, TellsIfDone, TellsStanding, after_joins, begun_news, closed_run, due_of, gap_next, gives_up, has_stood, in_session, joined_run, lacking_of, news_of, stands, stood_of, told_still, unanswered_of}
+use Rattle.run_watches.specs.Gaps.{LooksAt, SaysBegun, SaysOfGap, SaysOfVenue, TellsIfDone, TellsStanding, after_joins, begun_news, closed_run, due_of, gap_next, gives_up, has_stood, watch_begun, joined_run, lacking_of, news_of, stands, stood_of, told_still, unanswered_of}
 use Rattle.run_watches.specs.RunLines.{WatchedRun, watched_venue}
 use Rattle.run_watches.specs.RunNews.{IsNewsOf, IsNewsOfGap, MayHappen, RunNews, SaysCounts, SaysNews, SaysRunNews, of_counts, of_gap, of_session, run_news_texts}
 use Rattle.run_watches.specs.declared.gap_news.GapChange.{GapChange}
@@ -148,15 +148,17 @@ of_session_if : {E : Type 0} (w : Writing E) (rule : GapRule) (watch : GapWatch)
 of_session_if w rule watch now status true s t said =
     let P = IsNewsOfGap rule watch.venue in
     more_news w P s said.closed t
-    (said_if_any w rule (now / 1000) watch.venue Closed watch.told s said.closed tt said.says_closed)
+    (said_if_any w rule (now / 1000) watch.venue Closed watch.told s said.closed tt
+    said.says_closed)
     (one_news w P (of_session (begun_news (now / 1000) watch status)) said.closed t refl
     said.says_begun)
-of_session_if w rule watch now status false s t said = unsaid w (IsNewsOfGap rule watch.venue) s t said
+of_session_if w rule watch now status false s t said =
+    unsaid w (IsNewsOfGap rule watch.venue) s t said
 
 -- the watch stays its venue's
-in_session_venue : (watch : GapWatch) (status : VenueStatus)
-    → (in_session watch status).venue ≡ watch.venue
-in_session_venue watch status = elim (cases_Bool (nat_lt watch.ordinal status.ordinal)) [
+begun_venue : (watch : GapWatch) (status : VenueStatus)
+    → (watch_begun watch status).venue ≡ watch.venue
+begun_venue watch status = elim (cases_Bool (nat_lt watch.ordinal status.ordinal)) [
   | inl later ↦ rw later refl
   | inr same ↦ rw same refl
 ]
@@ -169,8 +171,8 @@ of_venue_seen w answers rule watch now status s t seen =
     more_news w (IsNewsOfGap rule watch.venue) s seen.begun t
     (of_session_if w rule watch now status (nat_lt watch.ordinal status.ordinal) s seen.begun
     seen.tells_session)
-    (subst (λ (v : ℕ). SaysNews w (IsNewsOfGap rule v) seen.begun t) (in_session_venue watch status)
-    (of_gap_seen w answers rule (stands (in_session watch status) now status) now status seen.begun
+    (subst (λ (v : ℕ). SaysNews w (IsNewsOfGap rule v) seen.begun t) (begun_venue watch status)
+    (of_gap_seen w answers rule (stands (watch_begun watch status) now status) now status seen.begun
     t seen.gap))
 
 of_shown : {E : Type 0} (w : Writing E) (answers : ℕ → Bool → Type 0) (rule : GapRule)

@@ -203,8 +203,8 @@ after_joins rule watch status = record watch {
 
 -- the watch once its venue has come to this session: where that has begun since the last look, the
 -- one before is over, and nothing of it is lacking any more
-abbrev pub in_session : GapWatch → VenueStatus → GapWatch
-in_session watch status =
+abbrev pub watch_begun : GapWatch → VenueStatus → GapWatch
+watch_begun watch status =
     if nat_lt watch.ordinal status.ordinal
     then record watch { standing = None; told = None; ordinal = status.ordinal } else watch
 
@@ -254,7 +254,7 @@ pub record SaysOfVenue {E : Type 0} (writing : Writing E) (answers : ℕ → Boo
     : Type 0 where
   pub begun : E
   pub tells_session : SaysOfSession writing watch now status before begun
-  pub gap : SaysOfGap writing answers rule (stands (in_session watch status) now status) now status
+  pub gap : SaysOfGap writing answers rule (stands (watch_begun watch status) now status) now status
       begun after
 
 -- A venue is looked at at this time: that is said of its session and its gap by what is shown of

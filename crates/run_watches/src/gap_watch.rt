@@ -5,7 +5,7 @@ ghost use Rattle.line_arbiter.specs.Counts.{shown};
 ghost use Rattle.feed_text.specs.Devices.{Writing};
 ghost use Rattle.feed_text.specs.StandardError.{SaysEach};
 ghost use Rattle.run_watches.specs.GapNews.{gap_texts_if};
-ghost use Rattle.run_watches.specs.Gaps.{GivesUpDue, LooksAt, SaysOfSession, TellsIfDone, TellsStanding, after_joins, closed_run, due_count, due_of, gap_next, has_come, in_session, is_unanswered, joined_run, lacking_of, news_of, run_count, run_of, said_then, standing_at, stands, stood_of, told_still, told_then, unanswered_of};
+ghost use Rattle.run_watches.specs.Gaps.{GivesUpDue, LooksAt, SaysOfSession, TellsIfDone, TellsStanding, after_joins, closed_run, due_count, due_of, gap_next, has_come, watch_begun, is_unanswered, joined_run, lacking_of, news_of, run_count, run_of, said_then, standing_at, stands, stood_of, told_still, told_then, unanswered_of};
 
 use crate::gap_news::{GapChange, GapNews, MissingRun, write_gap_news};
 use crate::gap_rule::GapRule;
@@ -423,10 +423,10 @@ impl GapWatch {
         self.given_up = self.given_up.saturating_add(run_count(joined));
     }
 
-    /// Says which session has begun since the last look, if one has. The one before is over, so what
-    /// was told to be lacking of it has come, and no gap of it stands.
+    /// Says which session has begun since the last look, if one has. The one before is over, so
+    /// what was told to be lacking of it has come, and no gap of it stands.
     fn tell_session<E: TextOut>(&mut self, now_ms: u64, status: &VenueStatus, errors: &mut E)
-        ensures watch { self.new ≡ in_session self.old status.now }
+        ensures watch { self.new ≡ watch_begun self.old status.now }
         ensures tells { SaysOfSession (record { adds = E.adds; failures = E.failures }) self.old
             now_ms status.now errors.old errors.new }
     {

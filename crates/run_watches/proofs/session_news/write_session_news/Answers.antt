@@ -21,6 +21,8 @@ returns g c =
     let named = c.write_session_name.new.errors in
     let last = c.write_missed.new.errors in
     says_each w (venue_time_texts news.second news.venue)
-    (codes " begins session " ∷ (name ++ rest)) c.args.errors.now timed last c.write_venue.ensures
-    (begun, c.write_stderr.ensures,
-    says_each w name rest begun named last c.write_session_name.ensures c.write_missed.ensures)
+    (codes " begins session " ∷ (name ++ rest)) c.args.errors.now timed last c.write_venue.ensures (
+      begun,
+      c.write_stderr.ensures,
+      says_each w name rest begun named last c.write_session_name.ensures c.write_missed.ensures,
+    )
