@@ -37,8 +37,8 @@ mod listen_outputs;
 mod listen_parts;
 mod listen_rules;
 mod listen_words;
-mod listened_next;
 mod next_sessions;
+mod next_words;
 mod option_table;
 mod option_values;
 mod options;
@@ -61,6 +61,6 @@ mod time_words;
 
 pub use command_line::settings;
 pub use explanation::{explanation_of, symbol_words};
-pub use listened_next::listened_next;
+pub use next_words::listened_next;
 pub use refusal::Refusal;
 pub use task::Task;
