@@ -1,5 +1,5 @@
 //! What a run of `listen` receives: its feed, its lines, and where it asks for what is missing.
-ghost use Rattle.std.specs.Prelude.{◌≡◌, ◌*◌, ◌≤◌, IfOk, codes, false, unwrap_or, vec_len};
+ghost use Rattle.std.specs.Prelude.{◌≡◌, ◌*◌, ◌≤◌, IfOk, codes, true, unwrap_or, vec_len};
 ghost use Rattle.clap.specs.Matches.{found_of};
 ghost use Rattle.clap.specs.Walk.{first_of, one_of, rows_of};
 ghost use Rattle.command_words.specs.Addresses.{ReadsLines, ReadsRequest};
