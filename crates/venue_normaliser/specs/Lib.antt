@@ -1,0 +1,6 @@
+pub mod Brought
+pub mod Outputs
+pub mod Forms
+pub mod Slots
+pub mod States
+pub mod Inside
