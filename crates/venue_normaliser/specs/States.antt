@@ -4,7 +4,7 @@ use Rattle.feed_types.specs.declared.item.Numbered.{Numbered}
 use Rattle.itch_book.specs.Books.{OrderBookState, FitsEvents}
 use Rattle.line_arbiter.specs.Packets.{Input, end_of}
 use Rattle.line_arbiter.specs.Streams.{front_of, end_at}
-use Rattle.line_arbiter.specs.States.{State}
+use Rattle.line_arbiter.specs.States.{State, IsNew}
 use Rattle.line_arbiter.specs.Fits.{Fits}
 use Rattle.line_arbiter.specs.Skips.{AllSent}
 use Rattle.venue_normaliser.specs.declared.message_slot.MessageSlot.{MessageSlot}
@@ -50,3 +50,10 @@ pub record KeepsItsBook (old new : NormaliserState) : Type 0 where
   pub keys : new.book.keys ≡ old.book.keys
   pub end_number : new.end_number ≡ old.end_number
   pub venue : new.lines.venue ≡ old.lines.venue
+
+-- a normaliser that was given nothing
+pub record IsNewNormaliser (s : NormaliserState) (venue : ℕ) (name symbols : List ℕ) (width : ℕ)
+    (ends : EndNumber) : Type 0 where
+  pub lines : IsNew s.lines venue name width
+  pub keys : s.book.keys ≡ symbols
+  pub end_number : s.end_number ≡ ends

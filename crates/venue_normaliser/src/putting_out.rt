@@ -46,7 +46,10 @@ fn put_message(
         out.old.items out.new.items) }
 {
     let event = read_event(message);
+    // For the prover alone: each symbol has a row.
+    let _symbols = book.symbol_count();
     let item = book.apply(&event)?;
+    let _symbols = book.symbol_count();
     put_out(out, number, item)
 }
 
