@@ -294,6 +294,15 @@ impl OrderBook {
         }
     }
 
+    /// Returns the number of the book's symbols, each of which has one row.
+    #[inline(always)]
+    pub fn symbol_count(&self) -> usize
+        ensures keys { result ≡ length self.now.keys }
+        ensures rows { result ≡ length self.now.rows }
+    {
+        self.rows.len()
+    }
+
     /// Returns what the book shows of the symbol at a place: its quotation, with the best bid and
     /// offer of the orders that the messages leave.
     pub fn quote(&self, place: usize) -> Quote

@@ -1,0 +1,7 @@
+pub mod Brought
+pub mod Outputs
+pub mod Forms
+pub mod Slots
+pub mod Ends
+pub mod States
+pub mod Inside

@@ -1,0 +1,59 @@
+-- A venue's normaliser, and the packets and skips that it was given in the present session.
+use Rattle.std.specs.Prelude.{◌≡◌, ℕ, ◌+◌, Bool, true, false, List, ◌++◌, length}
+use Rattle.feed_types.specs.declared.item.Numbered.{Numbered}
+use Rattle.itch_book.specs.Books.{OrderBookState, FitsEvents}
+use Rattle.line_arbiter.specs.Packets.{Input, end_of}
+use Rattle.line_arbiter.specs.Streams.{front_of, end_at}
+use Rattle.line_arbiter.specs.States.{State, IsNew}
+use Rattle.line_arbiter.specs.Fits.{Fits}
+use Rattle.line_arbiter.specs.Skips.{AllSent}
+use Rattle.venue_normaliser.specs.declared.message_slot.MessageSlot.{MessageSlot}
+use Rattle.venue_normaliser.specs.declared.end_number.EndNumber.{EndNumber}
+use Rattle.venue_normaliser.specs.Brought.{has_skip, messages_of}
+use Rattle.venue_normaliser.specs.Outputs.{IsPutOut, events_of}
+use Rattle.venue_normaliser.specs.Slots.{KeepsTaken}
+
+-- the arbiter of the venue's lines, the slots, the orders, whether a gap was given up in the
+-- present session, and how an end's number is read
+pub record NormaliserState : Type 0 where
+  pub lines : State
+  pub slots : List MessageSlot
+  pub book : OrderBookState
+  pub has_given_up : Bool
+  pub end_number : EndNumber
+
+-- the orders are those that the messages up to the first gap leave, and the slots have the messages
+-- past it
+pub record KeepsSession (s : NormaliserState) (packets : List Input) : Type 0 where
+  pub slots : KeepsTaken s.slots s.lines.sent packets
+  pub book : FitsEvents s.book (events_of (messages_of packets))
+
+-- The state is that after these packets and skips of the present session: all that is ready was put
+-- out, and unless a gap was given up, the session is kept.
+pub record FitsPackets (s : NormaliserState) (packets : List Input) : Type 0 where
+  pub lines : Fits s.lines packets
+  pub all_sent : AllSent packets s.lines.sent
+  pub given_up : s.has_given_up ≡ has_skip packets
+  pub session : s.has_given_up ≡ false → KeepsSession s packets
+
+-- What a call puts out: it follows what the caller had there, and with what was put out before it
+-- is what these packets and skips make.
+pub record PutsOut (keys : List ℕ) (before after : List Input) (old new : List Numbered)
+    : Type 0 where
+  pub more : List Numbered
+  pub appended : new ≡ old ++ more
+  pub whole : (output : List Numbered) → IsPutOut keys before output
+      → IsPutOut keys after (output ++ more)
+
+-- what every call leaves as it is
+pub record KeepsItsBook (old new : NormaliserState) : Type 0 where
+  pub keys : new.book.keys ≡ old.book.keys
+  pub end_number : new.end_number ≡ old.end_number
+  pub venue : new.lines.venue ≡ old.lines.venue
+
+-- a normaliser that was given nothing
+pub record IsNewNormaliser (s : NormaliserState) (venue : ℕ) (name symbols : List ℕ) (width : ℕ)
+    (ends : EndNumber) : Type 0 where
+  pub lines : IsNew s.lines venue name width
+  pub keys : s.book.keys ≡ symbols
+  pub end_number : s.end_number ≡ ends

@@ -1,0 +1,26 @@
+//! One venue's lines in ITCH, as the items of this project's own messages.
+//!
+//! A [`VenueNormaliser`] is given the packets of a venue's lines. Its arbiter puts their messages in
+//! sequence, each once; its book keeps the orders that they leave; and each message becomes one item
+//! with its number: the quotation that it changed, a halt, or Other. [`MessageForm`] has the bytes
+//! of an item. A gap that is given up ends what is put out of the session.
+//!
+//! Contract: for every list of packets and skips that the normaliser fits (`FitsPackets`), a call
+//! puts out what they make (`PutsOut`). Begin at `specs/Outputs.antt`, which has the item of each
+//! message, then `specs/Brought.antt`, which has the messages by their numbers.
+#![tactic(auto)]
+
+mod end_number;
+mod fault;
+mod message_form;
+mod message_slot;
+mod message_slots;
+mod normaliser;
+mod normaliser_settings;
+mod putting_out;
+
+pub use end_number::EndNumber;
+pub use fault::NormaliserFault;
+pub use message_form::MessageForm;
+pub use normaliser::VenueNormaliser;
+pub use normaliser_settings::NormaliserSettings;
