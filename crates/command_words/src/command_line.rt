@@ -14,6 +14,7 @@ ghost use Rattle.command_words.specs.RunRequests.{ReadsReplay, ReadsStats};
 use crate::captured_lines::read_all_lines;
 use crate::commands::nbbo_command;
 use crate::listen_words::listening_of;
+use crate::normalise_words::normalising_of;
 use crate::option_values::{given_text, text_of};
 use crate::refusal::Refusal;
 use crate::run_words::{replay_of, stats_of};
@@ -121,6 +122,9 @@ fn task_of(alloc: Global, matches: &ArgMatches<'_>) -> Result<Task, Refusal>
     }
     if let Some(stats) = options_of(matches, "stats") {
         return stats_task(alloc, stats);
+    }
+    if let Some(normalise) = options_of(matches, "normalise") {
+        return Ok(Task::Normalise(normalising_of(alloc, normalise)?));
     }
     if let Some(lines) = options_of(matches, "lines") {
         return discovery_of(lines);

@@ -7,6 +7,7 @@ ghost use Rattle.command_words.specs.Commands.{converting_app, listening_app, nb
 use crate::convert_command::convert_command;
 use crate::discovery_command::discovery_command;
 use crate::listen_command::listen_command;
+use crate::normalise_command::normalise_command;
 use crate::replay_command::replay_command;
 use crate::stats_command::stats_command;
 use clap::Command;
@@ -94,5 +95,7 @@ pub fn nbbo_command<'a>(alloc: Global) -> Result<Command<'a>, AllocError>
     ensures app { IfOk result (λ c. app_of c ≡ nbbo_app) }
     ensures local { IfOk result (λ c. (fields_of c).has_globals ≡ false) }
 {
-    reporting_command(alloc)?.subcommand(discovery_command(alloc)?)
+    reporting_command(alloc)?
+        .subcommand(normalise_command(alloc)?)?
+        .subcommand(discovery_command(alloc)?)
 }

@@ -38,6 +38,9 @@ mod listen_parts;
 mod listen_rules;
 mod listen_words;
 mod next_sessions;
+mod normalise_command;
+mod normalise_task;
+mod normalise_words;
 mod option_table;
 mod option_values;
 mod options;
@@ -60,5 +63,6 @@ mod time_words;
 
 pub use command_line::settings;
 pub use explanation::{explanation_of, symbol_words};
+pub use normalise_task::{EndNumberRule, NormaliseTask};
 pub use refusal::Refusal;
 pub use task::Task;

@@ -74,6 +74,8 @@ pub enum Refusal {
     SendersWithFrom,
     /// The text for the address of metrics is no address.
     BadMetrics,
+    /// The rule for the number of an end of session is none of those that there are.
+    BadEndNumber,
     /// A symbol is empty, has more than eight bytes, or has a byte outside of `21` to `7e`.
     BadSymbol,
     /// More than 4,096 symbols are named.
@@ -103,7 +105,7 @@ impl Refusal {
             Refusal::BadTimeStyle | Refusal::TimesOfText | Refusal::TimesWithoutLines => 2,
             Refusal::GapsWithEvery | Refusal::BadEnd | Refusal::KeptUnfollowed => 2,
             Refusal::FormatUnfollowed | Refusal::BadSender | Refusal::BadMetrics => 2,
-            Refusal::SendersWithFrom => 2,
+            Refusal::SendersWithFrom | Refusal::BadEndNumber => 2,
             Refusal::BadSymbol | Refusal::TooManySymbols | Refusal::DuplicateSymbol => 2,
         }
     }
@@ -141,6 +143,7 @@ impl Refusal {
             Refusal::BadSender => "nbbo: bad sender\n",
             Refusal::SendersWithFrom => "nbbo: --senders with --from\n",
             Refusal::BadMetrics => "nbbo: bad metrics address\n",
+            Refusal::BadEndNumber => "nbbo: bad end number\n",
             Refusal::BadSymbol => "nbbo: bad symbol\n",
             Refusal::TooManySymbols => "nbbo: too many symbols\n",
             Refusal::DuplicateSymbol => "nbbo: duplicate symbol\n",

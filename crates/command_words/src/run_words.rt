@@ -75,8 +75,18 @@ fn skips_of(run: &ArgMatches<'_>) -> Result<SkipRule, Refusal>
     )
 }
 
+/// Returns the rule for gaps that the options of `normalise` give, which has no `--join`.
+pub fn skips_of_normalise(options: &ArgMatches<'_>) -> Result<SkipRule, Refusal> {
+    skips_in(
+        false,
+        flag_of(options, "skip-gaps"),
+        number_of(options, "skip-after"),
+        given_text(options, "lines"),
+    )
+}
+
 /// Returns the sessions that follow the first ones of `venues` venues.
-fn next_sessions_of(
+pub fn next_sessions_of(
     alloc: Global,
     run: &ArgMatches<'_>,
     venues: usize,
@@ -92,7 +102,7 @@ fn next_sessions_of(
 }
 
 /// Returns the input for `venues` venues that the options give: with `--lines` a packet capture.
-fn input_of(alloc: Global, run: &ArgMatches<'_>, venues: usize) -> Result<RunInput, Refusal>
+pub fn input_of(alloc: Global, run: &ArgMatches<'_>, venues: usize) -> Result<RunInput, Refusal>
     requires { venues ≤ 16 }
     ensures reads { ReadsInput (first_of (codes "lines") (rows_of (found_of run.now))) venues
         result }

@@ -1,5 +1,6 @@
 //! The tasks of the program.
 
+use crate::normalise_task::NormaliseTask;
 use run_settings::{CapturedLine, ListenSettings, RunSettings, StatsFormat, TimeStyle};
 
 /// The task of the program.
@@ -11,6 +12,8 @@ pub enum Task {
     Convert(Vec<CapturedLine>),
     /// `nbbo lines`, with the form of its rows and the style of their times.
     Discover(StatsFormat, TimeStyle),
+    /// `nbbo normalise`.
+    Normalise(NormaliseTask),
     /// `nbbo listen`.
     Listen(ListenSettings),
 }

@@ -4,6 +4,7 @@ ghost use Rattle.nbbo_runs.specs.Runs.{Leads, TellsRefusal};
 
 use crate::discovery::run_discovery;
 use crate::ending::WRITE_FAILED;
+use crate::normalisation::run_normalisation;
 use crate::runs::{RunEnd, run_conversion, run_settings};
 use crate::survey_form::SurveyForm;
 use crate::terminals::Terminals;
@@ -127,6 +128,11 @@ pub fn run<R: CaptureIn + Drop, W: TextOut + Drop, E: TextOut>(
         Ok(Task::Convert(lines)) => {
             let lines = lines.as_slice();
             let status = run_conversion(alloc, lines, terminals, &mut input, &mut output, errors);
+            ended(status, input, output, RunFacts::default())
+        }
+        Ok(Task::Normalise(task)) => {
+            let status =
+                run_normalisation(alloc, &task, terminals, &mut input, &mut output, errors);
             ended(status, input, output, RunFacts::default())
         }
         Ok(Task::Discover(format, times)) => {

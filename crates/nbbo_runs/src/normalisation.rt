@@ -1,0 +1,190 @@
+//! A capture of ITCH lines as one of this project's own messages.
+
+use crate::config::MAX_TURNS;
+use crate::hints::input_hint;
+use crate::own_capture::OwnCapture;
+use crate::terminals::Terminals;
+use crate::told_format::ToldFormat;
+use capture_writing::Destination;
+use command_words::{EndNumberRule, NormaliseTask};
+use feed_text::{CaptureIn, Lack, ReplayStop, TextOut, write_lacks, write_number, write_stderr};
+use feed_types::{LineId, VenueId};
+use itch_book::BookFault;
+use line_captures::PacketFormat;
+use normalising::{
+    GivenUp, NormaliseSettings, NormaliseStop, Normalised, OutputForm, VenueReport, normalise,
+};
+use packet_capture::Address;
+use run_settings::{CapturedLine, RunInput};
+use std::alloc::{AllocError, Global};
+use venue_normaliser::{EndNumber, NormaliserSettings};
+
+/// Returns where the frames of each venue go: to its line A.
+fn destinations_of(
+    alloc: Global,
+    lines: &[CapturedLine],
+    venues: usize,
+) -> Result<Vec<Destination>, AllocError> {
+    let nowhere = Destination {
+        address: [0; 4],
+        port: 0,
+    };
+    let mut destinations = vec![in alloc; nowhere; venues]?;
+    for line in lines {
+        if let (LineId::A, Address::V4(address)) = (line.line, line.address) {
+            destinations[line.venue.index()] = Destination {
+                address,
+                port: line.port,
+            };
+        }
+    }
+    Ok(destinations)
+}
+
+/// Writes which messages a venue lacks, and that it is quoted no more.
+fn write_given_up<E: TextOut>(given_up: &GivenUp, errors: &mut E) {
+    write_stderr("nbbo: venue ", errors);
+    write_number(given_up.venue.index() as u64, errors);
+    write_stderr(" lacks ", errors);
+    write_number(given_up.count, errors);
+    let messages = if given_up.count == 1 {
+        " message from "
+    } else {
+        " messages from "
+    };
+    write_stderr(messages, errors);
+    write_number(given_up.number, errors);
+    write_stderr(", and is quoted no more\n", errors);
+}
+
+/// Writes a count of a venue, unless it is 0.
+fn write_venue_count<E: TextOut>(venue: VenueId, label: &str, count: u64, errors: &mut E) {
+    if count == 0 {
+        return;
+    }
+    write_stderr("nbbo: venue ", errors);
+    write_number(venue.index() as u64, errors);
+    write_stderr(label, errors);
+    write_number(count, errors);
+    write_stderr("\n", errors);
+}
+
+/// Writes what is reported of a venue.
+fn write_report<E: TextOut>(report: &VenueReport, errors: &mut E) {
+    let lacks: &[Lack] = match &report.lack {
+        Some(lack) => std::slice::from_ref(lack),
+        None => &[],
+    };
+    write_lacks(lacks, errors);
+    let venue = report.venue;
+    write_venue_count(venue, ": datagrams that are no packet: ", report.bad_datagrams, errors);
+    write_venue_count(venue, ": packets refused: ", report.refused, errors);
+    if report.itch_packets == 0 && report.own_packets != 0 {
+        write_stderr("nbbo: venue ", errors);
+        write_number(venue.index() as u64, errors);
+        write_stderr(" looks like own messages, which nbbo replay reads as they are\n", errors);
+    }
+}
+
+/// Writes why a book ended the run.
+fn write_book_fault<E: TextOut>(venue: VenueId, fault: BookFault, errors: &mut E) {
+    if fault == BookFault::NoMemory {
+        write_stderr("nbbo: no memory\n", errors);
+        return;
+    }
+    write_stderr("nbbo: venue ", errors);
+    write_number(venue.index() as u64, errors);
+    let text = match fault {
+        BookFault::TooManyOrders => " has more live orders than --orders\n",
+        BookFault::TooManyShares => " would show more than 2^63 shares at a price\n",
+        BookFault::TooManySymbols => " has too many symbols\n",
+        BookFault::DuplicateSymbol | BookFault::NoMemory => " has a symbol twice\n",
+    };
+    write_stderr(text, errors);
+}
+
+/// Writes what a run came to, and returns the status of the program.
+fn tell<F: ToldFormat, E: TextOut>(
+    format: &F,
+    run: &Normalised<F::Fault>,
+    errors: &mut E,
+) -> u8 {
+    for given_up in &run.given_up {
+        write_given_up(given_up, errors);
+    }
+    for report in &run.reports {
+        write_report(report, errors);
+    }
+    match &run.outcome {
+        Ok(()) => {
+            format.tell_end(&Ok(()), errors);
+            0
+        }
+        Err(NormaliseStop::Replay(stop)) => {
+            format.tell_end(&Err(*stop), errors);
+            1
+        }
+        Err(NormaliseStop::Book(venue, fault)) => {
+            format.tell_end(&Ok(()), errors);
+            write_book_fault(*venue, *fault, errors);
+            1
+        }
+    }
+}
+
+/// Normalises a capture of a format, and tells what it came to.
+fn run_over<R: CaptureIn, F: ToldFormat, W: TextOut, E: TextOut>(
+    alloc: Global,
+    task: &NormaliseTask,
+    form: OutputForm<'_>,
+    format: &mut F,
+    input: &mut R,
+    output: &mut W,
+    errors: &mut E,
+) -> u8 {
+    let settings = NormaliseSettings {
+        sessions: task.sessions.as_slice(),
+        next_sessions: task.next_sessions.as_slice(),
+        symbols: task.symbols.as_slice(),
+        normaliser: NormaliserSettings {
+            window: task.window,
+            most_orders: task.orders as usize,
+            end_number: match task.end_number {
+                EndNumberRule::Next => EndNumber::Next,
+                EndNumberRule::Last => EndNumber::Last,
+            },
+        },
+        skips: task.skips,
+        form,
+    };
+    let run = normalise(alloc, MAX_TURNS, &settings, format, input, output);
+    tell(format, &run, errors)
+}
+
+/// Normalises the capture that the input is, onto the output. Returns the status of the program.
+pub fn run_normalisation<R: CaptureIn, W: TextOut, E: TextOut>(
+    alloc: Global,
+    task: &NormaliseTask,
+    terminals: Terminals,
+    input: &mut R,
+    output: &mut W,
+    errors: &mut E,
+) -> u8 {
+    write_stderr(input_hint(terminals.input), errors);
+    let venues = task.sessions.len();
+    match &task.input {
+        RunInput::Own => {
+            let mut format = OwnCapture::new(venues);
+            run_over(alloc, task, OutputForm::Own, &mut format, input, output, errors)
+        }
+        RunInput::Packets(lines) => {
+            let Ok(destinations) = destinations_of(alloc, lines.as_slice(), venues) else {
+                write_stderr("nbbo: no memory\n", errors);
+                return 1;
+            };
+            let form = OutputForm::Capture(destinations.as_slice());
+            let mut format = PacketFormat::new(lines.as_slice(), venues);
+            run_over(alloc, task, form, &mut format, input, output, errors)
+        }
+    }
+}
