@@ -7,7 +7,7 @@ use crate::terminals::Terminals;
 use crate::told_format::ToldFormat;
 use capture_writing::Destination;
 use command_words::{EndNumberRule, NormaliseTask};
-use feed_text::{CaptureIn, Lack, ReplayStop, TextOut, write_lacks, write_number, write_stderr};
+use feed_text::{CaptureIn, TextOut, write_lacks, write_number, write_stderr};
 use feed_types::{LineId, VenueId};
 use itch_book::BookFault;
 use line_captures::PacketFormat;
@@ -71,11 +71,9 @@ fn write_venue_count<E: TextOut>(venue: VenueId, label: &str, count: u64, errors
 
 /// Writes what is reported of a venue.
 fn write_report<E: TextOut>(report: &VenueReport, errors: &mut E) {
-    let lacks: &[Lack] = match &report.lack {
-        Some(lack) => std::slice::from_ref(lack),
-        None => &[],
-    };
-    write_lacks(lacks, errors);
+    if let Some(lack) = report.lack {
+        write_lacks(&[lack], errors);
+    }
     let venue = report.venue;
     write_venue_count(venue, ": datagrams that are no packet: ", report.bad_datagrams, errors);
     write_venue_count(venue, ": packets refused: ", report.refused, errors);

@@ -10,7 +10,7 @@ use feed_text::{
     CAPTURE_ROOM, CaptureIn, ReadBuffer, ReadStep, Record, RecordFormat, ReplayStop, Step, TextOut,
     is_complete,
 };
-use feed_types::{SymbolName, VenueId};
+use feed_types::{LineId, SymbolName, VenueId};
 use itch_book::BookFault;
 use mold_packet::{Packet, read_packet};
 use run_settings::{NextSession, SkipRule};
@@ -134,7 +134,8 @@ impl<'a> Venues<'a> {
         if session == self.venues[venue.index()].session() {
             return Ok(());
         }
-        for (place, next) in self.settings.next_sessions.iter().enumerate() {
+        let next_sessions = self.settings.next_sessions;
+        for (place, next) in next_sessions.iter().enumerate() {
             if next.venue == venue && !self.begun[place] {
                 if next.name == session {
                     return self.begin(venue, session, place);
@@ -162,7 +163,7 @@ impl<'a> Venues<'a> {
     fn take_datagram<W: TextOut>(
         &mut self,
         venue: VenueId,
-        line: feed_types::LineId,
+        line: LineId,
         bytes: &[u8],
         writer: &mut W,
     ) -> Result<(), VenueStop> {
@@ -345,9 +346,12 @@ pub fn normalise<R: CaptureIn, F: RecordFormat, W: TextOut>(
         Err((venue, fault)) => return refused(alloc, NormaliseStop::Book(venue, fault)),
     };
     let read = read_all(&mut venues, &mut unread, turns, format, reader, writer);
-    let outcome = match (read, venues.page.write(writer)) {
-        (Ok(()), Err(stop)) => Err(stop.into()),
-        (read, _) => read,
+    let outcome = match read {
+        Err(NormaliseStop::Replay(ReplayStop::SinkFailed)) => read,
+        _ => match (read, venues.page.write(writer)) {
+            (Ok(()), Err(_)) => Err(NormaliseStop::Replay(ReplayStop::SinkFailed)),
+            (read, _) => read,
+        },
     };
     let mut reports = Vec::new(alloc);
     for venue in &venues.venues {

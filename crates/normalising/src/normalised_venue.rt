@@ -156,7 +156,7 @@ impl NormalisedVenue {
         if self.normaliser.has_given_up() || is_over || status.known == u64::MAX {
             return Ok(());
         }
-        if status.known > self.told || answer == Ok(Outcome::Heartbeat) {
+        if status.known > self.told || matches!(answer, Ok(Outcome::Heartbeat)) {
             self.told = self.told.max(status.known);
             let origin = self.origin(time);
             page.put_empty(&origin, status.known + 1, Body::Heartbeat, writer)?;

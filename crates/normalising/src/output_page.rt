@@ -5,7 +5,7 @@ use capture_writing::{CaptureTime, MOST_BYTES, file_header, frame_head};
 use feed_text::{ReadBuffer, SinkStop, TextOut, WriteStop, write_all};
 use feed_types::{Item, Numbered, VenueId};
 use mold_packet::{Body, write_packet};
-use packet_building::build_packet;
+use packet_building::{BuiltPacket, build_packet};
 use std::alloc::{AllocError, Global};
 use venue_normaliser::MessageForm;
 
@@ -138,30 +138,47 @@ impl<'a> OutputPage<'a> {
         items: &[Numbered],
         writer: &mut W,
     ) -> Result<Result<usize, AllocError>, SinkStop> {
-        self.forms.clear();
-        for item in items {
-            if let Item::End = item.item {
-                break;
-            }
-            if self.forms.push(MessageForm::new(&item.item)).is_err() {
-                return Ok(Err(AllocError));
-            }
-        }
-        let mut messages: Vec<&[u8]> = Vec::new(self.alloc);
-        for form in &self.forms {
-            if messages.push(form.as_bytes()).is_err() {
-                return Ok(Err(AllocError));
-            }
+        if let Err(error) = fill_forms(&mut self.forms, items) {
+            return Ok(Err(error));
         }
         let packet = self.packet.as_mut_slice();
-        match build_packet(&origin.session, items[0].number, messages.as_slice(), packet) {
-            Some(built) => {
+        let number = items[0].number;
+        match build(self.alloc, &origin.session, number, self.forms.as_slice(), packet) {
+            Ok(Some(built)) => {
                 self.put_packet(origin, built.len, writer)?;
                 Ok(Ok(built.messages))
             }
-            None => Ok(Ok(items.len())),
+            Ok(None) => Ok(Ok(items.len())),
+            Err(error) => Ok(Err(error)),
         }
     }
+}
+
+/// Makes the messages of items up to the end.
+fn fill_forms(forms: &mut Vec<MessageForm>, items: &[Numbered]) -> Result<(), AllocError> {
+    forms.clear();
+    for item in items {
+        if let Item::End = item.item {
+            break;
+        }
+        forms.push(MessageForm::new(&item.item))?;
+    }
+    Ok(())
+}
+
+/// Writes the packet of the first messages into the buffer.
+fn build(
+    alloc: Global,
+    session: &[u8; 10],
+    number: u64,
+    forms: &[MessageForm],
+    packet: &mut [u8],
+) -> Result<Option<BuiltPacket>, AllocError> {
+    let mut messages: Vec<&[u8]> = Vec::with_capacity(alloc, forms.len())?;
+    for form in forms {
+        messages.push(form.as_bytes())?;
+    }
+    Ok(build_packet(session, number, messages.as_slice(), packet))
 }
 
 /// Appends a record of the project's own format.
