@@ -64,9 +64,9 @@ const ORDERS: CommandOption<'static> = CommandOption {
     name: "orders",
     value: "N",
     form: OptionForm::FromOne,
-    help: "How many live orders a venue may have [default: 16777216]",
+    help: "How many live orders a venue may have [default: 1048576]",
     long_help: "\
-How many live orders of the named symbols a venue may have at once, by default 16777216. A run
+How many live orders of the named symbols a venue may have at once, by default 1048576. A run
 that needs more ends there, with status 1",
 };
 

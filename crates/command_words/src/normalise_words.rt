@@ -12,7 +12,7 @@ use run_settings::RunInput;
 use std::alloc::Global;
 
 /// How many live orders a venue may have, where the words don't say.
-const DEFAULT_ORDERS: u32 = 16_777_216;
+const DEFAULT_ORDERS: u32 = 1_048_576;
 
 /// Returns the rule that the text for it names, by default that of the standard.
 fn read_end_number(text: Option<&str>) -> Result<EndNumberRule, Refusal> {

@@ -5,7 +5,7 @@ ghost use Rattle.mold_packet.specs.Block.{IsMessage};
 ghost use Rattle.mold_packet.specs.Body.{lent_bytes};
 ghost use Rattle.mold_packet.specs.Content.{Spells};
 ghost use Rattle.mold_packet.specs.Writing.{WritesFirst};
-ghost use Rattle.mold_packet.specs.declared.packet.Kind as kinds;
+ghost use Rattle.mold_packet.specs.declared.packet.Kind.TheVariants as kinds;
 ghost use Rattle.packet_building.specs.Fitting.{IsMost};
 
 use mold_packet::{Body, write_packet};
@@ -68,7 +68,7 @@ pub fn build_packet(
     ensures spelled { IfSome result (λ p. Spells (take p.len out.new) (record {
       session = session.now;
       number = number;
-      kind = kinds.TheVariants.Messages;
+      kind = kinds.Messages;
       messages = lent_bytes (take p.messages messages.now);
       ignored = 0;
     }) []) }

@@ -1,4 +1,4 @@
-use Rattle.std.proofs.Common.{◌≡◌, ◌≤◌, take}
+use Rattle.std.proofs.Common.{◌≡◌, ◌+◌, ◌≤◌, take}
 use Rattle.packet_building.specs.Fitting.{built_len}
 use Rattle.packet_building.proofs.built_packet.most_in.Given as goal
 
