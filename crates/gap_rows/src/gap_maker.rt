@@ -24,6 +24,7 @@ pub struct GapMaker {
 }
 
 /// Returns the venue that an event is of, if gaps have a part in it.
+#[inline(always)]
 fn venue_of(event: &Event<'_>) -> Option<VenueId>
     ensures venue { venue_in (told_by event.now) ≡ result }
     ensures shown { shown_in (told_by event.now) ≡ result }
@@ -119,6 +120,7 @@ impl RowMaker for GapMaker {
 
     ghost makes = { MakesGaps };
 
+    #[inline(always)]
     fn make<W: TextOut>(
         &mut self,
         page: &mut TextPage<W>,

@@ -68,6 +68,7 @@ fn gap_cells(venue: VenueId, gap: &EndedGap) -> [Cell<'static>; 9]
 }
 
 /// Appends the row of a gap of the venue.
+#[inline(never)]
 fn put_gap(text: &mut LineBuffer, format: RowFormat, venue: VenueId, gap: &EndedGap)
     requires { 1024 ≤ text.old.room }
     ensures row { text.new.items ≡ text.old.items ++ gap_row format venue gap.now }
@@ -89,6 +90,7 @@ fn gap_at(gaps: &[EndedGap], place: usize) -> EndedGap
 }
 
 /// Writes the rows of gaps of the venue.
+#[inline(always)]
 pub(crate) fn write_gaps<W: TextOut>(
     page: &mut TextPage<W>,
     format: RowFormat,

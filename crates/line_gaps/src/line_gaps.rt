@@ -262,7 +262,7 @@ impl LineGaps {
 
     /// Counts messages that are no higher than the highest: those that the line passed over came
     /// late, the others again.
-    #[inline(never)]
+    #[inline(always)]
     fn count_back(&mut self, run: NumberRun)
         ensures sums { (rows : List EndedGap) → AreSumsOf rows self.old.sums
             → AreSumsOf rows self.new.sums }

@@ -3,3 +3,4 @@ pub mod HeldFigures
 pub mod BestSteps
 pub mod BestLists
 pub mod BestMaking
+pub mod SequenceTies

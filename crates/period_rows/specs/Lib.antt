@@ -1,5 +1,6 @@
 pub mod Periods
 pub mod Sequences
+pub mod SequenceGaps
 pub mod LineFigures
 pub mod CountStates
 pub mod PrintedPeriods

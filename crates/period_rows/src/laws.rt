@@ -1,0 +1,12 @@
+//! Laws of the definitions.
+ghost use Rattle.feed_types.specs.declared.line.LineId.TheVariants as on;
+ghost use Rattle.line_gaps.specs.declared.gap_line.GapLine.TheVariants as lines;
+ghost use Rattle.period_rows.specs.SequenceGaps.{MissesItsGaps};
+
+/// The messages that a period's row counts as missing are those of the gaps that begin in it, by
+/// the definition of `line_gaps`: what an event of a line adds are those of the gap that begins
+/// with it. The function does nothing: its contract is a law.
+pub fn missing_is_of_gaps()
+    ensures a { MissesItsGaps on.A lines.A }
+    ensures b { MissesItsGaps on.B lines.B }
+{}
