@@ -1,5 +1,5 @@
 -- The numbers of a line as periods count them are those by which its gaps are defined.
-use Rattle.std.proofs.Common.{◌≡◌, ℕ, ◌+◌, ◌-◌, Bool, true, false, not, List, [], ◌∷◌, Option, None, Some, Ok, Err, Result, arith, ap, max, refl, sym, ◌∙◌}
+use Rattle.std.proofs.Common.{◌≡◌, ℕ, zero, suc, ◌+◌, ◌-◌, ◌<◌, ◌≤◌, Bool, true, false, not, List, [], ◌∷◌, Option, None, Some, Ok, Err, Result, arith, ap, max, min, refl, sym, ◌∙◌}
 use Rattle.std.specs.Prelude.{◌||◌, is_some, nat_lt, if◌then◌else◌}
 use Rattle.std.proofs.lemmas.Bool.Decides.{nat_tests}
 use Rattle.feed_types.specs.declared.line.LineId.{LineId}
@@ -37,7 +37,7 @@ is_not false e = refl
 
 -- ---- packets past the window, up to their time
 
-untimed : Option HeardPacket → Option HeardPacket
+abbrev untimed : Option HeardPacket → Option HeardPacket
 untimed None = None
 untimed (Some p) = Some (packet_heard p.line p.number p.count None)
 
@@ -77,7 +77,7 @@ same_line on.Recovery on.B e = cc e
 same_line on.Recovery on.Recovery e = refl
 
 -- it is of the line
-IsOn : LineId → Option HeardPacket → Type 0
+abbrev IsOn : LineId → Option HeardPacket → Type 0
 IsOn line None = Unit
 IsOn line (Some p) = p.line ≡ line
 
@@ -120,7 +120,7 @@ that_is_on : (line : LineId) (number : ℕ) (o : Option HeardPacket) → IsOn li
 that_is_on line number None is = tt
 that_is_on line number (Some p) is = is_on_if line (goes_on p number) p (λ e. is)
 
-is_granted : SinkEvent → Bool
+abbrev is_granted : SinkEvent → Bool
 is_granted (told_skip venue number (Ok done)) = true
 is_granted event = false
 
@@ -135,7 +135,7 @@ no_skip false highest (told_item venue numbered) is = refl
 no_skip false highest (told_best notice) is = refl
 no_skip false highest (told_gap venue request) is = refl
 no_skip false highest (told_renewal venue answer) is = refl
-no_skip false highest (told_declaration venue on position) is = refl
+no_skip false highest (told_declaration venue it position) is = refl
 no_skip false highest (told_last venue sent a b recovery) is = refl
 no_skip false highest (told_before event) is = refl
 
@@ -145,12 +145,20 @@ skip_begun : (begun : Bool) (highest venue number : ℕ)
 skip_begun true highest venue number = refl
 skip_begun false highest venue number = refl
 
+count_is : (n : ℕ) → count_after 0 n ≡ min n 18446744073709551615
+count_is zero = refl
+count_is (suc n) = omega arith
+
 -- the gap that a packet passes over has as many messages
 gap_if : (high number : ℕ) (b : Bool) (time : Option ℕ) → nat_lt (high + 1) number ≡ b
     → count_after 0 (number - (high + 1)) ≡ messages_of (if b
     then open_gap_of (record { first = high + 1; last = number - 1 }) time ∷ [] else [])
-gap_if high number true time is = grind (arith, nat_tests, is)
-gap_if high number false time is = grind (arith, nat_tests, is)
+gap_if high number true time is =
+    let past : high + 1 < number = grind (arith, nat_tests, is) in
+    count_is (number - (high + 1)) ∙ omega (arith, past)
+gap_if high number false time is =
+    let within : number ≤ high + 1 = grind (arith, nat_tests, is) in
+    count_is (number - (high + 1)) ∙ omega (arith, within)
 
 gap_messages : (high : ℕ) (o : Option HeardPacket)
     → count_after 0 (passed_by high o) ≡ messages_of (gap_passed high o)
@@ -158,12 +166,17 @@ gap_messages high None = refl
 gap_messages high (Some p) =
     gap_if high p.number (nat_lt (high + 1) p.number) p.time refl
 
+-- the line's numbers are those of the definition of gaps
+record IsTied (line : LineId) (gap_line : GapLine) (own : List TimedEvent) (s : LineSequence)
+    : Type 0 where
+  begun : s.begun ≡ has_begun gap_line own
+  highest : s.highest ≡ highest_on gap_line own
+  far : s.far ≡ untimed (far_on line own)
+
 module _ (line : LineId) (gap_line : GapLine)
     (own_is : (p : HeardPacket) → is_packet_of gap_line p ≡ is_same_line p.line line) where
-  record Ties (own : List TimedEvent) (s : LineSequence) : Type 0 where
-    begun : s.begun ≡ has_begun gap_line own
-    highest : s.highest ≡ highest_on gap_line own
-    far : s.far ≡ untimed (far_on line own)
+  abbrev Ties : List TimedEvent → LineSequence → Type 0
+  Ties own s = IsTied line gap_line own s
 
   own_that : (b : Bool) (o : Option HeardPacket) (l : LineId) → IsOn l o → is_same_line l line ≡ b
       → of_line gap_line o ≡ (if b then o else None)
@@ -353,41 +366,51 @@ module _ (line : LineId) (gap_line : GapLine)
   step time (told_skip venue number (Ok done)) earlier t =
       skip_tied time venue number (in_session earlier) (sequence_told line earlier) t
   step time (told_refusal venue l fault) earlier t =
-      idle (timed_event time (told_refusal venue l fault)) (in_session earlier) (sequence_told line earlier) refl refl
+      idle (timed_event time (told_refusal venue l fault)) (in_session earlier)
+      (sequence_told line earlier) refl refl
       (no_skip (has_begun gap_line (in_session earlier))
       (highest_on gap_line (in_session earlier)) (told_refusal venue l fault) refl) t
   step time (told_item venue numbered) earlier t =
-      idle (timed_event time (told_item venue numbered)) (in_session earlier) (sequence_told line earlier) refl refl
+      idle (timed_event time (told_item venue numbered)) (in_session earlier)
+      (sequence_told line earlier) refl refl
       (no_skip (has_begun gap_line (in_session earlier))
       (highest_on gap_line (in_session earlier)) (told_item venue numbered) refl) t
   step time (told_best notice) earlier t =
-      idle (timed_event time (told_best notice)) (in_session earlier) (sequence_told line earlier) refl refl
+      idle (timed_event time (told_best notice)) (in_session earlier)
+      (sequence_told line earlier) refl refl
       (no_skip (has_begun gap_line (in_session earlier))
       (highest_on gap_line (in_session earlier)) (told_best notice) refl) t
   step time (told_gap venue request) earlier t =
-      idle (timed_event time (told_gap venue request)) (in_session earlier) (sequence_told line earlier) refl refl
+      idle (timed_event time (told_gap venue request)) (in_session earlier)
+      (sequence_told line earlier) refl refl
       (no_skip (has_begun gap_line (in_session earlier))
       (highest_on gap_line (in_session earlier)) (told_gap venue request) refl) t
   step time (told_renewal venue (Err fault)) earlier t =
-      idle (timed_event time (told_renewal venue (Err fault))) (in_session earlier) (sequence_told line earlier) refl refl
+      idle (timed_event time (told_renewal venue (Err fault))) (in_session earlier)
+      (sequence_told line earlier) refl refl
       (no_skip (has_begun gap_line (in_session earlier))
       (highest_on gap_line (in_session earlier)) (told_renewal venue (Err fault)) refl) t
   step time (told_skip venue number (Err fault)) earlier t =
-      idle (timed_event time (told_skip venue number (Err fault))) (in_session earlier) (sequence_told line earlier) refl refl
+      idle (timed_event time (told_skip venue number (Err fault))) (in_session earlier)
+      (sequence_told line earlier) refl refl
       (no_skip (has_begun gap_line (in_session earlier))
       (highest_on gap_line (in_session earlier)) (told_skip venue number (Err fault)) refl) t
   step time (told_declaration venue is position) earlier t =
-      idle (timed_event time (told_declaration venue is position)) (in_session earlier) (sequence_told line earlier) refl refl
+      idle (timed_event time (told_declaration venue is position)) (in_session earlier)
+      (sequence_told line earlier) refl refl
       (no_skip (has_begun gap_line (in_session earlier))
       (highest_on gap_line (in_session earlier)) (told_declaration venue is position) refl) t
   step time (told_last venue sent a b recovery) earlier t =
-      idle (timed_event time (told_last venue sent a b recovery)) (in_session earlier) (sequence_told line earlier) refl refl
+      idle (timed_event time (told_last venue sent a b recovery)) (in_session earlier)
+      (sequence_told line earlier) refl refl
       (no_skip (has_begun gap_line (in_session earlier))
       (highest_on gap_line (in_session earlier)) (told_last venue sent a b recovery) refl) t
   step time (told_before event) earlier t =
-      idle (timed_event time (told_before event)) (in_session earlier) (sequence_told line earlier) refl refl
+      idle (timed_event time (told_before event)) (in_session earlier)
+      (sequence_told line earlier) refl refl
       (no_skip (has_begun gap_line (in_session earlier))
       (highest_on gap_line (in_session earlier)) (told_before event) refl) t
+
   tied : (events : List TimedEvent) → Ties (in_session events) (sequence_told line events)
   tied [] = record { begun = refl; highest = refl; far = refl }
   tied (last ∷ earlier) = step last.time last.event earlier (tied earlier)

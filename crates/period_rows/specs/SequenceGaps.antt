@@ -11,7 +11,7 @@ use Rattle.line_gaps.specs.OpenGaps.{gaps_with, in_session}
 use Rattle.period_rows.specs.Sequences.{no_sequence, passed_over, sequence_after}
 use Rattle.period_rows.specs.declared.line_sequence.LineSequence.{LineSequence}
 
--- a packet of another line of the venue
+-- a packet of another line of the venue; an event before a span stands here as itself
 abbrev pub is_of_other : LineId → SinkEvent → Bool
 is_of_other line (told_packet venue on number count bytes answer) = not (is_same_line on line)
 is_of_other line _ = false
