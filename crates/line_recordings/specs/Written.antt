@@ -1,4 +1,4 @@
--- What a recording has written of what came of its venues.
+-- What a recording has written of its venues: their datagrams and skips, as records.
 use Rattle.std.specs.Prelude.{◌≡◌, ◌⊎◌, ℕ, Bool, false, true, List, [], ◌∷◌, ◌++◌, Some, codes, flat_map, slice_get, slice_set}
 use Rattle.feed_text.specs.Devices.{Wrote}
 use Rattle.line_recordings.specs.Recordings.{Fates, HasRecorded, recorded_text}

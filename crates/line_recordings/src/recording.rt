@@ -15,7 +15,7 @@ const MOST_ROUNDS: u32 = 1_024;
 /// before its number.
 const CUT: [u8; 4] = [0, b'K', 0, 8];
 
-/// A recording of a run: what came of its venues, and where it is written.
+/// A recording of a run: the datagrams and skips of its venues, and where they are written.
 #[derive(Drop)]
 pub struct Recording<W> {
     venues: Vec<VenueRecords>,

@@ -275,8 +275,8 @@ impl VenueNormaliser {
     /// a session of which a gap was given up.
     ///
     /// An `Err` ends the run: memory was refused, or the book has no room for an order. The
-    /// normaliser is to be dropped then, since a replace may have taken the old order out; what is
-    /// in `out` up to there is right.
+    /// normaliser is to be dropped then, since a replace may have taken the old order out, and so
+    /// is what the call added to `out`.
     pub fn take(
         &mut self,
         line: LineId,
