@@ -31,8 +31,16 @@ def record(kind: bytes, held: bytes, venue: int = 0) -> bytes:
     return HEAD.pack(venue, kind, len(held)) + held
 
 
+def known_records_in(capture: bytes) -> Iterator[Record]:
+    """The records of a capture; BadCapture where it ends within one, or one has a kind that there isn't."""
+    for it in records_in(capture):
+        if it.kind not in KINDS:
+            raise BadCapture(f'a record has the kind {it.kind!r}')
+        yield it
+
+
 def records_in(capture: bytes) -> Iterator[Record]:
-    """The records of a capture; BadCapture where it ends within one."""
+    """The records of a capture, of any kind; BadCapture where it ends within one."""
     at = 0
     while at < len(capture):
         if at + HEAD.size > len(capture):

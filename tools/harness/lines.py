@@ -19,9 +19,11 @@ def line_in(text: str) -> Address:
     return host, int(port)
 
 
-def lines_in(text: str) -> list[Address]:
-    """Two addresses for each venue, parted by commas."""
-    lines = [line_in(part) for part in text.split(',')]
+def lines_in(text: str) -> list[Address | None]:
+    """Two addresses for each venue, parted by commas; None for '-', a line that isn't there, of which a venue has one."""
+    lines = [None if part == '-' else line_in(part) for part in text.split(',')]
     if len(lines) % 2:
         raise argparse.ArgumentTypeError('each venue has two lines')
+    if any(a is None and b is None for a, b in zip(lines[::2], lines[1::2])):
+        raise argparse.ArgumentTypeError("'-,-' leaves a venue without a line")
     return lines

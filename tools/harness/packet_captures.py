@@ -5,7 +5,7 @@ import struct
 from collections.abc import Iterable, Sequence
 from typing import NamedTuple
 
-from harness.captures import LINE_A, LINE_B, Record
+from harness.captures import LINE_A, LINE_B, BadCapture, Record
 
 Address = tuple[str, int]
 FROM_PORT = 26_400
@@ -13,6 +13,7 @@ FIRST_SECOND = 1_780_000_000
 NANOSECONDS_APART = 1_000
 ETHERNET = 1
 UDP = 17
+MOST_BYTES = {4: 65_507, 6: 65_527}  # of a datagram, by the version of its packet
 
 
 class Frame(NamedTuple):
@@ -62,13 +63,17 @@ def ethernet(address: str, port: int, held: bytes) -> bytes:
     return in_ethernet(packed(udp(port, held), address))
 
 
-def frames_of(records: Iterable[Record], lines: Sequence[Address]) -> list[Frame]:
-    """The frames of the records that came on line A or B, a microsecond apart. The others don't come on a line."""
+def frames_of(records: Iterable[Record], lines: Sequence[Address | None]) -> list[Frame]:
+    """The frames of the records that came on line A or B, a microsecond apart. The others don't come on a line, nor do those
+    of a line that isn't there. BadCapture where a datagram is too long for a frame."""
     frames = []
     for record in records:
-        if record.kind not in (LINE_A, LINE_B):
+        line = None if record.kind not in (LINE_A, LINE_B) else lines[2 * record.venue + (record.kind == LINE_B)]
+        if line is None:
             continue
-        address, port = lines[2 * record.venue + (record.kind == LINE_B)]
+        address, port = line
+        if len(record.held) > MOST_BYTES[ipaddress.ip_address(address).version]:
+            raise BadCapture(f'a record has {len(record.held)} bytes, more than a datagram to {address} can have')
         time = FIRST_SECOND * 10**9 + len(frames) * NANOSECONDS_APART
         frames.append(Frame(time, ethernet(address, port, record.held)))
     return frames
