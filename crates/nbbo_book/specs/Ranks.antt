@@ -6,7 +6,7 @@ use Rattle.feed_types.specs.declared.national.Best.{Best}
 use Rattle.nbbo_book.specs.declared.ranks.Cause.{Cause}
 use Rattle.nbbo_book.specs.declared.ranks.Cause.TheVariants.{Quoted, Rechecked}
 use Rattle.nbbo_book.specs.declared.ranks.Order.{Order}
-use Rattle.nbbo_book.specs.VenueSides.{age_at}
+use Rattle.nbbo_book.specs.VenueSides.{sides_in, age_at}
 use Rattle.nbbo_book.specs.Nationals.{is_better, beats}
 
 -- each beats those after it
@@ -55,7 +55,7 @@ is_ahead_by Rechecked side age x y = beats side age x y
 
 -- the ages of the venues' sides
 abbrev pub ages_in : Order → ℕ → ℕ
-ages_in order = age_at order.venue_sides.now
+ages_in order = age_at (sides_in order.side order.venue_sides.now)
 
 abbrev pub is_ahead : Order → Best → Best → Bool
 is_ahead order = is_ahead_by order.cause order.side (ages_in order)

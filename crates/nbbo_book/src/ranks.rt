@@ -3,10 +3,10 @@
 ghost use Rattle.std.specs.Prelude.{◌≡◌, ℕ, ◌+◌, ◌*◌, ◌^◌, ◌<◌, ◌≤◌, [], true, false, not, length, slice_index_or, slice_set, insert, remove, IfSome, None, Some};
 ghost use Rattle.nbbo_book.specs.Changes.{is_same_best};
 ghost use Rattle.nbbo_book.specs.Nationals.{is_better as is_better_side, beats as beats_side};
-ghost use Rattle.nbbo_book.specs.VenueSides.{age_at};
+ghost use Rattle.nbbo_book.specs.VenueSides.{sides_in, age_at};
 ghost use Rattle.nbbo_book.specs.Ranks.{is_ahead as is_ahead_side, ages_in, AreNoted, CanMove, CanUpdate, HasNone, IsPlace, without, with_rank, placed, best_of_ranks};
 
-use crate::venue_side::{VenueSide, venue_side_at};
+use crate::venue_sides::VenueSides;
 use arrayvec::ArrayVec;
 use feed_types::{Best, MAX_VENUES, Side, VenueId};
 use std::marker::Model;
@@ -26,7 +26,7 @@ pub struct Order<'a> {
     pub side: Side,
     pub cause: Cause,
     /// What the venues show by now, with the ages.
-    pub venue_sides: &'a [VenueSide; MAX_VENUES],
+    pub venue_sides: &'a VenueSides,
 }
 
 /// The eligible sides of one side of a symbol, best first; at most one of each venue.
@@ -77,15 +77,15 @@ fn is_better(side: Side, x: &Best, y: &Best) -> bool
 
 /// Returns whether `x` ranks before `y`: by its price, its size or its age. Ages are read where the
 /// rest is equal alone.
-fn beats(side: Side, venue_sides: &[VenueSide; MAX_VENUES], x: &Best, y: &Best) -> bool
-    ensures { result ≡ beats_side side (age_at venue_sides.now) x.now y.now }
+fn beats(side: Side, venue_sides: &VenueSides, x: &Best, y: &Best) -> bool
+    ensures { result ≡ beats_side side (age_at (sides_in side venue_sides.now)) x.now y.now }
 {
     let is_equal = x.price == y.price && x.size == y.size;
     if !is_equal {
         return is_better(side, x, y);
     }
-    let x_age = venue_side_at(venue_sides, x.venue).age();
-    let y_age = venue_side_at(venue_sides, y.venue).age();
+    let x_age = venue_sides.get(side, x.venue).age();
+    let y_age = venue_sides.get(side, y.venue).age();
     x_age < y_age
 }
 

@@ -5,26 +5,72 @@ ghost use Rattle.std.specs.Str.{bytes_eq};
 ghost use Rattle.feed_types.specs.declared.line.Side.TheVariants.{Bid, Offer};
 ghost use Rattle.nbbo_book.specs.Changes.{is_same_national};
 ghost use Rattle.nbbo_book.specs.BookSides.{IsRanked};
-ghost use Rattle.nbbo_book.specs.Rows.{IsRowRanked, row_quoted, row_ended, row_halted, row_helped, national_at, side_at};
+ghost use Rattle.nbbo_book.specs.Rows.{IsRowRanked, row_quoted, row_ended, row_halted, row_helped, national_at, side_at, empty_row};
 
-use crate::book_side::BookSide;
+use crate::book_side::{clear_quote, recheck_eligibility, set_quote};
+use crate::ranks::Ranks;
 use crate::side_quote::{bid_of, offer_of};
 use crate::venue_side::VenueSide;
+use crate::venue_sides::VenueSides;
 use crate::venues::Venues;
 use feed_types::{Best, MAX_VENUES, National, Quote, Side, SymbolName, VenueId};
+use std::marker::Model;
 
 /// The part of a book for one symbol. The halts and the symbol, which each entry reads, lie beside
 /// the number of the bids and their places, which end the bids: 48 bytes in a row.
+///
+/// A row takes whole lines of 64 bytes, and its parts keep to them where the first row lies 16 bytes
+/// past a line, as the C library puts what is large.
 #[derive(Drop)]
 pub struct Row {
-    pub bids: BookSide,
+    bids: Ranks,
     /// The venues that halt the symbol.
-    pub halted: [bool; MAX_VENUES],
-    pub symbol: SymbolName,
-    pub offers: BookSide,
+    halted: [bool; MAX_VENUES],
+    symbol: SymbolName,
+    offers: Ranks,
+    before: [u64; 5],
+    sides: VenueSides,
+    after: [u64; 2],
+}
+
+impl Model for Row {
+    ghost use Rattle.nbbo_book.specs.VenueSides.{RowState, book_side_of};
+    ghost use Rattle.feed_types.specs.declared.line.Side.TheVariants.{Bid, Offer};
+
+    ghost Value = { RowState };
+
+    ghost view = { λ r. record {
+      symbol = r.symbol;
+      halted = r.halted;
+      bids = book_side_of Bid r.sides r.bids;
+      offers = book_side_of Offer r.sides r.offers;
+    } };
 }
 
 impl Row {
+    /// Makes the row of a symbol of which nothing is known yet.
+    pub fn new(symbol: SymbolName) -> Row
+        ensures { result ≡ empty_row symbol }
+    {
+        Row {
+            bids: Ranks::new(),
+            halted: [false; MAX_VENUES],
+            symbol,
+            offers: Ranks::new(),
+            before: [0; 5],
+            sides: VenueSides::new(),
+            after: [0; 2],
+        }
+    }
+
+    /// Returns the symbol.
+    #[inline(always)]
+    pub fn symbol(&self) -> SymbolName
+        ensures { result ≡ self.now.symbol }
+    {
+        self.symbol
+    }
+
     /// Returns whether the symbol is the row's. Their keys are compared: eight bytes at once.
     #[inline(always)]
     pub fn is_of(&self, symbol: SymbolName) -> bool
@@ -44,8 +90,14 @@ impl Row {
         let quoter = venues.quoter(&self.halted, venue);
         let bid = VenueSide::new(Some(bid_of(quote)), age);
         let offer = VenueSide::new(Some(offer_of(quote)), age);
-        let bid = self.bids.set_quote(Side::Bid, &quoter, bid);
-        let offer = self.offers.set_quote(Side::Offer, &quoter, offer);
+        let bid = set_quote(&mut self.sides, &mut self.bids, Side::Bid, &quoter, bid);
+        let offer = set_quote(
+            &mut self.sides,
+            &mut self.offers,
+            Side::Offer,
+            &quoter,
+            offer,
+        );
         bid || offer
     }
 
@@ -59,8 +111,8 @@ impl Row {
             ≡ not (is_same_national (national_at self.old) (national_at self.new)) }
     {
         self.halted[venue.index()] = false;
-        let bid = self.bids.clear_quote(Side::Bid, venue, age);
-        let offer = self.offers.clear_quote(Side::Offer, venue, age);
+        let bid = clear_quote(&mut self.sides, &mut self.bids, Side::Bid, venue, age);
+        let offer = clear_quote(&mut self.sides, &mut self.offers, Side::Offer, venue, age);
         bid || offer
     }
 
@@ -75,8 +127,8 @@ impl Row {
             ≡ not (is_same_national (national_at self.old) (national_at self.new)) }
     {
         let quoter = venues.quoter(&self.halted, venue);
-        let bid = self.bids.recheck_eligibility(Side::Bid, &quoter);
-        let offer = self.offers.recheck_eligibility(Side::Offer, &quoter);
+        let bid = recheck_eligibility(&self.sides, &mut self.bids, Side::Bid, &quoter);
+        let offer = recheck_eligibility(&self.sides, &mut self.offers, Side::Offer, &quoter);
         bid || offer
     }
 
@@ -98,7 +150,10 @@ impl Row {
     /// it reads their number alone, since which of them a side passes isn't known.
     #[inline(always)]
     pub fn peek(&self, venue: VenueId) -> u64 {
-        u64::from(self.halted[venue.index()]) ^ self.bids.peek(venue) ^ self.offers.peek(venue)
+        u64::from(self.halted[venue.index()])
+            ^ self.bids.len() as u64
+            ^ self.offers.len() as u64
+            ^ self.sides.get(Side::Bid, venue).size()
     }
 
     /// Returns the eligible sides, best first.
@@ -106,8 +161,8 @@ impl Row {
         ensures { result.now ≡ (side_at side self.now).ranks }
     {
         match side {
-            Side::Bid => self.bids.ranks(),
-            Side::Offer => self.offers.ranks(),
+            Side::Bid => self.bids.as_slice(),
+            Side::Offer => self.offers.as_slice(),
         }
     }
 
