@@ -31,21 +31,21 @@ abbrev offer_in : SidePair → VenueSide
 offer_in pair = pair.offer
 
 -- a pair that differs in its bid alone
-pub bid_set : (pairs : List SidePair) (v : ℕ) (was pair : SidePair)
-    → was ≡ get_or pairs v was → pair.offer ≡ was.offer
+pub bid_set : (pairs : List SidePair) (v : ℕ) (d pair : SidePair)
+    → pair.offer ≡ (get_or pairs v d).offer
     → sides_of_pairs (set pairs v pair) ≡ with_side Bid v pair.bid (sides_of_pairs pairs)
-bid_set pairs v was pair is same =
+bid_set pairs v d pair same =
     ap (λ (t : List VenueSide). record { bids = t; offers = map offer_in (set pairs v pair) })
     (map-set bid_in pairs v pair)
     ∙ ap (λ (t : List VenueSide). record { bids = set (map bid_in pairs) v pair.bid; offers = t })
-    (map-set_same offer_in pairs v pair was (same ∙ ap offer_in is))
+    (map-set_same offer_in pairs v pair d same)
 
 -- a pair that differs in its offer alone
-pub offer_set : (pairs : List SidePair) (v : ℕ) (was pair : SidePair)
-    → was ≡ get_or pairs v was → pair.bid ≡ was.bid
+pub offer_set : (pairs : List SidePair) (v : ℕ) (d pair : SidePair)
+    → pair.bid ≡ (get_or pairs v d).bid
     → sides_of_pairs (set pairs v pair) ≡ with_side Offer v pair.offer (sides_of_pairs pairs)
-offer_set pairs v was pair is same =
+offer_set pairs v d pair same =
     ap (λ (t : List VenueSide). record { bids = t; offers = map offer_in (set pairs v pair) })
-    (map-set_same bid_in pairs v pair was (same ∙ ap bid_in is))
+    (map-set_same bid_in pairs v pair d same)
     ∙ ap (λ (t : List VenueSide). record { bids = map bid_in pairs; offers = t })
     (map-set offer_in pairs v pair)

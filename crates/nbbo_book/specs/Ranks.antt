@@ -6,6 +6,7 @@ use Rattle.feed_types.specs.declared.national.Best.{Best}
 use Rattle.nbbo_book.specs.declared.ranks.Cause.{Cause}
 use Rattle.nbbo_book.specs.declared.ranks.Cause.TheVariants.{Quoted, Rechecked}
 use Rattle.nbbo_book.specs.declared.ranks.Order.{Order}
+use Rattle.nbbo_book.specs.declared.ranks.RankPlaces.{RankPlaces}
 use Rattle.nbbo_book.specs.VenueSides.{sides_in, age_at}
 use Rattle.nbbo_book.specs.Nationals.{is_better, beats}
 
@@ -89,6 +90,11 @@ abbrev pub AreNoted : List ℕ → List Best → Type 0
 AreNoted places ranks =
     (k : ℕ) (x : Best) → k < length ranks
     → slice_index_or places (slice_index_or ranks k x).venue 16 ≡ k
+
+-- the number of the ranks and the place of each are noted
+pub record HasPlaces (noted : RankPlaces) (ranks : List Best) : Type 0 where
+  pub count : noted.count ≡ length ranks
+  pub places : AreNoted noted.places ranks
 
 -- What code asks before x moves to its rank from this place: with x at it, the places are noted.
 pub record CanMove

@@ -3,11 +3,11 @@
 
 ghost use Rattle.std.specs.Prelude.{◌≡◌, not, false, None};
 ghost use Rattle.nbbo_book.specs.Changes.{is_same_best};
-ghost use Rattle.nbbo_book.specs.Ranks.{best_of_ranks};
+ghost use Rattle.nbbo_book.specs.Ranks.{HasPlaces, best_of_ranks};
 ghost use Rattle.nbbo_book.specs.VenueSides.{sides_in, sides_across, book_side_of};
 ghost use Rattle.nbbo_book.specs.BookSides.{CanRank, ArePast, IsRanked, side_quoted, side_rechecked};
 
-use crate::ranks::{Cause, Order, Ranks};
+use crate::ranks::{Cause, Order, RankPlaces, Ranks};
 use crate::side_quote::{is_same, rank_of};
 use crate::venue_side::VenueSide;
 use crate::venue_sides::VenueSides;
@@ -26,15 +26,18 @@ pub struct Quoter {
 fn update_ranks(
     sides: &VenueSides,
     ranks: &mut Ranks,
+    places: &mut RankPlaces,
     side: Side,
     quoter: &Quoter,
     cause: Cause,
 ) -> bool
-    requires { CanRank side quoter.now.venue cause (book_side_of side sides.now ranks.old) }
-    ensures side { book_side_of side sides.now ranks.new ≡ side_rechecked side quoter.now.venue
-        quoter.now.may_rank (book_side_of side sides.now ranks.old) }
+    requires kept { HasPlaces places.old ranks.old.items }
+    requires ready { CanRank side quoter.now.venue cause (book_side_of side sides.now ranks.old.items) }
+    ensures kept { HasPlaces places.new ranks.new.items }
+    ensures side { book_side_of side sides.now ranks.new.items ≡ side_rechecked side quoter.now.venue
+        quoter.now.may_rank (book_side_of side sides.now ranks.old.items) }
     ensures moved { result
-        ≡ not (is_same_best (best_of_ranks ranks.old) (best_of_ranks ranks.new)) }
+        ≡ not (is_same_best (best_of_ranks ranks.old.items) (best_of_ranks ranks.new.items)) }
 {
     let shown = sides.get(side, quoter.venue);
     let order = Order {
@@ -43,7 +46,7 @@ fn update_ranks(
         venue_sides: sides,
     };
     let best = rank_of(quoter.may_rank, quoter.venue, shown.quote());
-    ranks.update(&order, quoter.venue, best)
+    places.update(ranks, &order, quoter.venue, best)
 }
 
 /// Notes what the venue shows on this side from now on. Where that differs from what it showed, its
@@ -52,25 +55,28 @@ fn update_ranks(
 pub fn set_quote(
     sides: &mut VenueSides,
     ranks: &mut Ranks,
+    places: &mut RankPlaces,
     side: Side,
     quoter: &Quoter,
     venue_side: VenueSide,
 ) -> bool
-    requires ranked { IsRanked side (book_side_of side sides.old ranks.old) }
+    requires kept { HasPlaces places.old ranks.old.items }
+    requires ranked { IsRanked side (book_side_of side sides.old ranks.old.items) }
     requires past { ArePast venue_side.age (sides_in side sides.old) }
-    ensures side { book_side_of side sides.new ranks.new
+    ensures kept { HasPlaces places.new ranks.new.items }
+    ensures side { book_side_of side sides.new ranks.new.items
         ≡ side_quoted side quoter.now.venue venue_side.quote venue_side.age
-        quoter.now.may_rank (book_side_of side sides.old ranks.old) }
+        quoter.now.may_rank (book_side_of side sides.old ranks.old.items) }
     ensures across { sides_across side sides.new ≡ sides_across side sides.old }
     ensures moved { result
-        ≡ not (is_same_best (best_of_ranks ranks.old) (best_of_ranks ranks.new)) }
+        ≡ not (is_same_best (best_of_ranks ranks.old.items) (best_of_ranks ranks.new.items)) }
 {
     let shown = sides.get(side, quoter.venue);
     if is_same(shown.quote(), venue_side.quote()) {
         return false;
     }
     sides.set(side, quoter.venue, venue_side);
-    update_ranks(sides, ranks, side, quoter, Cause::Quoted)
+    update_ranks(sides, ranks, places, side, quoter, Cause::Quoted)
 }
 
 /// Notes that the venue shows nothing on this side since this age. Returns whether the best side
@@ -79,23 +85,33 @@ pub fn set_quote(
 pub fn clear_quote(
     sides: &mut VenueSides,
     ranks: &mut Ranks,
+    places: &mut RankPlaces,
     side: Side,
     venue: VenueId,
     age: u64,
 ) -> bool
-    requires ranked { IsRanked side (book_side_of side sides.old ranks.old) }
+    requires kept { HasPlaces places.old ranks.old.items }
+    requires ranked { IsRanked side (book_side_of side sides.old ranks.old.items) }
     requires past { ArePast age (sides_in side sides.old) }
-    ensures side { book_side_of side sides.new ranks.new
-        ≡ side_quoted side venue None age false (book_side_of side sides.old ranks.old) }
+    ensures kept { HasPlaces places.new ranks.new.items }
+    ensures side { book_side_of side sides.new ranks.new.items
+        ≡ side_quoted side venue None age false (book_side_of side sides.old ranks.old.items) }
     ensures across { sides_across side sides.new ≡ sides_across side sides.old }
     ensures moved { result
-        ≡ not (is_same_best (best_of_ranks ranks.old) (best_of_ranks ranks.new)) }
+        ≡ not (is_same_best (best_of_ranks ranks.old.items) (best_of_ranks ranks.new.items)) }
 {
     let quoter = Quoter {
         venue,
         may_rank: false,
     };
-    set_quote(sides, ranks, side, &quoter, VenueSide::new(None, age))
+    set_quote(
+        sides,
+        ranks,
+        places,
+        side,
+        &quoter,
+        VenueSide::new(None, age),
+    )
 }
 
 /// Ranks the venue's side, or takes it out, where the venue may be ranked again or may not. Returns
@@ -104,14 +120,17 @@ pub fn clear_quote(
 pub fn recheck_eligibility(
     sides: &VenueSides,
     ranks: &mut Ranks,
+    places: &mut RankPlaces,
     side: Side,
     quoter: &Quoter,
 ) -> bool
-    requires { IsRanked side (book_side_of side sides.now ranks.old) }
-    ensures side { book_side_of side sides.now ranks.new ≡ side_rechecked side quoter.now.venue
-        quoter.now.may_rank (book_side_of side sides.now ranks.old) }
+    requires kept { HasPlaces places.old ranks.old.items }
+    requires ready { IsRanked side (book_side_of side sides.now ranks.old.items) }
+    ensures kept { HasPlaces places.new ranks.new.items }
+    ensures side { book_side_of side sides.now ranks.new.items ≡ side_rechecked side quoter.now.venue
+        quoter.now.may_rank (book_side_of side sides.now ranks.old.items) }
     ensures moved { result
-        ≡ not (is_same_best (best_of_ranks ranks.old) (best_of_ranks ranks.new)) }
+        ≡ not (is_same_best (best_of_ranks ranks.old.items) (best_of_ranks ranks.new.items)) }
 {
-    update_ranks(sides, ranks, side, quoter, Cause::Rechecked)
+    update_ranks(sides, ranks, places, side, quoter, Cause::Rechecked)
 }

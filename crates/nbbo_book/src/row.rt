@@ -8,33 +8,39 @@ ghost use Rattle.nbbo_book.specs.BookSides.{IsRanked};
 ghost use Rattle.nbbo_book.specs.Rows.{IsRowRanked, row_quoted, row_ended, row_halted, row_helped, national_at, side_at, empty_row};
 
 use crate::book_side::{clear_quote, recheck_eligibility, set_quote};
-use crate::ranks::Ranks;
+use crate::ranks::{RankPlaces, Ranks};
 use crate::side_quote::{bid_of, offer_of};
 use crate::venue_side::VenueSide;
 use crate::venue_sides::VenueSides;
 use crate::venues::Venues;
+use arrayvec::ArrayVec;
 use feed_types::{Best, MAX_VENUES, National, Quote, Side, SymbolName, VenueId};
 use std::marker::Model;
 
-/// The part of a book for one symbol. The halts and the symbol, which each entry reads, lie beside
-/// the number of the bids and their places, which end the bids: 48 bytes in a row.
+/// The part of a book for one symbol. What each entry reads of it lies in three lines of 64 bytes:
+/// one from `bid_places` to `after`, one of `sides` and one or two of ranks.
 ///
-/// A row takes whole lines of 64 bytes, and its parts keep to them where the first row lies 16 bytes
-/// past a line, as the C library puts what is large.
+/// So that its parts keep to lines, a row takes whole ones, and its first part lies 16 bytes past
+/// one, as the C library places what is large.
 #[derive(Drop)]
 pub struct Row {
     bids: Ranks,
+    between: u64,
+    offers: Ranks,
+    before: [u64; 3],
+    bid_places: RankPlaces,
+    offer_places: RankPlaces,
     /// The venues that halt the symbol.
     halted: [bool; MAX_VENUES],
     symbol: SymbolName,
-    offers: Ranks,
-    before: [u64; 5],
+    after: [u8; 6],
     sides: VenueSides,
-    after: [u64; 2],
+    last: [u64; 2],
 }
 
 impl Model for Row {
     ghost use Rattle.nbbo_book.specs.VenueSides.{RowState, book_side_of};
+    ghost use Rattle.nbbo_book.specs.Ranks.{HasPlaces};
     ghost use Rattle.feed_types.specs.declared.line.Side.TheVariants.{Bid, Offer};
 
     ghost Value = { RowState };
@@ -42,9 +48,12 @@ impl Model for Row {
     ghost view = { λ r. record {
       symbol = r.symbol;
       halted = r.halted;
-      bids = book_side_of Bid r.sides r.bids;
-      offers = book_side_of Offer r.sides r.offers;
+      bids = book_side_of Bid r.sides r.bids.items;
+      offers = book_side_of Offer r.sides r.offers.items;
     } };
+
+    ghost invariant = { λ r. HasPlaces r.bid_places r.bids.items
+        × HasPlaces r.offer_places r.offers.items };
 }
 
 impl Row {
@@ -53,13 +62,17 @@ impl Row {
         ensures { result ≡ empty_row symbol }
     {
         Row {
-            bids: Ranks::new(),
+            bids: ArrayVec::new(),
+            between: 0,
+            offers: ArrayVec::new(),
+            before: [0; 3],
+            bid_places: RankPlaces::new(),
+            offer_places: RankPlaces::new(),
             halted: [false; MAX_VENUES],
             symbol,
-            offers: Ranks::new(),
-            before: [0; 5],
+            after: [0; 6],
             sides: VenueSides::new(),
-            after: [0; 2],
+            last: [0; 2],
         }
     }
 
@@ -90,10 +103,18 @@ impl Row {
         let quoter = venues.quoter(&self.halted, venue);
         let bid = VenueSide::new(Some(bid_of(quote)), age);
         let offer = VenueSide::new(Some(offer_of(quote)), age);
-        let bid = set_quote(&mut self.sides, &mut self.bids, Side::Bid, &quoter, bid);
+        let bid = set_quote(
+            &mut self.sides,
+            &mut self.bids,
+            &mut self.bid_places,
+            Side::Bid,
+            &quoter,
+            bid,
+        );
         let offer = set_quote(
             &mut self.sides,
             &mut self.offers,
+            &mut self.offer_places,
             Side::Offer,
             &quoter,
             offer,
@@ -111,8 +132,22 @@ impl Row {
             ≡ not (is_same_national (national_at self.old) (national_at self.new)) }
     {
         self.halted[venue.index()] = false;
-        let bid = clear_quote(&mut self.sides, &mut self.bids, Side::Bid, venue, age);
-        let offer = clear_quote(&mut self.sides, &mut self.offers, Side::Offer, venue, age);
+        let bid = clear_quote(
+            &mut self.sides,
+            &mut self.bids,
+            &mut self.bid_places,
+            Side::Bid,
+            venue,
+            age,
+        );
+        let offer = clear_quote(
+            &mut self.sides,
+            &mut self.offers,
+            &mut self.offer_places,
+            Side::Offer,
+            venue,
+            age,
+        );
         bid || offer
     }
 
@@ -127,8 +162,20 @@ impl Row {
             ≡ not (is_same_national (national_at self.old) (national_at self.new)) }
     {
         let quoter = venues.quoter(&self.halted, venue);
-        let bid = recheck_eligibility(&self.sides, &mut self.bids, Side::Bid, &quoter);
-        let offer = recheck_eligibility(&self.sides, &mut self.offers, Side::Offer, &quoter);
+        let bid = recheck_eligibility(
+            &self.sides,
+            &mut self.bids,
+            &mut self.bid_places,
+            Side::Bid,
+            &quoter,
+        );
+        let offer = recheck_eligibility(
+            &self.sides,
+            &mut self.offers,
+            &mut self.offer_places,
+            Side::Offer,
+            &quoter,
+        );
         bid || offer
     }
 
@@ -150,10 +197,7 @@ impl Row {
     /// it reads their number alone, since which of them a side passes isn't known.
     #[inline(always)]
     pub fn peek(&self, venue: VenueId) -> u64 {
-        u64::from(self.halted[venue.index()])
-            ^ self.bids.len() as u64
-            ^ self.offers.len() as u64
-            ^ self.sides.get(Side::Bid, venue).size()
+        u64::from(self.halted[venue.index()]) ^ self.sides.get(Side::Bid, venue).size()
     }
 
     /// Returns the eligible sides, best first.
@@ -172,8 +216,8 @@ impl Row {
         ensures { result ≡ national_at self.now }
     {
         National {
-            bid: self.bids.front(),
-            offer: self.offers.front(),
+            bid: self.bid_places.front(&self.bids),
+            offer: self.offer_places.front(&self.offers),
         }
     }
 }

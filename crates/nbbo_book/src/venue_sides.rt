@@ -1,6 +1,7 @@
 //! The sides that the venues show of a symbol.
 
 ghost use Rattle.std.specs.Prelude.{◌≡◌, ◌<◌, replicate, None};
+ghost use Rattle.feed_types.specs.declared.line.Side.TheVariants.{Bid, Offer};
 ghost use Rattle.nbbo_book.specs.VenueSides.{sides_in, with_side, venue_side_at};
 
 use crate::venue_side::VenueSide;
@@ -66,10 +67,25 @@ impl VenueSides {
     pub fn set(&mut self, side: Side, venue: VenueId, venue_side: VenueSide)
         ensures { self.new ≡ with_side side venue venue_side self.old }
     {
-        let pair = &mut self.pairs[venue.index()];
         match side {
-            Side::Bid => pair.bid = venue_side,
-            Side::Offer => pair.offer = venue_side,
+            Side::Bid => self.set_bid(venue, venue_side),
+            Side::Offer => self.set_offer(venue, venue_side),
         }
+    }
+
+    /// Notes the bid that the venue shows from now on.
+    #[inline(always)]
+    fn set_bid(&mut self, venue: VenueId, bid: VenueSide)
+        ensures { self.new ≡ with_side Bid venue bid self.old }
+    {
+        self.pairs[venue.index()].bid = bid;
+    }
+
+    /// Notes the offer that the venue shows from now on.
+    #[inline(always)]
+    fn set_offer(&mut self, venue: VenueId, offer: VenueSide)
+        ensures { self.new ≡ with_side Offer venue offer self.old }
+    {
+        self.pairs[venue.index()].offer = offer;
     }
 }
