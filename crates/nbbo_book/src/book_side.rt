@@ -104,14 +104,8 @@ pub fn clear_quote(
         venue,
         may_rank: false,
     };
-    set_quote(
-        sides,
-        ranks,
-        places,
-        side,
-        &quoter,
-        VenueSide::new(None, age),
-    )
+    let none = VenueSide::new(None, age);
+    set_quote(sides, ranks, places, side, &quoter, none)
 }
 
 /// Ranks the venue's side, or takes it out, where the venue may be ranked again or may not. Returns
