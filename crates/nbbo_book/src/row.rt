@@ -18,7 +18,7 @@ use feed_types::{Best, MAX_VENUES, National, Quote, Side, SymbolName, VenueId};
 use std::marker::Model;
 
 /// The part of a book for one symbol. What each entry reads of it lies in three lines of 64 bytes:
-/// one from `bid_places` to `after`, one of `sides` and one or two of ranks.
+/// one from `symbol` to `offer_places`, one of `sides` and mostly one of ranks.
 ///
 /// So that its parts keep to lines, a row takes whole ones, and its first part lies 16 bytes past
 /// one, as the C library places what is large.
@@ -28,14 +28,13 @@ pub struct Row {
     between: u64,
     offers: Ranks,
     before: [u64; 3],
-    bid_places: RankPlaces,
-    offer_places: RankPlaces,
+    symbol: SymbolName,
     /// The venues that halt the symbol.
     halted: [bool; MAX_VENUES],
-    symbol: SymbolName,
-    after: [u8; 6],
+    bid_places: RankPlaces,
+    offer_places: RankPlaces,
     sides: VenueSides,
-    last: [u64; 2],
+    after: [u64; 2],
 }
 
 impl Model for Row {
@@ -66,13 +65,12 @@ impl Row {
             between: 0,
             offers: ArrayVec::new(),
             before: [0; 3],
+            symbol,
+            halted: [false; MAX_VENUES],
             bid_places: RankPlaces::new(),
             offer_places: RankPlaces::new(),
-            halted: [false; MAX_VENUES],
-            symbol,
-            after: [0; 6],
             sides: VenueSides::new(),
-            last: [0; 2],
+            after: [0; 2],
         }
     }
 
