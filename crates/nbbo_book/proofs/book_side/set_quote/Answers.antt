@@ -1,4 +1,4 @@
-use Rattle.std.proofs.Common.{ℕ, ◌≡◌, ◌<◌, ◌∙◌, List, ap, sym, subst, arith, set, cond, true, false, length}
+use Rattle.std.proofs.Common.{ℕ, ◌≡◌, ◌<◌, ◌∙◌, ap, sym, subst, arith, set, cond, true, false, length}
 use Rattle.feed_types.specs.declared.line.Side.{Side}
 use Rattle.nbbo_book.specs.declared.ranks.Cause.TheVariants.{Quoted}
 use Rattle.nbbo_book.specs.declared.venue_side.VenueSide.{VenueSide}
