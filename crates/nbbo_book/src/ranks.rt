@@ -249,8 +249,9 @@ impl RankPlaces {
         Some(best_first.as_slice()[0])
     }
 
-    /// Ranks the side of a venue that isn't ranked. Returns whether the best side differs then.
-    #[inline(always)]
+    /// Ranks the side of a venue that isn't ranked. Returns whether the best side differs then. It is
+    /// a call of its own, as it reads the vector's length, which lies in a line of its own.
+    #[inline(never)]
     fn add(&mut self, best_first: &mut Ranks, order: &Order<'_>, x: Best) -> bool
         requires kept { HasPlaces self.old best_first.old.items }
         requires ready { CanUpdate order.now x.venue (Some x) best_first.old.items }
