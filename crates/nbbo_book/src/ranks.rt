@@ -1,6 +1,6 @@
 //! The ranks of one side of a symbol.
 
-ghost use Rattle.std.specs.Prelude.{◌≡◌, ℕ, ◌+◌, ◌*◌, ◌^◌, ◌<◌, ◌≤◌, ◌++◌, ◌∷◌, [], true, false, not, length, slice_index_or, slice_set, insert, remove, IfSome, None, Some};
+ghost use Rattle.std.specs.Prelude.{◌≡◌, ℕ, ◌+◌, ◌*◌, ◌^◌, ◌<◌, ◌≤◌, [], true, false, not, length, slice_index_or, slice_set, insert, remove, IfSome, None, Some};
 ghost use Rattle.nbbo_book.specs.Changes.{is_same_best};
 ghost use Rattle.nbbo_book.specs.Nationals.{is_better as is_better_side, beats as beats_side};
 ghost use Rattle.nbbo_book.specs.VenueSides.{sides_in, age_at};
@@ -218,17 +218,6 @@ fn note_anew(ranks: &[Best], places: &mut [u8; MAX_VENUES], from: usize)
     }
 }
 
-/// Appends `x`. It is a call of its own, so that the vector's length, which lies apart from what an
-/// entry reads, is read here alone.
-#[inline(never)]
-fn push(ranks: &mut Ranks, x: Best)
-    requires { length ranks.old.items < 16 }
-    ensures items { ranks.new.items ≡ ranks.old.items ++ x ∷ [] }
-    ensures len { length ranks.new.items ≡ length ranks.old.items + 1 }
-{
-    ranks.push(x);
-}
-
 impl RankPlaces {
     /// Makes the places of no ranks.
     pub fn new() -> RankPlaces
@@ -273,7 +262,7 @@ impl RankPlaces {
             (best_of_ranks best_first.new.items)) }
     {
         let from = self.len();
-        push(best_first, x);
+        best_first.push(x);
         self.count = self.count + 1;
         self.places[x.venue.index()] = from as u8;
         let ranks = best_first.as_mut_slice();

@@ -27,7 +27,7 @@ returns-clause-ranks c =
     subst (λ (t : List Best). IsNewest ages x t) c.requires.absent
     (subst (λ (u : Cause). IsCause u order.side ages x xs) quoted
     (c.requires.ready.caused x refl)).0 in
-    refill_whole c.push.new.ranks.items c.move_to_rank.new.ranks
+    refill_whole c.push.new.self.items c.move_to_rank.new.ranks
     (c.move_to_rank.auto.ranks ∙ ap length c.as_mut_slice-ranks.ensures.value)
     ∙ c.move_to_rank.ensures.ranks
     ∙ ap (λ (t : List Best). insert t to x) rest
@@ -62,7 +62,7 @@ move_to_rank-requires-clause-ready c =
 
 pub returns-clause-kept : goal.returns-clause-kept
 returns-clause-kept c =
-    let whole = refill_whole c.push.new.ranks.items c.move_to_rank.new.ranks
+    let whole = refill_whole c.push.new.self.items c.move_to_rank.new.ranks
     (c.move_to_rank.auto.ranks ∙ ap length c.as_mut_slice-ranks.ensures.value) in
     record {
       count = omega (
