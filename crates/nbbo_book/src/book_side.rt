@@ -1,5 +1,5 @@
-//! One side of a symbol: the bids, or the offers. It is what each venue shows there, and the ranks of
-//! those sides that are eligible.
+//! One side of a symbol: the bids, or the offers. It is what each venue shows there, and the ranks
+//! of those sides that are eligible.
 
 ghost use Rattle.std.specs.Prelude.{◌≡◌, not, false, None};
 ghost use Rattle.nbbo_book.specs.Changes.{is_same_best};
@@ -32,10 +32,12 @@ fn update_ranks(
     cause: Cause,
 ) -> bool
     requires kept { HasPlaces places.old ranks.old.items }
-    requires ready { CanRank side quoter.now.venue cause (book_side_of side sides.now ranks.old.items) }
+    requires ready { CanRank side quoter.now.venue cause
+        (book_side_of side sides.now ranks.old.items) }
     ensures kept { HasPlaces places.new ranks.new.items }
-    ensures side { book_side_of side sides.now ranks.new.items ≡ side_rechecked side quoter.now.venue
-        quoter.now.may_rank (book_side_of side sides.now ranks.old.items) }
+    ensures side { book_side_of side sides.now ranks.new.items
+        ≡ side_rechecked side quoter.now.venue quoter.now.may_rank
+        (book_side_of side sides.now ranks.old.items) }
     ensures moved { result
         ≡ not (is_same_best (best_of_ranks ranks.old.items) (best_of_ranks ranks.new.items)) }
 {
@@ -121,8 +123,9 @@ pub fn recheck_eligibility(
     requires kept { HasPlaces places.old ranks.old.items }
     requires ready { IsRanked side (book_side_of side sides.now ranks.old.items) }
     ensures kept { HasPlaces places.new ranks.new.items }
-    ensures side { book_side_of side sides.now ranks.new.items ≡ side_rechecked side quoter.now.venue
-        quoter.now.may_rank (book_side_of side sides.now ranks.old.items) }
+    ensures side { book_side_of side sides.now ranks.new.items
+        ≡ side_rechecked side quoter.now.venue quoter.now.may_rank
+        (book_side_of side sides.now ranks.old.items) }
     ensures moved { result
         ≡ not (is_same_best (best_of_ranks ranks.old.items) (best_of_ranks ranks.new.items)) }
 {

@@ -17,8 +17,8 @@ use arrayvec::ArrayVec;
 use feed_types::{Best, MAX_VENUES, National, Quote, Side, SymbolName, VenueId};
 use std::marker::Model;
 
-/// The part of a book for one symbol. What each entry reads of it lies in three lines of 64 bytes:
-/// one from `symbol` to `offer_places`, one of `sides` and mostly one of ranks.
+/// The part of a book for one symbol. A quotation reads a line of 64 bytes from `symbol` to
+/// `offer_places`, one of `sides`, and of the ranks and their vectors' lengths what it needs.
 ///
 /// So that its parts keep to lines, a row takes whole ones, and its first part lies 16 bytes past
 /// one, as the C library places what is large.

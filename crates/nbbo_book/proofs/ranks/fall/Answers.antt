@@ -73,7 +73,8 @@ loop-at-preserved c =
           (sym own)
           (noted_past c.loop-at.places c.loop-at.ranks c.loop-at.at (c.loop-at.at + 1) c.args.x.now
           c.index-ranks-at-in-loop-at.result
-          (omega (arith, all)) (omega (arith, all)) (λ e. (let no : c.loop-at.at ≡ c.loop-at.at + 1 =
+          (omega (arith, all)) (omega (arith, all))
+          (λ e. (let no : c.loop-at.at ≡ c.loop-at.at + 1 =
           e in omega (arith, no)))
           (omega (arith, c.requires.ready.venue)) (omega (arith, own, c.index.ensures.in_range))
           c.loop-at.invariant.noted c.index-ranks-at-in-loop-at.is);

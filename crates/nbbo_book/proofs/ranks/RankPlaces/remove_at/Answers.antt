@@ -13,7 +13,8 @@ note_anew-requires-clause-after c = λ k x above below.
     let seen : c.as_slice.result.now ≡ remove xs at = c.as_slice.ensures.value
     ∙ c.remove.ensures.items in
     ap (λ (t : List Best). get_or P (get_or t k x).venue 16) seen
-    ∙ noted_after P xs at k x c.requires.within above (subst (λ (t : List Best). k < length t) seen below)
+    ∙ noted_after P xs at k x c.requires.within above
+    (subst (λ (t : List Best). k < length t) seen below)
     c.requires.kept.places
 
 pub returns-clause-kept : goal.returns-clause-kept

@@ -19,7 +19,8 @@ returns-in-Some-clause-moved c =
     subst (λ (t : List Best). (get_or t at d).venue ≡ v) seen (c.in-Some.ensures.own d) in
     let there : without v xs ≡ remove xs at =
     subst (λ (t : List Best). without v t ≡ remove t at) seen c.in-Some.ensures.there in
-    let none : HasNone v (remove xs at) = subst (λ (t : List Best). HasNone v t) there c.requires.once in
+    let none : HasNone v (remove xs at) =
+    subst (λ (t : List Best). HasNone v t) there c.requires.once in
     taken_moves xs v at d found own none
     ∙ ap (λ (t : List Best). not (is_same_best (best_of_ranks xs) (best_of_ranks t)))
     (sym c.remove_at.ensures.ranks)
