@@ -361,6 +361,6 @@ can_update order v may ranks best below h is =
       others = h.others;
       once = h.once;
       room = h.room below;
-      own = λ x e. ranked_own may v (venue_side_at (sides_in order.side order.venue_sides.now) v).quote x (sym is ∙ e);
+      own = λ x e. ranked_own may v (venue_side_at k.venue_sides v).quote x (sym is ∙ e);
       caused = λ x e. by_cause order.cause order.side k v may x h.caused (sym is ∙ e);
     }
