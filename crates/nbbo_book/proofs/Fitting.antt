@@ -16,8 +16,7 @@ use Rattle.nbbo_book.specs.Contents.{SideFits, RowFits}
 use Rattle.nbbo_book.specs.Books.{venue_of}
 use Rattle.nbbo_book.specs.Rows.{may_at, side_at, row_quoted, row_halted, row_after, row_after_item, helped_after}
 use Rattle.nbbo_book.specs.Tables.{IsRow}
-use Rattle.nbbo_book.specs.VenueSides.{venue_side_at}
-use Rattle.nbbo_book.specs.declared.book_side.BookSide.{BookSide}
+use Rattle.nbbo_book.specs.VenueSides.{BookSide, venue_side_at}
 use Rattle.nbbo_book.specs.BookSides.{side_set, side_quoted}
 use Rattle.nbbo_book.proofs.Ranking.{nat_refl, nat_split}
 use Rattle.nbbo_book.proofs.EntryEffects.{side_of-put, helped-put, halted-put, age-kept, age-new, same_side_sound}

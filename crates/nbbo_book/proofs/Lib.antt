@@ -13,3 +13,4 @@ pub mod BookFits
 pub mod Eligibility
 pub mod LawProofs
 pub mod Places
+pub mod SetSides

@@ -13,8 +13,7 @@ use Rattle.nbbo_book.specs.declared.ranks.Cause.TheVariants.{Quoted, Rechecked}
 use Rattle.nbbo_book.specs.declared.ranks.Order.{Order}
 use Rattle.nbbo_book.specs.Ranks.{CanUpdate, IsCause, InRank, IsIn, IsNewest, without, placed, IsRankingOf}
 use Rattle.nbbo_book.specs.Tables.{IsSide}
-use Rattle.nbbo_book.specs.VenueSides.{venue_side_at, age_at}
-use Rattle.nbbo_book.specs.declared.book_side.BookSide.{BookSide}
+use Rattle.nbbo_book.specs.VenueSides.{BookSide, sides_in, book_side_of, venue_side_at, age_at}
 use Rattle.nbbo_book.specs.BookSides.{CanRank, IsCausedBy, rank_at, side_set, side_quoted, side_rechecked, ArePast, IsRanked}
 use Rattle.nbbo_book.proofs.EntryEffects.{and_left, same_side_refl}
 use Rattle.nbbo_book.proofs.Fronts.{best_same}
@@ -353,15 +352,15 @@ by_cause Rechecked b k v may x h e =
 pub can_update : (order : Order) (v : ℕ) (may : Bool) (ranks : List Best) (best : Option Best)
     → v < 16
     → CanRank order.side v order.cause
-    (record { venue_sides = order.venue_sides.now; ranks = ranks })
-    → best ≡ ranked_by may v (venue_side_at order.venue_sides.now v).quote
+    (book_side_of order.side order.venue_sides.now ranks)
+    → best ≡ ranked_by may v (venue_side_at (sides_in order.side order.venue_sides.now) v).quote
     → CanUpdate order v best ranks
 can_update order v may ranks best below h is =
-    let k : BookSide = record { venue_sides = order.venue_sides.now; ranks = ranks } in
+    let k : BookSide = book_side_of order.side order.venue_sides.now ranks in
     record {
       others = h.others;
       once = h.once;
       room = h.room below;
-      own = λ x e. ranked_own may v (venue_side_at order.venue_sides.now v).quote x (sym is ∙ e);
+      own = λ x e. ranked_own may v (venue_side_at k.venue_sides v).quote x (sym is ∙ e);
       caused = λ x e. by_cause order.cause order.side k v may x h.caused (sym is ∙ e);
     }

@@ -27,8 +27,7 @@ use Rattle.nbbo_book.specs.Books.{venue_of}
 use Rattle.nbbo_book.specs.Ranks.{best_of_ranks, IsRankingOf}
 use Rattle.nbbo_book.specs.Rows.{may_at, row_quoted, row_rechecked, row_halted, row_after, row_after_item, row_change, told_where, national_at, helped_after, symbol_in, symbol_in_item, IsRowRanked}
 use Rattle.nbbo_book.specs.Tables.{IsSide, IsRow, symbols_in_rows}
-use Rattle.nbbo_book.specs.declared.book_side.BookSide.{BookSide}
-use Rattle.nbbo_book.specs.VenueSides.{venue_side_at, age_at}
+use Rattle.nbbo_book.specs.VenueSides.{BookSide, venue_side_at, age_at}
 use Rattle.nbbo_book.specs.BookSides.{rank_at}
 use Rattle.nbbo_book.proofs.Ranking.{ranking_same}
 use Rattle.nbbo_book.proofs.SideInvariant.{long_set, set_off, apart_from, ranked_own, ranked_nothing, side_is_ranked, side_waits, side_rechecked-is, side_quoted-is}

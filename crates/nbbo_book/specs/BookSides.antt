@@ -4,11 +4,10 @@ use Rattle.feed_types.specs.declared.line.Side.{Side}
 use Rattle.feed_types.specs.declared.national.Best.{Best}
 use Rattle.nbbo_book.specs.declared.side_quote.SideQuote.{SideQuote}
 use Rattle.nbbo_book.specs.declared.venue_side.VenueSide.{VenueSide}
-use Rattle.nbbo_book.specs.declared.book_side.BookSide.{BookSide}
 use Rattle.nbbo_book.specs.declared.ranks.Cause.{Cause}
 use Rattle.nbbo_book.specs.declared.ranks.Cause.TheVariants.{Quoted, Rechecked}
 use Rattle.nbbo_book.specs.Sides.{is_same_side}
-use Rattle.nbbo_book.specs.VenueSides.{venue_side_at, age_at}
+use Rattle.nbbo_book.specs.VenueSides.{BookSide, venue_side_at, age_at}
 use Rattle.nbbo_book.specs.Eligible.{ranked_by}
 use Rattle.nbbo_book.specs.Ranks.{InRank, IsIn, IsNewest, HasNone, without, placed}
 

@@ -1,4 +1,5 @@
 pub mod VenueSides
+pub mod SidePairs
 pub mod Sides
 pub mod Eligible
 pub mod Nationals

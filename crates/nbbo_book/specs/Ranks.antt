@@ -6,7 +6,8 @@ use Rattle.feed_types.specs.declared.national.Best.{Best}
 use Rattle.nbbo_book.specs.declared.ranks.Cause.{Cause}
 use Rattle.nbbo_book.specs.declared.ranks.Cause.TheVariants.{Quoted, Rechecked}
 use Rattle.nbbo_book.specs.declared.ranks.Order.{Order}
-use Rattle.nbbo_book.specs.VenueSides.{age_at}
+use Rattle.nbbo_book.specs.declared.ranks.RankPlaces.{RankPlaces}
+use Rattle.nbbo_book.specs.VenueSides.{sides_in, age_at}
 use Rattle.nbbo_book.specs.Nationals.{is_better, beats}
 
 -- each beats those after it
@@ -55,7 +56,7 @@ is_ahead_by Rechecked side age x y = beats side age x y
 
 -- the ages of the venues' sides
 abbrev pub ages_in : Order → ℕ → ℕ
-ages_in order = age_at order.venue_sides.now
+ages_in order = age_at (sides_in order.side order.venue_sides.now)
 
 abbrev pub is_ahead : Order → Best → Best → Bool
 is_ahead order = is_ahead_by order.cause order.side (ages_in order)
@@ -89,6 +90,11 @@ abbrev pub AreNoted : List ℕ → List Best → Type 0
 AreNoted places ranks =
     (k : ℕ) (x : Best) → k < length ranks
     → slice_index_or places (slice_index_or ranks k x).venue 16 ≡ k
+
+-- the number of the ranks and the place of each are noted
+pub record HasPlaces (noted : RankPlaces) (ranks : List Best) : Type 0 where
+  pub count : noted.count ≡ length ranks
+  pub places : AreNoted noted.places ranks
 
 -- What code asks before x moves to its rank from this place: with x at it, the places are noted.
 pub record CanMove

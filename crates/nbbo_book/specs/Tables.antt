@@ -10,8 +10,7 @@ use Rattle.nbbo_book.specs.Contents.{BookContents}
 use Rattle.nbbo_book.specs.Books.{BookState}
 use Rattle.nbbo_book.specs.Ranks.{IsRankingOf}
 use Rattle.nbbo_book.specs.Rows.{may_at, side_at}
-use Rattle.nbbo_book.specs.VenueSides.{venue_side_at, age_at}
-use Rattle.nbbo_book.specs.declared.book_side.BookSide.{BookSide}
+use Rattle.nbbo_book.specs.VenueSides.{BookSide, venue_side_at, age_at}
 use Rattle.nbbo_book.specs.BookSides.{rank_at, ArePast}
 
 abbrev pub symbols_in_rows : List Row → List (List ℕ)

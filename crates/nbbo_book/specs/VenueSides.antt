@@ -1,6 +1,8 @@
--- A venue's side and one side of a symbol as contracts see them; and, cited by private clauses
--- alone, how a venue's side is kept, in 24 bytes.
-use Rattle.std.specs.Prelude.{◌≡◌, ℕ, List, Bool, true, false, Option, Some, None, slice_index_or}
+-- A venue's side, one side of a symbol and the whole symbol as contracts see them; and, cited by
+-- private clauses alone, how a venue's sides are kept, in 64 bytes.
+use Rattle.std.specs.Prelude.{◌≡◌, ℕ, List, Bool, true, false, Option, Some, None, slice_index_or, slice_set}
+use Rattle.feed_types.specs.declared.line.Side.{Side}
+use Rattle.feed_types.specs.declared.line.Side.TheVariants.{Bid, Offer}
 use Rattle.feed_types.specs.declared.national.Best.{Best}
 use Rattle.nbbo_book.specs.declared.side_quote.SideQuote.{SideQuote}
 
@@ -11,9 +13,41 @@ pub record VenueSideState : Type 0 where
 
 -- one side of a symbol: what each venue shows, at the place of its number, and the ranks of those
 -- sides that are eligible, best first
-pub record BookSideState : Type 0 where
+pub record BookSide : Type 0 where
   pub venue_sides : List VenueSideState
   pub ranks : List Best
+
+-- what is kept of a symbol: the symbol, the venues that halt it, and its two sides
+pub record RowState : Type 0 where
+  pub symbol : List ℕ
+  pub halted : List Bool
+  pub bids : BookSide
+  pub offers : BookSide
+
+-- the sides that the venues show of a symbol
+pub record SidesState : Type 0 where
+  pub bids : List VenueSideState
+  pub offers : List VenueSideState
+
+abbrev pub sides_in : Side → SidesState → List VenueSideState
+sides_in Bid sides = sides.bids
+sides_in Offer sides = sides.offers
+
+-- the sides on the other side of the market
+abbrev pub sides_across : Side → SidesState → List VenueSideState
+sides_across Bid sides = sides.offers
+sides_across Offer sides = sides.bids
+
+-- with this one in the place of a venue's
+abbrev pub with_side : Side → ℕ → VenueSideState → SidesState → SidesState
+with_side Bid venue venue_side sides =
+    record { bids = slice_set sides.bids venue venue_side; offers = sides.offers }
+with_side Offer venue venue_side sides =
+    record { bids = sides.bids; offers = slice_set sides.offers venue venue_side }
+
+-- one side of a symbol, of these parts
+abbrev pub book_side_of : Side → SidesState → List Best → BookSide
+book_side_of side sides ranks = record { venue_sides = sides_in side sides; ranks = ranks }
 
 -- the side at a venue's place
 abbrev pub venue_side_at : List VenueSideState → ℕ → VenueSideState

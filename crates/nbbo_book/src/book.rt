@@ -10,7 +10,6 @@ ghost use Rattle.nbbo_book.specs.Changes.{changes_by};
 ghost use Rattle.nbbo_book.specs.Refusals.{ConfiguresBook};
 ghost use Rattle.nbbo_book.specs.Rows.{empty_row, ShowsSymbol};
 
-use crate::book_side::BookSide;
 use crate::change::Change;
 use crate::fault::BookFault;
 use crate::row::Row;
@@ -54,12 +53,7 @@ fn empty_rows(alloc: Global, symbols: &[SymbolName]) -> Result<Vec<Row>, AllocEr
 {
     let mut rows = Vec::with_capacity(alloc, symbols.len())?;
     for symbol in symbols {
-        rows.push(Row {
-            halted: [false; MAX_VENUES],
-            symbol: *symbol,
-            bids: BookSide::new(),
-            offers: BookSide::new(),
-        })?;
+        rows.push(Row::new(*symbol))?;
     }
     Ok(rows)
 }

@@ -21,6 +21,7 @@ mod steps;
 mod symbol_cache;
 mod table;
 mod venue_side;
+mod venue_sides;
 mod venues;
 
 pub use book::Book;

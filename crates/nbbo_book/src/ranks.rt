@@ -3,13 +3,12 @@
 ghost use Rattle.std.specs.Prelude.{◌≡◌, ℕ, ◌+◌, ◌*◌, ◌^◌, ◌<◌, ◌≤◌, [], true, false, not, length, slice_index_or, slice_set, insert, remove, IfSome, None, Some};
 ghost use Rattle.nbbo_book.specs.Changes.{is_same_best};
 ghost use Rattle.nbbo_book.specs.Nationals.{is_better as is_better_side, beats as beats_side};
-ghost use Rattle.nbbo_book.specs.VenueSides.{age_at};
-ghost use Rattle.nbbo_book.specs.Ranks.{is_ahead as is_ahead_side, ages_in, AreNoted, CanMove, CanUpdate, HasNone, IsPlace, without, with_rank, placed, best_of_ranks};
+ghost use Rattle.nbbo_book.specs.VenueSides.{sides_in, age_at};
+ghost use Rattle.nbbo_book.specs.Ranks.{is_ahead as is_ahead_side, ages_in, AreNoted, CanMove, CanUpdate, HasNone, HasPlaces, IsPlace, without, with_rank, placed, best_of_ranks};
 
-use crate::venue_side::{VenueSide, venue_side_at};
+use crate::venue_sides::VenueSides;
 use arrayvec::ArrayVec;
 use feed_types::{Best, MAX_VENUES, Side, VenueId};
-use std::marker::Model;
 
 /// Why a venue's side is ranked anew.
 #[derive(Clone, Copy)]
@@ -26,29 +25,21 @@ pub struct Order<'a> {
     pub side: Side,
     pub cause: Cause,
     /// What the venues show by now, with the ages.
-    pub venue_sides: &'a [VenueSide; MAX_VENUES],
+    pub venue_sides: &'a VenueSides,
 }
 
 /// The eligible sides of one side of a symbol, best first; at most one of each venue.
-#[derive(Drop)]
-pub struct Ranks {
-    best_first: ArrayVec<Best, MAX_VENUES>,
+pub type Ranks = ArrayVec<Best, MAX_VENUES>;
+
+/// Where the ranks of one side of a symbol stand, and how many they are. It lies beside the symbol,
+/// apart from the ranks, so that an entry reads of these those alone that its venue's side passes.
+#[derive(Clone, Copy)]
+pub struct RankPlaces {
     /// The place of each venue's side, under the venue's number. It counts where the side there is
-    /// the venue's. The number of sides, the last part of `best_first`, lies beside it.
+    /// the venue's.
     places: [u8; MAX_VENUES],
-}
-
-impl Model for Ranks {
-    ghost use Rattle.std.specs.Prelude.{List};
-    ghost use Rattle.feed_types.specs.declared.national.Best.{Best};
-
-    ghost Value = { List Best };
-
-    ghost use Rattle.nbbo_book.specs.Ranks.{AreNoted};
-
-    ghost view = { λ r. r.best_first.items };
-
-    ghost invariant = { λ r. AreNoted r.places r.best_first.items };
+    /// The number of ranks.
+    count: u8,
 }
 
 /// The number of sizes that there are.
@@ -77,15 +68,15 @@ fn is_better(side: Side, x: &Best, y: &Best) -> bool
 
 /// Returns whether `x` ranks before `y`: by its price, its size or its age. Ages are read where the
 /// rest is equal alone.
-fn beats(side: Side, venue_sides: &[VenueSide; MAX_VENUES], x: &Best, y: &Best) -> bool
-    ensures { result ≡ beats_side side (age_at venue_sides.now) x.now y.now }
+fn beats(side: Side, venue_sides: &VenueSides, x: &Best, y: &Best) -> bool
+    ensures { result ≡ beats_side side (age_at (sides_in side venue_sides.now)) x.now y.now }
 {
     let is_equal = x.price == y.price && x.size == y.size;
     if !is_equal {
         return is_better(side, x, y);
     }
-    let x_age = venue_side_at(venue_sides, x.venue).age();
-    let y_age = venue_side_at(venue_sides, y.venue).age();
+    let x_age = venue_sides.get(side, x.venue).age();
+    let y_age = venue_sides.get(side, y.venue).age();
     x_age < y_age
 }
 
@@ -135,15 +126,17 @@ fn rise(
 }
 
 /// Moves each side after `from` that `x` isn't ahead of one place forward, over the side at `from`.
-/// Returns the place that is free for `x` then.
+/// Returns the place that is free for `x` then. `count` is the number of ranks.
 #[inline(always)]
 fn fall(
     order: &Order<'_>,
+    count: usize,
     ranks: &mut [Best],
     places: &mut [u8; MAX_VENUES],
     from: usize,
     x: &Best,
 ) -> usize
+    requires counted { count ≡ length ranks.old }
     requires ready { CanMove (slice_set places.old x.now.venue from) ranks.old from x.now }
     requires stopped { (k : ℕ) → from ≡ k + 1 → is_ahead_side order.now x.now
         (slice_index_or (remove ranks.old from) k x.now) ≡ false }
@@ -154,7 +147,7 @@ fn fall(
         (slice_set ranks.new result x.now) }
 {
     let mut at = from;
-    while at + 1 < ranks.len() {
+    while at + 1 < count {
         let neighbour = &ranks[at + 1];
         if is_ahead(order, x, neighbour) {
             return at;
@@ -167,16 +160,18 @@ fn fall(
 }
 
 /// Puts `x` in the place of the side at `from`, and moves it past its neighbours to its rank.
-/// Returns its place.
+/// Returns its place. `count` is the number of ranks.
 #[inline(always)]
 fn move_to_rank(
     order: &Order<'_>,
+    count: usize,
     ranks: &mut [Best],
     places: &mut [u8; MAX_VENUES],
     from: usize,
     x: &Best,
 ) -> usize
-    requires { CanMove places.old ranks.old from x.now }
+    requires counted { count ≡ length ranks.old }
+    requires ready { CanMove places.old ranks.old from x.now }
     ensures ranks { ranks.new ≡ insert (remove ranks.old from) result x.now }
     ensures place { IsPlace order.now x.now (remove ranks.old from) result }
     ensures noted { AreNoted places.new ranks.new }
@@ -187,7 +182,7 @@ fn move_to_rank(
         ranks[up] = *x;
         return up;
     }
-    let down = fall(order, ranks, places, from, x);
+    let down = fall(order, count, ranks, places, from, x);
     places[x.venue.index()] = down as u8;
     ranks[down] = *x;
     down
@@ -195,15 +190,15 @@ fn move_to_rank(
 
 /// Returns the place of the venue's side.
 #[inline(always)]
-fn place_of(ranks: &[Best], places: &[u8; MAX_VENUES], venue: VenueId) -> Option<usize>
-    requires { AreNoted places.now ranks.now }
+fn place_of(ranks: &[Best], noted: &RankPlaces, venue: VenueId) -> Option<usize>
+    requires { HasPlaces noted.now ranks.now }
     ensures found { IfSome result (λ at. at < length ranks.now) }
     ensures own { (x : Best) → IfSome result (λ at. (slice_index_or ranks.now at x).venue ≡ venue) }
     ensures there { IfSome result (λ at. without venue ranks.now ≡ remove ranks.now at) }
     ensures absent { result ≡ None → without venue ranks.now ≡ ranks.now }
 {
-    let at = usize::from(places[venue.index()]);
-    if at < ranks.len() && ranks[at].venue == venue {
+    let at = usize::from(noted.places[venue.index()]);
+    if at < noted.len() && ranks[at].venue == venue {
         return Some(at);
     }
     None
@@ -223,81 +218,83 @@ fn note_anew(ranks: &[Best], places: &mut [u8; MAX_VENUES], from: usize)
     }
 }
 
-impl Ranks {
-    /// Makes ranks of no side.
-    pub fn new() -> Ranks
-        ensures { result ≡ [] }
+impl RankPlaces {
+    /// Makes the places of no ranks.
+    pub fn new() -> RankPlaces
+        ensures { HasPlaces result [] }
     {
-        Ranks {
+        RankPlaces {
             places: [0; MAX_VENUES],
-            best_first: ArrayVec::new(),
+            count: 0,
         }
     }
 
-    /// Returns the sides, best first.
+    /// Returns the number of ranks.
     #[inline(always)]
-    pub fn as_slice(&self) -> &[Best]
-        ensures { result.now ≡ self.now }
+    pub fn len(&self) -> usize
+        ensures { result ≡ self.now.count }
     {
-        self.best_first.as_slice()
+        usize::from(self.count)
     }
 
     /// Returns the best side.
     #[inline(always)]
-    pub fn front(&self) -> Option<Best>
-        ensures { result ≡ best_of_ranks self.now }
+    pub fn front(&self, best_first: &Ranks) -> Option<Best>
+        requires { HasPlaces self.now best_first.now.items }
+        ensures { result ≡ best_of_ranks best_first.now.items }
     {
-        match self.best_first.as_slice().first() {
-            Some(best) => Some(*best),
-            None => None,
+        if self.count == 0 {
+            return None;
         }
-    }
-
-    /// Returns the number of sides.
-    #[inline(always)]
-    pub fn len(&self) -> usize
-        ensures { result ≡ length self.now }
-    {
-        self.best_first.len()
+        Some(best_first.as_slice()[0])
     }
 
     /// Ranks the side of a venue that isn't ranked. Returns whether the best side differs then.
     #[inline(always)]
-    fn add(&mut self, order: &Order<'_>, x: Best) -> bool
-        requires ready { CanUpdate order.now x.venue (Some x) self.old }
-        requires absent { without x.venue self.old ≡ self.old }
-        ensures ranks { self.new ≡ with_rank order.now.side (ages_in order.now) x self.old }
-        ensures moved { result ≡ not (is_same_best (best_of_ranks self.old)
-            (best_of_ranks self.new)) }
+    fn add(&mut self, best_first: &mut Ranks, order: &Order<'_>, x: Best) -> bool
+        requires kept { HasPlaces self.old best_first.old.items }
+        requires ready { CanUpdate order.now x.venue (Some x) best_first.old.items }
+        requires absent { without x.venue best_first.old.items ≡ best_first.old.items }
+        ensures kept { HasPlaces self.new best_first.new.items }
+        ensures ranks { best_first.new.items
+            ≡ with_rank order.now.side (ages_in order.now) x best_first.old.items }
+        ensures moved { result ≡ not (is_same_best (best_of_ranks best_first.old.items)
+            (best_of_ranks best_first.new.items)) }
     {
-        let from = self.best_first.len();
-        self.best_first.push(x);
+        let from = self.len();
+        best_first.push(x);
+        self.count = self.count + 1;
         self.places[x.venue.index()] = from as u8;
-        let ranks = self.best_first.as_mut_slice();
-        move_to_rank(order, ranks, &mut self.places, from, &x) == 0
+        let ranks = best_first.as_mut_slice();
+        move_to_rank(order, from + 1, ranks, &mut self.places, from, &x) == 0
     }
 
     /// Takes out the side at this place.
     #[inline(never)]
-    fn remove_at(&mut self, at: usize)
-        requires { at < length self.old }
-        ensures { self.new ≡ remove self.old at }
+    fn remove_at(&mut self, best_first: &mut Ranks, at: usize)
+        requires kept { HasPlaces self.old best_first.old.items }
+        requires within { at < length best_first.old.items }
+        ensures kept { HasPlaces self.new best_first.new.items }
+        ensures ranks { best_first.new.items ≡ remove best_first.old.items at }
     {
-        self.best_first.remove(at);
-        note_anew(self.best_first.as_slice(), &mut self.places, at);
+        best_first.remove(at);
+        self.count = self.count - 1;
+        note_anew(best_first.as_slice(), &mut self.places, at);
     }
 
     /// Takes the venue's side out, where it has one. Returns whether the best side differs then.
     #[inline(always)]
-    fn take_out(&mut self, venue: VenueId) -> bool
-        requires { HasNone venue (without venue self.old) }
-        ensures ranks { self.new ≡ without venue self.old }
-        ensures moved { result ≡ not (is_same_best (best_of_ranks self.old)
-            (best_of_ranks self.new)) }
+    fn take_out(&mut self, best_first: &mut Ranks, venue: VenueId) -> bool
+        requires kept { HasPlaces self.old best_first.old.items }
+        requires once { HasNone venue (without venue best_first.old.items) }
+        ensures kept { HasPlaces self.new best_first.new.items }
+        ensures ranks { best_first.new.items ≡ without venue best_first.old.items }
+        ensures moved { result ≡ not (is_same_best (best_of_ranks best_first.old.items)
+            (best_of_ranks best_first.new.items)) }
     {
-        match place_of(self.best_first.as_slice(), &self.places, venue) {
+        match place_of(best_first.as_slice(), self, venue) {
             Some(at) => {
-                self.remove_at(at);
+                self.remove_at(best_first, at);
                 at == 0
             }
             None => false,
@@ -308,23 +305,32 @@ impl Ranks {
     /// already moves past its neighbours from where it is. Returns whether the best side differs
     /// then, which the places show: a side comes from the first one or goes to it.
     #[inline(always)]
-    pub fn update(&mut self, order: &Order<'_>, venue: VenueId, best: Option<Best>) -> bool
-        requires { CanUpdate order.now venue best self.old }
-        ensures ranks { self.new
-            ≡ placed order.now.side (ages_in order.now) best (without venue self.old) }
-        ensures moved { result ≡ not (is_same_best (best_of_ranks self.old)
-            (best_of_ranks self.new)) }
+    pub fn update(
+        &mut self,
+        best_first: &mut Ranks,
+        order: &Order<'_>,
+        venue: VenueId,
+        best: Option<Best>,
+    ) -> bool
+        requires kept { HasPlaces self.old best_first.old.items }
+        requires ready { CanUpdate order.now venue best best_first.old.items }
+        ensures kept { HasPlaces self.new best_first.new.items }
+        ensures ranks { best_first.new.items ≡ placed order.now.side (ages_in order.now) best
+            (without venue best_first.old.items) }
+        ensures moved { result ≡ not (is_same_best (best_of_ranks best_first.old.items)
+            (best_of_ranks best_first.new.items)) }
     {
         let Some(x) = best else {
-            return self.take_out(venue);
+            return self.take_out(best_first, venue);
         };
-        let Some(from) = place_of(self.best_first.as_slice(), &self.places, venue) else {
-            return self.add(order, x);
+        let Some(from) = place_of(best_first.as_slice(), self, venue) else {
+            return self.add(best_first, order, x);
         };
         match order.cause {
             Cause::Quoted => {
-                let ranks = self.best_first.as_mut_slice();
-                let to = move_to_rank(order, ranks, &mut self.places, from, &x);
+                let count = self.len();
+                let ranks = best_first.as_mut_slice();
+                let to = move_to_rank(order, count, ranks, &mut self.places, from, &x);
                 (from == 0) | (to == 0)
             }
             // What is ranked already keeps its place.

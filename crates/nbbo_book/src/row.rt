@@ -5,26 +5,83 @@ ghost use Rattle.std.specs.Str.{bytes_eq};
 ghost use Rattle.feed_types.specs.declared.line.Side.TheVariants.{Bid, Offer};
 ghost use Rattle.nbbo_book.specs.Changes.{is_same_national};
 ghost use Rattle.nbbo_book.specs.BookSides.{IsRanked};
-ghost use Rattle.nbbo_book.specs.Rows.{IsRowRanked, row_quoted, row_ended, row_halted, row_helped, national_at, side_at};
+ghost use Rattle.nbbo_book.specs.Rows.{IsRowRanked, row_quoted, row_ended, row_halted, row_helped, national_at, side_at, empty_row};
 
-use crate::book_side::BookSide;
+use crate::book_side::{clear_quote, recheck_eligibility, set_quote};
+use crate::ranks::{RankPlaces, Ranks};
 use crate::side_quote::{bid_of, offer_of};
 use crate::venue_side::VenueSide;
+use crate::venue_sides::VenueSides;
 use crate::venues::Venues;
+use arrayvec::ArrayVec;
 use feed_types::{Best, MAX_VENUES, National, Quote, Side, SymbolName, VenueId};
+use std::marker::Model;
 
-/// The part of a book for one symbol. The halts and the symbol, which each entry reads, lie beside
-/// the number of the bids and their places, which end the bids: 48 bytes in a row.
+/// The part of a book for one symbol. A quotation reads a line of 64 bytes from `symbol` to
+/// `offer_places`, one of `sides`, and of the ranks and their vectors' lengths what it needs.
+///
+/// So that its parts keep to lines, a row takes whole ones, and its first part lies 16 bytes past
+/// one, as the C library places what is large.
 #[derive(Drop)]
 pub struct Row {
-    pub bids: BookSide,
+    bids: Ranks,
+    between: u64,
+    offers: Ranks,
+    before: [u64; 3],
+    symbol: SymbolName,
     /// The venues that halt the symbol.
-    pub halted: [bool; MAX_VENUES],
-    pub symbol: SymbolName,
-    pub offers: BookSide,
+    halted: [bool; MAX_VENUES],
+    bid_places: RankPlaces,
+    offer_places: RankPlaces,
+    sides: VenueSides,
+    after: [u64; 2],
+}
+
+impl Model for Row {
+    ghost use Rattle.nbbo_book.specs.VenueSides.{RowState, book_side_of};
+    ghost use Rattle.nbbo_book.specs.Ranks.{HasPlaces};
+    ghost use Rattle.feed_types.specs.declared.line.Side.TheVariants.{Bid, Offer};
+
+    ghost Value = { RowState };
+
+    ghost view = { λ r. record {
+      symbol = r.symbol;
+      halted = r.halted;
+      bids = book_side_of Bid r.sides r.bids.items;
+      offers = book_side_of Offer r.sides r.offers.items;
+    } };
+
+    ghost invariant = { λ r. HasPlaces r.bid_places r.bids.items
+        × HasPlaces r.offer_places r.offers.items };
 }
 
 impl Row {
+    /// Makes the row of a symbol of which nothing is known yet.
+    pub fn new(symbol: SymbolName) -> Row
+        ensures { result ≡ empty_row symbol }
+    {
+        Row {
+            bids: ArrayVec::new(),
+            between: 0,
+            offers: ArrayVec::new(),
+            before: [0; 3],
+            symbol,
+            halted: [false; MAX_VENUES],
+            bid_places: RankPlaces::new(),
+            offer_places: RankPlaces::new(),
+            sides: VenueSides::new(),
+            after: [0; 2],
+        }
+    }
+
+    /// Returns the symbol.
+    #[inline(always)]
+    pub fn symbol(&self) -> SymbolName
+        ensures { result ≡ self.now.symbol }
+    {
+        self.symbol
+    }
+
     /// Returns whether the symbol is the row's. Their keys are compared: eight bytes at once.
     #[inline(always)]
     pub fn is_of(&self, symbol: SymbolName) -> bool
@@ -44,8 +101,22 @@ impl Row {
         let quoter = venues.quoter(&self.halted, venue);
         let bid = VenueSide::new(Some(bid_of(quote)), age);
         let offer = VenueSide::new(Some(offer_of(quote)), age);
-        let bid = self.bids.set_quote(Side::Bid, &quoter, bid);
-        let offer = self.offers.set_quote(Side::Offer, &quoter, offer);
+        let bid = set_quote(
+            &mut self.sides,
+            &mut self.bids,
+            &mut self.bid_places,
+            Side::Bid,
+            &quoter,
+            bid,
+        );
+        let offer = set_quote(
+            &mut self.sides,
+            &mut self.offers,
+            &mut self.offer_places,
+            Side::Offer,
+            &quoter,
+            offer,
+        );
         bid || offer
     }
 
@@ -59,8 +130,22 @@ impl Row {
             ≡ not (is_same_national (national_at self.old) (national_at self.new)) }
     {
         self.halted[venue.index()] = false;
-        let bid = self.bids.clear_quote(Side::Bid, venue, age);
-        let offer = self.offers.clear_quote(Side::Offer, venue, age);
+        let bid = clear_quote(
+            &mut self.sides,
+            &mut self.bids,
+            &mut self.bid_places,
+            Side::Bid,
+            venue,
+            age,
+        );
+        let offer = clear_quote(
+            &mut self.sides,
+            &mut self.offers,
+            &mut self.offer_places,
+            Side::Offer,
+            venue,
+            age,
+        );
         bid || offer
     }
 
@@ -75,8 +160,20 @@ impl Row {
             ≡ not (is_same_national (national_at self.old) (national_at self.new)) }
     {
         let quoter = venues.quoter(&self.halted, venue);
-        let bid = self.bids.recheck_eligibility(Side::Bid, &quoter);
-        let offer = self.offers.recheck_eligibility(Side::Offer, &quoter);
+        let bid = recheck_eligibility(
+            &self.sides,
+            &mut self.bids,
+            &mut self.bid_places,
+            Side::Bid,
+            &quoter,
+        );
+        let offer = recheck_eligibility(
+            &self.sides,
+            &mut self.offers,
+            &mut self.offer_places,
+            Side::Offer,
+            &quoter,
+        );
         bid || offer
     }
 
@@ -98,7 +195,7 @@ impl Row {
     /// it reads their number alone, since which of them a side passes isn't known.
     #[inline(always)]
     pub fn peek(&self, venue: VenueId) -> u64 {
-        u64::from(self.halted[venue.index()]) ^ self.bids.peek(venue) ^ self.offers.peek(venue)
+        u64::from(self.halted[venue.index()]) ^ self.sides.get(Side::Bid, venue).size()
     }
 
     /// Returns the eligible sides, best first.
@@ -106,8 +203,8 @@ impl Row {
         ensures { result.now ≡ (side_at side self.now).ranks }
     {
         match side {
-            Side::Bid => self.bids.ranks(),
-            Side::Offer => self.offers.ranks(),
+            Side::Bid => self.bids.as_slice(),
+            Side::Offer => self.offers.as_slice(),
         }
     }
 
@@ -117,8 +214,8 @@ impl Row {
         ensures { result ≡ national_at self.now }
     {
         National {
-            bid: self.bids.front(),
-            offer: self.offers.front(),
+            bid: self.bid_places.front(&self.bids),
+            offer: self.offer_places.front(&self.offers),
         }
     }
 }

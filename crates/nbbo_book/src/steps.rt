@@ -42,7 +42,7 @@ fn append_change(has_changed: bool, position: u64, row: &Row, out: &mut Vec<Chan
         let offer: Option<Best> = national.offer;
         out.push_reserved(Change {
             position,
-            symbol: row.symbol,
+            symbol: row.symbol(),
             national: National { bid, offer },
         });
     }

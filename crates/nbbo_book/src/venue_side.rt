@@ -1,10 +1,8 @@
 //! The side that a venue shows of a symbol.
 
-ghost use Rattle.std.specs.Prelude.{◌≡◌, ◌<◌};
-ghost use Rattle.nbbo_book.specs.VenueSides.{venue_side_at as side_at_place};
+ghost use Rattle.std.specs.Prelude.{◌≡◌};
 
 use crate::side_quote::SideQuote;
-use feed_types::{MAX_VENUES, VenueId};
 use std::marker::Model;
 
 /// What a venue shows, if anything, and its age: how many entries there were when it took its
@@ -95,13 +93,4 @@ impl VenueSide {
     {
         self.age
     }
-}
-
-/// Returns the side at the venue's place.
-#[inline(always)]
-pub fn venue_side_at(venue_sides: &[VenueSide; MAX_VENUES], venue: VenueId) -> VenueSide
-    ensures value { result ≡ side_at_place venue_sides.now venue }
-    ensures in_range { venue < 16 }
-{
-    venue_sides[venue.index()]
 }

@@ -1,27 +1,15 @@
-use Rattle.std.proofs.Common.{ℕ, List, [], ◌∷◌, ◌++◌, ◌∙◌, ap, sym, map, take, add-one, false}
-use Rattle.std.specs.Prelude.{replicate}
-use Rattle.nbbo_book.specs.declared.book_side.BookSide.{BookSide}
+use Rattle.std.proofs.Common.{ℕ, List, [], ◌∷◌, ◌++◌, ◌∙◌, ap, sym, map, take, add-one}
 use Rattle.nbbo_book.specs.declared.row.Row.{Row}
-use Rattle.nbbo_book.specs.BookSides.{empty_side}
 use Rattle.nbbo_book.specs.Rows.{empty_row}
 use Rattle.nbbo_book.proofs.BookFits.{rows_more}
 use Rattle.nbbo_book.proofs.book.empty_rows.Goals as goal
-
--- a row of these sides
-abbrev row_of : BookSide → BookSide → List ℕ → Row
-row_of bids offers symbol =
-    record { symbol = symbol; halted = replicate 16 false; bids = bids; offers = offers }
 
 pub loop-symbol-preserved : goal.loop-symbol-preserved
 loop-symbol-preserved c =
     let symbols = c.args.symbols.now in
     let i : ℕ = c.loop-symbol.symbol-index in
     c.in_ok-push.ensures.items
-    ∙ ap (λ (side : BookSide). c.loop-symbol.rows.items ++ row_of side c.new-in-loop-symbol.result
-    c.symbol-item.result ∷ []) c.new.ensures
-    ∙ ap (λ (side : BookSide). c.loop-symbol.rows.items ++ row_of empty_side side
-    c.symbol-item.result ∷ [])
-    c.new-in-loop-symbol.ensures
+    ∙ ap (λ (row : Row). c.loop-symbol.rows.items ++ row ∷ []) c.new.ensures
     ∙ ap (λ (t : List Row). t ++ empty_row c.symbol-item.result ∷ []) c.loop-symbol.invariant
     ∙ rows_more symbols i c.symbol-item.result c.symbol-item.result
     c.loop-symbol-test.true c.symbol-item.is

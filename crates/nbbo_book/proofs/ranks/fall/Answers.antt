@@ -42,7 +42,9 @@ loop-at-preserved c =
     sym (long_set c.loop-at.ranks c.loop-at.at c.args.x.now)
     ∙ ap length c.loop-at.invariant.moved
     ∙ length-insert ys c.loop-at.at c.args.x.now c.loop-at.invariant.within in
-    let h : c.loop-at.at < length ys = omega (arith, long) in
+    let all : c.args.count ≡ length c.loop-at.ranks =
+    c.requires.counted ∙ sym c.loop-at.auto.ranks in
+    let h : c.loop-at.at < length ys = omega (arith, long, all) in
     let m = slid_down ys c.loop-at.ranks c.loop-at.at c.args.x.now c.index-ranks-at.result
     c.loop-at.invariant.moved
     h (c.index-ranks-at.is ∙ ap (λ i. get_or c.loop-at.ranks i c.index-ranks-at.result)
@@ -71,7 +73,8 @@ loop-at-preserved c =
           (sym own)
           (noted_past c.loop-at.places c.loop-at.ranks c.loop-at.at (c.loop-at.at + 1) c.args.x.now
           c.index-ranks-at-in-loop-at.result
-          (omega arith) (omega arith) (λ e. (let no : c.loop-at.at ≡ c.loop-at.at + 1 =
+          (omega (arith, all)) (omega (arith, all))
+          (λ e. (let no : c.loop-at.at ≡ c.loop-at.at + 1 =
           e in omega (arith, no)))
           (omega (arith, c.requires.ready.venue)) (omega (arith, own, c.index.ensures.in_range))
           c.loop-at.invariant.noted c.index-ranks-at-in-loop-at.is);
@@ -87,5 +90,5 @@ returns-clause-place c =
     record {
       within = c.loop-at.invariant.within;
       before = c.loop-at.invariant.stopped;
-      at = λ l. absurd (omega (arith, long, l));
+      at = λ l. absurd (omega (arith, long, l, c.requires.counted, c.loop-at.auto.ranks));
     }

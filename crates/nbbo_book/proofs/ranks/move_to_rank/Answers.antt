@@ -12,7 +12,7 @@ fall-down-requires-clause-stopped c =
     omega (arith, c.rise-up.ensures.up, c.if-up-from.false) in
     let rest = left_over c.args.ranks.now c.rise-up.new.ranks c.args.from
     c.rise-up.result c.args.x.now
-    c.requires.below from c.rise-up.ensures.moved in
+    c.requires.ready.below from c.rise-up.ensures.moved in
     λ k e. ap (λ (t : List Best). is_ahead c.args.order.now c.args.x.now (get_or t k c.args.x.now))
     rest
     ∙ c.rise-up.ensures.stopped k (from ∙ e)
@@ -23,7 +23,7 @@ returns-clause-ranks c =
     omega (arith, c.rise-up.ensures.up, c.if-up-from.false) in
     let rest = left_over c.args.ranks.now c.rise-up.new.ranks c.args.from
     c.rise-up.result c.args.x.now
-    c.requires.below from c.rise-up.ensures.moved in
+    c.requires.ready.below from c.rise-up.ensures.moved in
     c.fall-down.ensures.moved
     ∙ ap (λ (t : List Best). insert t c.fall-down.result c.args.x.now) rest
 
@@ -33,7 +33,7 @@ returns-clause-place c =
     omega (arith, c.rise-up.ensures.up, c.if-up-from.false) in
     let rest = left_over c.args.ranks.now c.rise-up.new.ranks c.args.from
     c.rise-up.result c.args.x.now
-    c.requires.below from c.rise-up.ensures.moved in
+    c.requires.ready.below from c.rise-up.ensures.moved in
     subst (λ (t : List Best). IsPlace c.args.order.now c.args.x.now t c.fall-down.result) rest
     c.fall-down.ensures.place
 
@@ -41,7 +41,7 @@ pub returns-then-up-from-clause-place : goal.returns-then-up-from-clause-place
 returns-then-up-from-clause-place c = record {
   within = omega (
     arith,
-    length-remove c.args.ranks.now c.args.from c.requires.below,
+    length-remove c.args.ranks.now c.args.from c.requires.ready.below,
     c.if-up-from.true,
   );
   before = c.rise-up.ensures.stopped;

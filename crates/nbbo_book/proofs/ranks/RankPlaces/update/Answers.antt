@@ -8,7 +8,7 @@ use Rattle.nbbo_book.specs.Ranks.{AreNoted, HasNone, IsCause, IsIn, IsNewest, Is
 use Rattle.nbbo_book.proofs.Fronts.{moved_moves}
 use Rattle.nbbo_book.proofs.Moving.{in_at, walked_here, ranked_stays, refill_whole}
 use Rattle.nbbo_book.proofs.Places.{noted_in_place}
-use Rattle.nbbo_book.proofs.ranks.Ranks.update.Goals as goal
+use Rattle.nbbo_book.proofs.ranks.RankPlaces.update.Goals as goal
 
 pub returns-in-Quoted-clause-ranks : goal.returns-in-Quoted-clause-ranks
 returns-in-Quoted-clause-ranks c =
@@ -16,29 +16,29 @@ returns-in-Quoted-clause-ranks c =
     let ages : ℕ → ℕ = ages_in order in
     let x : Best = c.in-Some.x in
     let v : ℕ = c.args.venue in
-    let xs : List Best = c.args.self.now in
+    let xs : List Best = c.args.best_first.now.items in
     let from : ℕ = c.in-Some-place_of.from in
     let to : ℕ = c.move_to_rank-to.result in
     let there : without v xs ≡ remove xs from =
     subst (λ (t : List Best). without v t ≡ remove t from)
-    (c.as_slice.ensures.value ∙ c.self.view_is)
+    c.as_slice.ensures.value
     c.in-Some-place_of.ensures.there in
     let rest : remove c.as_mut_slice-ranks.result.now from ≡ without v xs =
-    ap (λ (t : List Best). remove t from) (c.as_mut_slice-ranks.ensures.value ∙ c.self.view_is)
+    ap (λ (t : List Best). remove t from) c.as_mut_slice-ranks.ensures.value
     ∙ sym there in
     let place : IsPlace order x (without v xs) to =
     subst (λ (t : List Best). IsPlace order x t to) rest c.move_to_rank-to.ensures.place in
-    let own : x.venue ≡ v = c.requires.own x c.in-Some.is in
+    let own : x.venue ≡ v = c.requires.ready.own x c.in-Some.is in
     let newest : IsNewest ages x (without v xs) =
     subst (λ (n : ℕ). IsNewest ages x (without n xs)) own
     (subst (λ (u : Cause). IsCause u order.side ages x xs) c.in-Quoted.is
-    (c.requires.caused x c.in-Some.is)).0 in
-    refill_whole c.self.inside.best_first.items c.move_to_rank-to.new.ranks
+    (c.requires.ready.caused x c.in-Some.is)).0 in
+    refill_whole c.args.best_first.now.items c.move_to_rank-to.new.ranks
     (c.move_to_rank-to.auto.ranks ∙ ap length c.as_mut_slice-ranks.ensures.value)
     ∙ c.move_to_rank-to.ensures.ranks
     ∙ ap (λ (t : List Best). insert t to x) rest
     ∙ walked_here order.cause order.side ages x (without v xs) to place.within place.before place.at
-    c.requires.others (λ q. newest)
+    c.requires.ready.others (λ q. newest)
     ∙ ap (λ o. placed order.side ages o (without v xs)) (sym c.in-Some.is)
 
 pub returns-in-Quoted-clause-moved : goal.returns-in-Quoted-clause-moved
@@ -47,13 +47,12 @@ returns-in-Quoted-clause-moved c =
     let ages : ℕ → ℕ = ages_in order in
     let x : Best = c.in-Some.x in
     let v : ℕ = c.args.venue in
-    let xs : List Best = c.args.self.now in
+    let xs : List Best = c.args.best_first.now.items in
     let from : ℕ = c.in-Some-place_of.from in
     let to : ℕ = c.move_to_rank-to.result in
-    let seen : c.as_slice.result.now ≡ xs = c.as_slice.ensures.value ∙ c.self.view_is in
-    let lent : c.as_mut_slice-ranks.result.now ≡ xs = c.as_mut_slice-ranks.ensures.value
-    ∙ c.self.view_is in
-    let own : x.venue ≡ v = c.requires.own x c.in-Some.is in
+    let seen : c.as_slice.result.now ≡ xs = c.as_slice.ensures.value in
+    let lent : c.as_mut_slice-ranks.result.now ≡ xs = c.as_mut_slice-ranks.ensures.value in
+    let own : x.venue ≡ v = c.requires.ready.own x c.in-Some.is in
     let found : from < length xs = subst (λ (t : List Best). from < length t) seen
     c.in-Some-place_of.ensures.found in
     let its : (get_or xs from x).venue ≡ x.venue =
@@ -63,15 +62,15 @@ returns-in-Quoted-clause-moved c =
     subst (λ (t : List Best). without v t ≡ remove t from) seen c.in-Some-place_of.ensures.there in
     let none : HasNone x.venue (remove xs from) =
     subst (λ (n : ℕ). HasNone n (remove xs from)) (sym own)
-    (subst (λ (t : List Best). HasNone v t) there c.requires.once) in
+    (subst (λ (t : List Best). HasNone v t) there c.requires.ready.once) in
     let place : IsPlace order x (remove xs from) to =
     subst (λ (t : List Best). IsPlace order x (remove t from) to) lent
     c.move_to_rank-to.ensures.place in
     let new : IsIn xs x → ⊥ = (subst (λ (u : Cause). IsCause u order.side ages x xs) c.in-Quoted.is
-    (c.requires.caused x c.in-Some.is)).1 in
+    (c.requires.ready.caused x c.in-Some.is)).1 in
     moved_moves xs x from to found place.within its none new
     ∙ ap (λ (t : List Best). not (is_same_best (best_of_ranks xs) (best_of_ranks t)))
-    (sym (refill_whole c.self.inside.best_first.items c.move_to_rank-to.new.ranks
+    (sym (refill_whole c.args.best_first.now.items c.move_to_rank-to.new.ranks
     (c.move_to_rank-to.auto.ranks ∙ ap length c.as_mut_slice-ranks.ensures.value)
     ∙ c.move_to_rank-to.ensures.ranks ∙ ap (λ (t : List Best). insert (remove t from) to x) lent))
 
@@ -81,17 +80,17 @@ returns-in-Rechecked-clause-ranks c =
     let ages : ℕ → ℕ = ages_in order in
     let x : Best = c.in-Some.x in
     let v : ℕ = c.args.venue in
-    let xs : List Best = c.args.self.now in
+    let xs : List Best = c.args.best_first.now.items in
     let from : ℕ = c.in-Some-place_of.from in
-    let seen : c.as_slice.result.now ≡ xs = c.as_slice.ensures.value ∙ c.self.view_is in
-    let own : x.venue ≡ v = c.requires.own x c.in-Some.is in
+    let seen : c.as_slice.result.now ≡ xs = c.as_slice.ensures.value in
+    let own : x.venue ≡ v = c.requires.ready.own x c.in-Some.is in
     let found : from < length xs = subst (λ (t : List Best). from < length t) seen
     c.in-Some-place_of.ensures.found in
     let its : (get_or xs from x).venue ≡ x.venue =
     subst (λ (t : List Best). (get_or t from x).venue ≡ v) seen (c.in-Some-place_of.ensures.own x)
     ∙ sym own in
     let cause = subst (λ (u : Cause). IsCause u order.side ages x xs) c.in-Rechecked.is
-    (c.requires.caused x c.in-Some.is) in
+    (c.requires.ready.caused x c.in-Some.is) in
     let among : IsIn xs x = subst (λ (t : Best). IsIn xs t) (cause.1 (get_or xs from x)
     (in_at xs from x found) its)
     (in_at xs from x found) in
@@ -99,22 +98,33 @@ returns-in-Rechecked-clause-ranks c =
     ∙ ap (λ (n : ℕ). with_rank order.side ages x (without n xs)) (sym own)
     ∙ ranked_stays order.side ages x xs cause.0 among cause.1)
 
-pub move_to_rank-to-requires : goal.move_to_rank-to-requires
-move_to_rank-to-requires c =
+pub move_to_rank-to-requires-clause-ready : goal.move_to_rank-to-requires-clause-ready
+move_to_rank-to-requires-clause-ready c =
     let x : Best = c.in-Some.x in
-    let xs : List Best = c.self.inside.best_first.items in
+    let xs : List Best = c.args.best_first.now.items in
     let from : ℕ = c.in-Some-place_of.from in
     let found : from < length xs =
     subst (λ (t : List Best). from < length t) c.as_slice.ensures.value
     c.in-Some-place_of.ensures.found in
     let its : (get_or xs from x).venue ≡ x.venue =
     subst (λ (t : List Best). (get_or t from x).venue ≡ c.args.venue) c.as_slice.ensures.value
-    (c.in-Some-place_of.ensures.own x) ∙ sym (c.requires.own x c.in-Some.is) in
+    (c.in-Some-place_of.ensures.own x) ∙ sym (c.requires.ready.own x c.in-Some.is) in
     record {
       below = search rules;
       few = search rules;
       venue = search rules;
-      noted = subst (λ (t : List Best). AreNoted c.self.inside.places (set t from x))
+      noted = subst (λ (t : List Best). AreNoted c.args.self.now.places (set t from x))
           (sym c.as_mut_slice-ranks.ensures.value)
-          (noted_in_place c.self.inside.places xs from x found its c.self.invariant);
+          (noted_in_place c.args.self.now.places xs from x found its c.requires.kept.places);
+    }
+
+pub returns-in-Quoted-clause-kept : goal.returns-in-Quoted-clause-kept
+returns-in-Quoted-clause-kept c =
+    let whole = refill_whole c.args.best_first.now.items c.move_to_rank-to.new.ranks
+    (c.move_to_rank-to.auto.ranks ∙ ap length c.as_mut_slice-ranks.ensures.value) in
+    record {
+      count = c.requires.kept.count ∙ sym (ap length whole ∙ c.move_to_rank-to.auto.ranks
+          ∙ ap length c.as_mut_slice-ranks.ensures.value);
+      places = subst (λ (t : List Best). AreNoted c.move_to_rank-to.new.places t) (sym whole)
+          c.move_to_rank-to.ensures.noted;
     }

@@ -7,20 +7,19 @@ use Rattle.nbbo_book.specs.declared.ranks.Order.{Order}
 use Rattle.nbbo_book.specs.Ranks.{AreNoted, HasNone, InRank, IsCause, IsNewest, IsPlace, ages_in}
 use Rattle.nbbo_book.proofs.Moving.{walked_here, refill_whole, remove_last}
 use Rattle.nbbo_book.proofs.Places.{noted_pushed, set_the_end}
-use Rattle.nbbo_book.proofs.ranks.Ranks.add.Goals as goal
+use Rattle.nbbo_book.proofs.ranks.RankPlaces.add.Goals as goal
 
 pub returns-clause-ranks : goal.returns-clause-ranks
 returns-clause-ranks c =
     let order : Order = c.args.order.now in
     let ages : ℕ → ℕ = ages_in order in
     let x : Best = c.args.x in
-    let xs : List Best = c.args.self.now in
+    let xs : List Best = c.args.best_first.now.items in
     let to : ℕ = c.move_to_rank.result in
     let rest : remove c.as_mut_slice-ranks.result.now c.len-from.result ≡ xs =
     ap (λ (t : List Best). remove t c.len-from.result)
-    (c.as_mut_slice-ranks.ensures.value ∙ c.push.ensures.items
-    ∙ ap (λ (t : List Best). t ++ x ∷ []) c.self.view_is)
-    ∙ ap (remove (xs ++ x ∷ [])) (c.len-from.ensures.value ∙ ap length c.self.view_is)
+    (c.as_mut_slice-ranks.ensures.value ∙ c.push.ensures.items)
+    ∙ ap (remove (xs ++ x ∷ [])) (c.len-from.ensures ∙ c.requires.kept.count)
     ∙ remove_last xs x in
     let place : IsPlace order x xs to = subst (λ (t : List Best). IsPlace order x t to) rest
     c.move_to_rank.ensures.place in
@@ -36,14 +35,15 @@ returns-clause-ranks c =
     (subst (λ (t : List Best). InRank order.side ages t) c.requires.absent c.requires.ready.others)
     newest
 
-pub move_to_rank-requires : goal.move_to_rank-requires
-move_to_rank-requires c =
+pub move_to_rank-requires-clause-ready : goal.move_to_rank-requires-clause-ready
+move_to_rank-requires-clause-ready c =
     let x : Best = c.args.x in
-    let P : List ℕ = c.self.inside.places in
-    let xs : List Best = c.self.inside.best_first.items in
+    let P : List ℕ = c.args.self.now.places in
+    let xs : List Best = c.args.best_first.now.items in
+    let first : c.len-from.result ≡ length xs = c.len-from.ensures ∙ c.requires.kept.count in
     let from : ℕ = c.len-from.result in
     let none : HasNone x.venue xs =
-    subst (λ (t : List Best). HasNone x.venue t) (c.requires.absent ∙ sym c.self.view_is)
+    subst (λ (t : List Best). HasNone x.venue t) c.requires.absent
     c.requires.ready.once in
     record {
       below = search rules;
@@ -52,17 +52,27 @@ move_to_rank-requires c =
       noted = subst (λ (t : List Best). AreNoted (set P c.index.result from) t)
           (sym (ap (λ (t : List Best). set t from x) (c.as_mut_slice-ranks.ensures.value
           ∙ c.push.ensures.items)
-          ∙ ap (λ (n : ℕ). set (xs ++ x ∷ []) n x) c.len-from.ensures.value ∙ set_the_end xs x))
+          ∙ ap (λ (n : ℕ). set (xs ++ x ∷ []) n x) first ∙ set_the_end xs x))
           (subst (λ (i : ℕ). AreNoted (set P i from) (xs ++ x ∷ [])) (sym c.index.ensures.value)
           (subst (λ (n : ℕ). AreNoted (set P x.venue n) (xs ++ x ∷ []))
-          (sym c.len-from.ensures.value)
+          (sym first)
           (noted_pushed P xs x (omega (arith, c.index.ensures.value, c.index.ensures.in_range))
-          none c.self.invariant)));
+          none c.requires.kept.places)));
     }
 
-pub invariant_of-self : goal.invariant_of-self
-invariant_of-self c =
-    subst (λ (t : List Best). AreNoted c.move_to_rank.new.places t)
-    (sym (refill_whole c.push.new.self.items c.move_to_rank.new.ranks
-    (c.move_to_rank.auto.ranks ∙ ap length c.as_mut_slice-ranks.ensures.value)))
-    c.move_to_rank.ensures.noted
+pub returns-clause-kept : goal.returns-clause-kept
+returns-clause-kept c =
+    let whole = refill_whole c.push.new.self.items c.move_to_rank.new.ranks
+    (c.move_to_rank.auto.ranks ∙ ap length c.as_mut_slice-ranks.ensures.value) in
+    record {
+      count = omega (
+        arith,
+        ap length whole,
+        c.move_to_rank.auto.ranks,
+        ap length c.as_mut_slice-ranks.ensures.value,
+        c.push.ensures.len,
+        c.requires.kept.count,
+      );
+      places = subst (λ (t : List Best). AreNoted c.move_to_rank.new.places t) (sym whole)
+          c.move_to_rank.ensures.noted;
+    }
