@@ -1,6 +1,6 @@
 -- What is kept of national bests, and their rows, with one event more.
 use Rattle.std.proofs.Common.{◌≡◌, ℕ, zero, suc, ◌+◌, ◌-◌, ◌*◌, ◌<◌, ◌≤◌, inl, inr, Bool, true, false, cond, List, [], ◌∷◌, ◌++◌, append-nil, Option, None, Some, length, refl, sym, ap, subst, ◌∙◌, arith, slice_index_or, Result, Ok, Err}
-use Rattle.std.specs.Prelude.{OnErr, OnOk, max, min, nat_eq, option_map}
+use Rattle.std.specs.Prelude.{OnErr, OnOk, is_some, max, min, nat_eq, option_map}
 use Rattle.std.specs.List.{list_any}
 use Rattle.std.proofs.lemmas.Bool.{cases_Bool}
 use Rattle.std.proofs.lemmas.Bool.Decides.{nat_tests}
@@ -15,7 +15,7 @@ use Rattle.report_rows.specs.FirstTexts.{first_texts}
 use Rattle.report_rows.specs.RowSinks.{FailsMaking, Makes}
 use Rattle.report_rows.specs.SpanEvents.{ends_all}
 use Rattle.period_rows.specs.BestHolding.{AreBegun, AreBegunIf, AreChanged, AreBestsTaken, IsChanged, IsSymbolHeld, IsBestTable, is_another}
-use Rattle.period_rows.specs.BestMakers.{AreBests, AreLive, IsLiveStep, IsPassed, IsStepped, MakesBests, TellsBests, begin_with, best_made_text, clock_with, live_text, over_at, period_to}
+use Rattle.period_rows.specs.BestMakers.{AreBests, AreLive, IsLiveStep, IsPassed, IsStepped, MakesBests, TellsBests, begin_with, begun_by, best_made_text, clock_with, live_text, over_at, period_of_clock, period_to}
 use Rattle.period_rows.specs.BestRows.{BestSetting, best_period, best_rows_with, period_ended_by, rows_at, symbol_rows}
 use Rattle.period_rows.specs.BestTimes.{no_symbol, over_rows, settled_at}
 use Rattle.period_rows.specs.Bests.{begin_after, begin_told, best_in, clock_after, clock_told, overlap, stood, time_of_event}
@@ -188,15 +188,15 @@ module _ (setting : BestSetting) (earlier : List TimedEvent) (m : BestMaker)
   begin_same : begin_with m e ≡ begin_told setting.style.length (e ∷ earlier)
   begin_same =
       let o = time_of_event e.event e.time in
-      ap (λ (style : PeriodStyle). begin_after style.length o m.clock m.begin) are.style
-      ∙ ap (λ (clock : ℕ). begin_after setting.style.length o clock m.begin) live.clock
+      ap (λ (style : PeriodStyle). begin_after style.length o m.clock (begun_by m)) are.style
+      ∙ ap (λ (clock : ℕ). begin_after setting.style.length o clock (begun_by m)) live.clock
       ∙ ap (begin_after setting.style.length o (clock_told earlier)) live.begin
 
   live_after : (new : BestMaker) → IsLiveStep m e new → AreLive setting (e ∷ earlier) new
   live_after new step =
       let begun = subst (λ (o : Option ℕ). AreBegun o (begin_told setting.style.length
       (e ∷ earlier)) m.table.times.items step.mid) live.begin
-      (subst (λ (o : Option ℕ). AreBegun m.begin o m.table.times.items step.mid) begin_same
+      (subst (λ (o : Option ℕ). AreBegun (begun_by m) o m.table.times.items step.mid) begin_same
       step.begun) in
       let taken = subst (λ (at : ℕ). AreBestsTaken m.table.keys.keys at e.event step.mid
       new.table.times.items) clock_same step.taken in
@@ -437,34 +437,69 @@ ended_same (Some begin) =
     let same : nat_eq begin begin ≡ true = grind (arith, nat_tests) in
     ap (λ (b : Bool). cond b None (Some begin)) same
 
+-- An event with which the clock stands: no period is over, and what is kept is that of the event.
+module _ (old : BestMaker) (e : TimedEvent) (goes : ends_all e.event ≡ false)
+    (stands : begin_with old e ≡ begun_by old) where
+  pub text_stands : live_text old e ≡ []
+  text_stands =
+      ap (λ (ends : Bool). over_rows (over_at old ends (begin_with old e) (clock_with old e))
+      old.table.times.items) goes
+      ∙ ap (λ (o : Option ℕ). over_rows (option_map (period_to old (clock_with old e))
+      (period_ended_by false (begun_by old) o)) old.table.times.items) stands
+      ∙ ap (λ (o : Option ℕ). over_rows (option_map (period_to old (clock_with old e)) o)
+      old.table.times.items) (ended_same (begun_by old))
+
+  pub step_stands : (new : BestMaker) → clock_with old e ≡ old.clock → old.over ≡ false
+      → IsPassed old e.event new → IsLiveStep old e new
+  step_stands new clock on is = record {
+    style = is.style;
+    venues = is.venues;
+    over = is.over ∙ on ∙ sym goes;
+    clock = is.clock ∙ sym clock;
+    begin = ap (λ (s : PeriodStyle). period_of_clock s.length new.is_timed new.clock) is.style
+        ∙ ap (λ (b : Bool). period_of_clock old.style.length b new.clock) is.is_timed
+        ∙ ap (λ (c : ℕ). period_of_clock old.style.length old.is_timed c) is.clock
+        ∙ sym stands;
+    keys = is.keys;
+    mid = old.table.times.items;
+    begun = subst (λ (o : Option ℕ). AreBegun (begun_by old) o old.table.times.items
+        old.table.times.items) (sym stands) (begun_same (begun_by old) old.table.times.items);
+    taken = subst (λ (at : ℕ). AreBestsTaken old.table.keys.keys at e.event
+        old.table.times.items new.table.times.items) (sym clock) is.taken;
+  }
+
+-- the period at hand is that of the clock after one more time
+pub begun_after : (length_ns : ℕ) (timed : Bool) (o : Option ℕ) (clock : ℕ)
+    → period_of_clock length_ns
+    (is_some (begin_after length_ns o clock (period_of_clock length_ns timed clock)))
+    (clock_after o clock)
+    ≡ begin_after length_ns o clock (period_of_clock length_ns timed clock)
+begun_after length_ns true None clock = refl
+begun_after length_ns false None clock = refl
+begun_after length_ns timed (Some time) clock = refl
+
 pub passes_bests : (old new : BestMaker) (time : Option ℕ) (event : SinkEvent)
     → (old.over ≡ true → new ≡ old) → (old.over ≡ false → IsPassed old event new)
     → MakesBests old (timed_event time (told_before event) ∷ []) [] new
 passes_bests old new time event stays goes =
     let e = timed_event time (told_before event) in
-    let none : live_text old e ≡ [] =
-    ap (λ (o : Option ℕ). over_rows (option_map (period_to old old.clock) o)
-    old.table.times.items) (ended_same old.begin) in
+    let none : live_text old e ≡ [] = text_stands old e refl refl in
     let text : best_made_text old e ≡ [] = elim (cases_Bool old.over) [
       | inl ends ↦ ap (λ (b : Bool). cond b [] (live_text old e)) ends
       | inr on ↦ ap (λ (b : Bool). cond b [] (live_text old e)) on ∙ none
     ] in
-    let stepped : IsStepped old e new = (
-      stays,
-      λ on.
-          let is = goes on in
-          record {
-            style = is.style;
-            venues = is.venues;
-            over = is.over ∙ on;
-            clock = is.clock;
-            begin = is.begin;
-            keys = is.keys;
-            mid = old.table.times.items;
-            begun = begun_same old.begin old.table.times.items;
-            taken = is.taken;
-          },
-    ) in
+    let passed : old.over ≡ false → IsPassed old e.event new = λ on.
+        let is = goes on in record {
+          style = is.style;
+          venues = is.venues;
+          over = is.over;
+          clock = is.clock;
+          is_timed = is.is_timed;
+          keys = is.keys;
+          taken = is.taken;
+        } in
+    let stepped : IsStepped old e new =
+    (stays, λ on. step_stands old e refl refl new refl on (passed on)) in
     record {
       told = λ setting earlier are. sym text ∙ tells_bests old e setting earlier are;
       are = (makes_bests old new e stepped).are;
