@@ -1,6 +1,6 @@
 //! Figures of the latest periods.
-ghost use Rattle.std.specs.Prelude.{◌≡◌, ◌≤◌, [], false, length, slice_get};
-ghost use Rattle.report_rows.specs.PeriodLists.{AreNoPeriods, Enters, is_begun_at, is_kept, period_place_of};
+ghost use Rattle.std.specs.Prelude.{◌≡◌, ◌≤◌, [], length, slice_get};
+ghost use Rattle.report_rows.specs.PeriodLists.{AreNoPeriods, Enters, is_begun_at, period_place_of};
 
 use arrayvec::ArrayVec;
 
@@ -72,15 +72,16 @@ impl<T: Copy + Default> KeptPeriods<T> {
         self.kept.clear();
     }
 
-    /// Enters the period that began at this time, which isn't kept, at its place.
-    #[cold]
-    #[inline(never)]
-    fn enter_new(&mut self, place: usize, begin: u64, none: &T) -> Entered<T>
-        requires place { place ≡ period_place_of begin self.old.kept.items }
-        requires within { place ≤ length self.old.kept.items }
-        requires new { is_kept begin self.old.kept.items ≡ false }
+    /// Enters the period that began at this time, without figures where it is new, in the place of
+    /// the earliest one where 16 are kept. What is earlier than all of 16 goes to the earliest one.
+    #[inline(always)]
+    pub fn enter(&mut self, begin: u64, none: &T) -> Entered<T>
         ensures { Enters begin none.now self.old self.new result }
     {
+        let place = place_of(self.kept.as_slice(), begin);
+        if is_at(self.kept.as_slice(), place, begin) {
+            return Entered { place, over: None };
+        }
         let kept = self.kept.len();
         if place >= KEPT {
             self.late = self.late.saturating_add(1);
@@ -100,18 +101,5 @@ impl<T: Copy + Default> KeptPeriods<T> {
         let over = self.kept.pop();
         self.kept.insert(place, new);
         Entered { place, over }
-    }
-
-    /// Enters the period that began at this time, without figures where it is new, in the place of
-    /// the earliest one where 16 are kept. What is earlier than all of 16 goes to the earliest one.
-    #[inline(always)]
-    pub fn enter(&mut self, begin: u64, none: &T) -> Entered<T>
-        ensures { Enters begin none.now self.old self.new result }
-    {
-        let place = place_of(self.kept.as_slice(), begin);
-        if is_at(self.kept.as_slice(), place, begin) {
-            return Entered { place, over: None };
-        }
-        self.enter_new(place, begin, none)
     }
 }
