@@ -1,6 +1,6 @@
 -- What is kept of national bests, and their rows, with one event more.
 use Rattle.std.proofs.Common.{◌≡◌, ℕ, zero, suc, ◌+◌, ◌-◌, ◌*◌, ◌<◌, ◌≤◌, inl, inr, Bool, true, false, cond, List, [], ◌∷◌, ◌++◌, append-nil, Option, None, Some, length, refl, sym, ap, subst, ◌∙◌, arith, slice_index_or, Result, Ok, Err}
-use Rattle.std.specs.Prelude.{OnErr, OnOk, is_some, max, min, nat_eq, option_map}
+use Rattle.std.specs.Prelude.{OnErr, OnOk, max, min, nat_eq, option_map}
 use Rattle.std.specs.List.{list_any}
 use Rattle.std.proofs.lemmas.Bool.{cases_Bool}
 use Rattle.std.proofs.lemmas.Bool.Decides.{nat_tests}
@@ -437,70 +437,42 @@ ended_same (Some begin) =
     let same : nat_eq begin begin ≡ true = grind (arith, nat_tests) in
     ap (λ (b : Bool). cond b None (Some begin)) same
 
--- An event with which the clock stands: no period is over, and what is kept is that of the event.
-module _ (old : BestMaker) (e : TimedEvent) (goes : ends_all e.event ≡ false)
-    (stands : begin_with old e ≡ begun_by old) where
-  pub text_stands : live_text old e ≡ []
-  text_stands =
-      ap (λ (ends : Bool). over_rows (over_at old ends (begin_with old e) (clock_with old e))
-      old.table.times.items) goes
-      ∙ ap (λ (o : Option ℕ). over_rows (option_map (period_to old (clock_with old e))
-      (period_ended_by false (begun_by old) o)) old.table.times.items) stands
-      ∙ ap (λ (o : Option ℕ). over_rows (option_map (period_to old (clock_with old e)) o)
-      old.table.times.items) (ended_same (begun_by old))
-
-  pub step_stands : (new : BestMaker) → clock_with old e ≡ old.clock → old.over ≡ false
-      → IsPassed old e.event new → IsLiveStep old e new
-  step_stands new clock on is = record {
-    style = is.style;
-    venues = is.venues;
-    over = is.over ∙ on ∙ sym goes;
-    clock = is.clock ∙ sym clock;
-    begin = ap (λ (s : PeriodStyle). period_of_clock s.length new.is_timed new.clock) is.style
-        ∙ ap (λ (b : Bool). period_of_clock old.style.length b new.clock) is.is_timed
-        ∙ ap (λ (c : ℕ). period_of_clock old.style.length old.is_timed c) is.clock
-        ∙ sym stands;
-    keys = is.keys;
-    mid = old.table.times.items;
-    begun = subst (λ (o : Option ℕ). AreBegun (begun_by old) o old.table.times.items
-        old.table.times.items) (sym stands) (begun_same (begun_by old) old.table.times.items);
-    taken = subst (λ (at : ℕ). AreBestsTaken old.table.keys.keys at e.event
-        old.table.times.items new.table.times.items) (sym clock) is.taken;
-  }
-
--- the period at hand is that of the clock after one more time
-pub begun_after : (length_ns : ℕ) (timed : Bool) (o : Option ℕ) (clock : ℕ)
-    → period_of_clock length_ns
-    (is_some (begin_after length_ns o clock (period_of_clock length_ns timed clock)))
-    (clock_after o clock)
-    ≡ begin_after length_ns o clock (period_of_clock length_ns timed clock)
-begun_after length_ns true None clock = refl
-begun_after length_ns false None clock = refl
-begun_after length_ns timed (Some time) clock = refl
-
 pub passes_bests : (old new : BestMaker) (time : Option ℕ) (event : SinkEvent)
     → (old.over ≡ true → new ≡ old) → (old.over ≡ false → IsPassed old event new)
     → MakesBests old (timed_event time (told_before event) ∷ []) [] new
 passes_bests old new time event stays goes =
     let e = timed_event time (told_before event) in
-    let none : live_text old e ≡ [] = text_stands old e refl refl in
+    let none : live_text old e ≡ [] =
+    ap (λ (o : Option ℕ). over_rows (option_map (period_to old old.clock) o)
+    old.table.times.items) (ended_same (begun_by old)) in
     let text : best_made_text old e ≡ [] = elim (cases_Bool old.over) [
       | inl ends ↦ ap (λ (b : Bool). cond b [] (live_text old e)) ends
       | inr on ↦ ap (λ (b : Bool). cond b [] (live_text old e)) on ∙ none
     ] in
-    let passed : old.over ≡ false → IsPassed old e.event new = λ on.
-        let is = goes on in record {
-          style = is.style;
-          venues = is.venues;
-          over = is.over;
-          clock = is.clock;
-          is_timed = is.is_timed;
-          keys = is.keys;
-          taken = is.taken;
-        } in
-    let stepped : IsStepped old e new =
-    (stays, λ on. step_stands old e refl refl new refl on (passed on)) in
+    let stepped : IsStepped old e new = (
+      stays,
+      λ on.
+          let is = goes on in
+          record {
+            style = is.style;
+            venues = is.venues;
+            over = is.over ∙ on;
+            clock = is.clock;
+            begin = begun_is is.style is.is_timed is.clock;
+            keys = is.keys;
+            mid = old.table.times.items;
+            begun = begun_same (begun_by old) old.table.times.items;
+            taken = is.taken;
+          },
+    ) in
     record {
       told = λ setting earlier are. sym text ∙ tells_bests old e setting earlier are;
       are = (makes_bests old new e stepped).are;
     }
+  where
+    begun_is : new.style ≡ old.style → new.is_timed ≡ old.is_timed → new.clock ≡ old.clock
+        → begun_by new ≡ begun_by old
+    begun_is style timed clock =
+        ap (λ (s : PeriodStyle). period_of_clock s.length new.is_timed new.clock) style
+        ∙ ap (λ (b : Bool). period_of_clock old.style.length b new.clock) timed
+        ∙ ap (λ (c : ℕ). period_of_clock old.style.length old.is_timed c) clock
