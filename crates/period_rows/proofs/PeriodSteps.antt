@@ -15,7 +15,7 @@ use Rattle.report_rows.specs.SpanEvents.{ends_all}
 use Rattle.report_rows.specs.declared.kept_periods.KeptPeriod.{KeptPeriod}
 use Rattle.period_rows.specs.CountStates.{CountPeriod, CountState, counted_begin, counted_in, counted_period, datagram_line, late_by, no_lines, own_begin, periods_by, state_told}
 use Rattle.period_rows.specs.LineFigures.{figures_after, no_figures}
-use Rattle.period_rows.specs.PeriodLaws.{drop_put, few_are_kept, one_more, periods_come_once}
+use Rattle.period_rows.specs.PeriodLaws.{drop_put, few_are_kept, periods_come_once}
 use Rattle.period_rows.specs.PeriodSums.{ArePeriodSums, FiguresAreSums, HasPeriodSums, is_in_period, is_number, period_sum}
 use Rattle.period_rows.specs.PrintedPeriods.{AreLatestFirst, IsAfterAll, ended_told, period_begins, period_left}
 use Rattle.period_rows.specs.Sequences.{no_sequence, passed_over}
@@ -28,6 +28,9 @@ most = 18446744073709551615
 more : (s n : ℕ) → count_after (min s most) n ≡ min (n + s) most
 more s zero = let z : 0 + s ≡ s = omega arith in ap (λ (k : ℕ). min k most) (sym z)
 more s (suc n) = omega arith
+
+one_more : (n : ℕ) → 1 + n ≡ suc n
+one_more n = omega arith
 
 zero_more : (n : ℕ) → 0 + n ≡ n
 zero_more n = omega arith

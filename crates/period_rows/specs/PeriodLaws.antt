@@ -92,7 +92,7 @@ after_place b (c ∷ cs) rest latest absent within = elim (cases_Bool (nat_le c 
 
 -- ---- periods with a further one
 
-pub one_more : (n : ℕ) → 1 + n ≡ suc n
+one_more : (n : ℕ) → 1 + n ≡ suc n
 one_more n = omega arith
 
 module _ {T : Type 0} (b : ℕ) where
