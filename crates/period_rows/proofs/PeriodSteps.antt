@@ -1,18 +1,17 @@
 -- The figures of periods are sums over their events.
-use Rattle.std.proofs.Common.{◌≡◌, ℕ, zero, suc, ◌+◌, ◌<◌, ◌≤◌, inl, inr, Bool, true, false, cond, List, [], ◌∷◌, ◌++◌, Option, None, Some, append_assoc, append-nil, arith, ap, drop, length, min, refl, replicate, subst, sym, take, ◌∙◌}
-use Rattle.std.specs.Prelude.{◌&&◌, ◌||◌, ◌==◌, nat_le, nat_lt, not, option_to_list, slice_get, slice_index_or, slice_set}
+use Rattle.std.proofs.Common.{◌≡◌, ℕ, zero, suc, ◌+◌, ◌<◌, ◌≤◌, inl, inr, Bool, true, false, cond, List, [], ◌∷◌, ◌++◌, Option, None, Some, append_assoc, append-nil, arith, ap, drop, length, min, refl, subst, sym, take, ◌∙◌}
+use Rattle.std.specs.Prelude.{◌&&◌, ◌||◌, ◌==◌, nat_le, not, option_to_list, slice_get, slice_index_or, slice_set}
 use Rattle.std.specs.List.{AllByRecursion, list_any}
 use Rattle.std.proofs.lemmas.Bool.{cases_Bool}
 use Rattle.std.proofs.lemmas.Bool.Decides.{nat_tests}
-use Rattle.std.proofs.lemmas.List.{get_or-replicate, get_or-set_other, get_or-set_same, length-map, length-replicate, length-set, length-take, map-append, take-append-drop}
+use Rattle.std.proofs.lemmas.List.{get_or-replicate, get_or-set_other, get_or-set_same, length-replicate, length-set, length-take, map-append, take-append-drop}
 use Rattle.std.proofs.lemmas.List.Edits.{length-insert}
 use Rattle.std.proofs.lemmas.List.Sums.{prefix_len-le-length}
 use Rattle.feed_types.specs.FullCounts.{count_after}
 use Rattle.feed_text.specs.SinkEvents.{SinkEvent, TimedEvent}
 use Rattle.report_rows.specs.EventFigures.{bytes_in, first_in, repeated_in}
-use Rattle.report_rows.specs.PeriodLists.{begun, entered, entered_place, is_kept, is_late, over_with, period_place_of, with_period}
+use Rattle.report_rows.specs.PeriodLists.{begun, entered_place, is_kept, is_late, over_with, period_place_of, with_period}
 use Rattle.report_rows.specs.SpanEvents.{ends_all}
-use Rattle.report_rows.specs.declared.kept_periods.KeptPeriod.{KeptPeriod}
 use Rattle.period_rows.specs.CountStates.{CountPeriod, CountState, counted_begin, counted_in, counted_period, datagram_line, late_by, no_lines, own_begin, periods_by, state_told}
 use Rattle.period_rows.specs.LineFigures.{figures_after, no_figures}
 use Rattle.period_rows.specs.PeriodLaws.{drop_put, few_are_kept, periods_come_once}
