@@ -6,3 +6,4 @@ pub mod Ends
 pub mod OpenGaps
 pub mod VenueFits
 pub mod LineSteps
+pub mod VenueSteps

@@ -6,7 +6,8 @@ ghost use Rattle.feed_text.specs.SinkEvents.{TimedEvent, timed_event, told_by, t
 ghost use Rattle.line_arbiter.specs.declared.outcome.Outcome.TheVariants.{Ahead, Taken};
 ghost use Rattle.line_gaps.specs.Ends.{EndsVenue, recovered_on, sums_on};
 ghost use Rattle.line_gaps.specs.Gaps.{is_missing};
-ghost use Rattle.line_gaps.specs.LineSteps.{ClosesLine, TakesLine, over_closed, gaps_over_with};
+ghost use Rattle.line_gaps.specs.LineSteps.{ClosesLine, over_closed};
+ghost use Rattle.line_gaps.specs.VenueSteps.{PassesVenue};
 ghost use Rattle.line_gaps.specs.Missing.{CountsNumbers, FitsLost, KeptAll};
 ghost use Rattle.line_gaps.specs.OpenGaps.{closes_gaps};
 ghost use Rattle.line_gaps.specs.Runs.{IsLeast};
@@ -194,24 +195,39 @@ impl VenueGaps {
         self.sums = VenueSums::default();
     }
 
-    /// Has the lines take a packet, which brought a number that was missing where `is_filled`.
+    /// Has each line take a packet, which brought a number that was missing where `is_filled`.
     #[inline(always)]
-    fn pass(&mut self, packet: &HeardPacket, is_filled: bool, ended: &mut EndedGaps)
+    fn pass_each(&mut self, packet: &HeardPacket, is_filled: bool, ended: &mut EndedGaps)
         requires { ended.old.gaps.items ≡ [] }
-        ensures lost { self.new.lost ≡ self.old.lost }
-        ensures far { self.new.far ≡ self.old.far }
-        ensures ends { EndsVenue self.old self.new ended.old ended.new }
-        ensures a { TakesLine packet.now is_filled self.old.lost self.old.a self.new.a }
-        ensures b { TakesLine packet.now is_filled self.old.lost self.old.b self.new.b }
-        ensures all { TakesLine packet.now is_filled self.old.lost self.old.all self.new.all }
-        ensures ended { ended.new.gaps.items ≡ ended.old.gaps.items
-            ++ (gaps_over_with packet.now is_filled self.old.lost self.old.a
-            ++ (gaps_over_with packet.now is_filled self.old.lost self.old.b
-            ++ gaps_over_with packet.now is_filled self.old.lost self.old.all)) }
+        ensures { PassesVenue packet.now is_filled self.old self.new ended.old ended.new }
     {
         self.a.take(packet, &self.lost, is_filled, ended);
         self.b.take(packet, &self.lost, is_filled, ended);
         self.all.take(packet, &self.lost, is_filled, ended);
+    }
+
+    /// Has each line take a packet that brought a number that was missing.
+    #[cold]
+    #[inline(never)]
+    fn pass_filled(&mut self, packet: HeardPacket, ended: &mut EndedGaps)
+        requires { ended.old.gaps.items ≡ [] }
+        ensures { PassesVenue packet true self.old self.new ended.old ended.new }
+    {
+        self.pass_each(&packet, true, ended);
+    }
+
+    /// Has the lines take a packet, which brought a number that was missing where `is_filled`.
+    // Few do: theirs is a call of its own, so that the others ask once and not for each line.
+    #[inline(always)]
+    fn pass(&mut self, packet: &HeardPacket, is_filled: bool, ended: &mut EndedGaps)
+        requires { ended.old.gaps.items ≡ [] }
+        ensures { PassesVenue packet.now is_filled self.old self.new ended.old ended.new }
+    {
+        if is_filled {
+            self.pass_filled(*packet, ended);
+        } else {
+            self.pass_each(packet, false, ended);
+        }
     }
 
     /// Takes a packet whose messages came.
@@ -238,39 +254,39 @@ impl VenueGaps {
     /// Takes a packet of which nothing came, but which tells of the numbers up to its last.
     #[cold]
     #[inline(never)]
-    fn take_numbers(&mut self, packet: &HeardPacket, ended: &mut EndedGaps)
+    fn take_numbers(&mut self, packet: HeardPacket, ended: &mut EndedGaps)
         requires { ended.old.gaps.items ≡ [] }
         ensures ends { EndsVenue self.old self.new ended.old ended.new }
         ensures missing { (events : List TimedEvent) (last : TimedEvent)
-            → CountsNumbers events last packet.now → FitsLost events self.old.lost
+            → CountsNumbers events last packet → FitsLost events self.old.lost
             → FitsLost (last ∷ events) self.new.lost }
         ensures far { self.new.far ≡ self.old.far }
         ensures takes { (earlier : List TimedEvent) (last : TimedEvent)
-            → CountsNumbers earlier last packet.now → IsHeard earlier last packet.now
+            → CountsNumbers earlier last packet → IsHeard earlier last packet
             → FitsBut earlier last self.old → StepsOn earlier last self.old self.new
             ended.old.gaps.items ended.new.gaps.items }
     {
-        self.lost.take_numbers(packet);
-        self.pass(packet, false, ended);
+        self.lost.take_numbers(&packet);
+        self.pass(&packet, false, ended);
     }
 
     /// Takes a packet past the window. It counts once the line's next one of these goes on from
     /// it.
     #[cold]
     #[inline(never)]
-    fn take_far(&mut self, packet: &HeardPacket, ended: &mut EndedGaps)
+    fn take_far(&mut self, packet: HeardPacket, ended: &mut EndedGaps)
         requires { ended.old.gaps.items ≡ [] }
         ensures ends { EndsVenue self.old self.new ended.old ended.new }
         ensures takes { (earlier : List TimedEvent) (venue bytes : ℕ) → FitsSession earlier self.old
-            → StepsOn earlier (packet_event packet.now venue bytes (Ok Ahead)) self.old self.new
+            → StepsOn earlier (packet_event packet venue bytes (Ok Ahead)) self.old self.new
             ended.old.gaps.items ended.new.gaps.items }
     {
         let earlier = self.far.on(packet.line);
-        self.far.set(packet.line, Some(*packet));
+        self.far.set(packet.line, Some(packet));
         match earlier {
             Some(before) => {
                 if packet.goes_on(&before) {
-                    self.take_numbers(&before, ended);
+                    self.take_numbers(before, ended);
                 }
             }
             None => {}
@@ -288,9 +304,9 @@ impl VenueGaps {
     {
         match outcome {
             Outcome::Taken { new, .. } => self.take_messages(packet, *new, ended),
-            Outcome::Heartbeat => self.take_numbers(packet, ended),
-            Outcome::Ended => self.take_numbers(packet, ended),
-            Outcome::Ahead => self.take_far(packet, ended),
+            Outcome::Heartbeat => self.take_numbers(*packet, ended),
+            Outcome::Ended => self.take_numbers(*packet, ended),
+            Outcome::Ahead => self.take_far(*packet, ended),
         }
     }
 

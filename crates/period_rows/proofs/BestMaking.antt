@@ -15,7 +15,7 @@ use Rattle.report_rows.specs.FirstTexts.{first_texts}
 use Rattle.report_rows.specs.RowSinks.{FailsMaking, Makes}
 use Rattle.report_rows.specs.SpanEvents.{ends_all}
 use Rattle.period_rows.specs.BestHolding.{AreBegun, AreBegunIf, AreChanged, AreBestsTaken, IsChanged, IsSymbolHeld, IsBestTable, is_another}
-use Rattle.period_rows.specs.BestMakers.{AreBests, AreLive, IsLiveStep, IsPassed, IsStepped, MakesBests, TellsBests, begin_with, best_made_text, clock_with, live_text, over_at, period_to}
+use Rattle.period_rows.specs.BestMakers.{AreBests, AreLive, IsLiveStep, IsPassed, IsStepped, MakesBests, TellsBests, begin_with, period_at_hand, best_made_text, clock_with, live_text, over_at, period_of_clock, period_to}
 use Rattle.period_rows.specs.BestRows.{BestSetting, best_period, best_rows_with, period_ended_by, rows_at, symbol_rows}
 use Rattle.period_rows.specs.BestTimes.{no_symbol, over_rows, settled_at}
 use Rattle.period_rows.specs.Bests.{begin_after, begin_told, best_in, clock_after, clock_told, overlap, stood, time_of_event}
@@ -188,16 +188,16 @@ module _ (setting : BestSetting) (earlier : List TimedEvent) (m : BestMaker)
   begin_same : begin_with m e ≡ begin_told setting.style.length (e ∷ earlier)
   begin_same =
       let o = time_of_event e.event e.time in
-      ap (λ (style : PeriodStyle). begin_after style.length o m.clock m.begin) are.style
-      ∙ ap (λ (clock : ℕ). begin_after setting.style.length o clock m.begin) live.clock
+      ap (λ (style : PeriodStyle). begin_after style.length o m.clock (period_at_hand m)) are.style
+      ∙ ap (λ (clock : ℕ). begin_after setting.style.length o clock (period_at_hand m)) live.clock
       ∙ ap (begin_after setting.style.length o (clock_told earlier)) live.begin
 
   live_after : (new : BestMaker) → IsLiveStep m e new → AreLive setting (e ∷ earlier) new
   live_after new step =
       let begun = subst (λ (o : Option ℕ). AreBegun o (begin_told setting.style.length
       (e ∷ earlier)) m.table.times.items step.mid) live.begin
-      (subst (λ (o : Option ℕ). AreBegun m.begin o m.table.times.items step.mid) begin_same
-      step.begun) in
+      (subst (λ (o : Option ℕ). AreBegun (period_at_hand m) o m.table.times.items step.mid)
+      begin_same step.begun) in
       let taken = subst (λ (at : ℕ). AreBestsTaken m.table.keys.keys at e.event step.mid
       new.table.times.items) clock_same step.taken in
       let mids = mid_count (begin_told setting.style.length earlier)
@@ -444,7 +444,7 @@ passes_bests old new time event stays goes =
     let e = timed_event time (told_before event) in
     let none : live_text old e ≡ [] =
     ap (λ (o : Option ℕ). over_rows (option_map (period_to old old.clock) o)
-    old.table.times.items) (ended_same old.begin) in
+    old.table.times.items) (ended_same (period_at_hand old)) in
     let text : best_made_text old e ≡ [] = elim (cases_Bool old.over) [
       | inl ends ↦ ap (λ (b : Bool). cond b [] (live_text old e)) ends
       | inr on ↦ ap (λ (b : Bool). cond b [] (live_text old e)) on ∙ none
@@ -458,10 +458,10 @@ passes_bests old new time event stays goes =
             venues = is.venues;
             over = is.over ∙ on;
             clock = is.clock;
-            begin = is.begin;
+            begin = begun_is is.style is.is_timed is.clock;
             keys = is.keys;
             mid = old.table.times.items;
-            begun = begun_same old.begin old.table.times.items;
+            begun = begun_same (period_at_hand old) old.table.times.items;
             taken = is.taken;
           },
     ) in
@@ -469,3 +469,10 @@ passes_bests old new time event stays goes =
       told = λ setting earlier are. sym text ∙ tells_bests old e setting earlier are;
       are = (makes_bests old new e stepped).are;
     }
+  where
+    begun_is : new.style ≡ old.style → new.is_timed ≡ old.is_timed → new.clock ≡ old.clock
+        → period_at_hand new ≡ period_at_hand old
+    begun_is style timed clock =
+        ap (λ (s : PeriodStyle). period_of_clock s.length new.is_timed new.clock) style
+        ∙ ap (λ (b : Bool). period_of_clock old.style.length b new.clock) timed
+        ∙ ap (λ (c : ℕ). period_of_clock old.style.length old.is_timed c) clock

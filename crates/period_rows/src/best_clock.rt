@@ -10,6 +10,7 @@ use report_rows::ends_all;
 use run_settings::PeriodLength;
 
 /// Returns the time of an event: the end of the capture has none.
+#[inline(always)]
 pub(crate) fn time_in(time: Option<u64>, event: &Event<'_>) -> Option<u64>
     ensures { result ≡ time_of_event (told_by event.now) time }
 {

@@ -5,12 +5,14 @@ ghost use Rattle.feed_text.specs.TextPages.{FailsPage, TakesPage};
 ghost use Rattle.report_rows.specs.RowSinks.{IsNewRowSink};
 ghost use Rattle.report_rows.specs.RowTexts.{header_text};
 ghost use Rattle.period_rows.specs.BestHolding.{IsNewTable};
-ghost use Rattle.period_rows.specs.BestMakers.{AreBests, IsLiveStep, IsPassed, IsStepped, best_made_text, live_text, over_at};
+ghost use Rattle.period_rows.specs.BestMakers.{AreBests, IsLiveStep, IsPassed, IsStepped, period_at_hand, best_made_text, live_text, over_at};
 ghost use Rattle.period_rows.specs.BestRows.{best_names};
+ghost use Rattle.period_rows.specs.Bests.{begin_after, clock_after};
 
 use crate::best_clock::{begin_after, clock_after, ended_by, time_in};
 use crate::best_table::BestTable;
 use crate::best_times::{PeriodOver, best_names, write_best_period};
+use crate::times::period_begin;
 use feed_text::{Event, SinkStop, TextOut, TextPage};
 use feed_types::SymbolName;
 use report_rows::{RowMaker, RowSink, ends_all};
@@ -26,8 +28,8 @@ pub struct BestMaker {
     pub style: PeriodStyle,
     pub venues: usize,
     pub clock: u64,
-    /// When the period at hand began, if there is one.
-    pub begin: Option<u64>,
+    /// Whether a time came, so that a period is at hand: that of the clock.
+    pub is_timed: bool,
     /// Whether the capture is over.
     pub over: bool,
     pub table: BestTable,
@@ -44,7 +46,7 @@ impl BestMaker {
             style,
             venues,
             clock: 0,
-            begin: None,
+            is_timed: false,
             over: false,
             table,
         }
@@ -70,11 +72,21 @@ impl BestMaker {
         }
     }
 
+    /// Returns when the period at hand began, if there is one.
+    fn begun(&self) -> Option<u64>
+        ensures { result ≡ period_at_hand self.now }
+    {
+        if self.is_timed {
+            return Some(period_begin(self.style.length, self.clock));
+        }
+        None
+    }
+
     /// Returns the period that is over, if one is, where another one is at hand at this time.
     fn over_at(&self, ends: bool, begin: Option<u64>, clock: u64) -> Option<PeriodOver>
         ensures { result ≡ over_at self.now ends begin clock }
     {
-        match ended_by(ends, self.begin, begin) {
+        match ended_by(ends, self.begun(), begin) {
             Some(old) => Some(PeriodOver {
                 style: self.style,
                 venues: self.venues,
@@ -85,8 +97,23 @@ impl BestMaker {
         }
     }
 
-    /// Takes an event of a capture that isn't over.
-    fn step_on<W: TextOut>(
+    /// Returns whether the clock goes on with a time, or begins.
+    #[inline(always)]
+    fn goes_on(&self, time: Option<u64>) -> bool
+        ensures clock { result ≡ false → clock_after time self.now.clock ≡ self.now.clock }
+        ensures begun { result ≡ false
+            → begin_after self.now.style.length time self.now.clock (period_at_hand self.now)
+            ≡ period_at_hand self.now }
+    {
+        match time {
+            Some(time) => !self.is_timed || self.clock < time,
+            None => false,
+        }
+    }
+
+    /// Takes an event with which the clock goes on, or the capture is over.
+    #[inline(never)]
+    fn go_on<W: TextOut>(
         &mut self,
         page: &mut TextPage<W>,
         time: Option<u64>,
@@ -102,18 +129,51 @@ impl BestMaker {
         let ends = ends_all(event);
         let time = time_in(time, event);
         let clock = clock_after(time, self.clock);
-        let begin = begin_after(self.style.length, time, self.clock, self.begin);
+        let old = self.begun();
+        let begin = begin_after(self.style.length, time, self.clock, old);
         let over = self.over_at(ends, begin, clock);
         write_best_period(page, &over, self.table.times.as_slice())?;
-        self.table.begin(self.begin, begin);
+        self.table.begin(old, begin);
         self.table.take(clock, event);
         self.clock = clock;
-        self.begin = begin;
+        self.is_timed = begin.is_some();
         self.over = ends;
         Ok(())
     }
 
+    /// Takes an event with which the clock stands.
+    #[inline(always)]
+    fn pass_on(&mut self, event: &Event<'_>)
+        ensures { IsPassed self.old (told_by event.now) self.new }
+    {
+        self.table.take(self.clock, event);
+    }
+
+    /// Takes an event of a capture that isn't over. With most of them the clock stands.
+    #[inline(always)]
+    fn step_on<W: TextOut>(
+        &mut self,
+        page: &mut TextPage<W>,
+        time: Option<u64>,
+        event: &Event<'_>,
+    ) -> Result<(), SinkStop>
+        requires { self.old.over ≡ false }
+        ensures took { OnOk result (TakesPage W.adds W.failures page.old
+            (live_text self.old (timed_event time (told_by event.now))) page.new) }
+        ensures failed { OnErr result (FailsPage W.adds W.failures page.old (page.old.text.items
+            ++ live_text self.old (timed_event time (told_by event.now))) page.new) }
+        ensures stepped { OnOk result (IsLiveStep self.old
+            (timed_event time (told_by event.now)) self.new) }
+    {
+        if ends_all(event) || self.goes_on(time_in(time, event)) {
+            return self.go_on(page, time, event);
+        }
+        self.pass_on(event);
+        Ok(())
+    }
+
     /// Takes an event.
+    #[inline(always)]
     fn step<W: TextOut>(
         &mut self,
         page: &mut TextPage<W>,
@@ -135,13 +195,6 @@ impl BestMaker {
 }
 
 impl BestMaker {
-    /// Takes an event of a capture that isn't over, before all that has rows.
-    fn pass_on(&mut self, event: &Event<'_>)
-        ensures { IsPassed self.old (told_by event.now) self.new }
-    {
-        self.table.take(self.clock, event);
-    }
-
     /// Takes an event before all that has rows.
     fn take_before(&mut self, event: &Event<'_>)
         ensures over { self.old.over ≡ true → self.new ≡ self.old }
@@ -172,6 +225,7 @@ impl RowMaker for BestMaker {
 
     ghost makes = { MakesBests };
 
+    #[inline(always)]
     fn make<W: TextOut>(
         &mut self,
         page: &mut TextPage<W>,

@@ -9,7 +9,7 @@ use Rattle.line_gaps.proofs.venue_gaps.VenueGaps.take_far.Goals as goal
 pub returns-then-goes_on-clause-takes : goal.returns-then-goes_on-clause-takes
 returns-then-goes_on-clause-takes c = λ earlier venue bytes fits.
     let old = c.args.self.now in
-    let packet = c.args.packet.now in
+    let packet = c.args.packet in
     let before = c.in-Some.before in
     let was : far_on packet.line earlier ≡ Some before =
     sym (fits.far packet.line) ∙ sym c.on-earlier.ensures ∙ c.in-Some.is in
@@ -33,7 +33,7 @@ returns-else-goes_on-clause-ends c = venue_keeps _ _ c.args.ended.now refl refl 
 pub returns-else-goes_on-clause-takes : goal.returns-else-goes_on-clause-takes
 returns-else-goes_on-clause-takes c = λ earlier venue bytes fits.
     let old = c.args.self.now in
-    let packet = c.args.packet.now in
+    let packet = c.args.packet in
     let before = c.in-Some.before in
     let was : far_on packet.line earlier ≡ Some before =
     sym (fits.far packet.line) ∙ sym c.on-earlier.ensures ∙ c.in-Some.is in
@@ -54,7 +54,7 @@ returns-in-None-clause-ends c = venue_keeps _ _ c.args.ended.now refl refl refl
 pub returns-in-None-clause-takes : goal.returns-in-None-clause-takes
 returns-in-None-clause-takes c = λ earlier venue bytes fits.
     let old = c.args.self.now in
-    let packet = c.args.packet.now in
+    let packet = c.args.packet in
     let was : far_on packet.line earlier ≡ None =
     sym (fits.far packet.line) ∙ sym c.on-earlier.ensures ∙ c.in-None.is in
     let counts : far_that packet.number (far_on packet.line earlier) ≡ None =

@@ -15,7 +15,7 @@ returns-clause-missing c = λ events last counts fits.
 pub returns-clause-takes : goal.returns-clause-takes
 returns-clause-takes c = λ earlier last counts heard fits.
     let old = c.args.self.now in
-    let packet = c.args.packet.now in
+    let packet = c.args.packet in
     venue_heard earlier last packet false c.take_numbers.new.self old c.pass.new.self
     c.args.ended.now.gaps.items c.pass.new.ended.gaps.items heard fits
     (c.take_numbers.ensures.fits earlier last counts fits.lost) c.take_numbers.ensures.dropped
