@@ -20,6 +20,7 @@ use Rattle.command_words.specs.CapturedLines.{ReadsAllLines}
 use Rattle.command_words.specs.Commands.{nbbo_app}
 use Rattle.command_words.specs.ListenRequests.{ReadsListening}
 use Rattle.command_words.specs.OptionValues.{lines_in, rows_of_command}
+use Rattle.command_words.specs.Recordings.{ReadsRecord}
 use Rattle.command_words.specs.Readings.{Gives, Then, and_then, mapped}
 use Rattle.command_words.specs.RunRequests.{ReadsReplay, ReadsStats}
 use Rattle.command_words.specs.StatsFormats.{stats_format_in}
@@ -27,7 +28,7 @@ use Rattle.command_words.specs.TimeStyles.{time_style_in}
 use Rattle.command_words.specs.declared.task.Task.{Task}
 use Rattle.command_words.specs.declared.task.Task.TheVariants.{Run, Convert, Discover, Listen}
 use Rattle.command_words.specs.declared.refusal.Refusal.{Refusal}
-use Rattle.command_words.specs.declared.refusal.Refusal.TheVariants.{Shown, Usage, NotText, BadSession, TooManySessions, BadNextSession, BadLines, BadRequest, BadFormat, BadPeriod, EveryWithoutLines, GapsWithEvery, BestsWithoutEvery, SkipAfterWithoutLines, SkipGapsWithSkipAfter, BadTime, ToBeforeFrom, SpanOfLines, SpanWithoutLines, BadTimeStyle, TimesOfText, TimesWithoutLines, BadEnd, KeptUnfollowed, FormatUnfollowed, BadSender, SendersWithFrom, BadMetrics, BadSymbol, TooManySymbols, DuplicateSymbol, NoMemory}
+use Rattle.command_words.specs.declared.refusal.Refusal.TheVariants.{Shown, Usage, NotText, BadSession, TooManySessions, BadNextSession, BadLines, BadRequest, BadFormat, BadPeriod, EveryWithoutLines, GapsWithEvery, BestsWithoutEvery, SkipAfterWithoutLines, SkipGapsWithSkipAfter, BadTime, ToBeforeFrom, SpanOfLines, SpanWithoutLines, BadTimeStyle, TimesOfText, TimesWithoutLines, BadEnd, KeptUnfollowed, FormatUnfollowed, BadSender, SendersWithFrom, BadRecording, BadMetrics, BadSymbol, TooManySymbols, DuplicateSymbol, NoMemory}
 
 -- a text that was asked for: help, or the version
 abbrev pub IsAsked : ErrorKind → Type 0
@@ -66,7 +67,9 @@ OfCommand None Read Else result = Else result
 abbrev pub ReadsTask : Option (Text × List Row) → Result Task Refusal → Type 0
 ReadsTask found =
     OfCommand (rows_of_command (codes "listen") found)
-    (λ rows. Then (ReadsListening rows) (λ settings. Gives (Ok (Listen settings))))
+    (λ rows. Then (ReadsListening rows)
+    (λ settings. Then (ReadsRecord (first_of (codes "record") rows))
+    (λ record_to. Gives (Ok (Listen settings record_to)))))
     (OfCommand (rows_of_command (codes "convert") found) ReadsConversion
     (OfCommand (rows_of_command (codes "stats") found)
     (λ rows. Then (ReadsStats rows) (λ settings. Gives (Ok (Run settings))))
@@ -162,6 +165,7 @@ refusal_text KeptUnfollowed = codes "nbbo: --kept without --follow\n"
 refusal_text FormatUnfollowed = codes "nbbo: --format without --follow\n"
 refusal_text BadSender = codes "nbbo: bad sender\n"
 refusal_text SendersWithFrom = codes "nbbo: --senders with --from\n"
+refusal_text BadRecording = codes "nbbo: bad file for --record\n"
 refusal_text BadMetrics = codes "nbbo: bad metrics address\n"
 refusal_text BadSymbol = codes "nbbo: bad symbol\n"
 refusal_text TooManySymbols = codes "nbbo: too many symbols\n"

@@ -12,6 +12,7 @@ pub mod OptionValues
 pub mod OptionForms
 pub mod PeriodWords
 pub mod Readings
+pub mod Recordings
 pub mod RunRequests
 pub mod SenderLists
 pub mod Sessions

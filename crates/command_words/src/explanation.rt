@@ -24,7 +24,7 @@ const REPLAY_FLAGS: [&str; 3] = ["join", "skip-gaps", "best-only"];
 
 /// The options of `listen` that have a value, beside those for which the refusal has one line
 /// alone.
-const LISTEN_OPTIONS: [&str; 15] = [
+const LISTEN_OPTIONS: [&str; 16] = [
     "request-after",
     "senders",
     "from",
@@ -34,6 +34,7 @@ const LISTEN_OPTIONS: [&str; 15] = [
     "end",
     "seconds",
     "silent-after",
+    "record",
     "kept",
     "format",
     "times",
@@ -183,6 +184,7 @@ fn explained(
         }
         Refusal::BadRequest => value_explained(alloc, options, "request", asked),
         Refusal::BadSender => senders_explained(alloc, options),
+        Refusal::BadRecording => value_explained(alloc, options, "record", "is no file's name"),
         Refusal::BadMetrics => value_explained(alloc, options, "metrics", address),
         _ => None,
     }

@@ -10,7 +10,8 @@
 //! `specs/Addresses.antt`, `specs/CapturedLines.antt`, `specs/BestFormats.antt`,
 //! `specs/StatsFormats.antt`, `specs/StatsOutputs.antt`, `specs/PeriodWords.antt`,
 //! `specs/TimeWords.antt`, `specs/TimeStyles.antt`, `specs/SpanWords.antt`,
-//! `specs/SkipRules.antt`, `specs/EndRules.antt`, `specs/SenderLists.antt`).
+//! `specs/SkipRules.antt`, `specs/EndRules.antt`, `specs/SenderLists.antt`,
+//! `specs/Recordings.antt`).
 //!
 //! Begin with `command_line.rt`, then `listen_words.rt`. An option stands with its texts in the
 //! table of its command, or in `options.rt` if commands share it. Its form is one of
@@ -44,6 +45,7 @@ mod options;
 mod period_words;
 mod quoting;
 mod reception;
+mod recording;
 mod refusal;
 mod replay_command;
 mod run_words;

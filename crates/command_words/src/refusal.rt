@@ -72,6 +72,8 @@ pub enum Refusal {
     BadSender,
     /// The list of senders is given by both of its names.
     SendersWithFrom,
+    /// The name of the file of a recording is empty.
+    BadRecording,
     /// The text for the address of metrics is no address.
     BadMetrics,
     /// A symbol is empty, has more than eight bytes, or has a byte outside of `21` to `7e`.
@@ -103,7 +105,7 @@ impl Refusal {
             Refusal::BadTimeStyle | Refusal::TimesOfText | Refusal::TimesWithoutLines => 2,
             Refusal::GapsWithEvery | Refusal::BadEnd | Refusal::KeptUnfollowed => 2,
             Refusal::FormatUnfollowed | Refusal::BadSender | Refusal::BadMetrics => 2,
-            Refusal::SendersWithFrom => 2,
+            Refusal::SendersWithFrom | Refusal::BadRecording => 2,
             Refusal::BadSymbol | Refusal::TooManySymbols | Refusal::DuplicateSymbol => 2,
         }
     }
@@ -140,6 +142,7 @@ impl Refusal {
             Refusal::FormatUnfollowed => "nbbo: --format without --follow\n",
             Refusal::BadSender => "nbbo: bad sender\n",
             Refusal::SendersWithFrom => "nbbo: --senders with --from\n",
+            Refusal::BadRecording => "nbbo: bad file for --record\n",
             Refusal::BadMetrics => "nbbo: bad metrics address\n",
             Refusal::BadSymbol => "nbbo: bad symbol\n",
             Refusal::TooManySymbols => "nbbo: too many symbols\n",

@@ -16,8 +16,12 @@
 ghost use Rattle.std.specs.Prelude.{◌≡◌, ◌≢◌, ◌<◌};
 ghost use Rattle.command_words.specs.declared.refusal.Refusal.TheVariants.{NoMemory, NotText};
 
+mod recording;
+
+use crate::recording::{end_recording, open_recording, start_recording, write_unopened};
 use command_words::{Refusal, explanation_of, symbol_words};
 use feed_text::{CaptureIn, Count, StreamIn, StreamOut, TextOut, write_stderr};
+use line_recordings::{RecordingState, SkipRecords};
 use nbbo_runs::{Next, RunFacts, Terminals, hint_at_file, journal_hint, refuse, run};
 use run_settings::ListenSettings;
 use std::alloc::{AllocError, Global};
@@ -33,7 +37,7 @@ use std::{env, io};
 use udp_listening::{
     BindFault, ErrorsProgress, ListenSockets, ListenStreams, NO_MEMORY, OutputState, PatientOutput,
     SocketTables, UnheldErrors, bind_metrics, bind_sockets, enlarge, listen_with, listening_line,
-    metrics_line, write_bind_fault,
+    metrics_line, record_lines, write_bind_fault,
 };
 
 /// The descriptor of standard error.
@@ -61,7 +65,7 @@ fn unread(kind: ErrorKind) -> Refusal
 
 /// Runs over the standard streams, and returns the status of the program. The blank pages count the
 /// calls of the input, and the failures of each; those of a run that listens are counted apart.
-fn run_streams<H, C: Ledger, R: Ledger, W: Ledger, E: Ledger + Send, L: Ledger, M: Ledger + Send>(
+fn run_streams<H, C: Ledger, R: Ledger, W: Ledger, E: Ledger + Send, L: Ledger, M, F, T>(
     rt: &HostRuntime,
     threads: &H,
     of_calls: Blank,
@@ -70,9 +74,14 @@ fn run_streams<H, C: Ledger, R: Ledger, W: Ledger, E: Ledger + Send, L: Ledger, 
     of_errors: Blank,
     of_rows: Blank,
     of_texts: Blank,
+    of_file: Blank,
+    of_told: Blank,
 ) -> u8
 where
     H: Threads + Wait + Sync,
+    M: Ledger + Send,
+    F: Ledger + Send + 'static,
+    T: Ledger + Send + 'static,
     requires calls { of_calls.name ≡ C.name }
     requires call_parts { of_calls.parts ≡ C.parts }
     requires some_calls { 0 < of_calls.parts }
@@ -91,6 +100,12 @@ where
     requires texts { of_texts.name ≡ M.name }
     requires text_parts { of_texts.parts ≡ M.parts }
     requires some_texts { 0 < of_texts.parts }
+    requires file { of_file.name ≡ F.name }
+    requires file_parts { of_file.parts ≡ F.parts }
+    requires some_file { 0 < of_file.parts }
+    requires told { of_told.name ≡ T.name }
+    requires told_parts { of_told.parts ≡ T.parts }
+    requires some_told { 0 < of_told.parts }
 {
     let input: StreamIn<Stdin, C, R> = StreamIn::new(
         rt.stdin(),
@@ -102,9 +117,14 @@ where
     let (next, _output) = run_words(rt, input, output, &mut errors);
     match next {
         Next::Ended(status) => status,
-        Next::Listens(settings) => {
-            let (of_rows, of_texts) = (Count::new(of_rows), Count::new(of_texts));
-            listen_live::<H, _, L, M>(rt, threads, &settings, of_rows, of_texts, errors)
+        Next::Listens(settings, record_to) => {
+            let counts = ListenCounts {
+                rows: Count::new(of_rows),
+                texts: Count::new(of_texts),
+                file: Count::new(of_file),
+                told: Count::new(of_told),
+            };
+            listen_live::<H, _, L, M, F, T>(rt, threads, &settings, record_to, counts, errors)
         }
     }
 }
@@ -187,6 +207,7 @@ fn bind_all(rt: &HostRuntime, settings: &ListenSettings) -> Result<ListenSockets
         lines,
         metrics,
         tables,
+        skips: SkipRecords::none(rt.alloc()),
     })
 }
 
@@ -235,13 +256,61 @@ impl StreamShares {
     }
 }
 
-/// Listens on the lines of the settings, and returns the status of the program.
-fn listen_live<H, E, L, M>(
+/// The failures of what a run that listens writes: its rows, its texts on standard error, the file
+/// of its recording, and what that reports.
+#[derive(Drop)]
+struct ListenCounts<L: Ledger, M: Ledger, F: Ledger, T: Ledger> {
+    rows: Count<L>,
+    texts: Count<M>,
+    file: Count<F>,
+    told: Count<T>,
+}
+
+/// Opens the file of the recording, if there is to be one. Where it isn't opened standard error has
+/// why, and None is returned.
+fn opened<E: TextOut>(
+    rt: &HostRuntime,
+    record_to: &Option<String>,
+    errors: &mut E,
+) -> Option<Option<File>> {
+    let Some(name) = record_to else {
+        return Some(None);
+    };
+    match open_recording(rt, name.as_str()) {
+        Ok(file) => Some(Some(file)),
+        Err(error) => {
+            write_unopened(name.as_str(), error.kind(), errors);
+            None
+        }
+    }
+}
+
+/// Starts the recording of a run over these sockets.
+fn recorded<H, F, T>(
+    rt: &HostRuntime,
+    threads: &H,
+    sockets: &mut ListenSockets,
+    venues: usize,
+    file: StreamOut<File, F>,
+    told: Count<T>,
+) -> Option<RecordingState>
+where
+    H: Threads,
+    F: Ledger + Send + 'static,
+    T: Ledger + Send + 'static,
+{
+    let venues = record_lines(rt.alloc(), venues, sockets).ok()?;
+    start_recording(rt, threads, venues, file, StreamOut::new(rt.stderr(), told))
+}
+
+/// Listens on the lines of the settings, records what they bring where there is a file for it, and
+/// returns the status of the program.
+fn listen_live<H, E, L, M, F, T>(
     rt: &HostRuntime,
     threads: &H,
     settings: &ListenSettings,
-    of_rows: Count<L>,
-    of_texts: Count<M>,
+    record_to: Option<String>,
+    counts: ListenCounts<L, M, F, T>,
     mut errors: E,
 ) -> u8
 where
@@ -249,9 +318,14 @@ where
     E: TextOut + Drop + Send,
     L: Ledger,
     M: Ledger + Send,
+    F: Ledger + Send + 'static,
+    T: Ledger + Send + 'static,
 {
     fill_streams(rt);
-    let sockets = match bind_all(rt, settings) {
+    let Some(file) = opened(rt, &record_to, &mut errors) else {
+        return 1;
+    };
+    let mut sockets = match bind_all(rt, settings) {
         Ok(sockets) => sockets,
         Err(fault) => {
             let is_named = rt.stderr().is_terminal() || settings.has_further_options();
@@ -267,15 +341,29 @@ where
         write_stderr(NO_MEMORY, &mut errors);
         return 1;
     };
+    let venues = settings.feed.sessions.len();
+    let recording = match file {
+        Some(file) => {
+            let file = StreamOut::new(file, counts.file);
+            match recorded(rt, threads, &mut sockets, venues, file, counts.told) {
+                Some(state) => Some(state),
+                None => {
+                    write_stderr(NO_MEMORY, &mut errors);
+                    return 1;
+                }
+            }
+        }
+        None => None,
+    };
     let output = PatientOutput::new(rt.stdout(), shares.output);
     let streams = ListenStreams {
         input: rt.stdin(),
-        output: StreamOut::new(output, of_rows),
-        errors: UnheldErrors::new(errors, of_texts, shares.errors),
+        output: StreamOut::new(output, counts.rows),
+        errors: UnheldErrors::new(errors, counts.texts, shares.errors),
         output_state: shares.output_state,
         errors_progress: shares.errors_progress,
     };
-    let (status, _output, _errors) = listen_with(
+    let (status, _output, mut errors) = listen_with(
         threads,
         rt,
         rt.alloc(),
@@ -283,13 +371,28 @@ where
         sockets,
         streams,
     );
-    status
+    match recording {
+        Some(state) => end_recording(rt, &state, status, &mut errors),
+        None => status,
+    }
 }
 
 fn main(rt: HostRuntime) -> ExitCode {
-    ExitCode::from(run_streams::<HostRuntime, Brand, Brand, Brand, Brand, Brand, Brand>(
+    ExitCode::from(run_streams::<
+        HostRuntime,
+        Brand,
+        Brand,
+        Brand,
+        Brand,
+        Brand,
+        Brand,
+        Brand,
+        Brand,
+    >(
         &rt,
         &rt,
+        Blank::new(1),
+        Blank::new(1),
         Blank::new(1),
         Blank::new(1),
         Blank::new(1),

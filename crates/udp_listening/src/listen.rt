@@ -257,7 +257,14 @@ where
     let watches = RunWatches::new(lines.watches, gaps, of_output, counts, metrics);
     let time = RunTime::new(settings, input, shares.clock);
     let follower = RowFollower::new(alloc, console, shares.state);
-    let monitor = RunMonitor::new(time, errors, watches, output_state, settings.follow);
+    let monitor = RunMonitor::new(
+        time,
+        errors,
+        watches,
+        output_state,
+        settings.follow,
+        sockets.skips,
+    );
     let Listened {
         outcome,
         mut console,

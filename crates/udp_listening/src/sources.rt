@@ -95,13 +95,15 @@ fn source_of<C: Clock + Drop>(
     clock: C,
 ) -> Result<UdpSource<C>, AllocError>
     requires { bound.venue < vec_len settings.now.feed.sessions }
-    ensures { IfOk result (IsSourceOf settings.now bound.venue bound.line) }
+    ensures is { IfOk result (IsSourceOf settings.now bound.venue bound.line) }
+    ensures records { IfOk result (λ source. source.records ≡ bound.records) }
 {
     let BoundLine {
         venue,
         line,
         socket,
         requests,
+        records,
     } = bound;
     let of_line = UdpLineSettings {
         venue,
@@ -116,6 +118,7 @@ fn source_of<C: Clock + Drop>(
         marks: shares.marks.share()?,
         marks_heard: settings.has_further_options(),
         timed: has_times(settings.format),
+        records,
     };
     let source = UdpLine::new(alloc, of_line, socket, clock)?;
     shares.progress.push(source.share_progress()?)?;
