@@ -6,6 +6,7 @@ use Rattle.command_words.specs.Addresses.{ReadsLines, ReadsMetrics, ReadsRequest
 use Rattle.command_words.specs.EndRules.{end_rule_in}
 use Rattle.command_words.specs.FeedRequests.{IsFeed}
 use Rattle.command_words.specs.ListenFormats.{listen_format_in}
+use Rattle.command_words.specs.NextSessions.{ReadsNextSessions}
 use Rattle.command_words.specs.OptionValues.{is_flag_set, lines_in, list_in, number_given, symbol_words_in}
 use Rattle.command_words.specs.Readings.{Gives, Then, Yields}
 use Rattle.command_words.specs.SenderLists.{ReadsNamedSenders}
@@ -58,17 +59,18 @@ pub record HasListenOptions (rows : List Row) (settings : ListenSettings) : Type
   pub follow_is : settings.follow ≡ is_followed rows
 
 -- The feed that is listened to, its lines, and where requests go. They are looked at in this order:
--- sessions, lines, address of requests, symbols.
+-- sessions, lines, address of requests, sessions that follow, symbols.
 abbrev pub ReadsReception : List Row → Result Reception Refusal → Type 0
 ReadsReception rows =
-    Then (ReadsSessions false (list_in rows))
+    Then (ReadsSessions true (list_in rows))
     (λ sessions. Then (ReadsLines (lines_in rows) (length sessions))
     (λ lines. Then (ReadsRequest lines (first_of (codes "request") rows))
-    (λ request. Then (ReadsSymbols (symbol_words_in rows))
+    (λ request. Then (ReadsNextSessions true (list_in rows) (length sessions))
+    (λ next. Then (ReadsSymbols (symbol_words_in rows))
     (λ symbols. Yields (λ reception.
     IsFeed rows (unwrap_or (number_given (one_of (codes "journal") rows))
     (usual_journal (is_followed rows))) sessions symbols reception.feed
-    × (reception.lines.items ≡ lines) × (reception.request ≡ request))))))
+    × (reception.lines.items ≡ lines) × (reception.request ≡ request)))))))
 
 -- Which ends end a line, how many changes are kept, and whose datagrams are taken, in this order.
 abbrev pub ReadsListenRules : List Row → Result ListenRules Refusal → Type 0

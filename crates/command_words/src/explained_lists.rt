@@ -164,12 +164,8 @@ pub fn lines_explained(alloc: Global, options: &ArgMatches<'_>) -> Option<String
 }
 
 /// Returns what is wrong with a list of sessions.
-pub fn sessions_explained(
-    alloc: Global,
-    command: &str,
-    options: &ArgMatches<'_>,
-) -> Option<String> {
-    let chained = command != "listen" && given_text(options, "lines").is_some();
+pub fn sessions_explained(alloc: Global, options: &ArgMatches<'_>) -> Option<String> {
+    let chained = given_text(options, "lines").is_some();
     let text = bad_session_in(alloc, text_of(options, "sessions"), chained)?;
     quoted(alloc, "--sessions: ", text, RIGHT_SESSION).ok()
 }

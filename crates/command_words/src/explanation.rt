@@ -168,7 +168,7 @@ fn explained(
     let asked = "is no IP address and port that each line can send to";
     let period = "is no period: as 100ms or 1s, from 1ms to 3600s";
     match refusal {
-        Refusal::BadSession => sessions_explained(alloc, command, options),
+        Refusal::BadSession => sessions_explained(alloc, options),
         Refusal::BadNextSession => next_explained(alloc, options),
         Refusal::BadLines => lines_explained(alloc, options),
         Refusal::BadSymbol => symbols_explained(alloc, options),

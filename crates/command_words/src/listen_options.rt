@@ -13,7 +13,10 @@ const SESSIONS: CommandOption<'static> = CommandOption {
     long_help: text!("\
 The first session of each venue, venue 0's first: 1 to " MAX_VENUES " names parted by commas. A
 name has 1 to 10 characters of printable ASCII (bytes 20 to 7e) and is filled on the
-right with spaces to ten bytes. Write --sessions=LIST where the list begins with '-'"),
+right with spaces to ten bytes. Sessions that follow a venue's first one are parted from it
+by slashes, as in NORTH/NORTH2,SOUTH: each begins at the first packet that comes of it once
+the one before is over and all of it has come or was given up. The venue's lines end with an
+end of the last one then. Write --sessions=LIST where the list begins with '-'"),
 };
 
 /// `--lines LIST`.

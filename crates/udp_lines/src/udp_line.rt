@@ -42,7 +42,7 @@ pub struct UdpLineSettings {
     pub venue: VenueId,
     /// Which of the venue's lines it is.
     pub line: LineUse,
-    /// The venue's session.
+    /// The venue's session; where others follow it, the last one.
     pub session: [u8; 10],
     /// Which ends of session end it. A line of replies goes on after each.
     pub end: EndRule,
@@ -190,6 +190,7 @@ impl<S: DatagramIn + Drop, C: Clock + Drop> UdpLine<S, C> {
         };
         let check = NumberCheck {
             session: settings.session,
+            earlier: Vec::new(alloc),
             end_rule: settings.end,
             most_ahead: settings.most_ahead,
             line: settings.line.line(),
@@ -309,6 +310,13 @@ impl<S: DatagramIn + Drop, C: Clock + Drop> UdpLine<S, C> {
 }
 
 impl<S: Drop, C: Drop> UdpLine<S, C> {
+    /// Names the venue's sessions before the line's, whose packets are handed on as they come.
+    pub fn follow_after(&mut self, earlier: Vec<[u8; 10]>)
+        ensures { self.new ≡ self.old }
+    {
+        self.intake.check.earlier = earlier;
+    }
+
     /// The progress of the line, for another thread. AllocError where it can't be shared any
     /// further.
     pub fn share_progress(&self) -> Result<LineProgress, AllocError> {

@@ -24,6 +24,7 @@ mod listen_sockets;
 mod listen_streams;
 mod listening;
 mod metrics_socket;
+mod next_sessions;
 mod output_state;
 mod patient_output;
 mod recorders;
