@@ -8,6 +8,7 @@ pub mod OptionTables
 pub mod PeriodReading
 pub mod Refusing
 mod Spelling
+pub mod StreamReading
 pub mod Subcommands
 pub mod TimeReading
 pub mod Windows

@@ -5,11 +5,11 @@ use Rattle.run_settings.specs.declared.listen_settings.ListenSettings.{ListenSet
 use Rattle.command_words.specs.Addresses.{ReadsLines, ReadsMetrics, ReadsRequest}
 use Rattle.command_words.specs.EndRules.{end_rule_in}
 use Rattle.command_words.specs.FeedRequests.{IsFeed}
+use Rattle.command_words.specs.FileNames.{ReadsFileName}
 use Rattle.command_words.specs.ListenFormats.{listen_format_in}
 use Rattle.command_words.specs.NextSessions.{ReadsNextSessions}
 use Rattle.command_words.specs.OptionValues.{is_flag_set, lines_in, list_in, number_given, symbol_words_in}
 use Rattle.command_words.specs.Readings.{Gives, Then, Yields}
-use Rattle.command_words.specs.Recordings.{ReadsRecord}
 use Rattle.command_words.specs.SenderLists.{ReadsNamedSenders}
 use Rattle.command_words.specs.Sessions.{ReadsSessions}
 use Rattle.command_words.specs.StatsFormats.{listen_stats_in}
@@ -18,7 +18,7 @@ use Rattle.command_words.specs.declared.listen_parts.ListenOutputs.{ListenOutput
 use Rattle.command_words.specs.declared.listen_parts.ListenRules.{ListenRules}
 use Rattle.command_words.specs.declared.listen_parts.Reception.{Reception}
 use Rattle.command_words.specs.declared.refusal.Refusal.{Refusal}
-use Rattle.command_words.specs.declared.refusal.Refusal.TheVariants.{KeptUnfollowed}
+use Rattle.command_words.specs.declared.refusal.Refusal.TheVariants.{BadRecording, KeptUnfollowed}
 
 -- best lines are printed as they come
 abbrev pub is_followed : List Row → Bool
@@ -94,7 +94,7 @@ ReadsListenOutputs rows =
     (first_of (codes "stats-format") rows)))
     (λ stats. Then (Gives (listen_format_in (is_followed rows) (first_of (codes "format") rows)
     (first_of (codes "times") rows)))
-    (λ format. Then (ReadsRecord (first_of (codes "record") rows))
+    (λ format. Then (ReadsFileName BadRecording (first_of (codes "record") rows))
     (λ record_to. Yields (λ outputs.
     (outputs.metrics ≡ metrics) × (outputs.stats ≡ stats) × (outputs.format ≡ format)
     × (outputs.record ≡ record_to))))))

@@ -13,11 +13,19 @@ use feed_types::SymbolName;
 use std::alloc::{AllocError, Global};
 
 /// The commands with options, of which the words are explained.
-const COMMANDS: [&str; 5] = ["replay", "stats", "listen", "convert", "lines"];
+const COMMANDS: [&str; 6] = ["replay", "stats", "listen", "convert", "normalise", "lines"];
 
 /// The options of `replay` that have a value, beside those for which the refusal has one line
 /// alone.
-const REPLAY_OPTIONS: [&str; 5] = ["skip-after", "from", "to", "format", "times"];
+const REPLAY_OPTIONS: [&str; 7] = [
+    "skip-after",
+    "from",
+    "to",
+    "format",
+    "times",
+    "input",
+    "output",
+];
 
 /// The flags of `replay`, but for that of gap lines.
 const REPLAY_FLAGS: [&str; 3] = ["join", "skip-gaps", "best-only"];
@@ -170,7 +178,7 @@ fn explained(
     match refusal {
         Refusal::BadSession => sessions_explained(alloc, options),
         Refusal::BadNextSession => next_explained(alloc, options),
-        Refusal::BadLines => lines_explained(alloc, options),
+        Refusal::BadLines => lines_explained(alloc, command, options),
         Refusal::BadSymbol => symbols_explained(alloc, options),
         Refusal::DuplicateSymbol => double_explained(alloc, options),
         Refusal::BadFormat => format_explained(alloc, command, options),
@@ -186,6 +194,11 @@ fn explained(
         Refusal::BadSender => senders_explained(alloc, options),
         Refusal::BadRecording => value_explained(alloc, options, "record", "is no file's name"),
         Refusal::BadMetrics => value_explained(alloc, options, "metrics", address),
+        Refusal::BadEndNumber => {
+            value_explained(alloc, options, "end-number", "is neither next nor last")
+        }
+        Refusal::BadInput => value_explained(alloc, options, "input", "is no file's name"),
+        Refusal::BadOutput => value_explained(alloc, options, "output", "is no file's name"),
         _ => None,
     }
 }

@@ -9,11 +9,11 @@ ghost use Rattle.command_words.specs.OptionValues.{number_given};
 ghost use Rattle.command_words.specs.StatsFormats.{listen_stats_in};
 
 use crate::addresses::read_metrics;
+use crate::file_names::file_of;
 use crate::listen_format::read_listen_format;
 use crate::listen_parts::ListenOutputs;
 use crate::option_values::{given_text, number_of};
 use crate::reception::is_followed;
-use crate::recording::record_of;
 use crate::refusal::Refusal;
 use crate::stats_format::read_listen_stats;
 use clap::ArgMatches;
@@ -60,7 +60,7 @@ pub fn listen_outputs_of(alloc: Global, listen: &ArgMatches<'_>) -> Result<Liste
     let metrics = metrics_of(listen)?;
     let stats = listen_stats_of(listen)?;
     let format = listen_format_of(listen)?;
-    let record = record_of(alloc, listen)?;
+    let record = file_of(alloc, listen, "record", Refusal::BadRecording)?;
     Ok(ListenOutputs {
         metrics,
         stats,

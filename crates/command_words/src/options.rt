@@ -146,6 +146,30 @@ of day in UTC with nine places, as RFC 3339 has them: 2026-05-28T20:26:40.000003
 of text have no times",
 };
 
+/// `--input FILE`.
+pub const INPUT: CommandOption<'static> = CommandOption {
+    name: "input",
+    value: "FILE",
+    form: OptionForm::Text,
+    help: "Reads this file in place of standard input",
+    long_help: "\
+Reads this file in place of standard input. Where it can't be opened nothing is read or
+written, standard error has 'input not opened', its name and why, and the status is 1",
+};
+
+/// `--output FILE`.
+pub const OUTPUT: CommandOption<'static> = CommandOption {
+    name: "output",
+    value: "FILE",
+    form: OptionForm::Text,
+    help: "Writes this file anew in place of standard output",
+    long_help: "\
+Writes this file in place of standard output: anew, unless the command line is refused or the
+input isn't opened. Where it can't be opened, or is the file that is read, standard error has
+'output not opened', its name and why; where the status is another than 0 after that,
+'output not whole' and its name",
+};
+
 /// `SYMBOL..`, the symbols whose national best is printed.
 pub const SYMBOLS: CommandOption<'static> = CommandOption {
     name: "symbols",

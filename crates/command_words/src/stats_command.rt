@@ -8,7 +8,8 @@ use crate::command_texts::{CommandTexts, command_with};
 use crate::limits::text;
 use crate::option_table::{CommandOption, OptionForm};
 use crate::options::{
-    CAPTURED_LINES, FROM_TIME, JOIN, SESSIONS, SKIP_AFTER, SKIP_GAPS, TIMES, TO_TIME, WINDOW,
+    CAPTURED_LINES, FROM_TIME, INPUT, JOIN, OUTPUT, SESSIONS, SKIP_AFTER, SKIP_GAPS, TIMES,
+    TO_TIME, WINDOW,
 };
 use clap::Command;
 use std::alloc::{AllocError, Global};
@@ -238,6 +239,8 @@ const OPTIONS: &[CommandOption<'static>] = &[
     TO_TIME,
     FORMAT,
     TIMES,
+    INPUT,
+    OUTPUT,
     COUNTED_SYMBOLS,
 ];
 

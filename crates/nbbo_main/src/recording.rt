@@ -4,7 +4,7 @@ use feed_text::{Count, StreamOut, TextOut, write_number, write_stderr};
 use line_recordings::{Recording, RecordingState, VenueRecords, write_recording};
 use std::alloc::{AllocError, Global};
 use std::fs::File;
-use std::io::{self, ErrorKind, Stderr};
+use std::io::{self, Stderr};
 use std::sync::ledger::Ledger;
 use std::thread;
 use std::thread::Threads;
@@ -24,26 +24,6 @@ pub fn open_recording(rt: &HostRuntime, name: &str) -> io::Result<File> {
         .create(true)
         .truncate(true)
         .open(rt, name)
-}
-
-/// Returns why a file isn't opened, by an error of this kind.
-fn why_not(kind: ErrorKind) -> &'static str {
-    match kind {
-        ErrorKind::NotFound => "there is no such folder",
-        ErrorKind::PermissionDenied => "not allowed",
-        ErrorKind::IsADirectory => "it is a folder",
-        ErrorKind::StorageFull => "the disk is full",
-        _ => "the system refuses it",
-    }
-}
-
-/// Writes that the file of a recording isn't opened, and why.
-pub fn write_unopened<E: TextOut>(name: &str, kind: ErrorKind, errors: &mut E) {
-    write_stderr("nbbo: recording not opened: ", errors);
-    write_stderr(name, errors);
-    write_stderr(": ", errors);
-    write_stderr(why_not(kind), errors);
-    write_stderr("\n", errors);
 }
 
 /// Starts the thread that writes what came of these venues into the file, and returns how far it
