@@ -6,12 +6,13 @@
 //! `specs/OptionValues.antt`). What the options of a command give, and the order in which they are
 //! looked at, stands in `specs/RunRequests.antt`, `specs/ListenRequests.antt` and
 //! `specs/NormaliseRequests.antt`, over `specs/FeedRequests.antt` and in the words of
-//! `specs/Readings.antt`. Each kind of value has a file of its own (`specs/Sessions.antt`, `specs/NextSessions.antt`, `specs/Symbols.antt`,
-//! `specs/Addresses.antt`, `specs/CapturedLines.antt`, `specs/BestFormats.antt`,
-//! `specs/StatsFormats.antt`, `specs/StatsOutputs.antt`, `specs/PeriodWords.antt`,
-//! `specs/TimeWords.antt`, `specs/TimeStyles.antt`, `specs/SpanWords.antt`,
-//! `specs/SkipRules.antt`, `specs/EndRules.antt`, `specs/EndNumbers.antt`,
-//! `specs/SenderLists.antt`, `specs/Destinations.antt`, `specs/FileNames.antt`).
+//! `specs/Readings.antt`. Each kind of value has a file of its own (`specs/Sessions.antt`,
+//! `specs/NextSessions.antt`, `specs/Symbols.antt`, `specs/Addresses.antt`,
+//! `specs/CapturedLines.antt`, `specs/BestFormats.antt`, `specs/StatsFormats.antt`,
+//! `specs/StatsOutputs.antt`, `specs/PeriodWords.antt`, `specs/TimeWords.antt`,
+//! `specs/TimeStyles.antt`, `specs/SpanWords.antt`, `specs/SkipRules.antt`, `specs/EndRules.antt`,
+//! `specs/EndNumbers.antt`, `specs/SenderLists.antt`, `specs/Destinations.antt`,
+//! `specs/FileNames.antt`).
 //!
 //! Beside it, [`stream_files`] returns the files that words name in place of standard input and
 //! standard output (`NamesStreams`, `specs/StreamNames.antt`), and [`words_of_sources`] puts the
