@@ -89,8 +89,8 @@ Status:
                         they never came, though later ones did: the first that are missing, as far
                         as the window goes. Nothing past them was printed; with --complete the
                         status is 3
-     and with an option other than --sessions, --lines, --request, --window, --journal,
-     --datagrams and --record:
+     and with an option other than --sessions, --lines, --request, --window, --journal and
+     --datagrams, or with sessions that follow others:
        line V L lost N datagrams that the system dropped
                         at the line's socket, for want of room mostly: see --buffer
        line V L ended with session NAME
@@ -148,8 +148,8 @@ isn't in --from:
   nbbo: second N line V L ended by an end of session
 .. ended by --datagrams, failed, can't send requests, goes on after an end of session, passes over
 datagrams of senders not in --from. With an option other than --sessions, --lines, --request,
---window, --journal, --datagrams and --record it also says with which session a line ended, when a
-gap has stood for a second, and when its messages have come, and at the first gap for whose messages
+--window, --journal and --datagrams it also says with which session a line ended, when a gap
+has stood for a second, and when its messages have come, and at the first gap for whose messages
 nothing came in two seconds after they were asked for:
   nbbo: second N line V L ended with session NAME
   nbbo: second N venue V lacks COUNT messages from NUMBER

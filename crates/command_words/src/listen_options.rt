@@ -64,7 +64,7 @@ const REQUEST_AFTER: CommandOption<'static> = CommandOption {
 With --request: for how many milliseconds a gap stands before its messages are asked for, 0
 to " MAX_COUNT ", so that the other line can bring them first. By default 0, with a further option
 " USUAL_WAIT ". A further option is one other than --sessions, --lines, --request, --window, --journal,
---datagrams, --record and --end any"),
+--datagrams and --end any; sessions that follow others are one, too"),
 };
 
 /// The long help of the list of senders.
