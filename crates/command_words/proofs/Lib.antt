@@ -8,7 +8,6 @@ pub mod OptionTables
 pub mod PeriodReading
 pub mod Refusing
 mod Spelling
-pub mod StreamReading
 pub mod Subcommands
 pub mod TimeReading
 pub mod Windows

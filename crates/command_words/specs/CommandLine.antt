@@ -26,7 +26,7 @@ use Rattle.command_words.specs.RunRequests.{ReadsReplay, ReadsStats}
 use Rattle.command_words.specs.StatsFormats.{stats_format_in}
 use Rattle.command_words.specs.StreamNames.{ReadsStreamFiles}
 use Rattle.command_words.specs.TimeStyles.{time_style_in}
-use Rattle.command_words.specs.declared.stream_files.StreamFiles.{StreamFiles}
+use Rattle.command_words.specs.declared.streams.StreamFiles.{StreamFiles}
 use Rattle.command_words.specs.declared.task.Task.{Task}
 use Rattle.command_words.specs.declared.task.Task.TheVariants.{Run, Convert, Discover, Normalise, Listen}
 use Rattle.command_words.specs.declared.refusal.Refusal.{Refusal}

@@ -5,7 +5,7 @@ use Rattle.command_words.specs.FileNames.{ReadsFileName}
 use Rattle.command_words.specs.Readings.{Gives, Then}
 use Rattle.command_words.specs.declared.refusal.Refusal.{Refusal}
 use Rattle.command_words.specs.declared.refusal.Refusal.TheVariants.{BadInput, BadOutput}
-use Rattle.command_words.specs.declared.stream_files.StreamFiles.{StreamFiles}
+use Rattle.command_words.specs.declared.streams.StreamFiles.{StreamFiles}
 
 -- the files by the values of a command's options: that of --input is looked at first
 abbrev pub ReadsNamedStreams : List Row → Result StreamFiles Refusal → Type 0

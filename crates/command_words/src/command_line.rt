@@ -20,7 +20,7 @@ use crate::option_values::{given_text, text_of};
 use crate::refusal::Refusal;
 use crate::run_words::{replay_of, stats_of};
 use crate::stats_format::read_stats_format;
-use crate::stream_files::{StreamFiles, streams_of};
+use crate::streams::{StreamFiles, streams_of};
 use crate::task::Task;
 use crate::time_style::read_time_style;
 use clap::error::ErrorKind;

@@ -25,16 +25,24 @@ pub fn file_named(word: &str) -> Option<&str>
     }
 }
 
+/// Appends these words.
+fn push_words(alloc: Global, words: &mut Vec<String>, more: &[&str]) -> Result<(), AllocError>
+    ensures { OnOk result (map (λ word. string_bytes word) words.new.items
+        ≡ map (λ word. string_bytes word) words.old.items ++ map (λ word. word.now) more.now) }
+{
+    for word in more {
+        words.push(String::from_str(alloc, *word)?)?;
+    }
+    Ok(())
+}
+
 /// Appends the lines of a text.
 fn push_lines(alloc: Global, words: &mut Vec<String>, text: &str) -> Result<(), AllocError>
     ensures { OnOk result (map (λ word. string_bytes word) words.new.items
         ≡ map (λ word. string_bytes word) words.old.items ++ lines text.now) }
 {
     let lines: Vec<&str> = text.lines().collect(alloc)?;
-    for line in &lines {
-        words.push(String::from_str(alloc, *line)?)?;
-    }
-    Ok(())
+    push_words(alloc, words, lines.as_slice())
 }
 
 /// Appends the words of a source.
@@ -47,9 +55,10 @@ fn push_source(
         ≡ map (λ word. string_bytes word) words.old.items ++ words_of_source source.now) }
 {
     match source {
-        WordSource::Word(word) => words.push(String::from_str(alloc, word.as_str())?),
-        WordSource::Lines(text) => push_lines(alloc, words, text.as_str()),
+        WordSource::Word(word) => words.push(String::from_str(alloc, word.as_str())?)?,
+        WordSource::Lines(text) => push_lines(alloc, words, text.as_str())?,
     }
+    Ok(())
 }
 
 /// Returns the words of these sources in order: each word as it is, and in place of a text its
