@@ -117,7 +117,8 @@ const SYMBOLS: CommandOption<'static> = CommandOption {
     help: "The symbols whose quotations are made",
     long_help: text!("\
 The symbols whose quotations are made, up to " MAX_SYMBOLS ", each once. Orders of others aren't
-kept; without a symbol nothing is quoted"),
+kept; without a symbol nothing is quoted. A word @FILE stands for the lines of that file, a
+symbol each. Write '--' before them where one begins with '-' or '@'"),
 };
 
 /// The options of `normalise`, in the order in which its help has them.

@@ -221,7 +221,8 @@ const COUNTED_SYMBOLS: CommandOption<'static> = CommandOption {
     long_help: text!("\
 The symbols of whose national best bid and offer the changes are counted: at most " MAX_SYMBOLS "
 words, each once, of 1 to 8 characters of printable ASCII without a space (bytes 21 to
-7e). Write '--' before them where one begins with '-'. Without a symbol there are none"),
+7e). A word @FILE stands for the lines of that file, a symbol each. Write '--' before them
+where one begins with '-' or '@'. Without a symbol there are none"),
 };
 
 /// The options of `stats`, in the order in which its help has them.
