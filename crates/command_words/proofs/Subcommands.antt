@@ -7,12 +7,11 @@ use Rattle.std.proofs.lemmas.Option.{same_Some}
 use Rattle.std.proofs.lemmas.Slice.Eq.{bytes_eq-Decides}
 use Rattle.clap.specs.Simple.{subcommand_of}
 use Rattle.clap.specs.Walk.{Row, Text}
-use Rattle.command_words.specs.CommandLine.{IsAccepted, ReadsTask, ReadsWords}
+use Rattle.command_words.specs.CommandLine.{IsAccepted, ReadsFound}
 use Rattle.command_words.specs.Commands.{nbbo_app}
 use Rattle.command_words.specs.OptionValues.{rows_of_command}
 use Rattle.command_words.specs.Readings.{Then}
 use Rattle.command_words.specs.declared.refusal.Refusal.{Refusal}
-use Rattle.command_words.specs.declared.task.Task.{Task}
 
 -- The subcommand that was looked up by its name is the one that was found, of this name and with
 -- these values.
@@ -45,14 +44,14 @@ module _ {X B : Type 0} (label : X → Text) (rows : X → List Row) (at : B →
       go false other same = let bad : false ≡ true = other.1 same in absurd (cc)
 
 -- what is read of the subcommand that clap found is what is read of the words
-pub words_read : (words : List Text) (found : Option (Text × List Row))
-    (result : Result Task Refusal)
-    → IsAccepted words → found ≡ subcommand_of nbbo_app words → ReadsTask found result
-    → ReadsWords words result
-words_read words found (Ok task) taken is read =
-    (taken, subst (λ (f : Option (Text × List Row)). ReadsTask f (Ok task)) is read)
-words_read words found (Err refusal) taken is read =
-    inr (taken, subst (λ (f : Option (Text × List Row)). ReadsTask f (Err refusal)) is read)
+pub words_read : {X : Type 0} (Read : Option (Text × List Row) → Result X Refusal → Type 0)
+    (words : List Text) (found : Option (Text × List Row)) (result : Result X Refusal)
+    → IsAccepted words → found ≡ subcommand_of nbbo_app words → Read found result
+    → ReadsFound Read words result
+words_read Read words found (Ok x) taken is read =
+    (taken, subst (λ (f : Option (Text × List Row)). Read f (Ok x)) is read)
+words_read Read words found (Err refusal) taken is read =
+    inr (taken, subst (λ (f : Option (Text × List Row)). Read f (Err refusal)) is read)
 
 -- where the first reading gives a value, what the next one of it gives is given
 pub onward : {X Y : Type 0} (First : Result X Refusal → Type 0)

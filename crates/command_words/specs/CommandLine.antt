@@ -19,15 +19,18 @@ use Rattle.run_settings.specs.Lists.{AreOfVenues}
 use Rattle.command_words.specs.CapturedLines.{ReadsAllLines}
 use Rattle.command_words.specs.Commands.{nbbo_app}
 use Rattle.command_words.specs.ListenRequests.{ReadsListening}
+use Rattle.command_words.specs.NormaliseRequests.{ReadsNormalising}
 use Rattle.command_words.specs.OptionValues.{lines_in, rows_of_command}
 use Rattle.command_words.specs.Readings.{Gives, Then, and_then, mapped}
 use Rattle.command_words.specs.RunRequests.{ReadsReplay, ReadsStats}
 use Rattle.command_words.specs.StatsFormats.{stats_format_in}
+use Rattle.command_words.specs.StreamNames.{ReadsStreamFiles}
 use Rattle.command_words.specs.TimeStyles.{time_style_in}
+use Rattle.command_words.specs.declared.streams.StreamFiles.{StreamFiles}
 use Rattle.command_words.specs.declared.task.Task.{Task}
-use Rattle.command_words.specs.declared.task.Task.TheVariants.{Run, Convert, Discover, Listen}
+use Rattle.command_words.specs.declared.task.Task.TheVariants.{Run, Convert, Discover, Normalise, Listen}
 use Rattle.command_words.specs.declared.refusal.Refusal.{Refusal}
-use Rattle.command_words.specs.declared.refusal.Refusal.TheVariants.{Shown, Usage, NotText, BadSession, TooManySessions, BadNextSession, BadLines, BadRequest, BadFormat, BadPeriod, EveryWithoutLines, GapsWithEvery, BestsWithoutEvery, SkipAfterWithoutLines, SkipGapsWithSkipAfter, BadTime, ToBeforeFrom, SpanOfLines, SpanWithoutLines, BadTimeStyle, TimesOfText, TimesWithoutLines, BadEnd, KeptUnfollowed, FormatUnfollowed, BadSender, SendersWithFrom, BadMetrics, BadSymbol, TooManySymbols, DuplicateSymbol, NoMemory}
+use Rattle.command_words.specs.declared.refusal.Refusal.TheVariants.{Shown, Usage, NotText, BadSession, TooManySessions, BadNextSession, BadLines, BadRequest, BadFormat, BadPeriod, EveryWithoutLines, GapsWithEvery, BestsWithoutEvery, SkipAfterWithoutLines, SkipGapsWithSkipAfter, BadTime, ToBeforeFrom, SpanOfLines, SpanWithoutLines, BadTimeStyle, TimesOfText, TimesWithoutLines, BadEnd, KeptUnfollowed, FormatUnfollowed, BadSender, SendersWithFrom, BadRecording, BadMetrics, BadEndNumber, BadInput, BadOutput, BadSymbol, TooManySymbols, DuplicateSymbol, NoMemory}
 
 -- a text that was asked for: help, or the version
 abbrev pub IsAsked : ErrorKind → Type 0
@@ -70,10 +73,12 @@ ReadsTask found =
     (OfCommand (rows_of_command (codes "convert") found) ReadsConversion
     (OfCommand (rows_of_command (codes "stats") found)
     (λ rows. Then (ReadsStats rows) (λ settings. Gives (Ok (Run settings))))
+    (OfCommand (rows_of_command (codes "normalise") found)
+    (λ rows. Then (ReadsNormalising rows) (λ settings. Gives (Ok (Normalise settings))))
     (OfCommand (rows_of_command (codes "lines") found) ReadsDiscovery
     (OfCommand (rows_of_command (codes "replay") found)
     (λ rows. Then (ReadsReplay rows) (λ settings. Gives (Ok (Run settings))))
-    (Gives (Err BadSession))))))
+    (Gives (Err BadSession)))))))
 
 -- the lines that a task converts are of the first 16 venues
 abbrev pub IsOfVenues : Task → Type 0
@@ -96,13 +101,22 @@ IsRefusedByClap words (Usage text) =
 IsRefusedByClap words NoMemory = Unit {0}
 IsRefusedByClap words _ = ⊥
 
+-- What is read of the subcommand that clap finds in the words, or what clap refuses.
+abbrev pub ReadsFound : {X : Type 0} → (Option (Text × List Row) → Result X Refusal → Type 0)
+    → List Text → Result X Refusal → Type 0
+ReadsFound Read words (Ok x) = IsAccepted words × Read (subcommand_of nbbo_app words) (Ok x)
+ReadsFound Read words (Err refusal) =
+    IsRefusedByClap words refusal
+    ⊎ (IsAccepted words × Read (subcommand_of nbbo_app words) (Err refusal))
+
 -- The task that the words ask for, or the refusal that they get.
 abbrev pub ReadsWords : List Text → Result Task Refusal → Type 0
-ReadsWords words (Ok task) =
-    IsAccepted words × ReadsTask (subcommand_of nbbo_app words) (Ok task)
-ReadsWords words (Err refusal) =
-    IsRefusedByClap words refusal
-    ⊎ (IsAccepted words × ReadsTask (subcommand_of nbbo_app words) (Err refusal))
+ReadsWords words result = ReadsFound ReadsTask words result
+
+-- The files that the words name for standard input and standard output, or the refusal that they
+-- get; where they name none the streams are the standard ones.
+abbrev pub NamesStreams : List Text → Result StreamFiles Refusal → Type 0
+NamesStreams words result = ReadsFound ReadsStreamFiles words result
 
 abbrev pub Asks : List Text → Task → Type 0
 Asks words task = ReadsWords words (Ok task)
@@ -162,7 +176,11 @@ refusal_text KeptUnfollowed = codes "nbbo: --kept without --follow\n"
 refusal_text FormatUnfollowed = codes "nbbo: --format without --follow\n"
 refusal_text BadSender = codes "nbbo: bad sender\n"
 refusal_text SendersWithFrom = codes "nbbo: --senders with --from\n"
+refusal_text BadRecording = codes "nbbo: bad file for --record\n"
 refusal_text BadMetrics = codes "nbbo: bad metrics address\n"
+refusal_text BadEndNumber = codes "nbbo: bad end number\n"
+refusal_text BadInput = codes "nbbo: bad file for --input\n"
+refusal_text BadOutput = codes "nbbo: bad file for --output\n"
 refusal_text BadSymbol = codes "nbbo: bad symbol\n"
 refusal_text TooManySymbols = codes "nbbo: too many symbols\n"
 refusal_text DuplicateSymbol = codes "nbbo: duplicate symbol\n"

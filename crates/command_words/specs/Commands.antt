@@ -11,7 +11,8 @@ replay_app = with_option_rules (new_app (codes "replay"))
     ∷ (codes "join", Flag) ∷ (codes "skip-gaps", Flag) ∷ (codes "skip-after", FromOne)
     ∷ (codes "gaps", Flag) ∷ (codes "best-only", Flag)
     ∷ (codes "from", Text) ∷ (codes "to", Text)
-    ∷ (codes "format", Text) ∷ (codes "times", Text) ∷ (codes "symbols", Words) ∷ [])
+    ∷ (codes "format", Text) ∷ (codes "times", Text)
+    ∷ (codes "input", Text) ∷ (codes "output", Text) ∷ (codes "symbols", Words) ∷ [])
 
 abbrev pub listen_app : App
 listen_app = with_option_rules (new_app (codes "listen"))
@@ -23,14 +24,15 @@ listen_app = with_option_rules (new_app (codes "listen"))
     ∷ (codes "datagrams", FromZero) ∷ (codes "buffer", Buffer)
     ∷ (codes "end", Text) ∷ (codes "complete", Flag)
     ∷ (codes "seconds", FromOne) ∷ (codes "until-input-ends", Flag)
-    ∷ (codes "silent-after", FromOne)
+    ∷ (codes "silent-after", FromOne) ∷ (codes "record", Text)
     ∷ (codes "follow", Flag) ∷ (codes "kept", FromOne)
     ∷ (codes "format", Text) ∷ (codes "times", Text)
     ∷ (codes "stats", FromOne) ∷ (codes "stats-format", Text)
     ∷ (codes "metrics", Text) ∷ (codes "symbols", Words) ∷ [])
 
 abbrev pub convert_app : App
-convert_app = with_option_rules (new_app (codes "convert")) ((codes "lines", Required) ∷ [])
+convert_app = with_option_rules (new_app (codes "convert"))
+    ((codes "lines", Required) ∷ (codes "input", Text) ∷ (codes "output", Text) ∷ [])
 
 abbrev pub stats_app : App
 stats_app = with_option_rules (new_app (codes "stats"))
@@ -38,12 +40,21 @@ stats_app = with_option_rules (new_app (codes "stats"))
     ∷ (codes "window", Window) ∷ (codes "join", Flag) ∷ (codes "skip-gaps", Flag)
     ∷ (codes "skip-after", FromOne) ∷ (codes "gaps", Flag) ∷ (codes "every", Text) ∷ (codes "bests", Flag)
     ∷ (codes "from", Text) ∷ (codes "to", Text)
-    ∷ (codes "format", Text) ∷ (codes "times", Text) ∷ (codes "symbols", Words) ∷ [])
+    ∷ (codes "format", Text) ∷ (codes "times", Text)
+    ∷ (codes "input", Text) ∷ (codes "output", Text) ∷ (codes "symbols", Words) ∷ [])
+
+abbrev pub normalise_app : App
+normalise_app = with_option_rules (new_app (codes "normalise"))
+    ((codes "sessions", Required) ∷ (codes "lines", Text)
+    ∷ (codes "window", Window) ∷ (codes "orders", FromOne) ∷ (codes "end-number", Text)
+    ∷ (codes "skip-gaps", Flag) ∷ (codes "skip-after", FromOne)
+    ∷ (codes "input", Text) ∷ (codes "output", Text) ∷ (codes "symbols", Words) ∷ [])
 
 abbrev pub discovering_app : App
 discovering_app =
     with_option_rules (new_app (codes "lines"))
-    ((codes "format", Text) ∷ (codes "times", Text) ∷ [])
+    ((codes "format", Text) ∷ (codes "times", Text)
+    ∷ (codes "input", Text) ∷ (codes "output", Text) ∷ [])
 
 -- the program with its texts
 abbrev pub titled_app : App
@@ -67,5 +78,8 @@ converting_app = with_subcommand listening_app convert_app.top
 abbrev pub reporting_app : App
 reporting_app = with_subcommand converting_app stats_app.top
 
+abbrev pub normalising_app : App
+normalising_app = with_subcommand reporting_app normalise_app.top
+
 abbrev pub nbbo_app : App
-nbbo_app = with_subcommand reporting_app discovering_app.top
+nbbo_app = with_subcommand normalising_app discovering_app.top

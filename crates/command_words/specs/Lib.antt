@@ -3,11 +3,15 @@ pub mod BestFormats
 pub mod CapturedLines
 pub mod CommandLine
 pub mod Commands
+pub mod Destinations
+pub mod EndNumbers
 pub mod EndRules
 pub mod FeedRequests
+pub mod FileNames
 pub mod ListenFormats
 pub mod ListenRequests
 pub mod NextSessions
+pub mod NormaliseRequests
 pub mod OptionValues
 pub mod OptionForms
 pub mod PeriodWords
@@ -21,4 +25,6 @@ pub mod StatsOutputs
 pub mod TimeWords
 pub mod TimeStyles
 pub mod SpanWords
+pub mod StreamNames
 pub mod Symbols
+pub mod WordSources

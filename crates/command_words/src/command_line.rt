@@ -1,12 +1,13 @@
 //! The requests of the words of the command line.
-ghost use Rattle.std.specs.Prelude.{◌≡◌, IfErr, IfOk, OnOk, codes, map, option_map, string_bytes};
+ghost use Rattle.std.specs.Prelude.{◌≡◌, IfErr, IfOk, OnOk, map, option_map, string_bytes};
 ghost use Rattle.clap.specs.Matches.{found_of};
 ghost use Rattle.clap.specs.Simple.{subcommand_of, subcommand_rows_of};
 ghost use Rattle.clap.specs.Values.{kind_of};
 ghost use Rattle.clap.specs.Walk.{rows_of};
-ghost use Rattle.command_words.specs.CommandLine.{IsAccepted, IsOfVenues, IsRefusedByClap, ReadsConversion, ReadsDiscovery, ReadsTask, ReadsWords, RefusesBy};
+ghost use Rattle.command_words.specs.CommandLine.{IsAccepted, IsOfVenues, IsRefusedByClap, NamesStreams, ReadsConversion, ReadsDiscovery, ReadsTask, ReadsWords, RefusesBy};
 ghost use Rattle.command_words.specs.Commands.{nbbo_app};
 ghost use Rattle.command_words.specs.ListenRequests.{ReadsListening};
+ghost use Rattle.command_words.specs.NormaliseRequests.{ReadsNormalising};
 ghost use Rattle.command_words.specs.OptionValues.{rows_of_command};
 ghost use Rattle.command_words.specs.Readings.{Gives, Then};
 ghost use Rattle.command_words.specs.RunRequests.{ReadsReplay, ReadsStats};
@@ -14,10 +15,12 @@ ghost use Rattle.command_words.specs.RunRequests.{ReadsReplay, ReadsStats};
 use crate::captured_lines::read_all_lines;
 use crate::commands::nbbo_command;
 use crate::listen_words::listening_of;
+use crate::normalise_words::normalising_of;
 use crate::option_values::{given_text, text_of};
 use crate::refusal::Refusal;
 use crate::run_words::{replay_of, stats_of};
 use crate::stats_format::read_stats_format;
+use crate::streams::{StreamFiles, streams_of};
 use crate::task::Task;
 use crate::time_style::read_time_style;
 use clap::error::ErrorKind;
@@ -91,6 +94,15 @@ fn stats_task(alloc: Global, stats: &ArgMatches<'_>) -> Result<Task, Refusal>
     Ok(Task::Run(stats_of(alloc, stats)?))
 }
 
+/// Returns the run of `normalise` for which its options ask.
+fn normalising_task(alloc: Global, normalise: &ArgMatches<'_>) -> Result<Task, Refusal>
+    ensures reads { Then (ReadsNormalising (rows_of (found_of normalise.now)))
+        (λ settings. Gives (Ok (Task.Normalise settings))) result }
+    ensures venues { IfOk result IsOfVenues }
+{
+    Ok(Task::Normalise(normalising_of(alloc, normalise)?))
+}
+
 /// Returns the conversion for which the options of `convert` ask.
 fn conversion_of(alloc: Global, convert: &ArgMatches<'_>) -> Result<Task, Refusal>
     ensures reads { ReadsConversion (rows_of (found_of convert.now)) result }
@@ -122,6 +134,9 @@ fn task_of(alloc: Global, matches: &ArgMatches<'_>) -> Result<Task, Refusal>
     if let Some(stats) = options_of(matches, "stats") {
         return stats_task(alloc, stats);
     }
+    if let Some(normalise) = options_of(matches, "normalise") {
+        return normalising_task(alloc, normalise);
+    }
     if let Some(lines) = options_of(matches, "lines") {
         return discovery_of(lines);
     }
@@ -139,4 +154,12 @@ pub fn settings(alloc: Global, words: &[String]) -> Result<Task, Refusal>
     ensures venues { IfOk result IsOfVenues }
 {
     task_of(alloc, &parsed(alloc, words)?)
+}
+
+/// Returns the files that the words name for standard input and standard output, or why they are
+/// refused.
+pub fn stream_files(alloc: Global, words: &[String]) -> Result<StreamFiles, Refusal>
+    ensures { NamesStreams (map (λ word. string_bytes word) words.now) result }
+{
+    streams_of(alloc, &parsed(alloc, words)?)
 }

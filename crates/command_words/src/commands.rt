@@ -2,11 +2,12 @@
 ghost use Rattle.std.specs.Prelude.{◌≡◌, IfOk, false};
 ghost use Rattle.clap.specs.Simple.{app_of};
 ghost use Rattle.clap.specs.declared.builder.command.Command.TheViews.{out-Command as fields_of};
-ghost use Rattle.command_words.specs.Commands.{converting_app, listening_app, nbbo_app, program_app, replaying_app, reporting_app, titled_app};
+ghost use Rattle.command_words.specs.Commands.{converting_app, listening_app, nbbo_app, normalising_app, program_app, replaying_app, reporting_app, titled_app};
 
 use crate::convert_command::convert_command;
 use crate::discovery_command::discovery_command;
 use crate::listen_command::listen_command;
+use crate::normalise_command::normalise_command;
 use crate::replay_command::replay_command;
 use crate::stats_command::stats_command;
 use clap::Command;
@@ -28,8 +29,10 @@ Examples:
   nbbo replay --sessions NORTH --lines 239.1.1.1:26400,239.1.1.2:26400 ACME < day.pcap
   nbbo stats --sessions NORTH,SOUTH ACME < capture
   nbbo listen --sessions 0000000001 --lines 127.0.0.1:7001,127.0.0.1:7002 ACME
+  nbbo replay --sessions NORTH,SOUTH --input capture --output lines.txt @symbols.txt
 
-'nbbo replay --help' and 'nbbo listen --help' tell what is read and what is printed.";
+'nbbo replay --help' and 'nbbo listen --help' tell what is read and what is printed.
+A word @FILE, if no -- stands before it, is replaced by the lines of FILE, each of them a word.";
 
 /// The program with its texts.
 fn program_texts<'a>(alloc: Global) -> Result<Command<'a>, AllocError>
@@ -89,10 +92,18 @@ fn reporting_command<'a>(alloc: Global) -> Result<Command<'a>, AllocError>
     converting_command(alloc)?.subcommand(stats_command(alloc)?)
 }
 
+/// The program with `replay`, `listen`, `convert`, `stats` and `normalise`.
+fn normalising_command<'a>(alloc: Global) -> Result<Command<'a>, AllocError>
+    ensures app { IfOk result (λ c. app_of c ≡ normalising_app) }
+    ensures local { IfOk result (λ c. (fields_of c).has_globals ≡ false) }
+{
+    reporting_command(alloc)?.subcommand(normalise_command(alloc)?)
+}
+
 /// The program, which does nothing without a subcommand.
 pub fn nbbo_command<'a>(alloc: Global) -> Result<Command<'a>, AllocError>
     ensures app { IfOk result (λ c. app_of c ≡ nbbo_app) }
     ensures local { IfOk result (λ c. (fields_of c).has_globals ≡ false) }
 {
-    reporting_command(alloc)?.subcommand(discovery_command(alloc)?)
+    normalising_command(alloc)?.subcommand(discovery_command(alloc)?)
 }

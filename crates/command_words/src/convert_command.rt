@@ -7,7 +7,7 @@ ghost use Rattle.command_words.specs.Commands.{convert_app};
 use crate::command_texts::{CommandTexts, command_with};
 use crate::limits::text;
 use crate::option_table::{CommandOption, OptionForm};
-use crate::options::CAPTURED_LINES_HELP;
+use crate::options::{CAPTURED_LINES_HELP, INPUT, OUTPUT};
 use clap::Command;
 use std::alloc::{AllocError, Global};
 
@@ -63,7 +63,7 @@ const LINES: CommandOption<'static> = CommandOption {
 };
 
 /// The options of `convert`, in the order in which its help has them.
-const OPTIONS: &[CommandOption<'static>] = &[LINES];
+const OPTIONS: &[CommandOption<'static>] = &[LINES, INPUT, OUTPUT];
 
 /// Returns the whole of `convert`.
 pub fn convert_command<'a>(alloc: Global) -> Result<Command<'a>, AllocError>

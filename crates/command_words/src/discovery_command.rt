@@ -6,7 +6,7 @@ ghost use Rattle.command_words.specs.Commands.{discovering_app};
 
 use crate::command_texts::{CommandTexts, command_with};
 use crate::option_table::{CommandOption, OptionForm};
-use crate::options::TIMES;
+use crate::options::{INPUT, OUTPUT, TIMES};
 use clap::Command;
 use std::alloc::{AllocError, Global};
 
@@ -96,7 +96,7 @@ its own for each",
 };
 
 /// The options of `lines`, in the order in which its help has them.
-const OPTIONS: &[CommandOption<'static>] = &[FORMAT, TIMES];
+const OPTIONS: &[CommandOption<'static>] = &[FORMAT, TIMES, INPUT, OUTPUT];
 
 /// Returns the whole of `lines`.
 pub fn discovery_command<'a>(alloc: Global) -> Result<Command<'a>, AllocError>

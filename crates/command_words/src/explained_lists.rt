@@ -12,6 +12,9 @@ use std::net::SocketAddr;
 /// What a session is.
 const RIGHT_SESSION: &str = "is no session: 1 to 10 characters of printable ASCII";
 
+/// What each venue's line A is to be where frames are written to it.
+const NO_DESTINATION: &str = "is no line A of IPv4, to which the frames of its venue are written";
+
 /// Returns how many texts stand between the commas of a list.
 fn count_in(list: &str) -> usize {
     let mut count: usize = 1;
@@ -142,8 +145,19 @@ fn lines_counted(alloc: Global, options: &ArgMatches<'_>, addresses: usize) -> O
     }
 }
 
+/// Returns the first address of a list that stands for line A of a venue and is none of IPv4.
+fn destination_lacked(alloc: Global, list: &str) -> Option<&str> {
+    let texts: Vec<&str> = list.split(',').collect(alloc).ok()?;
+    for place in 0..texts.len() {
+        if place % 2 == 0 && (texts[place] == "-" || texts[place].starts_with('[')) {
+            return Some(texts[place]);
+        }
+    }
+    None
+}
+
 /// Returns what is wrong with a list of lines for these sessions.
-pub fn lines_explained(alloc: Global, options: &ArgMatches<'_>) -> Option<String> {
+pub fn lines_explained(alloc: Global, command: &str, options: &ArgMatches<'_>) -> Option<String> {
     let lines = text_of(options, "lines");
     if let Some(text) = lines_counted(alloc, options, count_in(lines)) {
         return Some(text);
@@ -154,22 +168,24 @@ pub fn lines_explained(alloc: Global, options: &ArgMatches<'_>) -> Option<String
     if has_bare_venue(alloc, lines) {
         return quoted(alloc, "--lines: ", "-,-", "leaves a venue without a line").ok();
     }
+    if let Some(text) = second_in(alloc, lines) {
+        return quoted(alloc, "--lines: ", text, "stands there twice").ok();
+    }
+    if command != "normalise" {
+        return None;
+    }
     quoted(
         alloc,
         "--lines: ",
-        second_in(alloc, lines)?,
-        "stands there twice",
+        destination_lacked(alloc, lines)?,
+        NO_DESTINATION,
     )
     .ok()
 }
 
 /// Returns what is wrong with a list of sessions.
-pub fn sessions_explained(
-    alloc: Global,
-    command: &str,
-    options: &ArgMatches<'_>,
-) -> Option<String> {
-    let chained = command != "listen" && given_text(options, "lines").is_some();
+pub fn sessions_explained(alloc: Global, options: &ArgMatches<'_>) -> Option<String> {
+    let chained = given_text(options, "lines").is_some();
     let text = bad_session_in(alloc, text_of(options, "sessions"), chained)?;
     quoted(alloc, "--sessions: ", text, RIGHT_SESSION).ok()
 }

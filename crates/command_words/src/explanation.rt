@@ -13,18 +13,26 @@ use feed_types::SymbolName;
 use std::alloc::{AllocError, Global};
 
 /// The commands with options, of which the words are explained.
-const COMMANDS: [&str; 5] = ["replay", "stats", "listen", "convert", "lines"];
+const COMMANDS: [&str; 6] = ["replay", "stats", "listen", "convert", "normalise", "lines"];
 
 /// The options of `replay` that have a value, beside those for which the refusal has one line
 /// alone.
-const REPLAY_OPTIONS: [&str; 5] = ["skip-after", "from", "to", "format", "times"];
+const REPLAY_OPTIONS: [&str; 7] = [
+    "skip-after",
+    "from",
+    "to",
+    "format",
+    "times",
+    "input",
+    "output",
+];
 
 /// The flags of `replay`, but for that of gap lines.
 const REPLAY_FLAGS: [&str; 3] = ["join", "skip-gaps", "best-only"];
 
 /// The options of `listen` that have a value, beside those for which the refusal has one line
 /// alone.
-const LISTEN_OPTIONS: [&str; 15] = [
+const LISTEN_OPTIONS: [&str; 16] = [
     "request-after",
     "senders",
     "from",
@@ -34,6 +42,7 @@ const LISTEN_OPTIONS: [&str; 15] = [
     "end",
     "seconds",
     "silent-after",
+    "record",
     "kept",
     "format",
     "times",
@@ -167,9 +176,9 @@ fn explained(
     let asked = "is no IP address and port that each line can send to";
     let period = "is no period: as 100ms or 1s, from 1ms to 3600s";
     match refusal {
-        Refusal::BadSession => sessions_explained(alloc, command, options),
+        Refusal::BadSession => sessions_explained(alloc, options),
         Refusal::BadNextSession => next_explained(alloc, options),
-        Refusal::BadLines => lines_explained(alloc, options),
+        Refusal::BadLines => lines_explained(alloc, command, options),
         Refusal::BadSymbol => symbols_explained(alloc, options),
         Refusal::DuplicateSymbol => double_explained(alloc, options),
         Refusal::BadFormat => format_explained(alloc, command, options),
@@ -183,7 +192,13 @@ fn explained(
         }
         Refusal::BadRequest => value_explained(alloc, options, "request", asked),
         Refusal::BadSender => senders_explained(alloc, options),
+        Refusal::BadRecording => value_explained(alloc, options, "record", "is no file's name"),
         Refusal::BadMetrics => value_explained(alloc, options, "metrics", address),
+        Refusal::BadEndNumber => {
+            value_explained(alloc, options, "end-number", "is neither next nor last")
+        }
+        Refusal::BadInput => value_explained(alloc, options, "input", "is no file's name"),
+        Refusal::BadOutput => value_explained(alloc, options, "output", "is no file's name"),
         _ => None,
     }
 }

@@ -10,6 +10,9 @@ pub const DEFAULT_COUNT: u32 = 1_000_000;
 /// How many changes a subscriber may be behind, where the words don't say.
 pub const DEFAULT_KEPT: u32 = 65_536;
 
+/// How many live orders a venue may have, where the words don't say.
+pub const DEFAULT_ORDERS: u32 = 1_048_576;
+
 /// The most bytes that a socket's buffer is asked for.
 pub const MAX_BUFFER: u32 = 1_073_741_823;
 
@@ -26,6 +29,7 @@ macro_rules! text {
     ([$($part:tt)*] DEFAULT_WINDOW $($rest:tt)*) => { text!([$($part)* 4096] $($rest)*) };
     ([$($part:tt)*] DEFAULT_COUNT $($rest:tt)*) => { text!([$($part)* 1000000] $($rest)*) };
     ([$($part:tt)*] DEFAULT_KEPT $($rest:tt)*) => { text!([$($part)* 65536] $($rest)*) };
+    ([$($part:tt)*] DEFAULT_ORDERS $($rest:tt)*) => { text!([$($part)* 1048576] $($rest)*) };
     ([$($part:tt)*] USUAL_WAIT $($rest:tt)*) => { text!([$($part)* 10] $($rest)*) };
     ([$($part:tt)*] USUAL_LEAD $($rest:tt)*) => { text!([$($part)* 1000000] $($rest)*) };
     ([$($part:tt)*] USUAL_SILENCE $($rest:tt)*) => { text!([$($part)* 3000] $($rest)*) };

@@ -90,7 +90,7 @@ Status:
                         as the window goes. Nothing past them was printed; with --complete the
                         status is 3
      and with an option other than --sessions, --lines, --request, --window, --journal and
-     --datagrams:
+     --datagrams, or with sessions that follow others:
        line V L lost N datagrams that the system dropped
                         at the line's socket, for want of room mostly: see --buffer
        line V L ended with session NAME
@@ -117,6 +117,13 @@ Status:
                         more changes than --kept wait to be printed, and nobody goes on to print
                         them, so all lines were ended; what was taken was printed
        no thread        a thread could not be started; what was taken was printed
+       recording not opened
+                        the file of --record can't be written; nothing was read
+       recording failed
+                        it couldn't be written any further, and ended there; the run went on
+       recording without N datagrams and skips
+                        these aren't in the file of --record, which the disk was too slow for; the
+                        run is whole
        bind failed      an address of --lines, or that of --metrics, isn't of this machine, or is
                         in use; nothing was read
        write failed     standard output can't be written, or with --follow nobody read it for five
@@ -128,11 +135,11 @@ Status:
      or none that the lines can send to (port 0, IP address 0.0.0.0 or [::], another version of IP
      than a line's); 'bad end': --end is neither any nor own nor none; '--kept without --follow':
      without it all changes are kept; 'bad sender': --senders or --from isn't IP addresses, with or
-     without a port; '--senders with --from', which are the same; 'bad metrics address': --metrics
-     isn't an IP address and a port; 'bad format': --stats-format is neither table nor json, or
-     --stats isn't given, or --format is neither text nor csv nor json; '--format without --follow';
-     'bad time style': --times is neither seconds nor utc; '--times of lines of text', which have
-     none
+     without a port; '--senders with --from', which are the same; 'bad file for --record': its name
+     is empty; 'bad metrics address': --metrics isn't an IP address and a port; 'bad format':
+     --stats-format is neither table nor json, or --stats isn't given, or --format is neither text
+     nor csv nor json; '--format without --follow'; 'bad time style': --times is neither seconds nor
+     utc; '--times of lines of text', which have none
   3  with --complete: as 0, and a venue lacks messages
 
 While it runs standard error says when a line ends or fails, and at its first request that can't
@@ -141,8 +148,8 @@ isn't in --from:
   nbbo: second N line V L ended by an end of session
 .. ended by --datagrams, failed, can't send requests, goes on after an end of session, passes over
 datagrams of senders not in --from. With an option other than --sessions, --lines, --request,
---window, --journal and --datagrams it also says with which session a line ended, when a gap has
-stood for a second, and when its messages have come, and at the first gap for whose messages
+--window, --journal and --datagrams it also says with which session a line ended, when a gap
+has stood for a second, and when its messages have come, and at the first gap for whose messages
 nothing came in two seconds after they were asked for:
   nbbo: second N line V L ended with session NAME
   nbbo: second N venue V lacks COUNT messages from NUMBER

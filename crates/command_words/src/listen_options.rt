@@ -13,7 +13,10 @@ const SESSIONS: CommandOption<'static> = CommandOption {
     long_help: text!("\
 The first session of each venue, venue 0's first: 1 to " MAX_VENUES " names parted by commas. A
 name has 1 to 10 characters of printable ASCII (bytes 20 to 7e) and is filled on the
-right with spaces to ten bytes. Write --sessions=LIST where the list begins with '-'"),
+right with spaces to ten bytes. Sessions that follow a venue's first one are parted from it
+by slashes, as in NORTH/NORTH2,SOUTH: each begins at the first packet that comes of it once
+the one before is over and all of it has come or was given up. The venue's lines end with an
+end of the last one then. Write --sessions=LIST where the list begins with '-'"),
 };
 
 /// `--lines LIST`.
@@ -61,7 +64,7 @@ const REQUEST_AFTER: CommandOption<'static> = CommandOption {
 With --request: for how many milliseconds a gap stands before its messages are asked for, 0
 to " MAX_COUNT ", so that the other line can bring them first. By default 0, with a further option
 " USUAL_WAIT ". A further option is one other than --sessions, --lines, --request, --window, --journal,
---datagrams and --end any"),
+--datagrams and --end any; sessions that follow others are one, too"),
 };
 
 /// The long help of the list of senders.
@@ -120,6 +123,20 @@ const SILENT_AFTER: CommandOption<'static> = CommandOption {
 After how many milliseconds standard error has a line for a line that brings nothing, from the
 start, too, and another when it is heard again: 1 to " MAX_COUNT ". By default it has none, with a
 further option, as of --request-after, it has them after " USUAL_SILENCE),
+};
+
+/// `--record FILE`.
+const RECORD: CommandOption<'static> = CommandOption {
+    name: "record",
+    value: "FILE",
+    form: OptionForm::Text,
+    help: "Writes what the lines bring into this file, for 'nbbo replay'",
+    long_help: "\
+Writes what the lines bring into this file, which is made anew: a capture as 'nbbo replay' reads
+it without --lines, in which the datagrams of each venue, and the gaps that were given up, stand
+in the order in which they were taken. The disk holds no line up: what it is too slow for is left
+out and counted. Standard error has the count at the end, and a replay of such a file ends with
+'short record'. It has no times",
 };
 
 /// `--join` of a command that listens.
@@ -351,6 +368,7 @@ pub const LISTEN_OPTIONS: &[CommandOption<'static>] = &[
     SECONDS,
     UNTIL_INPUT_ENDS,
     SILENT_AFTER,
+    RECORD,
     FOLLOW,
     KEPT,
     FORMAT,

@@ -146,6 +146,31 @@ of day in UTC with nine places, as RFC 3339 has them: 2026-05-28T20:26:40.000003
 of text have no times",
 };
 
+/// `--input FILE`.
+pub const INPUT: CommandOption<'static> = CommandOption {
+    name: "input",
+    value: "FILE",
+    form: OptionForm::Text,
+    help: "Reads this file in place of standard input",
+    long_help: "\
+Reads this file in place of standard input. Where it can't be opened nothing is read or
+written, standard error has 'input not opened', its name and why, and the status is 1. An
+empty name is refused: 'bad file for --input'",
+};
+
+/// `--output FILE`.
+pub const OUTPUT: CommandOption<'static> = CommandOption {
+    name: "output",
+    value: "FILE",
+    form: OptionForm::Text,
+    help: "Writes this file anew in place of standard output",
+    long_help: "\
+Writes this file in place of standard output: anew, unless the command line is refused or the
+input isn't opened. Where it can't be opened, or is the file that is read, standard error has
+'output not opened', its name and why; where the status is another than 0 after that,
+'output not whole' and its name. An empty name is refused: 'bad file for --output'",
+};
+
 /// `SYMBOL..`, the symbols whose national best is printed.
 pub const SYMBOLS: CommandOption<'static> = CommandOption {
     name: "symbols",
@@ -154,6 +179,7 @@ pub const SYMBOLS: CommandOption<'static> = CommandOption {
     help: text!("The symbols whose national best is printed, at most " MAX_SYMBOLS),
     long_help: text!("\
 The symbols whose national best bid and offer is printed: at most " MAX_SYMBOLS " words, each
-once, of 1 to 8 characters of printable ASCII without a space (bytes 21 to 7e). Write
-'--' before them where one begins with '-'"),
+once, of 1 to 8 characters of printable ASCII without a space (bytes 21 to 7e). A word
+@FILE stands for the lines of that file, a symbol each. Write '--' before them where one
+begins with '-' or '@'"),
 };

@@ -1,9 +1,11 @@
 //! What a run of `listen` receives: its feed, its lines, and where it asks for what is missing.
-ghost use Rattle.std.specs.Prelude.{◌≡◌, ◌*◌, ◌≤◌, IfOk, codes, false, unwrap_or, vec_len};
+ghost use Rattle.std.specs.Prelude.{◌≡◌, ◌*◌, ◌≤◌, IfOk, codes, true, unwrap_or, vec_len};
 ghost use Rattle.clap.specs.Matches.{found_of};
 ghost use Rattle.clap.specs.Walk.{first_of, one_of, rows_of};
 ghost use Rattle.command_words.specs.Addresses.{ReadsLines, ReadsRequest};
 ghost use Rattle.command_words.specs.ListenRequests.{ReadsReception, is_followed, usual_journal};
+ghost use Rattle.run_settings.specs.NextSessions.{FollowVenues};
+ghost use Rattle.command_words.specs.NextSessions.{ReadsNextSessions};
 ghost use Rattle.command_words.specs.OptionValues.{lines_in, list_in, number_given};
 ghost use Rattle.command_words.specs.Readings.{mapped};
 ghost use Rattle.command_words.specs.Sessions.{ReadsSessions};
@@ -12,11 +14,12 @@ use crate::addresses::{read_lines, read_request};
 use crate::feed_words::{symbols_of, window_of};
 use crate::limits::DEFAULT_COUNT;
 use crate::listen_parts::Reception;
+use crate::next_sessions::read_next_sessions;
 use crate::option_values::{flag_of, given_text, number_or, text_of};
 use crate::refusal::Refusal;
 use crate::sessions::read_sessions;
 use clap::ArgMatches;
-use run_settings::FeedSettings;
+use run_settings::{FeedSettings, NextSession};
 use std::alloc::Global;
 use std::net::SocketAddr;
 
@@ -44,13 +47,27 @@ fn journal_of(listen: &ArgMatches<'_>) -> u32
     number_or(listen, "journal", usual_journal(is_followed(listen)))
 }
 
-/// Returns the first session of each venue that the option names.
+/// Returns the first session of each venue that the option names. Others may follow.
 fn sessions_of(alloc: Global, listen: &ArgMatches<'_>) -> Result<Vec<[u8; 10]>, Refusal>
-    ensures reads { ReadsSessions false (list_in (rows_of (found_of listen.now)))
+    ensures reads { ReadsSessions true (list_in (rows_of (found_of listen.now)))
         (mapped (λ sessions. sessions.items) result) }
     ensures count { IfOk result (λ sessions. (1 ≤ vec_len sessions) × (vec_len sessions ≤ 16)) }
 {
-    read_sessions(alloc, text_of(listen, "sessions"), false)
+    read_sessions(alloc, text_of(listen, "sessions"), true)
+}
+
+/// Returns the sessions that follow the first ones of `venues` venues.
+fn next_sessions_of(
+    alloc: Global,
+    listen: &ArgMatches<'_>,
+    venues: usize,
+) -> Result<Vec<NextSession>, Refusal>
+    requires { venues ≤ 16 }
+    ensures reads { ReadsNextSessions true (list_in (rows_of (found_of listen.now))) venues
+        (mapped (λ next. next.items) result) }
+    ensures venues { IfOk result (λ next. FollowVenues venues next.items) }
+{
+    read_next_sessions(alloc, text_of(listen, "sessions"), true, venues)
 }
 
 /// Returns the lines that the option gives, two for each of `venues` venues.
@@ -85,6 +102,7 @@ pub fn reception_of(alloc: Global, listen: &ArgMatches<'_>) -> Result<Reception,
     let sessions = sessions_of(alloc, listen)?;
     let lines = lines_of(alloc, listen, sessions.len())?;
     let request = request_of(listen, lines.as_slice())?;
+    let next = next_sessions_of(alloc, listen, sessions.len())?;
     let symbols = symbols_of(alloc, listen)?;
     let feed = FeedSettings {
         sessions,
@@ -94,6 +112,7 @@ pub fn reception_of(alloc: Global, listen: &ArgMatches<'_>) -> Result<Reception,
     };
     Ok(Reception {
         feed,
+        next,
         lines,
         request,
     })

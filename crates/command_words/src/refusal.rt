@@ -72,8 +72,16 @@ pub enum Refusal {
     BadSender,
     /// The list of senders is given by both of its names.
     SendersWithFrom,
+    /// The name of the file of a recording is empty.
+    BadRecording,
     /// The text for the address of metrics is no address.
     BadMetrics,
+    /// The rule for the number of an end of session is none of those that there are.
+    BadEndNumber,
+    /// The name of the file that is read in place of standard input is empty.
+    BadInput,
+    /// The name of the file that is written in place of standard output is empty.
+    BadOutput,
     /// A symbol is empty, has more than eight bytes, or has a byte outside of `21` to `7e`.
     BadSymbol,
     /// More than 4,096 symbols are named.
@@ -103,7 +111,8 @@ impl Refusal {
             Refusal::BadTimeStyle | Refusal::TimesOfText | Refusal::TimesWithoutLines => 2,
             Refusal::GapsWithEvery | Refusal::BadEnd | Refusal::KeptUnfollowed => 2,
             Refusal::FormatUnfollowed | Refusal::BadSender | Refusal::BadMetrics => 2,
-            Refusal::SendersWithFrom => 2,
+            Refusal::SendersWithFrom | Refusal::BadRecording => 2,
+            Refusal::BadEndNumber | Refusal::BadInput | Refusal::BadOutput => 2,
             Refusal::BadSymbol | Refusal::TooManySymbols | Refusal::DuplicateSymbol => 2,
         }
     }
@@ -140,7 +149,11 @@ impl Refusal {
             Refusal::FormatUnfollowed => "nbbo: --format without --follow\n",
             Refusal::BadSender => "nbbo: bad sender\n",
             Refusal::SendersWithFrom => "nbbo: --senders with --from\n",
+            Refusal::BadRecording => "nbbo: bad file for --record\n",
             Refusal::BadMetrics => "nbbo: bad metrics address\n",
+            Refusal::BadEndNumber => "nbbo: bad end number\n",
+            Refusal::BadInput => "nbbo: bad file for --input\n",
+            Refusal::BadOutput => "nbbo: bad file for --output\n",
             Refusal::BadSymbol => "nbbo: bad symbol\n",
             Refusal::TooManySymbols => "nbbo: too many symbols\n",
             Refusal::DuplicateSymbol => "nbbo: duplicate symbol\n",

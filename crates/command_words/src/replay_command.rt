@@ -8,8 +8,8 @@ use crate::command_texts::{CommandTexts, command_with};
 use crate::limits::text;
 use crate::option_table::{CommandOption, OptionForm};
 use crate::options::{
-    CAPTURED_LINES, FROM_TIME, JOIN, JOURNAL, SESSIONS, SKIP_AFTER, SKIP_GAPS, SYMBOLS, TIMES,
-    TO_TIME, WINDOW,
+    CAPTURED_LINES, FROM_TIME, INPUT, JOIN, JOURNAL, OUTPUT, SESSIONS, SKIP_AFTER, SKIP_GAPS,
+    SYMBOLS, TIMES, TO_TIME, WINDOW,
 };
 use clap::Command;
 use std::alloc::{AllocError, Global};
@@ -224,6 +224,8 @@ const OPTIONS: &[CommandOption<'static>] = &[
     TO_TIME,
     FORMAT,
     TIMES,
+    INPUT,
+    OUTPUT,
     SYMBOLS,
 ];
 

@@ -46,7 +46,7 @@ fn skip_rule_by(join: bool, skip_gaps: bool) -> SkipRule
 
 /// Returns the rule for gaps by the flags and the number of milliseconds after which they are given
 /// up, if it is given, where the input has times.
-fn skips_in(
+pub fn skips_in(
     join: bool,
     skip_gaps: bool,
     after: Option<u32>,
@@ -76,7 +76,7 @@ fn skips_of(run: &ArgMatches<'_>) -> Result<SkipRule, Refusal>
 }
 
 /// Returns the sessions that follow the first ones of `venues` venues.
-fn next_sessions_of(
+pub fn next_sessions_of(
     alloc: Global,
     run: &ArgMatches<'_>,
     venues: usize,
@@ -92,7 +92,7 @@ fn next_sessions_of(
 }
 
 /// Returns the input for `venues` venues that the options give: with `--lines` a packet capture.
-fn input_of(alloc: Global, run: &ArgMatches<'_>, venues: usize) -> Result<RunInput, Refusal>
+pub fn input_of(alloc: Global, run: &ArgMatches<'_>, venues: usize) -> Result<RunInput, Refusal>
     requires { venues ≤ 16 }
     ensures reads { ReadsInput (first_of (codes "lines") (rows_of (found_of run.now))) venues
         result }

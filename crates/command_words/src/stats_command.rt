@@ -8,7 +8,8 @@ use crate::command_texts::{CommandTexts, command_with};
 use crate::limits::text;
 use crate::option_table::{CommandOption, OptionForm};
 use crate::options::{
-    CAPTURED_LINES, FROM_TIME, JOIN, SESSIONS, SKIP_AFTER, SKIP_GAPS, TIMES, TO_TIME, WINDOW,
+    CAPTURED_LINES, FROM_TIME, INPUT, JOIN, OUTPUT, SESSIONS, SKIP_AFTER, SKIP_GAPS, TIMES,
+    TO_TIME, WINDOW,
 };
 use clap::Command;
 use std::alloc::{AllocError, Global};
@@ -220,7 +221,8 @@ const COUNTED_SYMBOLS: CommandOption<'static> = CommandOption {
     long_help: text!("\
 The symbols of whose national best bid and offer the changes are counted: at most " MAX_SYMBOLS "
 words, each once, of 1 to 8 characters of printable ASCII without a space (bytes 21 to
-7e). Write '--' before them where one begins with '-'. Without a symbol there are none"),
+7e). A word @FILE stands for the lines of that file, a symbol each. Write '--' before them
+where one begins with '-' or '@'. Without a symbol there are none"),
 };
 
 /// The options of `stats`, in the order in which its help has them.
@@ -238,6 +240,8 @@ const OPTIONS: &[CommandOption<'static>] = &[
     TO_TIME,
     FORMAT,
     TIMES,
+    INPUT,
+    OUTPUT,
     COUNTED_SYMBOLS,
 ];
 

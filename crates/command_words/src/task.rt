@@ -1,6 +1,8 @@
 //! The tasks of the program.
 
-use run_settings::{CapturedLine, ListenSettings, RunSettings, StatsFormat, TimeStyle};
+use run_settings::{
+    CapturedLine, ListenSettings, NormaliseSettings, RunSettings, StatsFormat, TimeStyle,
+};
 
 /// The task of the program.
 #[derive(Debug, Drop)]
@@ -11,6 +13,8 @@ pub enum Task {
     Convert(Vec<CapturedLine>),
     /// `nbbo lines`, with the form of its rows and the style of their times.
     Discover(StatsFormat, TimeStyle),
+    /// `nbbo normalise`.
+    Normalise(NormaliseSettings),
     /// `nbbo listen`.
     Listen(ListenSettings),
 }

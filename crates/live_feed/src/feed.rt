@@ -2,6 +2,7 @@
 
 ghost use Rattle.std.specs.Prelude.{◌≡◌, ◌≤◌, [], length, IfOk, IfErr, None, OnOk, Some};
 ghost use Rattle.journal_book.specs.Configs.{IsGood, Explains};
+ghost use Rattle.venue_lines.specs.NextSessions.{AreNextNames};
 ghost use Rattle.venue_lines.specs.Starts.{AreNamed};
 ghost use Rattle.live_feed.specs.feed.Feeds.{configured_setting, feed_setting_of};
 
@@ -15,7 +16,7 @@ use crate::feed::open_feed::OpenFeed;
 use crate::hub_cell::HubCell;
 use crossbeam_utils::CachePadded;
 use feed_steps::{Bells, FeedName, FeedTimes};
-use feed_types::{FeedConfig, Genuine, MAX_SUBSCRIBERS, Numbered};
+use feed_types::{FeedConfig, Genuine, MAX_SUBSCRIBERS, Numbered, VenueId};
 use fifo_lane::{Receiver, VenueItems};
 use hub_lanes::{JournalAndLanes, SpareLane, new_spares};
 use journal_book::{CoreFault, Journal, new_journal, new_keeping_journal};
@@ -56,6 +57,17 @@ impl<G: Genuine> Model for LiveFeed<G> {
 
     ghost invariant = { λ f. IsClosed (feed_setting_of f.kept f.window f.lane f.log_lines)
         f.starts.items f.from_venues.items f.kept f.spare_lanes.items };
+}
+
+/// Names the sessions that follow the first one of the venue at its place, if there is one.
+fn follow_at<G: Genuine>(starts: &mut [VenueStart<G>], venue: VenueId, names: Vec<[u8; 10]>)
+    requires { AreNextNames G.sessions venue names.items }
+    ensures { starts.new ≡ starts.old }
+{
+    match starts.get_mut(venue.index()) {
+        Some(start) => start.follow_by(venue, names),
+        None => {}
+    }
 }
 
 impl<G: Genuine> LiveFeed<G> {
@@ -150,6 +162,16 @@ impl<G: Genuine> LiveFeed<G> {
         let times = FeedTimes::new(alloc, self.starts.len(), items, changes)?;
         self.bells = Arc::new(alloc, Bells::new(times))?;
         Ok(())
+    }
+
+    /// Names the sessions that follow the venue's first one, in order, in place of those that were
+    /// named before. Each begins at the first packet that comes of it once the one before is over
+    /// and all of it was sent. Where the feed has no such venue nothing is named.
+    pub fn name_next(&mut self, venue: VenueId, names: Vec<[u8; 10]>)
+        requires { AreNextNames G.sessions venue names.items }
+        ensures { self.new ≡ self.old }
+    {
+        follow_at(self.starts.as_mut_slice(), venue, names);
     }
 
     /// Puts the venues and the journal under their locks. N names this feed's lanes. Where memory

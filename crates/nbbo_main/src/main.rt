@@ -6,9 +6,10 @@
 //!
 //! The contract is that of `nbbo_runs::run`: of any words, over any input, output and standard
 //! error, it says what is read, what is written where, and the status, or that the words ask to
-//! listen. Outside of it stand, in this file, the opening of the three streams and of the sockets,
-//! the words as the system gives them, the hints beside it, and the exit; and listening itself
-//! (`udp_listening`), which tests show.
+//! listen or to normalise. Outside of it stand, here, the opening of the three streams, of files in
+//! their place (`streams.rt`) and of the sockets, the words as the system and files give them
+//! (`word_files.rt`), the hints beside it, and the exit; and listening itself (`udp_listening`),
+//! which tests show.
 //!
 //! Begin with `nbbo_runs`. `command_words` has what the words ask for, `udp_listening` live lines.
 #![tactic(auto)]
@@ -16,24 +17,33 @@
 ghost use Rattle.std.specs.Prelude.{◌≡◌, ◌≢◌, ◌<◌};
 ghost use Rattle.command_words.specs.declared.refusal.Refusal.TheVariants.{NoMemory, NotText};
 
-use command_words::{Refusal, explanation_of, symbol_words};
-use feed_text::{CaptureIn, Count, StreamIn, StreamOut, TextOut, write_stderr};
+mod opening;
+mod recording;
+mod streams;
+mod word_files;
+
+use crate::opening::{why_unwritten, write_unopened};
+use crate::recording::{end_recording, open_recording, start_recording};
+use crate::streams::opened_streams;
+use crate::word_files::{WordsFault, words_of, write_unread};
+use command_words::{Refusal, StreamFiles, explanation_of, settings, stream_files, symbol_words};
+use feed_text::{Count, StreamIn, StreamOut, TextOut, write_stderr};
+use line_recordings::{RecordingState, SkipRecords};
 use nbbo_runs::{Next, RunFacts, Terminals, hint_at_file, journal_hint, refuse, run};
 use run_settings::ListenSettings;
 use std::alloc::{AllocError, Global};
 use std::fs::File;
-use std::io::{ErrorKind, IsTerminal, Stderr, Stdin, Stdout};
+use std::io::{ErrorKind, IsTerminal, Stderr};
 use std::marker::Brand;
 use std::os::fd::{AsRawFd, IntoRawFd};
 use std::process::ExitCode;
 use std::sync::Wait;
 use std::sync::ledger::{Blank, Ledger};
 use std::thread::Threads;
-use std::{env, io};
 use udp_listening::{
     BindFault, ErrorsProgress, ListenSockets, ListenStreams, NO_MEMORY, OutputState, PatientOutput,
     SocketTables, UnheldErrors, bind_metrics, bind_sockets, enlarge, listen_with, listening_line,
-    metrics_line, write_bind_fault,
+    metrics_line, record_lines, write_bind_fault,
 };
 
 /// The descriptor of standard error.
@@ -41,11 +51,6 @@ const STDERR: i32 = 2;
 
 /// How many standard streams there are, which have the first descriptors.
 const STREAMS: i32 = 3;
-
-/// The words of the command line, the program's name first.
-fn words_of(rt: &HostRuntime) -> io::Result<Vec<String>> {
-    Ok(env::args(rt)?.collect(rt.alloc())?)
-}
 
 /// The refusal where there are no words.
 fn unread(kind: ErrorKind) -> Refusal
@@ -61,7 +66,7 @@ fn unread(kind: ErrorKind) -> Refusal
 
 /// Runs over the standard streams, and returns the status of the program. The blank pages count the
 /// calls of the input, and the failures of each; those of a run that listens are counted apart.
-fn run_streams<H, C: Ledger, R: Ledger, W: Ledger, E: Ledger + Send, L: Ledger, M: Ledger + Send>(
+fn run_streams<H, C: Ledger, R: Ledger, W: Ledger, E: Ledger + Send, L: Ledger, M, F, T>(
     rt: &HostRuntime,
     threads: &H,
     of_calls: Blank,
@@ -70,9 +75,14 @@ fn run_streams<H, C: Ledger, R: Ledger, W: Ledger, E: Ledger + Send, L: Ledger, 
     of_errors: Blank,
     of_rows: Blank,
     of_texts: Blank,
+    of_file: Blank,
+    of_told: Blank,
 ) -> u8
 where
     H: Threads + Wait + Sync,
+    M: Ledger + Send,
+    F: Ledger + Send + 'static,
+    T: Ledger + Send + 'static,
     requires calls { of_calls.name ≡ C.name }
     requires call_parts { of_calls.parts ≡ C.parts }
     requires some_calls { 0 < of_calls.parts }
@@ -91,20 +101,29 @@ where
     requires texts { of_texts.name ≡ M.name }
     requires text_parts { of_texts.parts ≡ M.parts }
     requires some_texts { 0 < of_texts.parts }
+    requires file { of_file.name ≡ F.name }
+    requires file_parts { of_file.parts ≡ F.parts }
+    requires some_file { 0 < of_file.parts }
+    requires told { of_told.name ≡ T.name }
+    requires told_parts { of_told.parts ≡ T.parts }
+    requires some_told { 0 < of_told.parts }
 {
-    let input: StreamIn<Stdin, C, R> = StreamIn::new(
-        rt.stdin(),
-        Count::new(of_calls),
-        Count::new(of_reads),
-    );
-    let output: StreamOut<Stdout, W> = StreamOut::new(rt.stdout(), Count::new(of_writes));
+    let streams: StreamCounts<C, R, W> = StreamCounts {
+        calls: Count::new(of_calls),
+        reads: Count::new(of_reads),
+        writes: Count::new(of_writes),
+    };
     let mut errors: StreamOut<Stderr, E> = StreamOut::new(rt.stderr(), Count::new(of_errors));
-    let (next, _output) = run_words(rt, input, output, &mut errors);
-    match next {
-        Next::Ended(status) => status,
-        Next::Listens(settings) => {
-            let (of_rows, of_texts) = (Count::new(of_rows), Count::new(of_texts));
-            listen_live::<H, _, L, M>(rt, threads, &settings, of_rows, of_texts, errors)
+    match run_words(rt, streams, &mut errors) {
+        ProgramEnd::Status(status) => status,
+        ProgramEnd::Listens(settings) => {
+            let counts = ListenCounts {
+                rows: Count::new(of_rows),
+                texts: Count::new(of_texts),
+                file: Count::new(of_file),
+                told: Count::new(of_told),
+            };
+            listen_live::<H, _, L, M, F, T>(rt, threads, &settings, counts, errors)
         }
     }
 }
@@ -128,31 +147,126 @@ fn write_hints<E: TextOut>(rt: &HostRuntime, words: &[String], facts: &RunFacts,
     write_stderr(journal_hint(is_shown), errors);
 }
 
-/// Does what the words of the command line ask for, but for listening, and writes the hints.
-fn run_words<R: CaptureIn + Drop, W: TextOut + Drop, E: TextOut>(
+/// The calls of the input, and the failures of it and of the output.
+#[derive(Drop)]
+struct StreamCounts<C: Ledger, R: Ledger, W: Ledger> {
+    calls: Count<C>,
+    reads: Count<R>,
+    writes: Count<W>,
+}
+
+/// What is left to do once the words are read.
+#[derive(Drop)]
+enum ProgramEnd {
+    /// Nothing; the status of the program.
+    Status(u8),
+    /// To listen.
+    Listens(ListenSettings),
+}
+
+/// Prints why the words are refused, and what would be right. Returns the status of the program.
+fn refuse_words<W: Ledger, E: TextOut>(
     rt: &HostRuntime,
-    input: R,
-    mut output: W,
+    words: &[String],
+    refusal: Refusal,
+    writes: Count<W>,
     errors: &mut E,
-) -> (Next, W) {
-    let words = match words_of(rt) {
-        Ok(words) => words,
-        Err(error) => {
-            let status = refuse(&unread(error.kind()), &mut output, errors);
-            return (Next::Ended(status), output);
-        }
+) -> u8 {
+    let mut output = StreamOut::new(rt.stdout(), writes);
+    let status = refuse(&refusal, &mut output, errors);
+    let facts = RunFacts {
+        is_journal_full: false,
+        refusal: Some(refusal),
+    };
+    write_hints(rt, words, &facts, errors);
+    status
+}
+
+/// Returns the files that the words name for the streams. Where they name one and ask for nothing
+/// else that is right, they are refused here, so that no file is opened for them.
+fn files_of(alloc: Global, words: &[String]) -> Result<StreamFiles, Refusal> {
+    let files = stream_files(alloc, words)?;
+    if files.input.is_some() || files.output.is_some() {
+        let _task = settings(alloc, words)?;
+    }
+    Ok(files)
+}
+
+/// Writes after a run of this status that the file in place of standard output isn't whole, if
+/// there is one and it isn't.
+fn write_unwhole<E: TextOut>(files: &StreamFiles, status: u8, errors: &mut E) {
+    let Some(name) = &files.output else {
+        return;
+    };
+    if status != 0 {
+        write_stderr("nbbo: output not whole: ", errors);
+        write_stderr(name.as_str(), errors);
+        write_stderr("\n", errors);
+    }
+}
+
+/// Does what the words ask for over the streams that they name, but for listening, and writes the
+/// hints.
+fn run_over<C: Ledger, R: Ledger, W: Ledger, E: TextOut>(
+    rt: &HostRuntime,
+    words: &[String],
+    files: &StreamFiles,
+    counts: StreamCounts<C, R, W>,
+    errors: &mut E,
+) -> ProgramEnd {
+    let Some((input, output)) = opened_streams(rt, files, errors) else {
+        return ProgramEnd::Status(1);
     };
     let terminals = Terminals {
-        input: rt.stdin().is_terminal(),
+        input: files.input.is_none() && rt.stdin().is_terminal(),
         errors: rt.stderr().is_terminal(),
     };
-    let words = words.as_slice();
     if terminals.errors {
         hint_at_symbols(rt, words, errors);
     }
+    let input = StreamIn::new(input, counts.calls, counts.reads);
+    let output = StreamOut::new(output, counts.writes);
     let ran = run(rt.alloc(), words, terminals, input, output, errors);
     write_hints(rt, words, &ran.facts, errors);
-    (ran.next, ran.output)
+    match ran.next {
+        Next::Ended(status) => {
+            write_unwhole(files, status, errors);
+            ProgramEnd::Status(status)
+        }
+        Next::Normalises(_settings) => {
+            // The normaliser of captures isn't in the tree yet.
+            write_stderr("nbbo: normalise: not in this build\n", errors);
+            ProgramEnd::Status(1)
+        }
+        Next::Listens(settings) => ProgramEnd::Listens(settings),
+    }
+}
+
+/// Does what the words of the command line ask for, but for listening.
+fn run_words<C: Ledger, R: Ledger, W: Ledger, E: TextOut>(
+    rt: &HostRuntime,
+    counts: StreamCounts<C, R, W>,
+    errors: &mut E,
+) -> ProgramEnd {
+    let words = match words_of(rt) {
+        Ok(words) => words,
+        Err(WordsFault::Unread(kind)) => {
+            let status = refuse_words(rt, &[], unread(kind), counts.writes, errors);
+            return ProgramEnd::Status(status);
+        }
+        Err(WordsFault::File(name, why)) => {
+            write_unread(name.as_str(), why, errors);
+            return ProgramEnd::Status(2);
+        }
+    };
+    let words = words.as_slice();
+    match files_of(rt.alloc(), words) {
+        Ok(files) => run_over(rt, words, &files, counts, errors),
+        Err(refusal) => {
+            let status = refuse_words(rt, words, refusal, counts.writes, errors);
+            ProgramEnd::Status(status)
+        }
+    }
 }
 
 /// Opens `/dev/null` in place of each standard stream that is closed, so that no socket gets its
@@ -187,6 +301,7 @@ fn bind_all(rt: &HostRuntime, settings: &ListenSettings) -> Result<ListenSockets
         lines,
         metrics,
         tables,
+        skips: SkipRecords::none(rt.alloc()),
     })
 }
 
@@ -235,13 +350,61 @@ impl StreamShares {
     }
 }
 
-/// Listens on the lines of the settings, and returns the status of the program.
-fn listen_live<H, E, L, M>(
+/// The failures of what a run that listens writes: its rows, its texts on standard error, the file
+/// of its recording, and what that reports.
+#[derive(Drop)]
+struct ListenCounts<L: Ledger, M: Ledger, F: Ledger, T: Ledger> {
+    rows: Count<L>,
+    texts: Count<M>,
+    file: Count<F>,
+    told: Count<T>,
+}
+
+/// Opens the file of the recording, if there is to be one. Where it isn't opened standard error has
+/// why, and None is returned.
+fn opened<E: TextOut>(
+    rt: &HostRuntime,
+    record_to: &Option<String>,
+    errors: &mut E,
+) -> Option<Option<File>> {
+    let Some(name) = record_to else {
+        return Some(None);
+    };
+    match open_recording(rt, name.as_str()) {
+        Ok(file) => Some(Some(file)),
+        Err(error) => {
+            let why = why_unwritten(error.kind());
+            write_unopened("nbbo: recording not opened: ", name.as_str(), why, errors);
+            None
+        }
+    }
+}
+
+/// Starts the recording of a run over these sockets.
+fn recorded<H, F, T>(
+    rt: &HostRuntime,
+    threads: &H,
+    sockets: &mut ListenSockets,
+    venues: usize,
+    file: StreamOut<File, F>,
+    told: Count<T>,
+) -> Option<RecordingState>
+where
+    H: Threads,
+    F: Ledger + Send + 'static,
+    T: Ledger + Send + 'static,
+{
+    let venues = record_lines(rt.alloc(), venues, sockets).ok()?;
+    start_recording(rt, threads, venues, file, StreamOut::new(rt.stderr(), told))
+}
+
+/// Listens on the lines of the settings, records what they bring where there is a file for it, and
+/// returns the status of the program.
+fn listen_live<H, E, L, M, F, T>(
     rt: &HostRuntime,
     threads: &H,
     settings: &ListenSettings,
-    of_rows: Count<L>,
-    of_texts: Count<M>,
+    counts: ListenCounts<L, M, F, T>,
     mut errors: E,
 ) -> u8
 where
@@ -249,9 +412,14 @@ where
     E: TextOut + Drop + Send,
     L: Ledger,
     M: Ledger + Send,
+    F: Ledger + Send + 'static,
+    T: Ledger + Send + 'static,
 {
     fill_streams(rt);
-    let sockets = match bind_all(rt, settings) {
+    let Some(file) = opened(rt, &settings.record, &mut errors) else {
+        return 1;
+    };
+    let mut sockets = match bind_all(rt, settings) {
         Ok(sockets) => sockets,
         Err(fault) => {
             let is_named = rt.stderr().is_terminal() || settings.has_further_options();
@@ -267,15 +435,29 @@ where
         write_stderr(NO_MEMORY, &mut errors);
         return 1;
     };
+    let venues = settings.feed.sessions.len();
+    let recording = match file {
+        Some(file) => {
+            let file = StreamOut::new(file, counts.file);
+            match recorded(rt, threads, &mut sockets, venues, file, counts.told) {
+                Some(state) => Some(state),
+                None => {
+                    write_stderr(NO_MEMORY, &mut errors);
+                    return 1;
+                }
+            }
+        }
+        None => None,
+    };
     let output = PatientOutput::new(rt.stdout(), shares.output);
     let streams = ListenStreams {
         input: rt.stdin(),
-        output: StreamOut::new(output, of_rows),
-        errors: UnheldErrors::new(errors, of_texts, shares.errors),
+        output: StreamOut::new(output, counts.rows),
+        errors: UnheldErrors::new(errors, counts.texts, shares.errors),
         output_state: shares.output_state,
         errors_progress: shares.errors_progress,
     };
-    let (status, _output, _errors) = listen_with(
+    let (status, _output, mut errors) = listen_with(
         threads,
         rt,
         rt.alloc(),
@@ -283,13 +465,28 @@ where
         sockets,
         streams,
     );
-    status
+    match recording {
+        Some(state) => end_recording(rt, &state, status, &mut errors),
+        None => status,
+    }
 }
 
 fn main(rt: HostRuntime) -> ExitCode {
-    ExitCode::from(run_streams::<HostRuntime, Brand, Brand, Brand, Brand, Brand, Brand>(
+    ExitCode::from(run_streams::<
+        HostRuntime,
+        Brand,
+        Brand,
+        Brand,
+        Brand,
+        Brand,
+        Brand,
+        Brand,
+        Brand,
+    >(
         &rt,
         &rt,
+        Blank::new(1),
+        Blank::new(1),
         Blank::new(1),
         Blank::new(1),
         Blank::new(1),

@@ -12,12 +12,12 @@ use Rattle.line_captures.specs.declared.bad_piece.BadPiece.{BadPiece}
 use Rattle.line_captures.specs.Conversions.{AnswersConversion}
 use Rattle.line_captures.specs.PacketFormats.{PacketState, new_packets, packet_parsing}
 use Rattle.command_words.specs.CommandLine.{Asks, AsksConversion, AsksRun, IsRefused, refusal_status, refusal_text}
-use Rattle.run_settings.specs.declared.listen_settings.ListenSettings.{ListenSettings}
 use Rattle.command_words.specs.declared.refusal.Refusal.{Refusal}
 use Rattle.run_settings.specs.declared.run_input.RunInput.{RunInput}
 use Rattle.run_settings.specs.declared.run_input.RunInput.TheVariants.{Own, Packets}
 use Rattle.run_settings.specs.declared.run_settings.RunSettings.{RunSettings}
-use Rattle.command_words.specs.declared.task.Task.TheVariants.{Listen}
+use Rattle.command_words.specs.declared.task.Task.{Task}
+use Rattle.command_words.specs.declared.task.Task.TheVariants.{Listen, Normalise}
 use Rattle.nbbo_runs.specs.AbsentSymbols.{told_absent}
 use Rattle.nbbo_runs.specs.CaptureTexts.{capture_texts, is_timed_capture, late_texts}
 use Rattle.nbbo_runs.specs.Discovery.{Discovered}
@@ -32,7 +32,7 @@ use Rattle.nbbo_runs.specs.Timeless.{with_times}
 use Rattle.nbbo_runs.specs.Watches.{IsWatched, watched_texts, watching}
 use Rattle.nbbo_runs.specs.declared.watched_format.WatchedFormat.{WatchedFormat}
 use Rattle.nbbo_runs.specs.declared.program_run.Next.{Next}
-use Rattle.nbbo_runs.specs.declared.program_run.Next.TheVariants.{Ended, Listens}
+use Rattle.nbbo_runs.specs.declared.program_run.Next.TheVariants.{Ended, Listens, Normalises}
 use Rattle.nbbo_runs.specs.declared.terminals.Terminals.{Terminals}
 
 -- A capture of a format was replayed with these settings, and printed by an output. Standard error
@@ -160,13 +160,13 @@ pub record Refused {R W E : Type 0} (devices : Devices R W E) (words : List Text
 
 -- ---- the whole
 
--- The words ask to listen, and nothing was read or written.
-pub record LeavesToListen {R W E : Type 0} (words : List Text) (settings : ListenSettings)
+-- The words ask for this task, and nothing was read or written.
+pub record LeavesTask {R W E : Type 0} (words : List Text) (task : Task)
     (before after : Streams R W E) : Type 0 where
-  pub asked : Asks words (Listen settings)
+  pub asked : Asks words task
   pub untouched : after ≡ before
 
--- The result of any run: its end, or that it is left to listen.
+-- The result of any run: its end, or that it is left to listen or to normalise.
 abbrev pub Leads : {R W E : Type 0} (devices : Devices R W E) (words : List Text)
     (terminals : Terminals) (before after : Streams R W E) → Next → Type 0
 Leads devices words terminals before after (Ended status) =
@@ -175,4 +175,6 @@ Leads devices words terminals before after (Ended status) =
     ⊎ Discovered devices words terminals before after status
     ⊎ Refused devices words before after status
 Leads devices words terminals before after (Listens settings) =
-    LeavesToListen words settings before after
+    LeavesTask words (Listen settings) before after
+Leads devices words terminals before after (Normalises settings) =
+    LeavesTask words (Normalise settings) before after

@@ -9,7 +9,7 @@ use crate::survey_form::SurveyForm;
 use crate::terminals::Terminals;
 use command_words::{Refusal, Task, settings};
 use feed_text::{CaptureIn, TextOut, write_all, write_stderr};
-use run_settings::ListenSettings;
+use run_settings::{ListenSettings, NormaliseSettings};
 use std::alloc::Global;
 
 /// The result of a run.
@@ -19,6 +19,8 @@ pub enum Next {
     Ended(u8),
     /// The words ask to listen, and nothing else was done.
     Listens(ListenSettings),
+    /// The words ask to normalise, and nothing else was done.
+    Normalises(NormaliseSettings),
 }
 
 /// What hints are made of after a run.
@@ -80,8 +82,22 @@ fn ended<R, W>(status: u8, input: R, output: W, facts: RunFacts) -> ProgramRun<R
     }
 }
 
+/// Returns the result where the rest is left to the caller.
+fn left<R, W>(next: Next, input: R, output: W) -> ProgramRun<R, W>
+    ensures next { result.next ≡ next }
+    ensures input { result.input ≡ input }
+    ensures output { result.output ≡ output }
+{
+    ProgramRun {
+        next,
+        input,
+        output,
+        facts: RunFacts::default(),
+    }
+}
+
 /// Does what the words ask for, of which the first is the program's name, except listening, which
-/// takes sockets and threads: then the settings for it are returned.
+/// takes sockets and threads, and normalising: then the settings for it are returned.
 ///
 /// The input is read only for a replay, a conversion, statistics or the lines of a capture. The
 /// lines of a replay, the rows of its best lines, its statistics, the converted capture, or the
@@ -134,12 +150,8 @@ pub fn run<R: CaptureIn + Drop, W: TextOut + Drop, E: TextOut>(
             let status = run_discovery(alloc, form, terminals, &mut input, &mut output, errors);
             ended(status, input, output, RunFacts::default())
         }
-        Ok(Task::Listen(settings)) => ProgramRun {
-            next: Next::Listens(settings),
-            input,
-            output,
-            facts: RunFacts::default(),
-        },
+        Ok(Task::Listen(settings)) => left(Next::Listens(settings), input, output),
+        Ok(Task::Normalise(settings)) => left(Next::Normalises(settings), input, output),
         Err(refusal) => {
             let status = refuse(&refusal, &mut output, errors);
             let facts = RunFacts {

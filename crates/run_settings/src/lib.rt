@@ -17,6 +17,7 @@
 #![tactic(auto)]
 
 mod captured_line;
+mod end_number_rule;
 mod end_rule;
 mod feed_settings;
 mod formats;
@@ -25,6 +26,7 @@ mod line_list;
 mod listen_settings;
 mod listen_stats;
 mod next_session;
+mod normalise_settings;
 mod period_length;
 mod period_style;
 mod run_input;
@@ -35,6 +37,7 @@ mod skip_rule;
 mod time_span;
 
 pub use captured_line::CapturedLine;
+pub use end_number_rule::EndNumberRule;
 pub use end_rule::EndRule;
 pub use feed_settings::FeedSettings;
 pub use formats::{BestFormat, ReportFormat, RowFormat, StatsFormat, TimeStyle};
@@ -43,6 +46,7 @@ pub use line_list::{are_apart, lines_at};
 pub use listen_settings::ListenSettings;
 pub use listen_stats::ListenStats;
 pub use next_session::NextSession;
+pub use normalise_settings::NormaliseSettings;
 pub use period_length::PeriodLength;
 pub use period_style::PeriodStyle;
 pub use run_input::RunInput;

@@ -5,6 +5,7 @@ use crate::end_rule::EndRule;
 use crate::feed_settings::FeedSettings;
 use crate::formats::BestFormat;
 use crate::listen_stats::ListenStats;
+use crate::next_session::NextSession;
 use crate::sender::Senders;
 use std::net::SocketAddr;
 
@@ -13,6 +14,8 @@ use std::net::SocketAddr;
 pub struct ListenSettings {
     /// The feed that is listened to.
     pub feed: FeedSettings,
+    /// The sessions that follow the venues' first ones, those of a venue in their order.
+    pub next: Vec<NextSession>,
     /// The address where each line is received, `None` for a line that isn't there: line A's and
     /// then line B's, those of venue 0 first. Each venue has a line.
     pub lines: Vec<Option<SocketAddr>>,
@@ -53,5 +56,7 @@ pub struct ListenSettings {
     pub stats: Option<ListenStats>,
     /// The address at which the counts are served to who asks for them, if at any.
     pub metrics: Option<SocketAddr>,
+    /// The name of the file into which what the lines bring is recorded, if into any.
+    pub record: Option<String>,
     ghost two_lines_each: { vec_len lines ≡ 2 * vec_len feed.sessions },
 }

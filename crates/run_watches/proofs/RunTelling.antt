@@ -1,16 +1,17 @@
 -- What is said of gaps and of a run, one thing after the other.
-use Rattle.std.proofs.Common.{List, [], ◌∷◌, ◌++◌, ◌≡◌, ◌∙◌, ◌<◌, ◌+◌, ℕ, zero, suc, Option, Some, None, All, ap, flat_map, length, map, refl, sym, subst, arith}
+use Rattle.std.proofs.Common.{List, [], ◌∷◌, ◌++◌, ◌≡◌, ◌∙◌, ◌<◌, ◌+◌, inl, inr, ℕ, zero, suc, Option, Some, None, All, ap, flat_map, length, map, refl, sym, subst, arith}
 use Rattle.std.specs.Prelude.{◌/◌, Bool, true, false, ◌&&◌, ◌||◌, MatchOption, is_some, nat_lt, ◌-◌, if◌then◌else◌}
 use Rattle.std.specs.List.{range_with_len}
+use Rattle.std.proofs.lemmas.Bool.{cases_Bool}
 use Rattle.std.proofs.lemmas.List.{get_or-map, length-map, map-append}
 use Rattle.feed_text.specs.Devices.{Writing}
 use Rattle.feed_text.specs.StandardError.{SaysEach}
 use Rattle.line_arbiter.specs.declared.arbiter.ArbiterStatus.{ArbiterStatus}
 use Rattle.mold_packet.specs.declared.request.Request.{Request}
 use Rattle.run_watches.specs.GapNews.{gap_texts_if}
-use Rattle.run_watches.specs.Gaps.{LooksAt, SaysOfGap, TellsIfDone, TellsStanding, after_joins, closed_run, due_of, gap_next, gives_up, has_stood, joined_run, lacking_of, news_of, stands, stood_of, told_still, unanswered_of}
+use Rattle.run_watches.specs.Gaps.{LooksAt, SaysBegun, SaysOfGap, SaysOfVenue, TellsIfDone, TellsStanding, after_joins, begun_news, closed_run, due_of, gap_next, gives_up, has_stood, watch_begun, joined_run, lacking_of, news_of, stands, stood_of, told_still, unanswered_of}
 use Rattle.run_watches.specs.RunLines.{WatchedRun, watched_venue}
-use Rattle.run_watches.specs.RunNews.{IsNewsOf, IsNewsOfGap, MayHappen, RunNews, SaysCounts, SaysNews, SaysRunNews, of_counts, of_gap, run_news_texts}
+use Rattle.run_watches.specs.RunNews.{IsNewsOf, IsNewsOfGap, MayHappen, RunNews, SaysCounts, SaysNews, SaysRunNews, of_counts, of_gap, of_session, run_news_texts}
 use Rattle.run_watches.specs.declared.gap_news.GapChange.{GapChange}
 use Rattle.run_watches.specs.declared.gap_news.GapChange.TheVariants.{Closed, GivenUp, Lacking, Unanswered}
 use Rattle.run_watches.specs.declared.gap_news.MissingRun.{MissingRun}
@@ -139,15 +140,50 @@ of_gap_seen w answers rule watch now status s t seen =
     (some_given_up rule (stood_of after.standing now) status.cursors status.gap)
     seen.gives_up))
 
+-- what was said of a session, if one has begun
+of_session_if : {E : Type 0} (w : Writing E) (rule : GapRule) (watch : GapWatch) (now : ℕ)
+    (status : VenueStatus) (b : Bool) (s t : E)
+    → (if b then SaysBegun w watch now status s t else (t ≡ s))
+    → SaysNews w (IsNewsOfGap rule watch.venue) s t
+of_session_if w rule watch now status true s t said =
+    let P = IsNewsOfGap rule watch.venue in
+    more_news w P s said.closed t
+    (said_if_any w rule (now / 1000) watch.venue Closed watch.told s said.closed tt
+    said.says_closed)
+    (one_news w P (of_session (begun_news (now / 1000) watch status)) said.closed t refl
+    said.says_begun)
+of_session_if w rule watch now status false s t said =
+    unsaid w (IsNewsOfGap rule watch.venue) s t said
+
+-- the watch stays its venue's
+begun_venue : (watch : GapWatch) (status : VenueStatus)
+    → (watch_begun watch status).venue ≡ watch.venue
+begun_venue watch status = elim (cases_Bool (nat_lt watch.ordinal status.ordinal)) [
+  | inl later ↦ rw later refl
+  | inr same ↦ rw same refl
+]
+
+of_venue_seen : {E : Type 0} (w : Writing E) (answers : ℕ → Bool → Type 0) (rule : GapRule)
+    (watch : GapWatch) (now : ℕ) (status : VenueStatus) (s t : E)
+    → SaysOfVenue w answers rule watch now status s t
+    → SaysNews w (IsNewsOfGap rule watch.venue) s t
+of_venue_seen w answers rule watch now status s t seen =
+    more_news w (IsNewsOfGap rule watch.venue) s seen.begun t
+    (of_session_if w rule watch now status (nat_lt watch.ordinal status.ordinal) s seen.begun
+    seen.tells_session)
+    (subst (λ (v : ℕ). SaysNews w (IsNewsOfGap rule v) seen.begun t) (begun_venue watch status)
+    (of_gap_seen w answers rule (stands (watch_begun watch status) now status) now status seen.begun
+    t seen.gap))
+
 of_shown : {E : Type 0} (w : Writing E) (answers : ℕ → Bool → Type 0) (rule : GapRule)
     (watch : GapWatch) (now : ℕ) (status : Option VenueStatus) (s t : E)
     → MatchOption status (t ≡ s)
-    (λ seen. SaysOfGap w answers rule (stands watch now seen) now seen s t)
+    (λ seen. SaysOfVenue w answers rule watch now seen s t)
     → SaysNews w (IsNewsOfGap rule watch.venue) s t
 of_shown w answers rule watch now None s t said =
     unsaid w (IsNewsOfGap rule watch.venue) s t said
 of_shown w answers rule watch now (Some status) s t said =
-    of_gap_seen w answers rule (stands watch now status) now status s t said
+    of_venue_seen w answers rule watch now status s t said
 
 -- what is said of a gap at a look is news of it
 pub news_of_look : {E : Type 0} (w : Writing E) (shows : Option VenueStatus → Type 0)

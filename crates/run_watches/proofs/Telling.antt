@@ -9,7 +9,7 @@ use Rattle.feed_text.specs.StandardError.{SaysEach}
 use Rattle.feed_text.specs.laws.SaidTexts.{says_each}
 use Rattle.run_watches.specs.News.{LineTally, SaysNotes, SaysTotals, line_end_texts, notes_of, stranger_note, tally_texts, told_if, total_if, total_texts, totals_of, unheard_note}
 use Rattle.run_watches.specs.RunLines.{WatchedGaps, WatchedLines, WatchedRun}
-use Rattle.run_watches.specs.RunNews.{IsNewsOf, IsNewsOfGap, IsNewsOfGaps, IsNewsOfLine, IsNewsOfLines, IsNewsOfOutput, RunNews, SaysNews, of_counts, of_gap, of_line, of_output, run_news_texts}
+use Rattle.run_watches.specs.RunNews.{IsNewsOf, IsNewsOfGap, IsNewsOfGaps, IsNewsOfLine, IsNewsOfLines, IsNewsOfOutput, RunNews, SaysNews, of_counts, of_gap, of_line, of_output, of_session, run_news_texts}
 use Rattle.run_watches.specs.RunNewsLaws.{each_of_more}
 use Rattle.run_watches.specs.declared.line_news.LineCounted.{LineCounted}
 use Rattle.run_watches.specs.declared.line_news.LineCounted.TheVariants.{Dropped, Foreign, HeldBack, Passed, Unsent, Withheld}
@@ -57,6 +57,7 @@ pub line_within : (w : WatchedLines) (line : ℕ × LineId) → Contains w.lines
 line_within w line there (of_line news) is =
     (subst (λ l. Contains w.lines l) (sym is.0) there, is.1)
 line_within w line there (of_gap news) is = absurd is
+line_within w line there (of_session news) is = absurd is
 line_within w line there (of_output news) is = absurd is
 line_within w line there (of_counts text) is = absurd is
 
@@ -66,6 +67,8 @@ pub gap_within : (gaps : WatchedGaps) (venue : ℕ) → Contains gaps.venues ven
 gap_within gaps venue there (of_line news) is = absurd is
 gap_within gaps venue there (of_gap news) is =
     (subst (λ v. Contains gaps.venues v) (sym is.0) there, is.1)
+gap_within gaps venue there (of_session news) is =
+    subst (λ v. Contains gaps.venues v) (sym is) there
 gap_within gaps venue there (of_output news) is = absurd is
 gap_within gaps venue there (of_counts text) is = absurd is
 
@@ -73,6 +76,7 @@ gap_within gaps venue there (of_counts text) is = absurd is
 pub lines_within : (run : WatchedRun) (n : RunNews) → IsNewsOfLines run.lines n → IsNewsOf run n
 lines_within run (of_line news) is = is
 lines_within run (of_gap news) is = absurd is
+lines_within run (of_session news) is = absurd is
 lines_within run (of_output news) is = absurd is
 lines_within run (of_counts text) is = absurd is
 
@@ -80,6 +84,7 @@ lines_within run (of_counts text) is = absurd is
 pub gaps_within : (run : WatchedRun) (n : RunNews) → IsNewsOfGaps run.gaps n → IsNewsOf run n
 gaps_within run (of_line news) is = absurd is
 gaps_within run (of_gap news) is = is
+gaps_within run (of_session news) is = is
 gaps_within run (of_output news) is = absurd is
 gaps_within run (of_counts text) is = absurd is
 
@@ -87,6 +92,7 @@ gaps_within run (of_counts text) is = absurd is
 pub output_within : (run : WatchedRun) (n : RunNews) → IsNewsOfOutput run.follows n → IsNewsOf run n
 output_within run (of_line news) is = absurd is
 output_within run (of_gap news) is = absurd is
+output_within run (of_session news) is = absurd is
 output_within run (of_output news) is = is
 output_within run (of_counts text) is = absurd is
 

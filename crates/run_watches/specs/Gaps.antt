@@ -7,6 +7,8 @@ use Rattle.line_arbiter.specs.Counts.{shown}
 use Rattle.line_arbiter.specs.declared.arbiter.ArbiterStatus.{ArbiterStatus}
 use Rattle.mold_packet.specs.declared.request.Request.{Request}
 use Rattle.run_watches.specs.GapNews.{gap_news_texts, gap_texts_if}
+use Rattle.run_watches.specs.SessionNews.{session_news_texts}
+use Rattle.run_watches.specs.declared.session_news.SessionNews.{SessionNews}
 use Rattle.run_watches.specs.declared.gap_news.GapChange.TheVariants.{Lacking, Closed, Unanswered, GivenUp}
 use Rattle.run_watches.specs.declared.gap_news.GapNews.{GapNews}
 use Rattle.run_watches.specs.declared.gap_news.MissingRun.{MissingRun}
@@ -197,6 +199,41 @@ after_joins rule watch status = record watch {
   given_up = shown (watch.given_up + run_count (joined_run rule watch status));
 }
 
+-- ---- which session has begun
+
+-- the watch once its venue has come to this session: where that has begun since the last look, the
+-- one before is over, and nothing of it is lacking any more
+abbrev pub watch_begun : GapWatch → VenueStatus → GapWatch
+watch_begun watch status =
+    if nat_lt watch.ordinal status.ordinal
+    then record watch { standing = None; told = None; ordinal = status.ordinal } else watch
+
+-- the news of that
+abbrev pub begun_news : (second : ℕ) → GapWatch → VenueStatus → SessionNews
+begun_news second watch status =
+    record {
+      second = second;
+      venue = watch.venue;
+      session = status.session;
+      missed = status.ordinal - watch.ordinal - 1;
+    }
+
+-- Where a session has begun since the last look, it is said that what was told to be lacking has
+-- come, and then that it has begun; else nothing.
+pub record SaysBegun {E : Type 0} (writing : Writing E) (watch : GapWatch) (now : ℕ)
+    (status : VenueStatus) (before after : E) : Type 0 where
+  pub closed : E
+  pub says_closed : SaysEach writing (gap_texts_if (now / 1000) watch.venue Closed watch.told)
+      before closed
+  pub says_begun : SaysEach writing (session_news_texts (begun_news (now / 1000) watch status))
+      closed after
+
+abbrev pub SaysOfSession : {E : Type 0} → Writing E → GapWatch → (now : ℕ) → VenueStatus
+    → (before after : E) → Type 0
+SaysOfSession writing watch now status before after =
+    if nat_lt watch.ordinal status.ordinal then SaysBegun writing watch now status before after
+    else (after ≡ before)
+
 -- ---- a look
 
 -- where sessions were joined, what is new of the gap, and then what was given up of it
@@ -211,12 +248,21 @@ pub record SaysOfGap {E : Type 0} (writing : Writing E) (answers : ℕ → Bool 
   pub gives_up : GivesUpDue writing answers rule (after_joins rule watch status) now status
       told after
 
--- A venue is looked at at this time: that is said of its gap by what is shown of the venue, and
--- nothing where nothing is shown.
+-- which session has begun, and then that of the gap
+pub record SaysOfVenue {E : Type 0} (writing : Writing E) (answers : ℕ → Bool → Type 0)
+    (rule : GapRule) (watch : GapWatch) (now : ℕ) (status : VenueStatus) (before after : E)
+    : Type 0 where
+  pub begun : E
+  pub tells_session : SaysOfSession writing watch now status before begun
+  pub gap : SaysOfGap writing answers rule (stands (watch_begun watch status) now status) now status
+      begun after
+
+-- A venue is looked at at this time: that is said of its session and its gap by what is shown of
+-- the venue, and nothing where nothing is shown.
 pub record LooksAt {E : Type 0} (writing : Writing E) (shows : Option VenueStatus → Type 0)
     (answers : ℕ → Bool → Type 0) (rule : GapRule) (watch : GapWatch) (now : ℕ) (before after : E)
     : Type 0 where
   pub status : Option VenueStatus
   pub shown : shows status
   pub says : MatchOption status (after ≡ before)
-      (λ seen. SaysOfGap writing answers rule (stands watch now seen) now seen before after)
+      (λ seen. SaysOfVenue writing answers rule watch now seen before after)

@@ -5,4 +5,5 @@ pub mod OutputNews
 pub mod RunLines
 pub mod RunNews
 pub mod RunNewsLaws
+pub mod SessionNews
 pub mod Silences

@@ -8,6 +8,8 @@ use Rattle.run_watches.specs.GapNews.{gap_news_texts}
 use Rattle.run_watches.specs.Gaps.{gives_up}
 use Rattle.run_watches.specs.News.{SaysTotals, news_texts}
 use Rattle.run_watches.specs.OutputNews.{output_news_texts}
+use Rattle.run_watches.specs.SessionNews.{session_news_texts}
+use Rattle.run_watches.specs.declared.session_news.SessionNews.{SessionNews}
 use Rattle.run_watches.specs.RunLines.{WatchedGaps, WatchedLines, WatchedRun}
 use Rattle.run_watches.specs.declared.gap_news.GapChange.{GapChange}
 use Rattle.run_watches.specs.declared.gap_news.GapChange.TheVariants.{Lacking, Closed, Unanswered, GivenUp}
@@ -22,17 +24,19 @@ use Rattle.run_watches.specs.declared.output_news.OutputNews.{OutputNews}
 
 -- ---- news
 
--- what is news of a run: what happened to a line, to a gap or to what is printed, or a text of
--- counts
+-- what is news of a run: what happened to a line, to a gap or to what is printed, a session that
+-- has begun, or a text of counts
 pub data RunNews : Type 0 where
   of_line : LineNews → RunNews
   of_gap : GapNews → RunNews
+  of_session : SessionNews → RunNews
   of_output : OutputNews → RunNews
   of_counts : List ℕ → RunNews
 
 abbrev pub run_news_texts : RunNews → List (List ℕ)
 run_news_texts (of_line news) = news_texts news
 run_news_texts (of_gap news) = gap_news_texts news
+run_news_texts (of_session news) = session_news_texts news
 run_news_texts (of_output news) = output_news_texts news
 run_news_texts (of_counts text) = text ∷ []
 
@@ -67,6 +71,7 @@ abbrev pub IsNewsOfLine : (tells_more : Bool) → ℕ × LineId → RunNews → 
 IsNewsOfLine tells_more line (of_line news) =
     ((news.venue, news.line) ≡ line) × IsTold tells_more news.change
 IsNewsOfLine tells_more line (of_gap news) = ⊥
+IsNewsOfLine tells_more line (of_session news) = ⊥
 IsNewsOfLine tells_more line (of_output news) = ⊥
 IsNewsOfLine tells_more line (of_counts text) = ⊥
 
@@ -74,6 +79,7 @@ abbrev pub IsNewsOfLines : WatchedLines → RunNews → Type 0
 IsNewsOfLines w (of_line news) =
     Contains w.lines (news.venue, news.line) × IsTold w.tells_more news.change
 IsNewsOfLines w (of_gap news) = ⊥
+IsNewsOfLines w (of_session news) = ⊥
 IsNewsOfLines w (of_output news) = ⊥
 IsNewsOfLines w (of_counts text) = ⊥
 
@@ -87,12 +93,14 @@ MayHappen rule Unanswered = Unit {0}
 abbrev pub IsNewsOfGap : GapRule → (venue : ℕ) → RunNews → Type 0
 IsNewsOfGap rule venue (of_line news) = ⊥
 IsNewsOfGap rule venue (of_gap news) = (news.venue ≡ venue) × MayHappen rule news.change
+IsNewsOfGap rule venue (of_session news) = news.venue ≡ venue
 IsNewsOfGap rule venue (of_output news) = ⊥
 IsNewsOfGap rule venue (of_counts text) = ⊥
 
 abbrev pub IsNewsOfGaps : WatchedGaps → RunNews → Type 0
 IsNewsOfGaps gaps (of_line news) = ⊥
 IsNewsOfGaps gaps (of_gap news) = Contains gaps.venues news.venue × MayHappen gaps.rule news.change
+IsNewsOfGaps gaps (of_session news) = Contains gaps.venues news.venue
 IsNewsOfGaps gaps (of_output news) = ⊥
 IsNewsOfGaps gaps (of_counts text) = ⊥
 
@@ -105,6 +113,7 @@ IsToldOfOutput follows (Untaken texts) = Unit {0}
 abbrev pub IsNewsOfOutput : (follows : Bool) → RunNews → Type 0
 IsNewsOfOutput follows (of_line news) = ⊥
 IsNewsOfOutput follows (of_gap news) = ⊥
+IsNewsOfOutput follows (of_session news) = ⊥
 IsNewsOfOutput follows (of_output news) = IsToldOfOutput follows news.change
 IsNewsOfOutput follows (of_counts text) = ⊥
 
@@ -113,6 +122,7 @@ IsNewsOfOutput follows (of_counts text) = ⊥
 abbrev pub IsNewsOf : WatchedRun → RunNews → Type 0
 IsNewsOf run (of_line news) = IsNewsOfLines run.lines (of_line news)
 IsNewsOf run (of_gap news) = IsNewsOfGaps run.gaps (of_gap news)
+IsNewsOf run (of_session news) = IsNewsOfGaps run.gaps (of_session news)
 IsNewsOf run (of_output news) = IsToldOfOutput run.follows news.change
 IsNewsOf run (of_counts text) = run.counted ≡ true
 

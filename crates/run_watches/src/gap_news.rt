@@ -66,7 +66,7 @@ fn messages_from(count: u64) -> &'static str
 }
 
 /// Writes which venue it is, and when.
-fn write_venue<E: TextOut>(second: u64, venue: VenueId, errors: &mut E)
+pub(crate) fn write_venue<E: TextOut>(second: u64, venue: VenueId, errors: &mut E)
     ensures { SaysEach (record { adds = E.adds; failures = E.failures })
         (venue_time_texts second venue) errors.old errors.new }
 {

@@ -5,10 +5,11 @@ ghost use Rattle.line_arbiter.specs.Counts.{shown};
 ghost use Rattle.feed_text.specs.Devices.{Writing};
 ghost use Rattle.feed_text.specs.StandardError.{SaysEach};
 ghost use Rattle.run_watches.specs.GapNews.{gap_texts_if};
-ghost use Rattle.run_watches.specs.Gaps.{GivesUpDue, LooksAt, TellsIfDone, TellsStanding, after_joins, closed_run, due_count, due_of, gap_next, has_come, is_unanswered, joined_run, lacking_of, news_of, run_count, run_of, said_then, standing_at, stands, stood_of, told_still, told_then, unanswered_of};
+ghost use Rattle.run_watches.specs.Gaps.{GivesUpDue, LooksAt, SaysOfSession, TellsIfDone, TellsStanding, after_joins, closed_run, due_count, due_of, gap_next, has_come, watch_begun, is_unanswered, joined_run, lacking_of, news_of, run_count, run_of, said_then, standing_at, stands, stood_of, told_still, told_then, unanswered_of};
 
 use crate::gap_news::{GapChange, GapNews, MissingRun, write_gap_news};
 use crate::gap_rule::GapRule;
+use crate::session_news::{SessionNews, write_session_news};
 use feed_text::TextOut;
 use feed_types::VenueId;
 use line_arbiter::ArbiterStatus;
@@ -209,6 +210,8 @@ pub struct GapWatch {
     before_join: u64,
     /// How many messages were given up.
     given_up: u64,
+    /// Which of the venue's sessions was the present one at the last look.
+    ordinal: u64,
 }
 
 impl GapWatch {
@@ -222,6 +225,7 @@ impl GapWatch {
           has_told_unanswered = false;
           before_join = 0;
           given_up = 0;
+          ordinal = 1;
         } }
     {
         GapWatch {
@@ -232,6 +236,7 @@ impl GapWatch {
             has_told_unanswered: false,
             before_join: 0,
             given_up: 0,
+            ordinal: 1,
         }
     }
 
@@ -418,6 +423,30 @@ impl GapWatch {
         self.given_up = self.given_up.saturating_add(run_count(joined));
     }
 
+    /// Says which session has begun since the last look, if one has. The one before is over, so
+    /// what was told to be lacking of it has come, and no gap of it stands.
+    fn tell_session<E: TextOut>(&mut self, now_ms: u64, status: &VenueStatus, errors: &mut E)
+        ensures watch { self.new ≡ watch_begun self.old status.now }
+        ensures tells { SaysOfSession (record { adds = E.adds; failures = E.failures }) self.old
+            now_ms status.now errors.old errors.new }
+    {
+        if status.ordinal <= self.ordinal {
+            return;
+        }
+        let second = now_ms / 1_000;
+        self.say(second, GapChange::Closed, self.told, errors);
+        let news = SessionNews {
+            second,
+            venue: self.venue,
+            session: status.session,
+            missed: status.ordinal - self.ordinal - 1,
+        };
+        self.told = None;
+        self.standing = None;
+        self.ordinal = status.ordinal;
+        write_session_news(&news, errors);
+    }
+
     /// Looks at the venue, by the status that `status` returns: says what was given up where a
     /// session was joined, and what is new of its gap, and gives up what is due of it, where `skip`
     /// does so.
@@ -436,6 +465,7 @@ impl GapWatch {
         let Some(status) = status(self.venue) else {
             return;
         };
+        self.tell_session(now_ms, &status, errors);
         self.stand(now_ms, &status);
         self.tell_joins(rule, now_ms, &status, errors);
         self.tell(now_ms, &status, errors);

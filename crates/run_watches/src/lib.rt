@@ -36,6 +36,7 @@ mod output_news;
 mod output_watch;
 mod row_progress;
 mod run_watches;
+mod session_news;
 mod socket_tables;
 mod unheld_errors;
 mod venue_statuses;

@@ -188,6 +188,24 @@ polled brings waits l m handed venue sorting none met here = record {
   all = ap (λ (x : List (List ℕ)). x ++ handed) none ∙ sym here;
 }
 
+-- a line that has handed over to a recording alone
+pub recorded_only : {S : Type 0} (brings : S → SocketAddr → List ℕ → S → Type 0)
+    (waits : S → S → Type 0) (waits_not : (s : S) → waits s s) (l m : UdpLineState S)
+    → m ≡ record l { records = m.records } → HasBrought brings waits l [] m
+recorded_only {S} brings waits waits_not l m e =
+    subst (λ (x : UdpLineState S). HasBrought brings waits l [] x) (sym e) (record {
+      venue = refl;
+      sorting = refl;
+      handed_on = [];
+      met = record {
+        fates = [];
+        met = waits_not l.socket;
+        kept = refl;
+        handed_on = refl;
+      };
+      all = append-nil l.waiting;
+    })
+
 -- what waited is taken
 pub took : {S : Type 0} (brings : S → SocketAddr → List ℕ → S → Type 0) (waits : S → S → Type 0)
     (l m n : UdpLineState S) (xs : List (List ℕ)) → HasBrought brings waits l [] m

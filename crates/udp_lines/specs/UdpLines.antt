@@ -3,6 +3,7 @@ use Rattle.std.specs.Prelude.{◌≡◌, ◌⊎◌, ℕ, ◌==◌, ◌&&◌, not
 use Rattle.std.specs.declared.net.socket_addr.SocketAddr.{SocketAddr}
 use Rattle.udp_lines.specs.declared.intake.Intake.{Intake}
 use Rattle.run_settings.specs.Senders.{senders_of}
+use Rattle.line_recordings.specs.declared.record_sender.RecordSender.{RecordSender}
 use Rattle.venue_lines.specs.declared.datagram.Datagram.{Datagram}
 use Rattle.venue_lines.specs.declared.source.SourceFault.{SourceFault}
 use Rattle.venue_lines.specs.Datagrams.{bytes_of}
@@ -16,7 +17,8 @@ use Rattle.udp_lines.specs.Brought.{HasMet, Kept, SortingRule}
 -- brings, where any are named, how many it may still read, if there is any limit, whether its
 -- socket has failed, whether an end that was its last datagram has ended it, or its time, and the
 -- session of such an end; the most that a number may be ahead, if that is asked; the socket, what
--- the line keeps of what that has brought, and the datagram that is there for the next call
+-- the line keeps of what that has brought, and the datagram that is there for the next call; and
+-- where it hands over what its venue took, if that is recorded
 pub record UdpLineState (S : Type 0) : Type 0 where
   pub venue : ℕ
   pub session : List ℕ
@@ -30,6 +32,7 @@ pub record UdpLineState (S : Type 0) : Type 0 where
   pub socket : S
   pub kept : Kept
   pub waiting : List (List ℕ)
+  pub records : Option RecordSender
 
 -- by what the line sorts datagrams
 abbrev pub sorting_of : {S : Type 0} → UdpLineState S → SortingRule

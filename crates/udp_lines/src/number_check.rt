@@ -68,6 +68,8 @@ pub(crate) const NO_ROW: Row = Row {
 #[derive(Drop)]
 pub(crate) struct NumberCheck {
     pub(crate) session: [u8; 10],
+    /// The venue's sessions before that one.
+    pub(crate) earlier: Vec<[u8; 10]>,
     pub(crate) end_rule: EndRule,
     /// The most that a number may be ahead of the highest one; None where the rule isn't applied.
     pub(crate) most_ahead: Option<u64>,
@@ -357,7 +359,9 @@ impl NumberCheck {
             return Verdict::Plausible;
         };
         if header.session != self.session {
-            self.progress.meet(&header.session);
+            if !self.earlier.contains(&header.session) {
+                self.progress.meet(&header.session);
+            }
             return Verdict::Plausible;
         }
         self.judge_header(most, seen, &header, ended == Some(self.session))

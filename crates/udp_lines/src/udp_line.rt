@@ -1,6 +1,7 @@
 //! A line that is received by UDP.
 ghost use Rattle.std.specs.Prelude.{◌≡◌, ◌+◌, ◌*◌, ◌/◌, ◌^◌, ◌-◌, ℕ, List, [], Bool, min, IfOk, IfErr, OnErr, Ok, Some, None, true, false, option_map};
 ghost use Rattle.std.specs.Duration.{as_nanos};
+ghost use Rattle.line_recordings.specs.Placed.{HandsOver};
 ghost use Rattle.venue_lines.specs.Datagrams.{bytes_of};
 ghost use Rattle.venue_lines.specs.Sources.{brought_in, failures_after};
 ghost use Rattle.run_settings.specs.Senders.{senders_of};
@@ -18,6 +19,7 @@ use crate::number_check::{HeldFor, NO_ROW, NumberCheck};
 use crate::requests::{RequestPace, Requests};
 use crate::venue_marks::VenueMarks;
 use feed_types::{Anything, VenueId};
+use line_recordings::{RecordSender, hand_over};
 use mold_packet::{Request, write_request};
 use run_settings::{EndRule, Senders};
 use std::alloc::{AllocError, Global};
@@ -40,7 +42,7 @@ pub struct UdpLineSettings {
     pub venue: VenueId,
     /// Which of the venue's lines it is.
     pub line: LineUse,
-    /// The venue's session.
+    /// The venue's session; where others follow it, the last one.
     pub session: [u8; 10],
     /// Which ends of session end it. A line of replies goes on after each.
     pub end: EndRule,
@@ -61,6 +63,8 @@ pub struct UdpLineSettings {
     pub marks: VenueMarks,
     /// Whether it marks when it heard a datagram.
     pub marks_heard: bool,
+    /// Where it hands over what its venue took, if that is recorded.
+    pub records: Option<RecordSender>,
 }
 
 /// A line of a venue that is received by UDP. It ends after as many datagrams or seconds as it was
@@ -88,6 +92,8 @@ pub struct UdpLine<S, C> {
     ender: Option<[u8; 10]>,
     /// What the socket has brought for the next call: a datagram, or why there is none.
     received: Option<Result<Datagram, SourceFault>>,
+    /// Where it hands over what its venue took, if that is recorded.
+    records: Option<RecordSender>,
 }
 
 impl<S, C> Model for UdpLine<S, C> {
@@ -109,6 +115,7 @@ impl<S, C> Model for UdpLine<S, C> {
       socket = l.intake.line_socket.socket;
       kept = kept_in l.intake;
       waiting = waiting_in l.received;
+      records = l.records;
     } };
 }
 
@@ -172,6 +179,7 @@ impl<S: DatagramIn + Drop, C: Clock + Drop> UdpLine<S, C> {
         ensures ender { IfOk result (λ line. line.ender ≡ None) }
         ensures kept { IfOk result (λ line. line.kept ≡ nothing_kept) }
         ensures waiting { IfOk result (λ line. line.waiting ≡ []) }
+        ensures records { IfOk result (λ line. line.records ≡ settings.records) }
     {
         socket.wait_each(Duration::from_millis(WAIT_MS));
         let deadline_ms = deadline_of(&clock, settings.seconds);
@@ -182,6 +190,7 @@ impl<S: DatagramIn + Drop, C: Clock + Drop> UdpLine<S, C> {
         };
         let check = NumberCheck {
             session: settings.session,
+            earlier: Vec::new(alloc),
             end_rule: settings.end,
             most_ahead: settings.most_ahead,
             line: settings.line.line(),
@@ -208,6 +217,7 @@ impl<S: DatagramIn + Drop, C: Clock + Drop> UdpLine<S, C> {
             at_end: false,
             ender: None,
             received: None,
+            records: settings.records,
         })
     }
 
@@ -300,6 +310,13 @@ impl<S: DatagramIn + Drop, C: Clock + Drop> UdpLine<S, C> {
 }
 
 impl<S: Drop, C: Drop> UdpLine<S, C> {
+    /// Names the venue's sessions before the line's, whose packets are handed on as they come.
+    pub fn follow_after(&mut self, earlier: Vec<[u8; 10]>)
+        ensures { self.new ≡ self.old }
+    {
+        self.intake.check.earlier = earlier;
+    }
+
     /// The progress of the line, for another thread. AllocError where it can't be shared any
     /// further.
     pub fn share_progress(&self) -> Result<LineProgress, AllocError> {
@@ -509,10 +526,15 @@ impl<S: DatagramIn + Drop, C: Clock + Drop> LineSource<Anything> for UdpLine<S, 
         self.receive_next()
     }
 
-    /// Keeps the datagram's memory for the next one.
-    fn recycle(&mut self, datagram: Datagram, _place: u64)
-        ensures { self.new ≡ self.old }
+    /// Hands the datagram over at its place, if what the venue took is recorded, and keeps its
+    /// memory for the next one.
+    #[tactic(auto, using(crate::proofs::Meeting::recorded_only))]
+    fn recycle(&mut self, datagram: Datagram, place: u64)
+        ensures brings { HasBrought S.brings S.waits self.old [] self.new }
+        ensures rest { self.new ≡ record (self.old) { records = self.new.records } }
+        ensures recorded { HandsOver self.old.records place (bytes_of datagram) self.new.records }
     {
+        hand_over(&mut self.records, place, datagram.bytes());
         self.intake.used = datagram.into_bytes();
     }
 

@@ -1,15 +1,18 @@
 -- The settings of `nbbo listen`, as a feed and its lines take them.
-use Rattle.std.specs.Prelude.{◌≡◌, ℕ, false, true, Option, None, Some, slice_get, if◌then◌else◌}
+use Rattle.std.specs.Prelude.{◌≡◌, ℕ, false, true, List, ◌∷◌, Option, None, Some, slice_get, if◌then◌else◌}
+use Rattle.std.specs.List.{last_or}
 use Rattle.feed_types.specs.declared.config.FeedConfig.{FeedConfig}
 use Rattle.feed_types.specs.declared.line.LineId.{LineId}
 use Rattle.feed_types.specs.declared.line.LineId.TheVariants.{A, B, Recovery}
 use Rattle.best_rows.specs.declared.style.RowStyle.{RowStyle}
+use Rattle.feed_text.specs.Rules.{names_after}
 use Rattle.live_feed.specs.Lanes.{FeedSetting}
 use Rattle.run_settings.specs.FurtherOptions.{most_lead}
 use Rattle.run_settings.specs.declared.end_rule.EndRule.{EndRule}
-use Rattle.run_settings.specs.declared.end_rule.EndRule.TheVariants.{NoSession}
+use Rattle.run_settings.specs.declared.end_rule.EndRule.TheVariants.{AnySession, NoSession, OwnSession}
 use Rattle.run_settings.specs.Senders.{senders_of}
 use Rattle.run_settings.specs.declared.listen_settings.ListenSettings.{ListenSettings}
+use Rattle.run_settings.specs.declared.next_session.NextSession.{NextSession}
 use Rattle.udp_listening.specs.Lines.{LineState}
 
 -- the most notices of a log: as many as the journal's entries, unless they are printed as they come
@@ -47,6 +50,12 @@ end_rule_of A end = end
 end_rule_of B end = end
 end_rule_of Recovery end = NoSession
 
+-- Which ends of session end the lines of a venue whose first session these follow: where there are
+-- any, and each end does by the settings, that of the last one alone.
+abbrev pub end_followed : (following : List (List ℕ)) → EndRule → EndRule
+end_followed (name ∷ others) AnySession = OwnSession
+end_followed following end = end
+
 -- how many datagrams it reads: as many as the settings say, and line R any number
 abbrev pub most_read_of : LineId → Option ℕ → Option ℕ
 most_read_of A datagrams = datagrams
@@ -54,13 +63,16 @@ most_read_of B datagrams = datagrams
 most_read_of Recovery datagrams = None
 
 -- The source reads datagrams for the venue, of the senders that the settings say, and withholds
--- what is as far ahead as they say. Lines A and B read as many and end with an end of session as
--- the settings say; line R goes on.
-pub record IsSourceOf (settings : ListenSettings) (venue : ℕ) (of : LineId) (line : LineState)
-    : Type 0 where
+-- what is as far ahead as they say. Its session is the venue's last one: that of the settings, or
+-- the last of those that follow it. Lines A and B read as many and end with an end of session as
+-- the settings say, but with that of the last session alone where one follows another; line R goes
+-- on.
+pub record IsSourceOf (settings : ListenSettings) (next : List NextSession) (venue : ℕ)
+    (of : LineId) (line : LineState) : Type 0 where
   pub venue_is : line.venue ≡ venue
-  pub session : slice_get settings.feed.sessions.items venue ≡ Some line.session
-  pub rule : line.rule ≡ end_rule_of of settings.end
+  pub session : last_or (slice_get settings.feed.sessions.items venue) (names_after venue next)
+      ≡ Some line.session
+  pub rule : line.rule ≡ end_rule_of of (end_followed (names_after venue next) settings.end)
   pub senders : line.senders ≡ senders_of settings.senders
   pub most_ahead : line.most_ahead ≡ most_lead settings
   pub left : line.left ≡ most_read_of of settings.datagrams

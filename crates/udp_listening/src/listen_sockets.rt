@@ -1,6 +1,7 @@
 //! The sockets of a program that listens.
 
 use feed_types::{LineId, VenueId};
+use line_recordings::{RecordSender, SkipRecords};
 use run_watches::SocketTables;
 use std::net::{TcpListener, UdpSocket};
 
@@ -17,6 +18,8 @@ pub struct BoundLine {
     /// The venue's request socket, where it has one and this is another: its requests go from
     /// there. Else they go from the line's own socket.
     pub requests: Option<UdpSocket>,
+    /// Where the line hands over what its venue took, if that is recorded.
+    pub records: Option<RecordSender>,
 }
 
 /// The sockets of a program that listens.
@@ -29,4 +32,6 @@ pub struct ListenSockets {
     pub metrics: Option<TcpListener>,
     /// The system's tables, by which it tells what it drops at the sockets of the lines.
     pub tables: SocketTables,
+    /// Where the run hands over the skips of its venues, if they are recorded.
+    pub skips: SkipRecords,
 }

@@ -9,6 +9,7 @@ ghost use Rattle.udp_listening.specs.Settings.{IsFeedOf, feed_setting, most_logg
 
 use crate::console::{Console, MOST};
 use crate::listen_report::{ListenReport, report_of};
+use crate::next_sessions::name_all;
 use crate::row_follower::RowFollower;
 use crate::run_monitor::RunMonitor;
 use crate::sources::UdpSource;
@@ -21,7 +22,7 @@ use live_feed::{
     SettleFault, Subscription, WholeFault,
 };
 use run_notes::AbsentList;
-use run_settings::ListenSettings;
+use run_settings::{ListenSettings, NextSession};
 use std::alloc::{AllocError, Global};
 use std::mem;
 use std::rt::Clock;
@@ -96,13 +97,22 @@ fn untimed_feed(alloc: Global, settings: &ListenSettings) -> Result<LiveFeed<Any
     }
 }
 
-/// The same feed, which keeps the times of changes where rows have them.
-pub fn feed_of(alloc: Global, settings: &ListenSettings) -> Result<LiveFeed<Anything>, CoreFault>
+/// The same feed, which keeps the times of changes where rows have them, and whose venues' first
+/// sessions are followed by these.
+pub fn feed_of(
+    alloc: Global,
+    settings: &ListenSettings,
+    next: &[NextSession],
+) -> Result<LiveFeed<Anything>, CoreFault>
     ensures setting { IfOk result (λ feed. feed.setting ≡ feed_setting settings.now) }
     ensures venues { IfOk result (λ feed. length feed.venues
         ≡ vec_len settings.now.feed.sessions) }
 {
     let mut feed = untimed_feed(alloc, settings)?;
+    let venues = settings.feed.sessions.len();
+    if name_all(alloc, &mut feed, venues, next).is_err() {
+        return Err(CoreFault::NoMemory);
+    }
     if !has_times(settings.format) {
         return Ok(feed);
     }

@@ -10,6 +10,7 @@ use crate::output_state::OutputState;
 use crate::run_time::RunTime;
 use feed_text::TextOut;
 use feed_types::Anything;
+use line_recordings::SkipRecords;
 use live_feed::{FeedName, RunView, Watcher};
 use run_watches::RunWatches;
 use std::sync::Wait;
@@ -28,6 +29,8 @@ pub struct RunMonitor<C, E> {
     pub watches: RunWatches,
     /// How standard output does.
     output: OutputState,
+    /// Where the skips are handed over, if they are recorded.
+    skips: SkipRecords,
     /// Whether a run that is ended from outside waits no longer for who reads its rows.
     leaves_rows: bool,
     has_stopped: bool,
@@ -35,13 +38,15 @@ pub struct RunMonitor<C, E> {
 
 impl<C, E> RunMonitor<C, E> {
     /// Returns the monitor of a run that begins now. Where the run is ended from outside and
-    /// `leaves_rows`, it doesn't wait for ever for who reads its rows.
+    /// `leaves_rows`, it doesn't wait for ever for who reads its rows. It hands its skips over to
+    /// `skips`.
     pub fn new(
         time: RunTime<C>,
         errors: E,
         watches: RunWatches,
         output: OutputState,
         leaves_rows: bool,
+        skips: SkipRecords,
     ) -> RunMonitor<C, E>
         ensures errors { result.errors ≡ errors }
         ensures watches { result.watches ≡ watches }
@@ -51,6 +56,7 @@ impl<C, E> RunMonitor<C, E> {
             errors,
             watches,
             output,
+            skips,
             leaves_rows,
             has_stopped: false,
         }
@@ -93,12 +99,13 @@ impl<C: Clock + Drop, E: TextOut + Drop> RunMonitor<C, E> {
         }
         let moment = self.time.moment();
         let errors = &mut self.errors;
+        let skips = &self.skips;
         self.watches
             .write_counts(moment, |venue| run.status(rt, venue).ok(), errors);
         self.watches.look_at_gaps(
             moment.elapsed_ms,
             |venue| run.status(rt, venue).ok(),
-            |venue, number| run.skip_to(rt, venue, number).is_ok(),
+            |venue, number| skips.took(venue, run.skip_to(rt, venue, number).ok(), number),
             errors,
         );
     }

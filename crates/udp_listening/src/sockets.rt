@@ -112,6 +112,7 @@ fn bind_line<R: Net>(
         line: line_at(place),
         socket: open(net, address)?,
         requests: None,
+        records: None,
     };
     match lines.push(bound) {
         Ok(()) => Ok(()),
@@ -211,6 +212,7 @@ fn bind_requests<R: Net>(
         line: LineId::Recovery,
         socket,
         requests: None,
+        records: None,
     };
     match with.push(bound) {
         Ok(()) => Ok(with),

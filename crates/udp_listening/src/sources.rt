@@ -7,10 +7,11 @@ ghost use Rattle.udp_listening.specs.Reports.{task_line};
 ghost use Rattle.udp_listening.specs.Settings.{IsSourceOf, end_rule_of, most_read_of};
 
 use crate::listen_sockets::BoundLine;
+use crate::next_sessions::{end_by, names_after, sessions_of};
 use best_rows::has_times;
 use feed_types::{LineId, VenueId};
 use live_feed::{LineSource, LineTask};
-use run_settings::{EndRule, ListenSettings};
+use run_settings::{EndRule, ListenSettings, NextSession};
 use run_watches::{LineWatch, LineWatches, SocketTables};
 use std::alloc::{AllocError, Global};
 use std::mem;
@@ -90,24 +91,31 @@ fn most_read_of(line: LineId, datagrams: Option<u32>) -> Option<u32>
 fn source_of<C: Clock + Drop>(
     alloc: Global,
     settings: &ListenSettings,
+    next: &[NextSession],
     bound: BoundLine,
     shares: &mut VenueShares,
     clock: C,
 ) -> Result<UdpSource<C>, AllocError>
     requires { bound.venue < vec_len settings.now.feed.sessions }
-    ensures { IfOk result (IsSourceOf settings.now bound.venue bound.line) }
+    ensures is { IfOk result (IsSourceOf settings.now next.now bound.venue bound.line) }
+    ensures records { IfOk result (λ source. source.records ≡ bound.records) }
 {
     let BoundLine {
         venue,
         line,
         socket,
         requests,
+        records,
     } = bound;
+    let following = names_after(alloc, venue, next)?;
+    let first = settings.feed.sessions[venue.index()];
+    let sessions = sessions_of(alloc, first, following.as_slice())?;
+    let end = end_by(following.as_slice(), settings.end);
     let of_line = UdpLineSettings {
         venue,
         line: shares.use_of(alloc, line),
-        session: settings.feed.sessions[venue.index()],
-        end: end_rule_of(line, settings.end),
+        session: sessions.last,
+        end: end_rule_of(line, end),
         datagrams: most_read_of(line, settings.datagrams),
         seconds: settings.seconds,
         requests: requests_of(settings, requests),
@@ -116,8 +124,10 @@ fn source_of<C: Clock + Drop>(
         marks: shares.marks.share()?,
         marks_heard: settings.has_further_options(),
         timed: has_times(settings.format),
+        records,
     };
-    let source = UdpLine::new(alloc, of_line, socket, clock)?;
+    let mut source = UdpLine::new(alloc, of_line, socket, clock)?;
+    source.follow_after(sessions.earlier);
     shares.progress.push(source.share_progress()?)?;
     Ok(source)
 }
@@ -170,6 +180,7 @@ impl<C: Clock + Clone + Drop> LinesMade<C> {
         &mut self,
         alloc: Global,
         settings: &ListenSettings,
+        next: &[NextSession],
         bound: BoundLine,
         clock: &C,
     ) -> Result<(), AllocError>
@@ -187,7 +198,7 @@ impl<C: Clock + Clone + Drop> LinesMade<C> {
         };
         let line = bound.line;
         let address = bound.socket.local_addr().ok();
-        let source = source_of(alloc, settings, bound, shares, clock.clone()?)?;
+        let source = source_of(alloc, settings, next, bound, shares, clock.clone()?)?;
         let progress = source.share_progress()?;
         let silent_after = settings.silence_limit();
         let watch = LineWatch::new(source.venue(), line, progress, address, silent_after);
@@ -213,6 +224,7 @@ fn tables_if_told(settings: &ListenSettings, tables: SocketTables) -> Option<Soc
 pub fn lines_over<C: Clock + Clone + Drop>(
     alloc: Global,
     settings: &ListenSettings,
+    next: &[NextSession],
     sockets: Vec<BoundLine>,
     tables: SocketTables,
     clock: &C,
@@ -224,7 +236,7 @@ pub fn lines_over<C: Clock + Clone + Drop>(
 {
     let mut made = LinesMade::none(alloc, settings.feed.sessions.len())?;
     for bound in sockets {
-        made.push(alloc, settings, bound, clock)?;
+        made.push(alloc, settings, next, bound, clock)?;
     }
     Ok(ListenLines {
         tasks: made.tasks,

@@ -32,7 +32,8 @@ use Rattle.line_arbiter.specs.laws.Fronts.{carried_above, front_is, none_is, not
 use Rattle.line_arbiter.specs.laws.Lengths.{length-stream}
 use Rattle.line_arbiter.specs.laws.SkipAnswers.{one_skip}
 use Rattle.venue_lines.specs.Cells.{CellState, CellFitsHistory, IsPossibleCall}
-use Rattle.venue_lines.specs.Joins.{BeginsPast, IsAnsweredJoining, JoinsAndTakes, JoinsIf, StaysWithin}
+use Rattle.venue_lines.specs.Joins.{BeginsPast, IsAnsweredJoining, IsAnsweredNext, JoinsIf, RenewsAndTakes, StaysWithin}
+use Rattle.venue_lines.specs.NextSessions.{NextNames}
 use Rattle.venue_lines.specs.Seats.{SeatState}
 use Rattle.venue_lines.specs.Sections.{HasSkippedPast, TakesPacket}
 
@@ -211,18 +212,35 @@ early_joining premise true true line p answer old first new j takes early =
 
 -- ---- the section
 
--- whether it was joined is left open
-pub some_joining : {S : Type 0} (premise : Genuine S) (lanes : FeedLanes) (join joined : Bool)
-    (seat : SeatState) (p : Content) (answer : Result Outcome LineFault)
-    → IsPossibleCall premise lanes seat.venue (JoinsAndTakes join seat.line p joined answer)
-    ((answer ≡ Err OtherSession) × (joined ≡ false))
-    → IsAnsweredJoining premise lanes join seat p answer
-some_joining premise lanes join joined seat p answer (inl x) = inl (record {
+-- whether the next session began, and it was joined, is left open
+pub some_joining : {S : Type 0} (premise : Genuine S) (lanes : FeedLanes)
+    (next : Option NextNames) (join renewed joined : Bool) (seat : SeatState) (p : Content)
+    (answer : Result Outcome LineFault)
+    → IsPossibleCall premise lanes seat.venue
+    (RenewsAndTakes next join seat.line p renewed joined answer)
+    ((answer ≡ Err OtherSession) × (renewed ≡ false) × (joined ≡ false))
+    → IsAnsweredNext premise lanes next join seat p answer
+some_joining premise lanes next join renewed joined seat p answer (inl x) = inl (record {
   old = x.old;
   kept = x.kept;
   venue_is = x.venue_is;
   new = x.new;
   keeps = x.keeps;
-  leads = (joined, x.leads);
+  leads = (renewed, joined, x.leads);
 })
-some_joining premise lanes join joined seat p answer (inr x) = inr (x.0, x.1.0)
+some_joining premise lanes next join renewed joined seat p answer (inr x) = inr (x.0, x.1.0)
+
+-- which sessions are named to follow, too
+pub some_next : {S : Type 0} (premise : Genuine S) (lanes : FeedLanes) (next : Option NextNames)
+    (join : Bool) (seat : SeatState) (p : Content) (answer : Result Outcome LineFault)
+    → IsAnsweredNext premise lanes next join seat p answer
+    → IsAnsweredJoining premise lanes join seat p answer
+some_next premise lanes next join seat p answer (inl x) = inl (record {
+  old = x.old;
+  kept = x.kept;
+  venue_is = x.venue_is;
+  new = x.new;
+  keeps = x.keeps;
+  leads = (next, x.leads.0, x.leads.1, x.leads.2);
+})
+some_next premise lanes next join seat p answer (inr x) = inr x

@@ -10,3 +10,4 @@ pub mod OfSessions
 pub mod SessionParts
 pub mod WithoutSkips
 pub mod Joins
+pub mod NextNames

@@ -18,6 +18,7 @@ use Rattle.feed_steps.specs.Lanes.{FeedLanes}
 use Rattle.venue_lines.specs.declared.faults.TakeFault.{TakeFault}
 use Rattle.venue_lines.specs.declared.faults.TakeFault.TheVariants as faults
 use Rattle.venue_lines.specs.Cells.{CellState, CellFitsHistory, IsPossibleCall}
+use Rattle.venue_lines.specs.NextSessions.{NextNames, RenewsIf}
 use Rattle.venue_lines.specs.Seats.{SeatState}
 use Rattle.venue_lines.specs.Sections.{GoesOnFrom, SkipsGap, TakesAndPushesReady}
 
@@ -63,13 +64,32 @@ pub record JoinsAndTakes (join : Bool) (line : LineId) (p : Content) (joined : B
   pub joins : JoinsIf join p joined old first
   pub takes : TakesAndPushesReady line p answer first new
 
--- The answer to a packet where sessions are joined, or aren't: one that a cell of the seat's venue
--- gives in such a section; or OtherSession, where the call met no lock of that venue.
+-- Renew, where sessions are named to follow, and then the same.
+pub record RenewsAndTakes (next : Option NextNames) (join : Bool) (line : LineId) (p : Content)
+    (renewed joined : Bool) (answer : Result Outcome LineFault) (old new : CellState) : Type 0
+  where
+    pub begun : CellState
+    pub renews : RenewsIf next p renewed old begun
+    pub takes : JoinsAndTakes join line p joined answer begun new
+
+-- The answer to a packet where these sessions are named to follow, and sessions are joined, or
+-- aren't: one that a cell of the seat's venue gives in such a section; or OtherSession, where the
+-- call met no lock of that venue.
+abbrev pub IsAnsweredNext : {S : Type 0} → Genuine S → FeedLanes → Option NextNames
+    → (join : Bool) → SeatState → Content → Result Outcome LineFault → Type 0
+IsAnsweredNext premise lanes next join seat p answer =
+    IsPossibleCall premise lanes seat.venue
+    (λ old new. (renewed : Bool) × (joined : Bool)
+    × RenewsAndTakes next join seat.line p renewed joined answer old new)
+    (answer ≡ Err OtherSession)
+
+-- The same, whichever sessions are named to follow: the venue's lock keeps that.
 abbrev pub IsAnsweredJoining : {S : Type 0} → Genuine S → FeedLanes → (join : Bool) → SeatState
     → Content → Result Outcome LineFault → Type 0
 IsAnsweredJoining premise lanes join seat p answer =
     IsPossibleCall premise lanes seat.venue
-    (λ old new. (joined : Bool) × JoinsAndTakes join seat.line p joined answer old new)
+    (λ old new. (next : Option NextNames) × (renewed : Bool) × (joined : Bool)
+    × RenewsAndTakes next join seat.line p renewed joined answer old new)
     (answer ≡ Err OtherSession)
 
 -- The same of a datagram that is a packet.

@@ -5,6 +5,8 @@ pub mod Brought
 pub mod Seats
 pub mod Cells
 pub mod Sections
+-- sessions that follow a venue's first one
+pub mod NextSessions
 -- sessions that are joined at their first packet
 pub mod Joins
 pub mod Datagrams

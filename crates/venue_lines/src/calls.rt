@@ -8,7 +8,7 @@ ghost use Rattle.venue_lines.specs.Cells.{CellFitsHistory, IsPossibleCall};
 ghost use Rattle.venue_lines.specs.Brought.{requests_after};
 ghost use Rattle.venue_lines.specs.Sections.{AcceptsTheirPacket, HasSkippedPast, AnswersAtVenue, IsDueAt, FlushesVenue, RenewsVenue, SkipsVenue, KeepsButPushed, Pushes, RequestsGap, TakesPacket};
 ghost use Rattle.venue_lines.specs.Datagrams.{AreGenuineBytes, AcceptsTheirs, IsAnsweredAt, TakesDatagram, bytes_of};
-ghost use Rattle.venue_lines.specs.Joins.{IsAnsweredJoining, JoinsAndTakes, TakesJoining, before_join_after};
+ghost use Rattle.venue_lines.specs.Joins.{IsAnsweredJoining, IsAnsweredNext, RenewsAndTakes, TakesJoining, before_join_after};
 
 use crate::cell::VenueCell;
 use crate::datagram::Datagram;
@@ -17,8 +17,9 @@ use crate::joining::join_if_asked;
 use crate::locked_venue::LockedVenue;
 use crate::locks::{VenueLocks, lock_spinning};
 use crate::looked::Looked;
+use crate::next_sessions::{NextSessions, renew_if_named};
 use crate::seat::LineSeat;
-use crate::timing::{last_sent, note_join, note_time};
+use crate::timing::{last_sent, note_begun, note_time};
 use feed_steps::{FeedName, Unsent};
 use feed_types::{Genuine, LineId, VenueId};
 use line_arbiter::{LineFault, Outcome, SkipFault};
@@ -114,6 +115,8 @@ fn take_one<G: Genuine, N: FeedName, W: Wait>(
 /// What became of a packet under its venue's lock.
 #[derive(Clone, Copy)]
 struct PacketTaken {
+    /// Whether the venue's next session has begun at it.
+    renewed: bool,
     /// Whether the venue's session was joined at it.
     joined: bool,
     answer: Result<Outcome, LineFault>,
@@ -121,10 +124,13 @@ struct PacketTaken {
     pushed: (u64, bool),
 }
 
-/// Takes the packet where the cell is of the seat's venue, and pushes what is ready then. Where
-/// that is asked for and nothing of its session came before, the session is joined at it first.
+/// Takes the packet where the cell is of the seat's venue, and pushes what is ready then. Where the
+/// present session is over and the packet is of the one that is named to follow it, that begins
+/// first. Where that is asked for and nothing of its session came before, the session is joined at
+/// it then.
 fn take_in<G: Genuine, N: FeedName, W: Wait>(
     rt: &W,
+    next: &Option<NextSessions<G>>,
     cell: &mut VenueCell<G, N>,
     seat: &mut LineSeat<G, N>,
     packet: &Packet<'_>,
@@ -134,25 +140,31 @@ fn take_in<G: Genuine, N: FeedName, W: Wait>(
     ensures seat { seat.new ≡ seat_after seat.old packet.now result.answer }
     ensures answer { IsAnsweredAt G.Genuine N.lanes seat.old packet.now result.answer }
     ensures joins { IsPossibleCall G.Genuine N.lanes seat.old.venue
-        (JoinsAndTakes join seat.old.line packet.now result.joined result.answer)
-        ((result.answer ≡ Err LineFault.OtherSession) × (result.joined ≡ false)) }
+        (RenewsAndTakes next.now join seat.old.line packet.now result.renewed result.joined
+        result.answer)
+        ((result.answer ≡ Err LineFault.OtherSession) × (result.renewed ≡ false)
+        × (result.joined ≡ false)) }
     ensures accepts { AcceptsTheirPacket G.Genuine seat.old.venue packet.now result.answer }
     ensures early { HasSkippedPast G.Genuine cell.old packet.now result.answer }
 {
     cell.show_lock_invariant();
     if cell.venue() != seat.venue() {
         return PacketTaken {
+            renewed: false,
             joined: false,
             answer: Err(LineFault::OtherSession),
             pushed: (0, false),
         };
     }
+    let renewed = renew_if_named(next, cell, packet);
+    cell.show_lock_invariant();
     let joined = join_if_asked(join, cell, packet);
     cell.show_lock_invariant();
     let answer = take_one(rt, cell, seat, packet);
     let pushed = push_ready(rt, cell, u64::MAX);
     cell.show_lock_invariant();
     PacketTaken {
+        renewed,
         joined,
         answer,
         pushed,
@@ -171,6 +183,8 @@ fn take_and_count<G: Genuine, N: FeedName, W: Wait>(
     requires { IsGenuinePacket G.Genuine seat.old.venue packet.now }
     ensures seat { seat.new ≡ seat_after seat.old packet.now result.answer }
     ensures answer { IsAnsweredAt G.Genuine N.lanes seat.old packet.now result.answer }
+    ensures next { IsAnsweredNext G.Genuine N.lanes locked.old.next join seat.old packet.now
+        result.answer }
     ensures joins { IsAnsweredJoining G.Genuine N.lanes join seat.old packet.now result.answer }
     ensures accepts { AcceptsTheirPacket G.Genuine seat.old.venue packet.now result.answer }
     ensures counted { locked.new ≡ record locked.old {
@@ -178,7 +192,7 @@ fn take_and_count<G: Genuine, N: FeedName, W: Wait>(
       before_join = before_join_after result.joined packet.now.number locked.old.before_join;
     } }
 {
-    let taken = take_in(rt, &mut locked.cell, seat, packet, join);
+    let taken = take_in(rt, &locked.next, &mut locked.cell, seat, packet, join);
     locked.count_join(taken.joined, packet.number());
     taken
 }
@@ -278,7 +292,9 @@ fn skip_in<G: Genuine, N: FeedName, W: Wait>(
 impl<G: Genuine, N: FeedName> VenueLocks<G, N> {
     /// Takes a datagram that came on the seat's line, which is genuine at its venue, and answers
     /// what became of it: the packet's fault, else the line's, else the outcome. What is ready
-    /// then, after a fault too, is pushed, until nothing is or the lane is full. Where `join` is
+    /// then, after a fault too, is pushed, until nothing is or the lane is full. Where the venue's
+    /// session is over, all of it was sent, and the packet is of the session that was named to
+    /// follow it ([`follow_by`](crate::VenueStart::follow_by)), that begins first. Where `join` is
     /// true, and the packet is the first one of the venue's session and begins past its first
     /// message, what is missing before it is given up first. Stores in `looked` what the line sees
     /// then, all under the venue's lock taken once. The datagram is read before the lock is taken.
@@ -364,9 +380,17 @@ impl<G: Genuine, N: FeedName> VenueLocks<G, N> {
             return Err(LineFault::OtherSession);
         };
         let mut locked = lock_spinning(rt, lock);
-        note_time(&locked.cell, self.bells().times(), time);
+        let last = note_time(&locked, self.bells().times(), time);
         let taken = take_and_count(rt, &mut locked, seat, packet, join);
-        note_join(&locked.cell, self.bells().times(), taken.joined, packet);
+        let times = self.bells().times();
+        note_begun(
+            &locked.cell,
+            times,
+            taken.renewed,
+            last,
+            taken.joined,
+            packet,
+        );
         let (pushed, has_backlog) = taken.pushed;
         let answer = taken.answer;
         if let Err(fault) = answer {

@@ -8,13 +8,15 @@ ghost use Rattle.venue_lines.specs.Joins.{before_join_after};
 use crate::cell::VenueCell;
 use crate::faults::FeedFault;
 use crate::looked::Looked;
+use crate::next_sessions::NextSessions;
 use crate::seat::LineSeat;
+use crate::timing::last_sent;
 use feed_steps::FeedName;
 use feed_types::{Genuine, LineId, PerLine};
 
 /// The part that a venue's lock guards: the cell, which lines have their seats, how many requests
-/// were handed out, how many datagrams and skips were taken, and how many messages were given up
-/// where sessions were joined at their first packets.
+/// were handed out, how many datagrams and skips were taken, how many messages were given up where
+/// sessions were joined at their first packets, and the sessions that are named to follow.
 #[derive(Drop)]
 pub struct LockedVenue<G: Genuine, N: FeedName> {
     pub cell: VenueCell<G, N>,
@@ -22,6 +24,7 @@ pub struct LockedVenue<G: Genuine, N: FeedName> {
     pub requests: u64,
     pub(crate) places: u64,
     pub(crate) before_join: u64,
+    pub(crate) next: Option<NextSessions<G>>,
 }
 
 impl<G: Genuine, N: FeedName> LockedVenue<G, N> {
@@ -72,6 +75,15 @@ impl<G: Genuine, N: FeedName> LockedVenue<G, N> {
         if joined {
             let missing = number.saturating_sub(1);
             self.before_join = self.before_join.saturating_add(missing);
+        }
+    }
+    /// The number of the last item of the venue's session that was pushed, where sessions are named
+    /// to follow; else 0.
+    #[inline(always)]
+    pub(crate) fn last_if_followed(&self) -> u64 {
+        match self.next {
+            Some(_) => last_sent(&self.cell),
+            None => 0,
         }
     }
 }

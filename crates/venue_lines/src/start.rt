@@ -1,18 +1,22 @@
 //! A venue to which nothing came.
 
 ghost use Rattle.std.specs.Prelude.{◌≡◌};
+ghost use Rattle.venue_lines.specs.NextSessions.{AreNextNames};
 ghost use Rattle.venue_lines.specs.Starts.{IsStart};
 
-use feed_types::{Genuine, Numbered};
+use crate::next_sessions::NextSessions;
+use feed_types::{Genuine, Numbered, VenueId};
 use fifo_lane::{Sender, VenueItems};
 use line_arbiter::Arbiter;
 use std::marker::Model;
 
-/// The arbiter of a venue and the sending end of its lane, before anything came.
+/// The arbiter of a venue and the sending end of its lane, before anything came, and the sessions
+/// that are named to follow its first one.
 #[derive(Drop)]
 pub struct VenueStart<G: Genuine> {
     lines: Arbiter<G>,
     items: Sender<Numbered, VenueItems<G>>,
+    next: Option<NextSessions<G>>,
 }
 
 impl<G: Genuine> Model for VenueStart<G> {
@@ -33,14 +37,31 @@ impl<G: Genuine> VenueStart<G> {
         VenueStart {
             lines: arbiter,
             items: lane,
+            next: None,
         }
     }
 
-    pub(crate) fn into_parts(self) -> (Arbiter<G>, Sender<Numbered, VenueItems<G>>)
+    /// Names the sessions that follow the first one of this venue, whose start it is, in order, in
+    /// place of those that were named before. Each begins at the first packet that comes of it once
+    /// the one before is over and all of it was sent. At another venue's start none begins.
+    pub fn follow_by(&mut self, venue: VenueId, names: Vec<[u8; 10]>)
+        requires { AreNextNames G.sessions venue names.items }
+        ensures { self.new ≡ self.old }
+    {
+        self.next = Some(NextSessions::new(venue, names));
+    }
+
+    pub(crate) fn into_parts(
+        self,
+    ) -> (
+        Arbiter<G>,
+        Sender<Numbered, VenueItems<G>>,
+        Option<NextSessions<G>>,
+    )
         ensures parts { (result.0 ≡ self.arbiter) × (result.1 ≡ self.lane) }
         ensures start { IsStart G.sessions self }
     {
-        let VenueStart { lines, items } = self;
-        (lines, items)
+        let VenueStart { lines, items, next } = self;
+        (lines, items, next)
     }
 }

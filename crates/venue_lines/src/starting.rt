@@ -68,7 +68,7 @@ fn locked<G: Genuine, N: FeedName>(
     ensures { length result.items ≡ length starts.items }
 {
     for start in starts {
-        let (arbiter, lane) = start.into_parts();
+        let (arbiter, lane, next) = start.into_parts();
         let cell = VenueCell::new(arbiter, lane);
         venues.push_reserved(CachePadded::new(Mutex::new(LockedVenue {
             cell,
@@ -76,6 +76,7 @@ fn locked<G: Genuine, N: FeedName>(
             requests: 0,
             places: 0,
             before_join: 0,
+            next,
         })));
     }
     venues

@@ -12,6 +12,20 @@ returns-in_err-request c =
       inr (c.in_ok-lines.lines.items, search rules, inl (search rules)),
     ))
 
+pub returns-in_err-next : goal.returns-in_err-next
+returns-in_err-next c =
+    let residual = c.from_residual-in_err-next in
+    let p = err_from_is_err_and residual.result residual.ensures.1 in
+    rw (p.1, p.2) (inr (
+      c.in_ok-sessions.sessions.items,
+      c.in_ok-sessions.ensures.reads,
+      inr (
+        c.in_ok-lines.lines.items,
+        search rules,
+        inr (c.in_ok-request.request, search rules, inl (search rules)),
+      ),
+    ))
+
 pub returns-in_err-symbols : goal.returns-in_err-symbols
 returns-in_err-symbols c =
     let residual = c.from_residual-in_err-symbols in
@@ -22,7 +36,11 @@ returns-in_err-symbols c =
       inr (
         c.in_ok-lines.lines.items,
         search rules,
-        inr (c.in_ok-request.request, search rules, inl (search rules)),
+        inr (
+          c.in_ok-request.request,
+          search rules,
+          inr (c.in_ok-next.next.items, search rules, inl (search rules)),
+        ),
       ),
     ))
 
@@ -37,17 +55,22 @@ returns c = (
       c.in_ok-request.request,
       search rules,
       (
-        c.in_ok-symbols.symbols.items,
-        c.in_ok-symbols.ensures,
+        c.in_ok-next.next.items,
+        search rules,
         (
-          record {
-            sessions_are = refl;
-            symbols_are = refl;
-            window_is = search rules;
-            journal_is = search rules;
-          },
-          refl,
-          refl,
+          c.in_ok-symbols.symbols.items,
+          c.in_ok-symbols.ensures,
+          (
+            record {
+              sessions_are = refl;
+              symbols_are = refl;
+              window_is = search rules;
+              journal_is = search rules;
+            },
+            refl,
+            refl,
+            refl,
+          ),
         ),
       ),
     ),

@@ -1,0 +1,48 @@
+//! What is said of a venue's session that begins while a run goes on.
+ghost use Rattle.std.specs.Prelude.{◌≡◌};
+ghost use Rattle.feed_text.specs.Devices.{Writing};
+ghost use Rattle.feed_text.specs.StandardError.{SaysEach};
+ghost use Rattle.run_watches.specs.SessionNews.{missed_texts, session_news_texts};
+
+use crate::gap_news::write_venue;
+use feed_text::{TextOut, write_number, write_stderr};
+use feed_types::VenueId;
+use run_notes::write_session_name;
+
+/// A session of a venue that has begun, and when.
+#[derive(Clone, Copy, Debug, PartialEq, Eq)]
+pub struct SessionNews {
+    /// How many seconds of the run had passed.
+    pub second: u64,
+    /// The venue.
+    pub venue: VenueId,
+    /// The session's name.
+    pub session: [u8; 10],
+    /// How many sessions before it have begun and ended since the last look.
+    pub missed: u64,
+}
+
+/// Writes the end of the line: how many sessions have begun and ended before, if any.
+fn write_missed<E: TextOut>(missed: u64, errors: &mut E)
+    ensures { SaysEach (record { adds = E.adds; failures = E.failures })
+        (missed_texts missed) errors.old errors.new }
+{
+    if missed == 0 {
+        write_stderr("\n", errors);
+        return;
+    }
+    write_stderr(", after ", errors);
+    write_number(missed, errors);
+    write_stderr(" that came and went since the last look\n", errors);
+}
+
+/// Writes that the session has begun.
+pub fn write_session_news<E: TextOut>(news: &SessionNews, errors: &mut E)
+    ensures { SaysEach (record { adds = E.adds; failures = E.failures })
+        (session_news_texts news.now) errors.old errors.new }
+{
+    write_venue(news.second, news.venue, errors);
+    write_stderr(" begins session ", errors);
+    write_session_name(&news.session, errors);
+    write_missed(news.missed, errors);
+}
