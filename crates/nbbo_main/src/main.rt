@@ -23,7 +23,7 @@ use command_words::{Refusal, explanation_of, symbol_words};
 use feed_text::{CaptureIn, Count, StreamIn, StreamOut, TextOut, write_stderr};
 use line_recordings::{RecordingState, SkipRecords};
 use nbbo_runs::{Next, RunFacts, Terminals, hint_at_file, journal_hint, refuse, run};
-use run_settings::{ListenSettings, NextSession};
+use run_settings::ListenSettings;
 use std::alloc::{AllocError, Global};
 use std::fs::File;
 use std::io::{ErrorKind, IsTerminal, Stderr, Stdin, Stdout};
@@ -368,7 +368,6 @@ where
         rt,
         rt.alloc(),
         settings,
-        next,
         sockets,
         streams,
     );
