@@ -1,9 +1,10 @@
 -- Which settings of `nbbo listen` have further options, and what follows from them where it isn't
 -- said.
-use Rattle.std.specs.Prelude.{ℕ, Bool, true, false, ◌||◌, if◌then◌else◌, is_some, unwrap_or, Option, Some, None}
+use Rattle.std.specs.Prelude.{ℕ, Bool, true, false, ◌||◌, if◌then◌else◌, is_some, unwrap_or, List, [], ◌∷◌, Option, Some, None}
 use Rattle.run_settings.specs.declared.end_rule.EndRule.{EndRule}
 use Rattle.run_settings.specs.declared.end_rule.EndRule.TheVariants.{AnySession, OwnSession, NoSession}
 use Rattle.run_settings.specs.Senders.{are_named}
+use Rattle.run_settings.specs.declared.next_session.NextSession.{NextSession}
 use Rattle.run_settings.specs.declared.listen_settings.ListenSettings.{ListenSettings}
 
 -- not an end of each session ends a line
@@ -11,6 +12,11 @@ abbrev pub passes_ends : EndRule → Bool
 passes_ends AnySession = false
 passes_ends OwnSession = true
 passes_ends NoSession = true
+
+-- there is one
+abbrev pub has_items : List NextSession → Bool
+has_items [] = false
+has_items (next ∷ later) = true
 
 -- there is an option beside those that say what is listened to, how much of it is read and kept,
 -- and where requests go
@@ -20,6 +26,7 @@ has_further_options settings =
     || (settings.join || is_some settings.skip_after)
     || (settings.follow || is_some settings.stats || is_some settings.metrics)
     || (are_named settings.senders || passes_ends settings.end)
+    || (has_items settings.next.items || is_some settings.record)
     || (is_some settings.request_after || is_some settings.silent_after)
     || (is_some settings.most_ahead || is_some settings.buffer)
 
