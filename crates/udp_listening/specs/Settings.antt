@@ -71,14 +71,14 @@ following_of settings venue = names_after venue settings.next.items
 -- the settings say, but with that of the last session alone where one follows another; line R goes
 -- on.
 pub record IsSourceOf (settings : ListenSettings) (venue : ℕ) (of : LineId) (line : LineState)
-  : Type 0 where
-    pub venue_is : line.venue ≡ venue
-    pub session : last_or (slice_get settings.feed.sessions.items venue)
-        (following_of settings venue) ≡ Some line.session
-    pub rule : line.rule ≡ end_rule_of of (end_followed (following_of settings venue) settings.end)
-    pub senders : line.senders ≡ senders_of settings.senders
-    pub most_ahead : line.most_ahead ≡ most_lead settings
-    pub left : line.left ≡ most_read_of of settings.datagrams
-    pub whole : line.failed ≡ false
-    pub unended : line.ended ≡ false
-    pub ender : line.ender ≡ None
+    : Type 0 where
+  pub venue_is : line.venue ≡ venue
+  pub session : last_or (slice_get settings.feed.sessions.items venue)
+      (following_of settings venue) ≡ Some line.session
+  pub rule : line.rule ≡ end_rule_of of (end_followed (following_of settings venue) settings.end)
+  pub senders : line.senders ≡ senders_of settings.senders
+  pub most_ahead : line.most_ahead ≡ most_lead settings
+  pub left : line.left ≡ most_read_of of settings.datagrams
+  pub whole : line.failed ≡ false
+  pub unended : line.ended ≡ false
+  pub ender : line.ender ≡ None
