@@ -19,7 +19,7 @@ use crate::locks::{VenueLocks, lock_spinning};
 use crate::looked::Looked;
 use crate::next_sessions::{NextSessions, renew_if_named};
 use crate::seat::LineSeat;
-use crate::timing::{last_sent, note_begun, note_time};
+use crate::timing::{last_sent, note_join, note_renewal, note_time};
 use feed_steps::{FeedName, Unsent};
 use feed_types::{Genuine, LineId, VenueId};
 use line_arbiter::{LineFault, Outcome, SkipFault};
@@ -380,17 +380,12 @@ impl<G: Genuine, N: FeedName> VenueLocks<G, N> {
             return Err(LineFault::OtherSession);
         };
         let mut locked = lock_spinning(rt, lock);
-        let last = note_time(&locked, self.bells().times(), time);
-        let taken = take_and_count(rt, &mut locked, seat, packet, join);
+        let last = locked.last_if_followed();
         let times = self.bells().times();
-        note_begun(
-            &locked.cell,
-            times,
-            taken.renewed,
-            last,
-            taken.joined,
-            packet,
-        );
+        note_time(&locked.cell, times, time);
+        let taken = take_and_count(rt, &mut locked, seat, packet, join);
+        note_renewal(&locked.cell, times, taken.renewed, last);
+        note_join(&locked.cell, times, taken.joined, packet);
         let (pushed, has_backlog) = taken.pushed;
         let answer = taken.answer;
         if let Err(fault) = answer {
