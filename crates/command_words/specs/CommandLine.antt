@@ -20,7 +20,6 @@ use Rattle.command_words.specs.CapturedLines.{ReadsAllLines}
 use Rattle.command_words.specs.Commands.{nbbo_app}
 use Rattle.command_words.specs.ListenRequests.{ReadsListening}
 use Rattle.command_words.specs.OptionValues.{lines_in, rows_of_command}
-use Rattle.command_words.specs.Recordings.{ReadsRecord}
 use Rattle.command_words.specs.Readings.{Gives, Then, and_then, mapped}
 use Rattle.command_words.specs.RunRequests.{ReadsReplay, ReadsStats}
 use Rattle.command_words.specs.StatsFormats.{stats_format_in}
@@ -67,9 +66,7 @@ OfCommand None Read Else result = Else result
 abbrev pub ReadsTask : Option (Text × List Row) → Result Task Refusal → Type 0
 ReadsTask found =
     OfCommand (rows_of_command (codes "listen") found)
-    (λ rows. Then (ReadsListening rows)
-    (λ settings. Then (ReadsRecord (first_of (codes "record") rows))
-    (λ record_to. Gives (Ok (Listen settings record_to)))))
+    (λ rows. Then (ReadsListening rows) (λ settings. Gives (Ok (Listen settings))))
     (OfCommand (rows_of_command (codes "convert") found) ReadsConversion
     (OfCommand (rows_of_command (codes "stats") found)
     (λ rows. Then (ReadsStats rows) (λ settings. Gives (Ok (Run settings))))

@@ -9,6 +9,7 @@ use Rattle.command_words.specs.ListenFormats.{listen_format_in}
 use Rattle.command_words.specs.NextSessions.{ReadsNextSessions}
 use Rattle.command_words.specs.OptionValues.{is_flag_set, lines_in, list_in, number_given, symbol_words_in}
 use Rattle.command_words.specs.Readings.{Gives, Then, Yields}
+use Rattle.command_words.specs.Recordings.{ReadsRecord}
 use Rattle.command_words.specs.SenderLists.{ReadsNamedSenders}
 use Rattle.command_words.specs.Sessions.{ReadsSessions}
 use Rattle.command_words.specs.StatsFormats.{listen_stats_in}
@@ -58,8 +59,8 @@ pub record HasListenOptions (rows : List Row) (settings : ListenSettings) : Type
   pub complete_is : settings.complete ≡ is_flag_set (one_of (codes "complete") rows)
   pub follow_is : settings.follow ≡ is_followed rows
 
--- The feed that is listened to, its lines, and where requests go. They are looked at in this order:
--- sessions, lines, address of requests, sessions that follow, symbols.
+-- The feed that is listened to, its lines, where requests go, and the sessions that follow. They are
+-- looked at in this order: sessions, lines, address of requests, sessions that follow, symbols.
 abbrev pub ReadsReception : List Row → Result Reception Refusal → Type 0
 ReadsReception rows =
     Then (ReadsSessions true (list_in rows))
@@ -70,7 +71,8 @@ ReadsReception rows =
     (λ symbols. Yields (λ reception.
     IsFeed rows (unwrap_or (number_given (one_of (codes "journal") rows))
     (usual_journal (is_followed rows))) sessions symbols reception.feed
-    × (reception.lines.items ≡ lines) × (reception.request ≡ request)))))))
+    × (reception.lines.items ≡ lines) × (reception.request ≡ request)
+    × (reception.next.items ≡ next)))))))
 
 -- Which ends end a line, how many changes are kept, and whose datagrams are taken, in this order.
 abbrev pub ReadsListenRules : List Row → Result ListenRules Refusal → Type 0
@@ -83,8 +85,8 @@ ReadsListenRules rows =
     (λ senders. Yields (λ rules.
     (rules.end ≡ end) × (rules.kept ≡ kept) × (rules.senders ≡ senders)))))
 
--- Where metrics are served, and which counts and which form of best lines are printed, in this
--- order.
+-- Where metrics are served, which counts and which form of best lines are printed, and into which
+-- file it is recorded what the lines bring, in this order.
 abbrev pub ReadsListenOutputs : List Row → Result ListenOutputs Refusal → Type 0
 ReadsListenOutputs rows =
     Then (ReadsMetrics (first_of (codes "metrics") rows))
@@ -92,13 +94,16 @@ ReadsListenOutputs rows =
     (first_of (codes "stats-format") rows)))
     (λ stats. Then (Gives (listen_format_in (is_followed rows) (first_of (codes "format") rows)
     (first_of (codes "times") rows)))
-    (λ format. Yields (λ outputs.
-    (outputs.metrics ≡ metrics) × (outputs.stats ≡ stats) × (outputs.format ≡ format)))))
+    (λ format. Then (ReadsRecord (first_of (codes "record") rows))
+    (λ record_to. Yields (λ outputs.
+    (outputs.metrics ≡ metrics) × (outputs.stats ≡ stats) × (outputs.format ≡ format)
+    × (outputs.record ≡ record_to))))))
 
 -- The settings have these parts.
 pub record HasParts (reception : Reception) (rules : ListenRules) (outputs : ListenOutputs)
     (settings : ListenSettings) : Type 0 where
   pub feed_is : settings.feed ≡ reception.feed
+  pub next_are : settings.next ≡ reception.next
   pub lines_are : settings.lines ≡ reception.lines
   pub request_is : settings.request ≡ reception.request
   pub end_is : settings.end ≡ rules.end
@@ -107,6 +112,7 @@ pub record HasParts (reception : Reception) (rules : ListenRules) (outputs : Lis
   pub metrics_are : settings.metrics ≡ outputs.metrics
   pub stats_are : settings.stats ≡ outputs.stats
   pub format_is : settings.format ≡ outputs.format
+  pub record_is : settings.record ≡ outputs.record
 
 -- The settings of listen by the values of its options: the feed is looked at first, then the rules,
 -- and then the outputs.

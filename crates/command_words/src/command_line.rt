@@ -1,22 +1,20 @@
 //! The requests of the words of the command line.
-ghost use Rattle.std.specs.Prelude.{◌≡◌, IfErr, IfOk, OnOk, codes, map, option_map, string_bytes};
+ghost use Rattle.std.specs.Prelude.{◌≡◌, IfErr, IfOk, OnOk, map, option_map, string_bytes};
 ghost use Rattle.clap.specs.Matches.{found_of};
 ghost use Rattle.clap.specs.Simple.{subcommand_of, subcommand_rows_of};
 ghost use Rattle.clap.specs.Values.{kind_of};
-ghost use Rattle.clap.specs.Walk.{first_of, rows_of};
+ghost use Rattle.clap.specs.Walk.{rows_of};
 ghost use Rattle.command_words.specs.CommandLine.{IsAccepted, IsOfVenues, IsRefusedByClap, ReadsConversion, ReadsDiscovery, ReadsTask, ReadsWords, RefusesBy};
 ghost use Rattle.command_words.specs.Commands.{nbbo_app};
 ghost use Rattle.command_words.specs.ListenRequests.{ReadsListening};
 ghost use Rattle.command_words.specs.OptionValues.{rows_of_command};
 ghost use Rattle.command_words.specs.Readings.{Gives, Then};
-ghost use Rattle.command_words.specs.Recordings.{ReadsRecord};
 ghost use Rattle.command_words.specs.RunRequests.{ReadsReplay, ReadsStats};
 
 use crate::captured_lines::read_all_lines;
 use crate::commands::nbbo_command;
 use crate::listen_words::listening_of;
 use crate::option_values::{given_text, text_of};
-use crate::recording::record_of;
 use crate::refusal::Refusal;
 use crate::run_words::{replay_of, stats_of};
 use crate::stats_format::read_stats_format;
@@ -66,16 +64,13 @@ fn options_of<'m, 'a>(matches: &'m ArgMatches<'a>, command: &str) -> Option<&'m 
     matches.subcommand_matches(command)
 }
 
-/// Returns the run of `listen` for which its options ask, and the file of its recording.
+/// Returns the run of `listen` for which its options ask.
 fn listening_task(alloc: Global, listen: &ArgMatches<'_>) -> Result<Task, Refusal>
     ensures reads { Then (ReadsListening (rows_of (found_of listen.now)))
-        (λ settings. Then (ReadsRecord (first_of (codes "record") (rows_of (found_of listen.now))))
-        (λ record_to. Gives (Ok (Task.Listen settings record_to)))) result }
+        (λ settings. Gives (Ok (Task.Listen settings))) result }
     ensures venues { IfOk result IsOfVenues }
 {
-    let settings = listening_of(alloc, listen)?;
-    let record_to = record_of(alloc, listen)?;
-    Ok(Task::Listen(settings, record_to))
+    Ok(Task::Listen(listening_of(alloc, listen)?))
 }
 
 /// Returns the run of `replay` for which its options ask.

@@ -39,7 +39,6 @@ mod listen_parts;
 mod listen_rules;
 mod listen_words;
 mod next_sessions;
-mod next_words;
 mod option_table;
 mod option_values;
 mod options;
@@ -63,6 +62,5 @@ mod time_words;
 
 pub use command_line::settings;
 pub use explanation::{explanation_of, symbol_words};
-pub use next_words::listened_next;
 pub use refusal::Refusal;
 pub use task::Task;

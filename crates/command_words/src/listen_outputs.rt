@@ -1,4 +1,4 @@
-//! What a run of `listen` tells of itself: its metrics, its counts, its best lines.
+//! What a run of `listen` tells of itself: its metrics, its counts, its best lines, its recording.
 ghost use Rattle.std.specs.Prelude.{◌≡◌, codes};
 ghost use Rattle.clap.specs.Matches.{found_of};
 ghost use Rattle.clap.specs.Walk.{first_of, one_of, rows_of};
@@ -13,10 +13,12 @@ use crate::listen_format::read_listen_format;
 use crate::listen_parts::ListenOutputs;
 use crate::option_values::{given_text, number_of};
 use crate::reception::is_followed;
+use crate::recording::record_of;
 use crate::refusal::Refusal;
 use crate::stats_format::read_listen_stats;
 use clap::ArgMatches;
 use run_settings::{BestFormat, ListenStats};
+use std::alloc::Global;
 use std::net::SocketAddr;
 
 /// Returns the address at which metrics are served that the option gives, if it is given.
@@ -52,15 +54,17 @@ fn listen_format_of(listen: &ArgMatches<'_>) -> Result<BestFormat, Refusal>
 }
 
 /// Returns what the options of `listen` say is told.
-pub fn listen_outputs_of(listen: &ArgMatches<'_>) -> Result<ListenOutputs, Refusal>
+pub fn listen_outputs_of(alloc: Global, listen: &ArgMatches<'_>) -> Result<ListenOutputs, Refusal>
     ensures { ReadsListenOutputs (rows_of (found_of listen.now)) result }
 {
     let metrics = metrics_of(listen)?;
     let stats = listen_stats_of(listen)?;
     let format = listen_format_of(listen)?;
+    let record = record_of(alloc, listen)?;
     Ok(ListenOutputs {
         metrics,
         stats,
         format,
+        record,
     })
 }

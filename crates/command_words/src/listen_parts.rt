@@ -1,13 +1,15 @@
 //! The parts of the settings of `listen`, as its options are read.
 ghost use Rattle.std.specs.Prelude.{◌≡◌, ◌*◌, vec_len};
 
-use run_settings::{BestFormat, EndRule, FeedSettings, ListenStats, Senders};
+use run_settings::{BestFormat, EndRule, FeedSettings, ListenStats, NextSession, Senders};
 use std::net::SocketAddr;
 
 /// What a run of `listen` receives.
 #[derive(Drop)]
 pub struct Reception {
     pub feed: FeedSettings,
+    /// The sessions that follow the venues' first ones, those of a venue in their order.
+    pub next: Vec<NextSession>,
     /// The address where each line is received, if it is there.
     pub lines: Vec<Option<SocketAddr>>,
     /// The address that requests for missing messages go to, if there is one.
@@ -26,7 +28,7 @@ pub struct ListenRules {
     pub senders: Senders,
 }
 
-/// What a run of `listen` tells of itself.
+/// What a run of `listen` tells of itself, and of its lines.
 #[derive(Drop)]
 pub struct ListenOutputs {
     /// The address at which the counts are served, if at any.
@@ -35,4 +37,6 @@ pub struct ListenOutputs {
     pub stats: Option<ListenStats>,
     /// The form of best lines.
     pub format: BestFormat,
+    /// The name of the file into which what the lines bring is recorded, if into any.
+    pub record: Option<String>,
 }

@@ -31,10 +31,11 @@ pub fn listening_of(alloc: Global, listen: &ArgMatches<'_>) -> Result<ListenSett
 {
     let reception = reception_of(alloc, listen)?;
     let rules = listen_rules_of(alloc, listen)?;
-    let outputs = listen_outputs_of(listen)?;
+    let outputs = listen_outputs_of(alloc, listen)?;
     let follow = is_followed(listen);
     Ok(ListenSettings {
         feed: reception.feed,
+        next: reception.next,
         lines: reception.lines,
         request: reception.request,
         request_after: number_of(listen, "request-after"),
@@ -54,5 +55,6 @@ pub fn listening_of(alloc: Global, listen: &ArgMatches<'_>) -> Result<ListenSett
         kept: rules.kept,
         stats: outputs.stats,
         metrics: outputs.metrics,
+        record: outputs.record,
     })
 }

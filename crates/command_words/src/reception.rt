@@ -57,7 +57,7 @@ fn sessions_of(alloc: Global, listen: &ArgMatches<'_>) -> Result<Vec<[u8; 10]>, 
 }
 
 /// Returns the sessions that follow the first ones of `venues` venues.
-pub(crate) fn next_sessions_of(
+fn next_sessions_of(
     alloc: Global,
     listen: &ArgMatches<'_>,
     venues: usize,
@@ -102,7 +102,7 @@ pub fn reception_of(alloc: Global, listen: &ArgMatches<'_>) -> Result<Reception,
     let sessions = sessions_of(alloc, listen)?;
     let lines = lines_of(alloc, listen, sessions.len())?;
     let request = request_of(listen, lines.as_slice())?;
-    let _next = next_sessions_of(alloc, listen, sessions.len())?;
+    let next = next_sessions_of(alloc, listen, sessions.len())?;
     let symbols = symbols_of(alloc, listen)?;
     let feed = FeedSettings {
         sessions,
@@ -112,6 +112,7 @@ pub fn reception_of(alloc: Global, listen: &ArgMatches<'_>) -> Result<Reception,
     };
     Ok(Reception {
         feed,
+        next,
         lines,
         request,
     })

@@ -11,7 +11,6 @@ pub enum Task {
     Convert(Vec<CapturedLine>),
     /// `nbbo lines`, with the form of its rows and the style of their times.
     Discover(StatsFormat, TimeStyle),
-    /// `nbbo listen`, with the name of the file into which what the lines bring is written, if into
-    /// any.
-    Listen(ListenSettings, Option<String>),
+    /// `nbbo listen`.
+    Listen(ListenSettings),
 }

@@ -117,14 +117,14 @@ where
     let (next, _output) = run_words(rt, input, output, &mut errors);
     match next {
         Next::Ended(status) => status,
-        Next::Listens(settings, record_to) => {
+        Next::Listens(settings) => {
             let counts = ListenCounts {
                 rows: Count::new(of_rows),
                 texts: Count::new(of_texts),
                 file: Count::new(of_file),
                 told: Count::new(of_told),
             };
-            listen_live::<H, _, L, M, F, T>(rt, threads, &settings, record_to, counts, errors)
+            listen_live::<H, _, L, M, F, T>(rt, threads, &settings, counts, errors)
         }
     }
 }
@@ -309,7 +309,6 @@ fn listen_live<H, E, L, M, F, T>(
     rt: &HostRuntime,
     threads: &H,
     settings: &ListenSettings,
-    record_to: Option<String>,
     counts: ListenCounts<L, M, F, T>,
     mut errors: E,
 ) -> u8
@@ -322,7 +321,7 @@ where
     T: Ledger + Send + 'static,
 {
     fill_streams(rt);
-    let Some(file) = opened(rt, &record_to, &mut errors) else {
+    let Some(file) = opened(rt, &settings.record, &mut errors) else {
         return 1;
     };
     let mut sockets = match bind_all(rt, settings) {

@@ -1,7 +1,6 @@
 -- A run of the program: from the words of the command line to what is read, what is written where,
 -- and the status, the last argument.
-use Rattle.std.specs.Prelude.{◌≡◌, ◌≢◌, ◌⊎◌, ℕ, ◌+◌, Bool, true, false, List, [], ◌∷◌, ◌++◌, length, Result, Option, String}
-use Rattle.std.specs.declared.alloc.Global.{Global}
+use Rattle.std.specs.Prelude.{◌≡◌, ◌≢◌, ◌⊎◌, ℕ, ◌+◌, Bool, true, false, List, [], ◌∷◌, ◌++◌, length, Result}
 use Rattle.clap.specs.Walk.{Text}
 use Rattle.feed_text.specs.declared.replay_stop.ReplayStop.{ReplayStop}
 use Rattle.feed_text.specs.Devices.{Writing, Wrote}
@@ -161,11 +160,10 @@ pub record Refused {R W E : Type 0} (devices : Devices R W E) (words : List Text
 
 -- ---- the whole
 
--- The words ask to listen, and for this recording of it, if for any; and nothing was read or
--- written.
+-- The words ask to listen, and nothing was read or written.
 pub record LeavesToListen {R W E : Type 0} (words : List Text) (settings : ListenSettings)
-    (record_to : Option (String Global)) (before after : Streams R W E) : Type 0 where
-  pub asked : Asks words (Listen settings record_to)
+    (before after : Streams R W E) : Type 0 where
+  pub asked : Asks words (Listen settings)
   pub untouched : after ≡ before
 
 -- The result of any run: its end, or that it is left to listen.
@@ -176,5 +174,5 @@ Leads devices words terminals before after (Ended status) =
     ⊎ Converted devices words terminals before after status
     ⊎ Discovered devices words terminals before after status
     ⊎ Refused devices words before after status
-Leads devices words terminals before after (Listens settings record_to) =
-    LeavesToListen words settings record_to before after
+Leads devices words terminals before after (Listens settings) =
+    LeavesToListen words settings before after

@@ -18,7 +18,7 @@ pub enum Next {
     /// The run is over; the status of the program.
     Ended(u8),
     /// The words ask to listen, and nothing else was done.
-    Listens(ListenSettings, Option<String>),
+    Listens(ListenSettings),
 }
 
 /// What hints are made of after a run.
@@ -134,8 +134,8 @@ pub fn run<R: CaptureIn + Drop, W: TextOut + Drop, E: TextOut>(
             let status = run_discovery(alloc, form, terminals, &mut input, &mut output, errors);
             ended(status, input, output, RunFacts::default())
         }
-        Ok(Task::Listen(settings, record_to)) => ProgramRun {
-            next: Next::Listens(settings, record_to),
+        Ok(Task::Listen(settings)) => ProgramRun {
+            next: Next::Listens(settings),
             input,
             output,
             facts: RunFacts::default(),

@@ -54,6 +54,7 @@ returns c = (
         },
         record {
           feed_is = refl;
+          next_are = refl;
           lines_are = refl;
           request_is = refl;
           end_is = refl;
@@ -62,6 +63,7 @@ returns c = (
           metrics_are = refl;
           stats_are = refl;
           format_is = refl;
+          record_is = refl;
         },
       ),
     ),

@@ -12,9 +12,9 @@ returns-in_err-request c =
       inr (c.in_ok-lines.lines.items, search rules, inl (search rules)),
     ))
 
-pub returns-in_err-_next : goal.returns-in_err-_next
-returns-in_err-_next c =
-    let residual = c.from_residual-in_err-_next in
+pub returns-in_err-next : goal.returns-in_err-next
+returns-in_err-next c =
+    let residual = c.from_residual-in_err-next in
     let p = err_from_is_err_and residual.result residual.ensures.1 in
     rw (p.1, p.2) (inr (
       c.in_ok-sessions.sessions.items,
@@ -39,7 +39,7 @@ returns-in_err-symbols c =
         inr (
           c.in_ok-request.request,
           search rules,
-          inr (c.in_ok-_next._next.items, search rules, inl (search rules)),
+          inr (c.in_ok-next.next.items, search rules, inl (search rules)),
         ),
       ),
     ))
@@ -55,7 +55,7 @@ returns c = (
       c.in_ok-request.request,
       search rules,
       (
-        c.in_ok-_next._next.items,
+        c.in_ok-next.next.items,
         search rules,
         (
           c.in_ok-symbols.symbols.items,
@@ -67,6 +67,7 @@ returns c = (
               window_is = search rules;
               journal_is = search rules;
             },
+            refl,
             refl,
             refl,
           ),
