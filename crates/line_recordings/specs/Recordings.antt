@@ -1,11 +1,13 @@
 -- What a recording makes of what its senders hand over, venue by venue.
 use Rattle.std.specs.Prelude.{◌≡◌, ℕ, ◌+◌, ◌-◌, ◌/◌, ◌%◌, ◌^◌, ◌&&◌, nat_le, nat_lt, Bool, true, false, List, [], ◌∷◌, ◌++◌, length, flat_map, min, Option, None, Some}
+use Rattle.feed_types.specs.declared.line.LineId.{LineId}
 use Rattle.feed_types.specs.declared.line.LineId.TheVariants.{A, B, Recovery}
 use Rattle.feed_types.specs.Text.{line_letter}
 use Rattle.rtrb.specs.Ring.{received}
 use Rattle.line_recordings.specs.declared.placed.Placed.{Placed}
 use Rattle.line_recordings.specs.declared.record_kind.RecordKind.{RecordKind}
 use Rattle.line_recordings.specs.declared.record_kind.RecordKind.TheVariants.{Line, Skip}
+use Rattle.line_recordings.specs.declared.record_source.RecordSource.{RecordSource}
 use Rattle.line_recordings.specs.declared.venue_records.Taken.{Taken}
 use Rattle.line_recordings.specs.declared.venue_records.Taken.TheVariants as takes
 use Rattle.line_recordings.specs.declared.venue_records.VenueRecords.{VenueRecords}
@@ -21,6 +23,16 @@ came venue (Line A) = received venue.of_a.records
 came venue (Line B) = received venue.of_b.records
 came venue (Line Recovery) = received venue.of_recovery.records
 came venue Skip = received venue.of_skips.records
+
+-- nothing has come of the venue's lines
+abbrev pub HasHeardNone : VenueRecords → Type 0
+HasHeardNone venue = (line : LineId) → came venue (Line line) ≡ []
+
+-- the venue, whose line is heard from this source from now on
+abbrev pub hearing : VenueRecords → LineId → RecordSource → VenueRecords
+hearing venue A source = record venue { of_a = source }
+hearing venue B source = record venue { of_b = source }
+hearing venue Recovery source = record venue { of_recovery = source }
 
 -- a record of a recording: its kind, and what came
 pub record Recorded : Type 0 where

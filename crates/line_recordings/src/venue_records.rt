@@ -1,10 +1,10 @@
 //! What came of a venue, in its order.
-ghost use Rattle.std.specs.Prelude.{◌≡◌, ◌≤◌, ◌<◌, ◌/◌, ◌%◌, ◌++◌, [], ◌∷◌, MatchOption, length};
-ghost use Rattle.line_recordings.specs.Recordings.{ComesFrom, IsTaken, IsUnchanged, NoneComes, PutsRecords, is_next, kind_letter};
+ghost use Rattle.std.specs.Prelude.{◌≡◌, ◌≤◌, ◌<◌, ◌/◌, ◌%◌, ◌++◌, [], ◌∷◌, IfOk, MatchOption, length};
+ghost use Rattle.line_recordings.specs.Recordings.{ComesFrom, HasHeardNone, IsTaken, IsUnchanged, NoneComes, PutsRecords, hearing, is_next, kind_letter};
 
 use crate::placed::Placed;
 use crate::record_kind::RecordKind;
-use crate::record_source::RecordSource;
+use crate::record_source::{RecordSource, silent_source};
 use feed_text::ReadBuffer;
 use feed_types::{LineId, VenueId};
 use std::alloc::{AllocError, Global};
@@ -62,15 +62,6 @@ pub struct VenueRecords {
     pub(crate) of_skips: RecordSource,
 }
 
-/// The sources of a venue, one of each kind.
-#[derive(Drop)]
-pub struct VenueSources {
-    pub of_a: RecordSource,
-    pub of_b: RecordSource,
-    pub of_recovery: RecordSource,
-    pub of_skips: RecordSource,
-}
-
 /// Appends the bytes of a record.
 fn put_record(page: &mut ReadBuffer<PAGE>, venue: VenueId, kind: RecordKind, bytes: &[u8])
     requires len { length bytes.now < 65536 }
@@ -89,23 +80,39 @@ fn put_record(page: &mut ReadBuffer<PAGE>, venue: VenueId, kind: RecordKind, byt
 }
 
 impl VenueRecords {
-    /// What came of the venue, of which nothing is written.
-    pub fn new(venue: VenueId, sources: VenueSources) -> VenueRecords {
-        let VenueSources {
-            of_a,
-            of_b,
-            of_recovery,
-            of_skips,
-        } = sources;
-        VenueRecords {
+    /// What comes of the venue, of which nothing is written: its skips come from this source, and of
+    /// its lines nothing comes yet.
+    pub fn new(
+        alloc: Global,
+        venue: VenueId,
+        of_skips: RecordSource,
+    ) -> Result<VenueRecords, AllocError>
+        ensures venue { IfOk result (λ records. records.venue ≡ venue) }
+        ensures next { IfOk result (λ records. records.next ≡ 1) }
+        ensures left_out { IfOk result (λ records. records.left_out ≡ 0) }
+        ensures skips { IfOk result (λ records. records.of_skips ≡ of_skips) }
+        ensures lines { IfOk result HasHeardNone }
+    {
+        Ok(VenueRecords {
             venue,
             next: 1,
             left_out: 0,
             waited: 0,
-            of_a,
-            of_b,
-            of_recovery,
+            of_a: silent_source(alloc)?,
+            of_b: silent_source(alloc)?,
+            of_recovery: silent_source(alloc)?,
             of_skips,
+        })
+    }
+
+    /// Hears the line from this source from now on.
+    pub fn hear(&mut self, line: LineId, source: RecordSource)
+        ensures { self.new ≡ hearing self.old line source }
+    {
+        match line {
+            LineId::A => self.of_a = source,
+            LineId::B => self.of_b = source,
+            LineId::Recovery => self.of_recovery = source,
         }
     }
 

@@ -1,0 +1,10 @@
+use Rattle.std.proofs.Common.{◌≡◌, All, map}
+use Rattle.udp_listening.specs.Bound.{IsRecorded, bound_line}
+use Rattle.udp_listening.proofs.recorders.lines_recorded.Given as goal
+
+abbrev pub invariant-loop-bound : goal.invariant-loop-bound
+invariant-loop-bound g l =
+    (goal.iterator-loop-bound g).can_next l.bound-iterator
+    × (goal.iterator-loop-bound g).is_finite l.bound-iterator
+    × (map bound_line l.recorded.items ≡ map bound_line l.yielded)
+    × All IsRecorded l.recorded.items
