@@ -39,11 +39,18 @@ pub record Recorded : Type 0 where
   pub kind : RecordKind
   pub placed : Placed
 
--- the bytes of the record in the own format, of this venue
+-- the record of a renewal in the own format, if the venue's session of this name has begun
+abbrev pub renewal_bytes : (venue : ℕ) → (begun : Option (List ℕ)) → List ℕ
+renewal_bytes venue None = []
+renewal_bytes venue (Some name) = venue ∷ 78 ∷ 0 ∷ 10 ∷ name
+
+-- the bytes of what came in the own format, of this venue: its record, and before it that of the
+-- renewal, if a session has begun at it
 abbrev pub recorded_bytes : (venue : ℕ) → Recorded → List ℕ
 recorded_bytes venue r =
     let len = length r.placed.bytes.items in
-    venue ∷ kind_letter r.kind ∷ len / 256 ∷ len % 256 ∷ r.placed.bytes.items
+    renewal_bytes venue r.placed.begun
+    ++ (venue ∷ kind_letter r.kind ∷ len / 256 ∷ len % 256 ∷ r.placed.bytes.items)
 
 -- What comes may be written, where the records before it end at the place before `next`: it isn't
 -- before that, and it is no longer than a record may be.

@@ -1,6 +1,6 @@
 //! What came of a venue, in its order.
 ghost use Rattle.std.specs.Prelude.{◌≡◌, ◌≤◌, ◌<◌, ◌/◌, ◌%◌, ◌++◌, [], ◌∷◌, IfOk, MatchOption, length};
-ghost use Rattle.line_recordings.specs.Recordings.{ComesFrom, HasHeardNone, IsTaken, IsUnchanged, NoneComes, PutsRecords, hearing, is_next, kind_letter};
+ghost use Rattle.line_recordings.specs.Recordings.{ComesFrom, HasHeardNone, IsTaken, IsUnchanged, NoneComes, PutsRecords, hearing, is_next, kind_letter, renewal_bytes};
 
 use crate::placed::Placed;
 use crate::record_kind::RecordKind;
@@ -15,8 +15,8 @@ use std::sync::atomic::AtomicU64;
 pub const PAGE: usize = 131_072;
 
 /// How many may wait before another record is put: as many as leave room for a longest one, which
-/// has 65,539.
-pub(crate) const FULL: usize = 65_533;
+/// has 65,539, and that of a renewal before it, which has 14.
+pub(crate) const FULL: usize = 65_519;
 
 /// The most bytes of a record, but for the four before them.
 const LONGEST: usize = 65_535;
@@ -60,6 +60,18 @@ pub struct VenueRecords {
     pub(crate) of_b: RecordSource,
     pub(crate) of_recovery: RecordSource,
     pub(crate) of_skips: RecordSource,
+}
+
+/// Appends the record of a renewal, if the venue's session of this name has begun.
+fn put_renewal(page: &mut ReadBuffer<PAGE>, venue: VenueId, begun: Option<[u8; 10]>)
+    requires room { length page.old ≤ 65519 }
+    ensures { page.new ≡ page.old ++ renewal_bytes venue begun }
+    ensures room { length page.new ≤ 65533 }
+{
+    if let Some(name) = begun {
+        page.push(&[venue.index() as u8, b'N', 0, 10]);
+        page.push(&name);
+    }
 }
 
 /// Appends the bytes of a record.
@@ -224,7 +236,7 @@ impl VenueRecords {
 
     /// Puts the records on the page that are next of the venue, as far as that has room. What is
     /// missing before them is waited for in some looks, and with `is_last` not any more. Returns
-    /// how many records were put.
+    /// how many were put, not counting renewals.
     pub fn put_ready(&mut self, is_last: bool, page: &mut ReadBuffer<PAGE>) -> u64
         ensures { PutsRecords self.old self.new page.old page.new }
     {
@@ -237,6 +249,7 @@ impl VenueRecords {
                 Taken::Nothing => break,
                 Taken::LeftOut => {}
                 Taken::Next(kind, placed) => {
+                    put_renewal(page, self.venue, placed.begun);
                     put_record(page, self.venue, kind, placed.bytes.as_slice());
                     count = count.saturating_add(1);
                     self.give_back(kind, placed.bytes);
