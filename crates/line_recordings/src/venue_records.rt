@@ -65,7 +65,7 @@ pub struct VenueRecords {
 /// Appends the record of a renewal, if the venue's session of this name has begun.
 fn put_renewal(page: &mut ReadBuffer<PAGE>, venue: VenueId, begun: Option<[u8; 10]>)
     requires room { length page.old ≤ 65519 }
-    ensures { page.new ≡ page.old ++ renewal_bytes venue begun }
+    ensures puts { page.new ≡ page.old ++ renewal_bytes venue begun }
     ensures room { length page.new ≤ 65533 }
 {
     if let Some(name) = begun {
