@@ -156,7 +156,7 @@ of_session_if w rule watch now status false s t said =
     unsaid w (IsNewsOfGap rule watch.venue) s t said
 
 -- the watch stays its venue's
-begun_venue : (watch : GapWatch) (status : VenueStatus)
+pub begun_venue : (watch : GapWatch) (status : VenueStatus)
     → (watch_begun watch status).venue ≡ watch.venue
 begun_venue watch status = elim (cases_Bool (nat_lt watch.ordinal status.ordinal)) [
   | inl later ↦ rw later refl
