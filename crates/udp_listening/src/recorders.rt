@@ -58,6 +58,7 @@ fn record_line(
 }
 
 /// Has each of these lines hand over what its venue took.
+#[tactic(auto, using(crate::proofs::Recorded::line_more, crate::proofs::Recorded::recorded_more))]
 fn lines_recorded(
     alloc: Global,
     venues: &mut [VenueRecords],
@@ -69,7 +70,8 @@ fn lines_recorded(
 {
     let mut recorded = Vec::new(alloc);
     for bound in lines {
-        recorded.push(record_line(alloc, venues, bound)?)?;
+        let line = record_line(alloc, venues, bound)?;
+        recorded.push(line)?;
     }
     Ok(recorded)
 }

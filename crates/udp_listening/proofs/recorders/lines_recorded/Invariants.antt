@@ -3,8 +3,8 @@ use Rattle.udp_listening.specs.Bound.{IsRecorded, bound_line}
 use Rattle.udp_listening.proofs.recorders.lines_recorded.Given as goal
 
 abbrev pub invariant-loop-bound : goal.invariant-loop-bound
-invariant-loop-bound g l =
-    (goal.iterator-loop-bound g).can_next l.bound-iterator
-    × (goal.iterator-loop-bound g).is_finite l.bound-iterator
+invariant-loop-bound l =
+    goal.iterator-loop-bound.can_next l.bound-iterator
+    × goal.iterator-loop-bound.is_finite l.bound-iterator
     × (map bound_line l.recorded.items ≡ map bound_line l.yielded)
     × All IsRecorded l.recorded.items
