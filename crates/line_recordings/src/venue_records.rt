@@ -92,8 +92,8 @@ fn put_record(page: &mut ReadBuffer<PAGE>, venue: VenueId, kind: RecordKind, byt
 }
 
 impl VenueRecords {
-    /// What comes of the venue, of which nothing is written: its skips come from this source, and of
-    /// its lines nothing comes yet.
+    /// What comes of the venue, of which nothing is written: its skips come from this source, and
+    /// of its lines nothing comes yet.
     pub fn new(
         alloc: Global,
         venue: VenueId,
