@@ -3,7 +3,7 @@ use Rattle.std.proofs.Common.{◌≡◌, ◌∙◌, All, ℕ, List, [], ◌∷�
 use Rattle.std.proofs.lemmas.List.{map-append}
 use Rattle.std.proofs.lemmas.List.Elements.{All-append, All-cons, All-nil}
 use Rattle.feed_types.specs.declared.line.LineId.{LineId}
-use Rattle.udp_listening.specs.Bound.{IsRecorded, bound_line}
+use Rattle.udp_listening.specs.Bound.{HasRecorder, bound_line}
 use Rattle.udp_listening.specs.declared.listen_sockets.BoundLine.{BoundLine}
 
 -- it is the line that it was
@@ -18,9 +18,9 @@ line_more old new yielded bound line before added same =
     ∙ sym (map-append bound_line yielded (bound ∷ []))
 
 -- and is recorded
-pub recorded_more : (old new : List BoundLine) (line : BoundLine) → All IsRecorded old
-    → new ≡ old ++ line ∷ [] → IsRecorded line → All IsRecorded new
+pub recorded_more : (old new : List BoundLine) (line : BoundLine) → All HasRecorder old
+    → new ≡ old ++ line ∷ [] → HasRecorder line → All HasRecorder new
 recorded_more old new line before added recorded =
-    subst (λ (l : List BoundLine). All IsRecorded l) (sym added)
-    (All-append IsRecorded old (line ∷ []) before
-    (All-cons IsRecorded line [] recorded (All-nil IsRecorded)))
+    subst (λ (l : List BoundLine). All HasRecorder l) (sym added)
+    (All-append HasRecorder old (line ∷ []) before
+    (All-cons HasRecorder line [] recorded (All-nil HasRecorder)))

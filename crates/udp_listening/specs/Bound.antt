@@ -12,8 +12,8 @@ abbrev pub bound_line : BoundLine → ℕ × LineId
 bound_line bound = (bound.venue, bound.line)
 
 -- the line hands over what its venue took, for a recording
-abbrev pub IsRecorded : BoundLine → Type 0
-IsRecorded bound = IsTrue (is_some bound.records)
+abbrev pub HasRecorder : BoundLine → Type 0
+HasRecorder bound = IsTrue (is_some bound.records)
 
 -- the line at a place of the settings, where it has an address
 abbrev pub asked_line : ℕ → Option SocketAddr → List (ℕ × LineId)

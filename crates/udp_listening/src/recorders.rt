@@ -1,6 +1,6 @@
 //! What of a run is recorded.
 ghost use Rattle.std.specs.Prelude.{◌≡◌, All, IfOk, OnOk, map};
-ghost use Rattle.udp_listening.specs.Bound.{IsRecorded, bound_line};
+ghost use Rattle.udp_listening.specs.Bound.{HasRecorder, bound_line};
 
 use crate::listen_sockets::{BoundLine, ListenSockets};
 use feed_types::VenueId;
@@ -45,7 +45,7 @@ fn record_line(
     bound: BoundLine,
 ) -> Result<BoundLine, AllocError>
     ensures line { IfOk result (λ line. line ≡ record bound { records = line.records }) }
-    ensures recorded { IfOk result IsRecorded }
+    ensures recorded { IfOk result HasRecorder }
 {
     let (sender, source) = recorder_pair(alloc, LINE_ROOM)?;
     if let Some(of_venue) = venues.get_mut(bound.venue.index()) {
@@ -66,7 +66,7 @@ fn lines_recorded(
 ) -> Result<Vec<BoundLine>, AllocError>
     ensures lines { IfOk result (λ recorded. map bound_line recorded.items
         ≡ map bound_line lines.items) }
-    ensures recorded { IfOk result (λ recorded. All IsRecorded recorded.items) }
+    ensures recorded { IfOk result (λ recorded. All HasRecorder recorded.items) }
 {
     let mut recorded = Vec::new(alloc);
     for bound in lines {
@@ -86,7 +86,7 @@ pub fn record_lines(
 ) -> Result<Vec<VenueRecords>, AllocError>
     ensures lines { OnOk result (map bound_line sockets.new.lines.items
         ≡ map bound_line sockets.old.lines.items) }
-    ensures recorded { OnOk result (All IsRecorded sockets.new.lines.items) }
+    ensures recorded { OnOk result (All HasRecorder sockets.new.lines.items) }
 {
     let mut records = records_of(alloc, venues)?;
     let lines = mem::replace(&mut sockets.lines, Vec::new(alloc));

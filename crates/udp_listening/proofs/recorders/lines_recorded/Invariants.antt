@@ -1,5 +1,5 @@
 use Rattle.std.proofs.Common.{◌≡◌, All, map}
-use Rattle.udp_listening.specs.Bound.{IsRecorded, bound_line}
+use Rattle.udp_listening.specs.Bound.{HasRecorder, bound_line}
 use Rattle.udp_listening.proofs.recorders.lines_recorded.Given as goal
 
 abbrev pub invariant-loop-bound : goal.invariant-loop-bound
@@ -7,4 +7,4 @@ invariant-loop-bound l =
     goal.iterator-loop-bound.can_next l.bound-iterator
     × goal.iterator-loop-bound.is_finite l.bound-iterator
     × (map bound_line l.recorded.items ≡ map bound_line l.yielded)
-    × All IsRecorded l.recorded.items
+    × All HasRecorder l.recorded.items
