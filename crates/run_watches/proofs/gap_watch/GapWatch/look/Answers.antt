@@ -16,7 +16,8 @@ returns-clause-looks g c =
       shown = search (rules, c.status.ensures, c.in-Some.is);
       says =
           looked w (λ (venue : ℕ). skipping.post c.args.skip venue) c.args.rule.now
-          c.args.self.now c.tell_session.new.self c.stand.new.self c.tell_joins.new.self c.tell.new.self c.args.now_ms c.in-Some.status c.args.errors.now
+          c.args.self.now c.tell_session.new.self c.stand.new.self c.tell_joins.new.self
+          c.tell.new.self c.args.now_ms c.in-Some.status c.args.errors.now
           c.tell_session.new.errors c.tell_joins.new.errors c.tell.new.errors c.give_up.new.errors
           c.tell_session.ensures.watch c.stand.ensures c.tell_joins.ensures.watch
           c.tell.ensures.watch c.tell_session.ensures.tells c.tell_joins.ensures.tells
