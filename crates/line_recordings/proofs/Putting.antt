@@ -123,6 +123,12 @@ puts_left old mid left new before page after a b e p = record {
       (sym (append-nil (recorded_text old.venue a.fates)) ∙ sym (text_more old.venue a.fates None));
 }
 
+-- the record of a renewal is put, if there is one, and then another
+pub page_more : (page between after renewal bytes : List ℕ) → between ≡ page ++ renewal
+    → after ≡ between ++ bytes → after ≡ page ++ (renewal ++ bytes)
+page_more page between after renewal bytes a b =
+    b ∙ ap (λ (p : List ℕ). p ++ bytes) a ∙ append_assoc page renewal bytes
+
 -- and then a record is put
 pub puts_next : (old mid last left new : VenueRecords) (before page after : List ℕ) (r : Recorded)
     → PutsRecords old mid before page → IsNextRecord mid last r → IsUnchanged last left

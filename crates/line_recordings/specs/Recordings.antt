@@ -1,11 +1,13 @@
 -- What a recording makes of what its senders hand over, venue by venue.
 use Rattle.std.specs.Prelude.{◌≡◌, ℕ, ◌+◌, ◌-◌, ◌/◌, ◌%◌, ◌^◌, ◌&&◌, nat_le, nat_lt, Bool, true, false, List, [], ◌∷◌, ◌++◌, length, flat_map, min, Option, None, Some}
+use Rattle.feed_types.specs.declared.line.LineId.{LineId}
 use Rattle.feed_types.specs.declared.line.LineId.TheVariants.{A, B, Recovery}
 use Rattle.feed_types.specs.Text.{line_letter}
 use Rattle.rtrb.specs.Ring.{received}
 use Rattle.line_recordings.specs.declared.placed.Placed.{Placed}
 use Rattle.line_recordings.specs.declared.record_kind.RecordKind.{RecordKind}
 use Rattle.line_recordings.specs.declared.record_kind.RecordKind.TheVariants.{Line, Skip}
+use Rattle.line_recordings.specs.declared.record_source.RecordSource.{RecordSource}
 use Rattle.line_recordings.specs.declared.venue_records.Taken.{Taken}
 use Rattle.line_recordings.specs.declared.venue_records.Taken.TheVariants as takes
 use Rattle.line_recordings.specs.declared.venue_records.VenueRecords.{VenueRecords}
@@ -22,16 +24,33 @@ came venue (Line B) = received venue.of_b.records
 came venue (Line Recovery) = received venue.of_recovery.records
 came venue Skip = received venue.of_skips.records
 
+-- nothing has come of the venue's lines
+abbrev pub HasHeardNone : VenueRecords → Type 0
+HasHeardNone venue = (line : LineId) → came venue (Line line) ≡ []
+
+-- the venue, whose line is heard from this source from now on
+abbrev pub hearing : VenueRecords → LineId → RecordSource → VenueRecords
+hearing venue A source = record venue { of_a = source }
+hearing venue B source = record venue { of_b = source }
+hearing venue Recovery source = record venue { of_recovery = source }
+
 -- a record of a recording: its kind, and what came
 pub record Recorded : Type 0 where
   pub kind : RecordKind
   pub placed : Placed
 
--- the bytes of the record in the own format, of this venue
+-- the record of a renewal in the own format, if the venue's session of this name has begun
+abbrev pub renewal_bytes : (venue : ℕ) → (begun : Option (List ℕ)) → List ℕ
+renewal_bytes venue None = []
+renewal_bytes venue (Some name) = venue ∷ 78 ∷ 0 ∷ 10 ∷ name
+
+-- the bytes of what came in the own format, of this venue: its record, and before it that of the
+-- renewal, if a session has begun at it
 abbrev pub recorded_bytes : (venue : ℕ) → Recorded → List ℕ
 recorded_bytes venue r =
     let len = length r.placed.bytes.items in
-    venue ∷ kind_letter r.kind ∷ len / 256 ∷ len % 256 ∷ r.placed.bytes.items
+    renewal_bytes venue r.placed.begun
+    ++ (venue ∷ kind_letter r.kind ∷ len / 256 ∷ len % 256 ∷ r.placed.bytes.items)
 
 -- What comes may be written, where the records before it end at the place before `next`: it isn't
 -- before that, and it is no longer than a record may be.

@@ -30,4 +30,4 @@ pub use recording::Recording;
 pub use recording_state::RecordingState;
 pub use recording_thread::write_recording;
 pub use skip_records::SkipRecords;
-pub use venue_records::{Taken, VenueRecords, VenueSources};
+pub use venue_records::{Taken, VenueRecords};

@@ -68,15 +68,19 @@ impl RecordSender {
         }
     }
 
-    /// Hands over what the venue took at this place. Where there is no room for it, or no memory,
-    /// it is lost, and counted.
+    /// Hands over what the venue took at this place, and that its session of this name has begun at
+    /// it, if one has. Where there is no room for it, or no memory, it is lost, and counted.
     #[tactic(auto, using(crate::proofs::Handing::handed))]
-    pub fn record(&mut self, place: u64, bytes: &[u8])
-        ensures { SendsOrLoses self.old place bytes.now self.new }
+    pub fn record(&mut self, place: u64, begun: Option<[u8; 10]>, bytes: &[u8])
+        ensures { SendsOrLoses self.old place begun bytes.now self.new }
     {
         self.given.fetch_add(1, Ordering::SeqCst);
         if let Ok(bytes) = self.copied(bytes) {
-            let placed = Placed { place, bytes };
+            let placed = Placed {
+                place,
+                begun,
+                bytes,
+            };
             match self.records.push(placed) {
                 Ok(()) => return,
                 Err(full) => drop(full),
@@ -86,11 +90,17 @@ impl RecordSender {
     }
 }
 
-/// Hands over what the venue took at this place, where it is recorded.
-pub fn hand_over(records: &mut Option<RecordSender>, place: u64, bytes: &[u8])
-    ensures { HandsOver records.old place bytes.now records.new }
+/// Hands over what the venue took at this place, and that its session of this name has begun at it,
+/// if one has, where it is recorded.
+pub fn hand_over(
+    records: &mut Option<RecordSender>,
+    place: u64,
+    begun: Option<[u8; 10]>,
+    bytes: &[u8],
+)
+    ensures { HandsOver records.old place begun bytes.now records.new }
 {
     if let Some(sender) = records {
-        sender.record(place, bytes);
+        sender.record(place, begun, bytes);
     }
 }

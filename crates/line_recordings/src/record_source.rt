@@ -1,8 +1,9 @@
 //! The end of a recording where what a line's thread handed over comes out.
-ghost use Rattle.std.specs.Prelude.{◌≡◌, [], ◌∷◌, ◌++◌, MatchOption};
+ghost use Rattle.std.specs.Prelude.{◌≡◌, [], ◌∷◌, ◌++◌, IfOk, MatchOption};
 ghost use Rattle.rtrb.specs.Ring.{received};
 
 use crate::placed::Placed;
+use crate::record_sender::recorder_pair;
 use rtrb::{Consumer, Producer};
 use std::alloc::{AllocError, Global};
 use std::sync::Arc;
@@ -16,6 +17,14 @@ pub struct RecordSource {
     pub(crate) used: Producer<Vec<u8>>,
     /// How many the sender was given.
     pub(crate) given: Arc<AtomicU64, Global>,
+}
+
+/// Returns a source that nothing comes out of.
+pub(crate) fn silent_source(alloc: Global) -> Result<RecordSource, AllocError>
+    ensures { IfOk result (λ source. received source.records ≡ []) }
+{
+    let (_sender, source) = recorder_pair(alloc, 1)?;
+    Ok(source)
 }
 
 impl RecordSource {

@@ -36,7 +36,7 @@ impl SkipRecords {
         };
         if let Some(cell) = self.venues.get(venue.index()) {
             if let Some(mut sender) = cell.take() {
-                sender.record(place, &number.to_be_bytes());
+                sender.record(place, None, &number.to_be_bytes());
                 cell.set(Some(sender));
             }
         }

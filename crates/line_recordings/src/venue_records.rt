@@ -1,10 +1,10 @@
 //! What came of a venue, in its order.
-ghost use Rattle.std.specs.Prelude.{◌≡◌, ◌≤◌, ◌<◌, ◌/◌, ◌%◌, ◌++◌, [], ◌∷◌, MatchOption, length};
-ghost use Rattle.line_recordings.specs.Recordings.{ComesFrom, IsTaken, IsUnchanged, NoneComes, PutsRecords, is_next, kind_letter};
+ghost use Rattle.std.specs.Prelude.{◌≡◌, ◌≤◌, ◌<◌, ◌/◌, ◌%◌, ◌++◌, [], ◌∷◌, IfOk, MatchOption, length};
+ghost use Rattle.line_recordings.specs.Recordings.{ComesFrom, HasHeardNone, IsTaken, IsUnchanged, NoneComes, PutsRecords, hearing, is_next, kind_letter, renewal_bytes};
 
 use crate::placed::Placed;
 use crate::record_kind::RecordKind;
-use crate::record_source::RecordSource;
+use crate::record_source::{RecordSource, silent_source};
 use feed_text::ReadBuffer;
 use feed_types::{LineId, VenueId};
 use std::alloc::{AllocError, Global};
@@ -15,8 +15,8 @@ use std::sync::atomic::AtomicU64;
 pub const PAGE: usize = 131_072;
 
 /// How many may wait before another record is put: as many as leave room for a longest one, which
-/// has 65,539.
-pub(crate) const FULL: usize = 65_533;
+/// has 65,539, and that of a renewal before it, which has 14.
+pub(crate) const FULL: usize = 65_519;
 
 /// The most bytes of a record, but for the four before them.
 const LONGEST: usize = 65_535;
@@ -62,13 +62,16 @@ pub struct VenueRecords {
     pub(crate) of_skips: RecordSource,
 }
 
-/// The sources of a venue, one of each kind.
-#[derive(Drop)]
-pub struct VenueSources {
-    pub of_a: RecordSource,
-    pub of_b: RecordSource,
-    pub of_recovery: RecordSource,
-    pub of_skips: RecordSource,
+/// Appends the record of a renewal, if the venue's session of this name has begun.
+fn put_renewal(page: &mut ReadBuffer<PAGE>, venue: VenueId, begun: Option<[u8; 10]>)
+    requires room { length page.old ≤ 65519 }
+    ensures puts { page.new ≡ page.old ++ renewal_bytes venue begun }
+    ensures room { length page.new ≤ 65533 }
+{
+    if let Some(name) = begun {
+        page.push(&[venue.index() as u8, b'N', 0, 10]);
+        page.push(&name);
+    }
 }
 
 /// Appends the bytes of a record.
@@ -89,23 +92,39 @@ fn put_record(page: &mut ReadBuffer<PAGE>, venue: VenueId, kind: RecordKind, byt
 }
 
 impl VenueRecords {
-    /// What came of the venue, of which nothing is written.
-    pub fn new(venue: VenueId, sources: VenueSources) -> VenueRecords {
-        let VenueSources {
-            of_a,
-            of_b,
-            of_recovery,
-            of_skips,
-        } = sources;
-        VenueRecords {
+    /// What comes of the venue, of which nothing is written: its skips come from this source, and
+    /// of its lines nothing comes yet.
+    pub fn new(
+        alloc: Global,
+        venue: VenueId,
+        of_skips: RecordSource,
+    ) -> Result<VenueRecords, AllocError>
+        ensures venue { IfOk result (λ records. records.venue ≡ venue) }
+        ensures next { IfOk result (λ records. records.next ≡ 1) }
+        ensures left_out { IfOk result (λ records. records.left_out ≡ 0) }
+        ensures skips { IfOk result (λ records. records.of_skips ≡ of_skips) }
+        ensures lines { IfOk result HasHeardNone }
+    {
+        Ok(VenueRecords {
             venue,
             next: 1,
             left_out: 0,
             waited: 0,
-            of_a,
-            of_b,
-            of_recovery,
+            of_a: silent_source(alloc)?,
+            of_b: silent_source(alloc)?,
+            of_recovery: silent_source(alloc)?,
             of_skips,
+        })
+    }
+
+    /// Hears the line from this source from now on.
+    pub fn hear(&mut self, line: LineId, source: RecordSource)
+        ensures { self.new ≡ hearing self.old line source }
+    {
+        match line {
+            LineId::A => self.of_a = source,
+            LineId::B => self.of_b = source,
+            LineId::Recovery => self.of_recovery = source,
         }
     }
 
@@ -217,7 +236,7 @@ impl VenueRecords {
 
     /// Puts the records on the page that are next of the venue, as far as that has room. What is
     /// missing before them is waited for in some looks, and with `is_last` not any more. Returns
-    /// how many records were put.
+    /// how many were put, not counting renewals.
     pub fn put_ready(&mut self, is_last: bool, page: &mut ReadBuffer<PAGE>) -> u64
         ensures { PutsRecords self.old self.new page.old page.new }
     {
@@ -230,6 +249,7 @@ impl VenueRecords {
                 Taken::Nothing => break,
                 Taken::LeftOut => {}
                 Taken::Next(kind, placed) => {
+                    put_renewal(page, self.venue, placed.begun);
                     put_record(page, self.venue, kind, placed.bytes.as_slice());
                     count = count.saturating_add(1);
                     self.give_back(kind, placed.bytes);

@@ -64,9 +64,9 @@ fn follow_at<G: Genuine>(starts: &mut [VenueStart<G>], venue: VenueId, names: Ve
     requires { AreNextNames G.sessions venue names.items }
     ensures { starts.new ≡ starts.old }
 {
-    match starts.get_mut(venue.index()) {
-        Some(start) => start.follow_by(venue, names),
-        None => {}
+    let place = venue.index();
+    if place < starts.len() {
+        starts[place].follow_by(venue, names);
     }
 }
 

@@ -58,9 +58,9 @@ pub use subscriber::logged::{Logged, PollFault};
 pub use feed_steps::FeedName;
 pub use hub_lanes::{Consolidated, journaled_items_are_the_sessions};
 pub use venue_lines::{
-    Datagram, FeedFault, GapFault, LineCounts, LineSeat, LineSource, RenewalFault, SourceFault,
-    TakeFault, VenueStatus, packets_of_the_sessions_are_accepted, sent_items_are_the_sessions,
-    sent_items_are_the_sessions_parts, sent_items_skip_nothing,
+    Datagram, FeedFault, GapFault, LineCounts, LineSeat, LineSource, Looked, RenewalFault,
+    SourceFault, TakeFault, VenueStatus, packets_of_the_sessions_are_accepted,
+    sent_items_are_the_sessions, sent_items_are_the_sessions_parts, sent_items_skip_nothing,
 };
 
 // What the locks guard, which contracts and tests name, and no program.

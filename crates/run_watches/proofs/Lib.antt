@@ -1,3 +1,4 @@
 pub mod Counts
+pub mod Looking
 pub mod RunTelling
 pub mod Telling

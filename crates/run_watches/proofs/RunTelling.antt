@@ -9,7 +9,7 @@ use Rattle.feed_text.specs.StandardError.{SaysEach}
 use Rattle.line_arbiter.specs.declared.arbiter.ArbiterStatus.{ArbiterStatus}
 use Rattle.mold_packet.specs.declared.request.Request.{Request}
 use Rattle.run_watches.specs.GapNews.{gap_texts_if}
-use Rattle.run_watches.specs.Gaps.{LooksAt, SaysBegun, SaysOfGap, SaysOfVenue, TellsIfDone, TellsStanding, after_joins, begun_news, closed_run, due_of, gap_next, gives_up, has_stood, watch_begun, joined_run, lacking_of, news_of, stands, stood_of, told_still, unanswered_of}
+use Rattle.run_watches.specs.Gaps.{LooksAt, SaysBegunIf, SaysOfGap, SaysOfVenue, TellsIfDone, TellsStanding, after_joins, begun_news, closed_run, due_of, gap_next, gives_up, has_stood, watch_begun, joined_run, lacking_of, news_of, stands, stood_of, told_still, unanswered_of}
 use Rattle.run_watches.specs.RunLines.{WatchedRun, watched_venue}
 use Rattle.run_watches.specs.RunNews.{IsNewsOf, IsNewsOfGap, MayHappen, RunNews, SaysCounts, SaysNews, SaysRunNews, of_counts, of_gap, of_session, run_news_texts}
 use Rattle.run_watches.specs.declared.gap_news.GapChange.{GapChange}
@@ -143,7 +143,7 @@ of_gap_seen w answers rule watch now status s t seen =
 -- what was said of a session, if one has begun
 of_session_if : {E : Type 0} (w : Writing E) (rule : GapRule) (watch : GapWatch) (now : ℕ)
     (status : VenueStatus) (b : Bool) (s t : E)
-    → (if b then SaysBegun w watch now status s t else (t ≡ s))
+    → SaysBegunIf b w watch now status s t
     → SaysNews w (IsNewsOfGap rule watch.venue) s t
 of_session_if w rule watch now status true s t said =
     let P = IsNewsOfGap rule watch.venue in
@@ -156,7 +156,7 @@ of_session_if w rule watch now status false s t said =
     unsaid w (IsNewsOfGap rule watch.venue) s t said
 
 -- the watch stays its venue's
-begun_venue : (watch : GapWatch) (status : VenueStatus)
+pub begun_venue : (watch : GapWatch) (status : VenueStatus)
     → (watch_begun watch status).venue ≡ watch.venue
 begun_venue watch status = elim (cases_Bool (nat_lt watch.ordinal status.ordinal)) [
   | inl later ↦ rw later refl

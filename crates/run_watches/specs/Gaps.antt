@@ -218,8 +218,8 @@ begun_news second watch status =
       missed = status.ordinal - watch.ordinal - 1;
     }
 
--- Where a session has begun since the last look, it is said that what was told to be lacking has
--- come, and then that it has begun; else nothing.
+-- A session has begun since the last look: it is said that what was told to be lacking has come,
+-- and then that it has begun.
 pub record SaysBegun {E : Type 0} (writing : Writing E) (watch : GapWatch) (now : ℕ)
     (status : VenueStatus) (before after : E) : Type 0 where
   pub closed : E
@@ -228,11 +228,16 @@ pub record SaysBegun {E : Type 0} (writing : Writing E) (watch : GapWatch) (now 
   pub says_begun : SaysEach writing (session_news_texts (begun_news (now / 1000) watch status))
       closed after
 
+abbrev pub SaysBegunIf : {E : Type 0} → (has_begun : Bool) → Writing E → GapWatch → (now : ℕ)
+    → VenueStatus → (before after : E) → Type 0
+SaysBegunIf true writing watch now status before after =
+    SaysBegun writing watch now status before after
+SaysBegunIf false writing watch now status before after = after ≡ before
+
 abbrev pub SaysOfSession : {E : Type 0} → Writing E → GapWatch → (now : ℕ) → VenueStatus
     → (before after : E) → Type 0
 SaysOfSession writing watch now status before after =
-    if nat_lt watch.ordinal status.ordinal then SaysBegun writing watch now status before after
-    else (after ≡ before)
+    SaysBegunIf (nat_lt watch.ordinal status.ordinal) writing watch now status before after
 
 -- ---- a look
 

@@ -26,7 +26,7 @@ use std::alloc::{AllocError, Global};
 use std::marker::Model;
 use std::mem;
 use std::time::{Clock, Duration};
-use venue_lines::{Datagram, LineSource, SourceFault};
+use venue_lines::{Datagram, LineSource, Looked, SourceFault};
 
 /// How many bytes a request has.
 const REQUEST_LEN: usize = 20;
@@ -526,15 +526,21 @@ impl<S: DatagramIn + Drop, C: Clock + Drop> LineSource<Anything> for UdpLine<S, 
         self.receive_next()
     }
 
-    /// Hands the datagram over at its place, if what the venue took is recorded, and keeps its
-    /// memory for the next one.
+    /// Hands the datagram over at its place, and the session that began at it, if one did, where
+    /// what the venue took is recorded; and keeps its memory for the next one.
     #[tactic(auto, using(crate::proofs::Meeting::recorded_only))]
-    fn recycle(&mut self, datagram: Datagram, place: u64)
+    fn recycle(&mut self, datagram: Datagram, looked: &Looked)
         ensures brings { HasBrought S.brings S.waits self.old [] self.new }
         ensures rest { self.new ≡ record (self.old) { records = self.new.records } }
-        ensures recorded { HandsOver self.old.records place (bytes_of datagram) self.new.records }
+        ensures recorded { HandsOver self.old.records looked.now.place looked.now.begun
+            (bytes_of datagram) self.new.records }
     {
-        hand_over(&mut self.records, place, datagram.bytes());
+        hand_over(
+            &mut self.records,
+            looked.place,
+            looked.begun,
+            datagram.bytes(),
+        );
         self.intake.used = datagram.into_bytes();
     }
 

@@ -2,7 +2,8 @@ pub mod Binding
 pub mod Ends
 pub mod Following
 pub mod Lacks
-pub mod Noting
 pub mod Monitored
+pub mod Noting
+pub mod Recorded
 pub mod Sourced
 pub mod Wholes

@@ -1,5 +1,5 @@
 -- Which lines have sockets.
-use Rattle.std.specs.Prelude.{◌≡◌, ℕ, ◌+◌, ◌≤◌, ◌/◌, Bool, true, false, List, [], ◌∷◌, ◌++◌, length, map, Option, None, Some, vec_len}
+use Rattle.std.specs.Prelude.{◌≡◌, ℕ, ◌+◌, ◌≤◌, ◌/◌, Bool, true, false, List, [], ◌∷◌, ◌++◌, length, map, IsTrue, Option, None, Some, is_some, vec_len}
 use Rattle.std.specs.declared.net.socket_addr.SocketAddr.{SocketAddr}
 use Rattle.feed_types.specs.declared.line.LineId.{LineId}
 use Rattle.feed_types.specs.declared.line.LineId.TheVariants.{Recovery}
@@ -10,6 +10,10 @@ use Rattle.udp_listening.specs.declared.listen_sockets.BoundLine.{BoundLine}
 -- the line that the socket receives
 abbrev pub bound_line : BoundLine → ℕ × LineId
 bound_line bound = (bound.venue, bound.line)
+
+-- the line hands over what its venue took, for a recording
+abbrev pub HasRecorder : BoundLine → Type 0
+HasRecorder bound = IsTrue (is_some bound.records)
 
 -- the line at a place of the settings, where it has an address
 abbrev pub asked_line : ℕ → Option SocketAddr → List (ℕ × LineId)

@@ -12,7 +12,6 @@ use Rattle.run_settings.specs.declared.end_rule.EndRule.{EndRule}
 use Rattle.run_settings.specs.declared.end_rule.EndRule.TheVariants.{AnySession, NoSession, OwnSession}
 use Rattle.run_settings.specs.Senders.{senders_of}
 use Rattle.run_settings.specs.declared.listen_settings.ListenSettings.{ListenSettings}
-use Rattle.run_settings.specs.declared.next_session.NextSession.{NextSession}
 use Rattle.udp_listening.specs.Lines.{LineState}
 
 -- the most notices of a log: as many as the journal's entries, unless they are printed as they come
@@ -62,17 +61,21 @@ most_read_of A datagrams = datagrams
 most_read_of B datagrams = datagrams
 most_read_of Recovery datagrams = None
 
+-- the names of the sessions that follow the venue's first one
+abbrev pub following_of : ListenSettings → ℕ → List (List ℕ)
+following_of settings venue = names_after venue settings.next.items
+
 -- The source reads datagrams for the venue, of the senders that the settings say, and withholds
 -- what is as far ahead as they say. Its session is the venue's last one: that of the settings, or
 -- the last of those that follow it. Lines A and B read as many and end with an end of session as
 -- the settings say, but with that of the last session alone where one follows another; line R goes
 -- on.
-pub record IsSourceOf (settings : ListenSettings) (next : List NextSession) (venue : ℕ)
-    (of : LineId) (line : LineState) : Type 0 where
+pub record IsSourceOf (settings : ListenSettings) (venue : ℕ) (of : LineId) (line : LineState)
+    : Type 0 where
   pub venue_is : line.venue ≡ venue
-  pub session : last_or (slice_get settings.feed.sessions.items venue) (names_after venue next)
-      ≡ Some line.session
-  pub rule : line.rule ≡ end_rule_of of (end_followed (names_after venue next) settings.end)
+  pub session : last_or (slice_get settings.feed.sessions.items venue)
+      (following_of settings venue) ≡ Some line.session
+  pub rule : line.rule ≡ end_rule_of of (end_followed (following_of settings venue) settings.end)
   pub senders : line.senders ≡ senders_of settings.senders
   pub most_ahead : line.most_ahead ≡ most_lead settings
   pub left : line.left ≡ most_read_of of settings.datagrams

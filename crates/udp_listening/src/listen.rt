@@ -23,7 +23,7 @@ use best_rows::RowStyle;
 use feed_text::{Lack, TextOut, write_all, write_stderr};
 use feed_types::{LineId, VenueId};
 use live_feed::Stop;
-use run_settings::{ListenSettings, NextSession};
+use run_settings::ListenSettings;
 use run_watches::{GapWatches, ListenCounts, MetricsServer, OutputWatch, RowProgress, RunWatches};
 use std::alloc::{AllocError, Global};
 use std::marker::Brand;
@@ -211,7 +211,6 @@ pub fn listen_with<R, C, W, E>(
     clock: &C,
     alloc: Global,
     settings: &ListenSettings,
-    next: &[NextSession],
     sockets: ListenSockets,
     streams: ListenStreams<W, E>,
 ) -> (u8, W, E)
@@ -236,8 +235,8 @@ where
     let mut errors = errors;
     let mut console = Console::new(alloc, output, live_output_of(settings), style_of(settings));
     let (Ok(feed), Ok(lines), Ok(gaps), Ok(unchanged), Ok(shares)) = (
-        feed_of(alloc, settings, next),
-        lines_over(alloc, settings, next, sockets.lines, sockets.tables, clock),
+        feed_of(alloc, settings),
+        lines_over(alloc, settings, sockets.lines, sockets.tables, clock),
         GapWatches::of(alloc, settings),
         noted_symbols(alloc, settings),
         shares_of(alloc, clock, &output_state),

@@ -22,7 +22,7 @@ use live_feed::{
     SettleFault, Subscription, WholeFault,
 };
 use run_notes::AbsentList;
-use run_settings::{ListenSettings, NextSession};
+use run_settings::ListenSettings;
 use std::alloc::{AllocError, Global};
 use std::mem;
 use std::rt::Clock;
@@ -99,18 +99,14 @@ fn untimed_feed(alloc: Global, settings: &ListenSettings) -> Result<LiveFeed<Any
 
 /// The same feed, which keeps the times of changes where rows have them, and whose venues' first
 /// sessions are followed by these.
-pub fn feed_of(
-    alloc: Global,
-    settings: &ListenSettings,
-    next: &[NextSession],
-) -> Result<LiveFeed<Anything>, CoreFault>
+pub fn feed_of(alloc: Global, settings: &ListenSettings) -> Result<LiveFeed<Anything>, CoreFault>
     ensures setting { IfOk result (λ feed. feed.setting ≡ feed_setting settings.now) }
     ensures venues { IfOk result (λ feed. length feed.venues
         ≡ vec_len settings.now.feed.sessions) }
 {
     let mut feed = untimed_feed(alloc, settings)?;
     let venues = settings.feed.sessions.len();
-    if name_all(alloc, &mut feed, venues, next).is_err() {
+    if name_all(alloc, &mut feed, venues, settings.next.as_slice()).is_err() {
         return Err(CoreFault::NoMemory);
     }
     if !has_times(settings.format) {

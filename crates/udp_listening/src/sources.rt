@@ -11,7 +11,7 @@ use crate::next_sessions::{end_by, names_after, sessions_of};
 use best_rows::has_times;
 use feed_types::{LineId, VenueId};
 use live_feed::{LineSource, LineTask};
-use run_settings::{EndRule, ListenSettings, NextSession};
+use run_settings::{EndRule, ListenSettings};
 use run_watches::{LineWatch, LineWatches, SocketTables};
 use std::alloc::{AllocError, Global};
 use std::mem;
@@ -91,13 +91,12 @@ fn most_read_of(line: LineId, datagrams: Option<u32>) -> Option<u32>
 fn source_of<C: Clock + Drop>(
     alloc: Global,
     settings: &ListenSettings,
-    next: &[NextSession],
     bound: BoundLine,
     shares: &mut VenueShares,
     clock: C,
 ) -> Result<UdpSource<C>, AllocError>
     requires { bound.venue < vec_len settings.now.feed.sessions }
-    ensures is { IfOk result (IsSourceOf settings.now next.now bound.venue bound.line) }
+    ensures is { IfOk result (IsSourceOf settings.now bound.venue bound.line) }
     ensures records { IfOk result (λ source. source.records ≡ bound.records) }
 {
     let BoundLine {
@@ -107,7 +106,7 @@ fn source_of<C: Clock + Drop>(
         requests,
         records,
     } = bound;
-    let following = names_after(alloc, venue, next)?;
+    let following = names_after(alloc, venue, settings.next.as_slice())?;
     let first = settings.feed.sessions[venue.index()];
     let sessions = sessions_of(alloc, first, following.as_slice())?;
     let end = end_by(following.as_slice(), settings.end);
@@ -180,7 +179,6 @@ impl<C: Clock + Clone + Drop> LinesMade<C> {
         &mut self,
         alloc: Global,
         settings: &ListenSettings,
-        next: &[NextSession],
         bound: BoundLine,
         clock: &C,
     ) -> Result<(), AllocError>
@@ -198,7 +196,7 @@ impl<C: Clock + Clone + Drop> LinesMade<C> {
         };
         let line = bound.line;
         let address = bound.socket.local_addr().ok();
-        let source = source_of(alloc, settings, next, bound, shares, clock.clone()?)?;
+        let source = source_of(alloc, settings, bound, shares, clock.clone()?)?;
         let progress = source.share_progress()?;
         let silent_after = settings.silence_limit();
         let watch = LineWatch::new(source.venue(), line, progress, address, silent_after);
@@ -224,7 +222,6 @@ fn tables_if_told(settings: &ListenSettings, tables: SocketTables) -> Option<Soc
 pub fn lines_over<C: Clock + Clone + Drop>(
     alloc: Global,
     settings: &ListenSettings,
-    next: &[NextSession],
     sockets: Vec<BoundLine>,
     tables: SocketTables,
     clock: &C,
@@ -236,7 +233,7 @@ pub fn lines_over<C: Clock + Clone + Drop>(
 {
     let mut made = LinesMade::none(alloc, settings.feed.sessions.len())?;
     for bound in sockets {
-        made.push(alloc, settings, next, bound, clock)?;
+        made.push(alloc, settings, bound, clock)?;
     }
     Ok(ListenLines {
         tasks: made.tasks,

@@ -1,6 +1,6 @@
 //! The calls of a feed that take only a venue's lock.
 
-ghost use Rattle.std.specs.Prelude.{◌≡◌, ◌≤◌, ◌↔◌, ◌-◌, ◌^◌, None, Err, IfOk, IsErrOf, false, length};
+ghost use Rattle.std.specs.Prelude.{◌≡◌, ◌≤◌, ◌↔◌, ◌-◌, ◌^◌, None, Some, Err, IfOk, IsErrOf, false, length, if◌then◌else◌};
 ghost use Rattle.line_arbiter.specs.Histories.{History};
 ghost use Rattle.feed_steps.specs.Premises.{IsGenuinePacket};
 ghost use Rattle.venue_lines.specs.Seats.{new_seat, seat_after, seat_refusing};
@@ -19,7 +19,7 @@ use crate::locks::{VenueLocks, lock_spinning};
 use crate::looked::Looked;
 use crate::next_sessions::{NextSessions, renew_if_named};
 use crate::seat::LineSeat;
-use crate::timing::{last_sent, note_begun, note_time};
+use crate::timing::{last_sent, note_join, note_renewal, note_time};
 use feed_steps::{FeedName, Unsent};
 use feed_types::{Genuine, LineId, VenueId};
 use line_arbiter::{LineFault, Outcome, SkipFault};
@@ -122,6 +122,17 @@ struct PacketTaken {
     answer: Result<Outcome, LineFault>,
     /// How many items were pushed then, and whether something may be ready still.
     pushed: (u64, bool),
+}
+
+/// The name of the packet's session, where that has begun at it.
+fn begun_at(renewed: bool, packet: &Packet<'_>) -> Option<[u8; 10]>
+    ensures { result ≡ (if renewed then Some packet.now.session else None) }
+{
+    if renewed {
+        Some(packet.session())
+    } else {
+        None
+    }
 }
 
 /// Takes the packet where the cell is of the seat's venue, and pushes what is ready then. Where the
@@ -348,7 +359,7 @@ impl<G: Genuine, N: FeedName> VenueLocks<G, N> {
         let mut locked = lock_spinning(rt, lock);
         let (pushed, has_backlog) = flush_cell(rt, &mut locked.cell, venue, u64::MAX);
         locked.cell.refuse(seat.line(), fault);
-        *looked = locked.look();
+        *looked = locked.look(None);
         let is_new = self.set_backlog(venue, has_backlog);
         drop(locked);
         if pushed > 0 || is_new {
@@ -380,23 +391,18 @@ impl<G: Genuine, N: FeedName> VenueLocks<G, N> {
             return Err(LineFault::OtherSession);
         };
         let mut locked = lock_spinning(rt, lock);
-        let last = note_time(&locked, self.bells().times(), time);
-        let taken = take_and_count(rt, &mut locked, seat, packet, join);
+        let last = locked.last_if_followed();
         let times = self.bells().times();
-        note_begun(
-            &locked.cell,
-            times,
-            taken.renewed,
-            last,
-            taken.joined,
-            packet,
-        );
+        note_time(&locked.cell, times, time);
+        let taken = take_and_count(rt, &mut locked, seat, packet, join);
+        note_renewal(&locked.cell, times, taken.renewed, last);
+        note_join(&locked.cell, times, taken.joined, packet);
         let (pushed, has_backlog) = taken.pushed;
         let answer = taken.answer;
         if let Err(fault) = answer {
             locked.cell.refuse(seat.line(), TakeFault::Line(fault));
         }
-        *looked = locked.look();
+        *looked = locked.look(begun_at(taken.renewed, packet));
         let is_new = self.set_backlog(seat.venue(), has_backlog);
         drop(locked);
         if pushed > 0 || is_new || has_news(&answer) {

@@ -53,15 +53,18 @@ impl<G: Genuine, N: FeedName> LockedVenue<G, N> {
         self.places
     }
 
-    /// Returns what a line sees once its datagram, the next one of the venue, was taken.
+    /// Returns what a line sees once its datagram, the next one of the venue, was taken, at which
+    /// the session of this name has begun, if one has.
     #[inline(always)]
-    pub(crate) fn look(&mut self) -> Looked
+    pub(crate) fn look(&mut self, begun: Option<[u8; 10]>) -> Looked
         ensures cell { self.new.cell ≡ self.old.cell }
         ensures place { result.place ≡ self.new.places }
+        ensures begun { result.begun ≡ begun }
     {
         Looked {
             gap: self.cell.has_gap(),
             place: self.next_place(),
+            begun,
         }
     }
 
@@ -77,6 +80,7 @@ impl<G: Genuine, N: FeedName> LockedVenue<G, N> {
             self.before_join = self.before_join.saturating_add(missing);
         }
     }
+
     /// The number of the last item of the venue's session that was pushed, where sessions are named
     /// to follow; else 0.
     #[inline(always)]

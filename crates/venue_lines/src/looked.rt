@@ -9,4 +9,6 @@ pub struct Looked {
     /// lock took them, from 1. Each has one, refused datagrams too, but for a refused skip. 0 where
     /// there is no such venue.
     pub place: u64,
+    /// The name of the venue's next session, where that has begun at the datagram.
+    pub begun: Option<[u8; 10]>,
 }

@@ -8,6 +8,7 @@ ghost use Rattle.venue_lines.specs.Datagrams.{AreGenuineBytes, bytes_of};
 ghost use Rattle.venue_lines.specs.Sources.{brought_in, failures_after, source_fault_code};
 
 use crate::datagram::Datagram;
+use crate::looked::Looked;
 use feed_types::{Genuine, VenueId};
 use mold_packet::Request;
 use thiserror::Error;
@@ -85,15 +86,15 @@ pub trait LineSource<G: Genuine>: Drop {
             ≡ failures_after (failures self.old) fault) };
 
     /// Takes back a datagram that `next` returned, once it was taken, so that its memory can be
-    /// used for a later one. `place` is its place among the datagrams and skips of the venue, in
-    /// the order in which these were taken, from 1 ([`crate::Looked`]). A source that has no body
-    /// of its own for it lets the datagram go.
-    fn recycle(&mut self, datagram: Datagram, place: u64)
+    /// used for a later one. `looked` is what the line saw then: its place in the venue's order,
+    /// and the session that began at it, if one did. A source that has no body of its own for it
+    /// lets the datagram go.
+    fn recycle(&mut self, datagram: Datagram, looked: &Looked)
         ensures venue { venue_of self.new ≡ venue_of self.old }
         ensures brings { brings self.old [] self.new }
         ensures sound { failures self.new ≡ failures self.old }
     {
-        let _unused = place;
+        let _unused = looked;
         drop(datagram);
     }
 

@@ -1,7 +1,6 @@
 //! What the times of a venue's items are known by.
 
 use crate::cell::VenueCell;
-use crate::locked_venue::LockedVenue;
 use feed_steps::{FeedName, FeedTimes};
 use feed_types::Genuine;
 use mold_packet::Packet;
@@ -20,35 +19,40 @@ fn last_ready<G: Genuine, N: FeedName>(cell: &VenueCell<G, N>) -> u64 {
     }
 }
 
-/// Notes the time of the datagram that the venue takes next, where times are kept. Returns the
-/// number of the last item of its session that was pushed, where sessions are named to follow; else
-/// 0.
+/// Notes the time of the datagram that the cell takes next, where times are kept.
 #[inline(always)]
 pub(crate) fn note_time<G: Genuine, N: FeedName>(
-    locked: &LockedVenue<G, N>,
+    cell: &VenueCell<G, N>,
     times: &FeedTimes,
     time: Option<u64>,
-) -> u64 {
+) {
     if times.are_kept() {
-        times.note_datagram(locked.cell.venue(), last_ready(&locked.cell), time);
+        times.note_datagram(cell.venue(), last_ready(cell), time);
     }
-    locked.last_if_followed()
 }
 
-/// Notes where the numbers of the cell's venue go on: where its next session has begun at the
-/// packet, `last` was the last item of the one before; where its session was joined at the packet,
-/// nothing was pushed before it, and its first item is that of the number before.
-pub(crate) fn note_begun<G: Genuine, N: FeedName>(
+/// Notes where the numbers of the cell's venue go on, where its next session has begun: `last` was
+/// the last item of the one before.
+#[inline(always)]
+pub(crate) fn note_renewal<G: Genuine, N: FeedName>(
     cell: &VenueCell<G, N>,
     times: &FeedTimes,
     renewed: bool,
     last: u64,
-    joined: bool,
-    packet: &Packet<'_>,
 ) {
     if renewed {
         times.go_on_from(cell.venue(), last, 0);
     }
+}
+
+/// Notes where the numbers of the cell's venue go on, where its session was joined at the packet:
+/// nothing was pushed before it, and its first item is that of the number before.
+pub(crate) fn note_join<G: Genuine, N: FeedName>(
+    cell: &VenueCell<G, N>,
+    times: &FeedTimes,
+    joined: bool,
+    packet: &Packet<'_>,
+) {
     if joined {
         times.go_on_from(cell.venue(), 0, packet.number().saturating_sub(2));
     }

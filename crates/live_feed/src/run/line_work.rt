@@ -127,7 +127,7 @@ pub(crate) fn work_line<G: Genuine, N: FeedName, S: LineSource<G>, W: Wait>(
                     rules.join,
                     &mut looked,
                 );
-                source.recycle(datagram, looked.place);
+                source.recycle(datagram, &looked);
             }
             Ok(None) => break,
             Err(failed) => {
