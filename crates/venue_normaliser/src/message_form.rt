@@ -1,6 +1,6 @@
 //! The bytes of an item.
 
-ghost use Rattle.std.specs.Prelude.{◌≡◌, ◌⊎◌};
+ghost use Rattle.std.specs.Prelude.{◌≡◌, ◌⊎◌, ◌≤◌, length};
 ghost use Rattle.quote_payload.specs.Payload.{item_of};
 ghost use Rattle.venue_normaliser.specs.Forms.{form_bytes, item_bytes};
 
@@ -43,7 +43,8 @@ impl MessageForm {
 
     /// Lends the message's bytes, 0 to 34.
     pub fn as_bytes(&self) -> &[u8]
-        ensures { result.now ≡ form_bytes self.now }
+        ensures bytes { result.now ≡ form_bytes self.now }
+        ensures short { length result.now ≤ 34 }
     {
         match self {
             MessageForm::Quote(bytes) => bytes,

@@ -1,0 +1,6 @@
+mod Forms
+mod Packing
+mod Runs
+mod Sent
+mod Taking
+mod Venue

@@ -1,0 +1,4 @@
+pub mod Carried
+pub mod OfSession
+pub mod Texts
+pub mod Writes

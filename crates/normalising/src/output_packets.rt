@@ -1,0 +1,281 @@
+//! Items as packets.
+ghost use Rattle.std.specs.Prelude.{◌≡◌, ◌⊎◌, ℕ, ◌+◌, ◌^◌, ◌≤◌, List, [], ◌∷◌, length, map, IfOk, OnErr, OnOk};
+ghost use Rattle.std.specs.List.{AllByRecursion};
+ghost use Rattle.feed_types.specs.declared.item.Item.{Item};
+ghost use Rattle.feed_types.specs.Sessions.{end_item, numbered_from};
+ghost use Rattle.mold_packet.specs.Body.{lent_bytes, body_kind, body_messages};
+ghost use Rattle.mold_packet.specs.declared.packet.Kind.TheVariants as kinds;
+ghost use Rattle.quote_payload.specs.Payload.{item_of};
+ghost use Rattle.venue_normaliser.specs.Forms.{form_bytes};
+ghost use Rattle.normalising.specs.Carried.{IsMessageItem, IsShortMessage, RunsFrom, end_of_kind};
+ghost use Rattle.feed_text.specs.Capture.{renewal_record, self_help_record};
+ghost use Rattle.feed_text.specs.Devices.{Wrote};
+ghost use Rattle.normalising.specs.Texts.{record_text};
+ghost use Rattle.normalising.specs.Writes.{PutsPackets, PutsText};
+
+use crate::message_forms::{end_number, fill_forms, first_number, lend_all, messages_before_end};
+use crate::output_form::OutputForm;
+use crate::output_page::OutputPage;
+use crate::packet_origin::PacketOrigin;
+use crate::venue_stop::VenueStop;
+use capture_writing::MOST_BYTES;
+use feed_text::{SinkStop, TextOut};
+use feed_types::{Numbered, VenueId};
+use itch_book::BookFault;
+use mold_packet::{Body, write_packet};
+use packet_building::build_packet;
+use std::alloc::{AllocError, Global};
+use venue_normaliser::MessageForm;
+
+/// The output that waits, and the room in which its packets are made.
+#[derive(Drop)]
+pub(crate) struct OutputPackets<'a> {
+    pub(crate) page: OutputPage<'a>,
+    packet: Vec<u8>,
+    forms: Vec<MessageForm>,
+    alloc: Global,
+    pub ghost has_room: { length packet.items ≡ 65507 },
+}
+
+/// Writes the packets of messages from a number on, as few as can be.
+fn put_messages<W: TextOut>(
+    page: &mut OutputPage<'_>,
+    origin: &PacketOrigin,
+    number: u64,
+    messages: &[&[u8]],
+    packet: &mut [u8],
+    writer: &mut W,
+) -> Result<(), SinkStop>
+    requires from_one { 1 ≤ number }
+    requires in_range { number + length messages.now ≤ 2 ^ 64 }
+    requires short { AllByRecursion IsShortMessage (lent_bytes messages.now) }
+    requires room { length packet.old ≡ 65507 }
+    ensures put { OnOk result ((known : ℕ) → PutsPackets
+        (record { adds = W.adds; failures = W.failures }) page.old.form origin.now known
+        (numbered_from number (map item_of (lent_bytes messages.now)))
+        writer.old writer.new page.old.page page.new.page) }
+    ensures kept { OnOk result (W.failures writer.new ≡ W.failures writer.old) }
+    ensures failed { OnErr result (W.failures writer.new ≡ W.failures writer.old + 1) }
+    ensures form { page.new.form ≡ page.old.form }
+    ensures room { length packet.new ≡ 65507 }
+{
+    let mut from = 0;
+    'packets: while from < messages.len() {
+        let rest = &messages[from..];
+        match build_packet(&origin.session, number + from as u64, rest, packet) {
+            Some(built) => {
+                page.put_datagram(origin, &packet[..built.len], writer)?;
+                from += built.messages;
+            }
+            None => unreachable!(),
+        }
+    }
+    Ok(())
+}
+
+/// Writes a packet without messages.
+fn put_without_messages<W: TextOut>(
+    page: &mut OutputPage<'_>,
+    origin: &PacketOrigin,
+    number: u64,
+    body: Body<'_>,
+    packet: &mut [u8],
+    writer: &mut W,
+) -> Result<(), SinkStop>
+    requires from_one { 1 ≤ number }
+    requires empty { body_messages body ≡ [] }
+    requires kind { body_kind body ≡ kinds.Messages → ⊥ }
+    requires room { length packet.old ≡ 65507 }
+    ensures put { OnOk result ((known : ℕ)
+        → (body_kind body.entry ≡ kinds.Heartbeat → number ≡ known + 1)
+        → PutsPackets (record { adds = W.adds; failures = W.failures })
+        page.old.form origin.now known (end_of_kind (body_kind body.entry) number)
+        writer.old writer.new page.old.page page.new.page) }
+    ensures kept { OnOk result (W.failures writer.new ≡ W.failures writer.old) }
+    ensures failed { OnErr result (W.failures writer.new ≡ W.failures writer.old + 1) }
+    ensures form { page.new.form ≡ page.old.form }
+    ensures room { length packet.new ≡ 65507 }
+{
+    match write_packet(&origin.session, number, body, packet) {
+        Ok(len) => page.put_datagram(origin, &packet[..len], writer),
+        Err(_) => unreachable!(),
+    }
+}
+
+impl<'a> OutputPackets<'a> {
+    /// Takes the memory, and begins the file.
+    pub(crate) fn new(alloc: Global, form: OutputForm<'a>) -> Result<OutputPackets<'a>, AllocError>
+        ensures { IfOk result (λ p. p.page.form ≡ form.entry) }
+    {
+        let page = OutputPage::new(alloc, form)?;
+        let packet = vec![in alloc; 0u8; MOST_BYTES]?;
+        let forms = Vec::with_capacity(alloc, 65_536)?;
+        Ok(OutputPackets {
+            page,
+            packet,
+            forms,
+            alloc,
+        })
+    }
+
+    /// Writes all that waits.
+    pub(crate) fn write<W: TextOut>(&mut self, writer: &mut W) -> Result<(), SinkStop>
+        ensures written { OnOk result (W.adds writer.old self.old.page.page writer.new) }
+        ensures none { OnOk result (self.new.page.page ≡ []) }
+        ensures part { OnErr result (Wrote W.adds writer.old self.old.page.page writer.new) }
+        ensures kept { OnOk result (W.failures writer.new ≡ W.failures writer.old) }
+        ensures failed { OnErr result (W.failures writer.new ≡ W.failures writer.old + 1) }
+        ensures form { self.new.page.form ≡ self.old.page.form }
+    {
+        self.page.write(writer)
+    }
+
+    /// Appends that a venue's next session begins; nothing to a savefile, which has none but
+    /// datagrams.
+    pub(crate) fn put_renewal<W: TextOut>(
+        &mut self,
+        venue: VenueId,
+        session: &[u8; 10],
+        writer: &mut W,
+    ) -> Result<(), SinkStop>
+        ensures taken { OnOk result (PutsText
+            (record { adds = W.adds; failures = W.failures }) writer.old writer.new
+            self.old.page.page (record_text self.old.page.form (renewal_record venue session.now))
+            self.new.page.page) }
+        ensures form { self.new.page.form ≡ self.old.page.form }
+    {
+        self.page.put_renewal(venue, session, writer)
+    }
+
+    /// Appends a declaration of self-help, or that it is withdrawn; nothing to a savefile.
+    pub(crate) fn put_self_help<W: TextOut>(
+        &mut self,
+        venue: VenueId,
+        on: bool,
+        writer: &mut W,
+    ) -> Result<(), SinkStop>
+        ensures taken { OnOk result (PutsText
+            (record { adds = W.adds; failures = W.failures }) writer.old writer.new
+            self.old.page.page (record_text self.old.page.form (self_help_record venue on))
+            self.new.page.page) }
+        ensures form { self.new.page.form ≡ self.old.page.form }
+    {
+        self.page.put_self_help(venue, on, writer)
+    }
+
+    /// Writes a packet without messages.
+    pub(crate) fn put_empty<W: TextOut>(
+        &mut self,
+        origin: &PacketOrigin,
+        number: u64,
+        body: Body<'_>,
+        writer: &mut W,
+    ) -> Result<(), SinkStop>
+        requires from_one { 1 ≤ number }
+        requires empty { body_messages body ≡ [] }
+        requires kind { body_kind body ≡ kinds.Messages → ⊥ }
+        ensures put { OnOk result ((known : ℕ)
+            → (body_kind body.entry ≡ kinds.Heartbeat → number ≡ known + 1)
+            → PutsPackets (record { adds = W.adds; failures = W.failures })
+            self.old.page.form origin.now known (end_of_kind (body_kind body.entry) number)
+            writer.old writer.new self.old.page.page self.new.page.page) }
+        ensures kept { OnOk result (W.failures writer.new ≡ W.failures writer.old) }
+        ensures failed { OnErr result (W.failures writer.new ≡ W.failures writer.old + 1) }
+        ensures form { self.new.page.form ≡ self.old.page.form }
+    {
+        let packet = self.packet.as_mut_slice();
+        put_without_messages(&mut self.page, origin, number, body, packet, writer)
+    }
+
+    /// Writes the packets of the messages that the forms are.
+    fn put_forms<W: TextOut>(
+        &mut self,
+        origin: &PacketOrigin,
+        number: u64,
+        writer: &mut W,
+    ) -> Result<(), VenueStop>
+        requires from_one { 1 ≤ number }
+        requires in_range { number + length self.old.forms.items ≤ 2 ^ 64 }
+        ensures put { OnOk result ((known : ℕ) → PutsPackets
+            (record { adds = W.adds; failures = W.failures }) self.old.page.form origin.now known
+            (numbered_from number (map (λ f. item_of (form_bytes f)) self.old.forms.items))
+            writer.old writer.new self.old.page.page self.new.page.page) }
+        ensures form { self.new.page.form ≡ self.old.page.form }
+    {
+        let messages = match lend_all(self.alloc, self.forms.as_slice()) {
+            Ok(messages) => messages,
+            Err(_) => return Err(VenueStop::Book(BookFault::NoMemory)),
+        };
+        let packet = self.packet.as_mut_slice();
+        put_messages(
+            &mut self.page,
+            origin,
+            number,
+            messages.as_slice(),
+            packet,
+            writer,
+        )?;
+        Ok(())
+    }
+
+    /// Writes the packets of messages in a row.
+    fn put_run<W: TextOut>(
+        &mut self,
+        origin: &PacketOrigin,
+        items: &[Numbered],
+        writer: &mut W,
+    ) -> Result<(), VenueStop>
+        ensures put { OnOk result ((known first : ℕ) (its : List Item)
+            → 1 ≤ first → items.now ≡ numbered_from first its
+            → AllByRecursion IsMessageItem its → PutsPackets
+            (record { adds = W.adds; failures = W.failures }) self.old.page.form origin.now known
+            items.now writer.old writer.new self.old.page.page self.new.page.page) }
+        ensures form { self.new.page.form ≡ self.old.page.form }
+    {
+        let Some(number) = first_number(items) else {
+            return Ok(());
+        };
+        if let Err(_error) = fill_forms(&mut self.forms, items) {
+            return Err(VenueStop::Book(BookFault::NoMemory));
+        }
+        self.put_forms(origin, number, writer)
+    }
+
+    /// Writes the end of a session, where there is one.
+    fn put_end<W: TextOut>(
+        &mut self,
+        origin: &PacketOrigin,
+        ends: &[Numbered],
+        writer: &mut W,
+    ) -> Result<(), SinkStop>
+        ensures put { OnOk result ((known number : ℕ) → 1 ≤ number
+            → (ends.now ≡ []) ⊎ (ends.now ≡ end_item number ∷ []) → PutsPackets
+            (record { adds = W.adds; failures = W.failures }) self.old.page.form origin.now known
+            ends.now writer.old writer.new self.old.page.page self.new.page.page) }
+        ensures form { self.new.page.form ≡ self.old.page.form }
+    {
+        let Some(number) = end_number(ends) else {
+            return Ok(());
+        };
+        self.put_empty(origin, number, Body::End, writer)
+    }
+
+    /// Writes the packets of items in a row, of which the last may be the end.
+    pub(crate) fn put_items<W: TextOut>(
+        &mut self,
+        origin: &PacketOrigin,
+        items: &[Numbered],
+        writer: &mut W,
+    ) -> Result<(), VenueStop>
+        ensures put { OnOk result ((known first : ℕ) → 1 ≤ first
+            → RunsFrom first items.now → PutsPackets
+            (record { adds = W.adds; failures = W.failures }) self.old.page.form origin.now known
+            items.now writer.old writer.new self.old.page.page self.new.page.page) }
+        ensures form { self.new.page.form ≡ self.old.page.form }
+    {
+        let count = messages_before_end(items);
+        self.put_run(origin, &items[..count], writer)?;
+        self.put_end(origin, &items[count..], writer)?;
+        Ok(())
+    }
+}
