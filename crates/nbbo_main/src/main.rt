@@ -29,7 +29,9 @@ use crate::word_files::{WordsFault, words_of, write_unread};
 use command_words::{Refusal, StreamFiles, explanation_of, settings, stream_files, symbol_words};
 use feed_text::{Count, StreamIn, StreamOut, TextOut, write_stderr};
 use line_recordings::{RecordingState, SkipRecords};
-use nbbo_runs::{Next, RunFacts, Terminals, hint_at_file, journal_hint, refuse, run};
+use nbbo_runs::{
+    Next, RunFacts, Terminals, hint_at_file, journal_hint, refuse, run, run_normalisation,
+};
 use run_settings::ListenSettings;
 use std::alloc::{AllocError, Global};
 use std::fs::File;
@@ -233,10 +235,13 @@ fn run_over<C: Ledger, R: Ledger, W: Ledger, E: TextOut>(
             write_unwhole(files, status, errors);
             ProgramEnd::Status(status)
         }
-        Next::Normalises(_settings) => {
-            // The normaliser of captures isn't in the tree yet.
-            write_stderr("nbbo: normalise: not in this build\n", errors);
-            ProgramEnd::Status(1)
+        Next::Normalises(settings) => {
+            let (mut input, mut output) = (ran.input, ran.output);
+            let (input, output) = (&mut input, &mut output);
+            let status =
+                run_normalisation(rt.alloc(), &settings, terminals, input, output, errors);
+            write_unwhole(files, status, errors);
+            ProgramEnd::Status(status)
         }
         Next::Listens(settings) => ProgramEnd::Listens(settings),
     }

@@ -24,6 +24,7 @@ mod ending;
 mod fed_sink;
 mod hints;
 mod lacks;
+mod normalisation;
 mod own_capture;
 mod printing;
 mod program_run;
@@ -43,5 +44,6 @@ mod watched_format;
 mod watched_sink;
 
 pub use hints::{hint_at_file, journal_hint};
+pub use normalisation::run_normalisation;
 pub use program_run::{Next, ProgramRun, RunFacts, refuse, run};
 pub use terminals::Terminals;
