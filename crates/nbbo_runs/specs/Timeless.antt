@@ -21,7 +21,7 @@ timeless_hint output is_timed _ = []
 
 -- what is said after a run of what was read, and then that
 abbrev pub with_times : {S F : Type 0} → RunOutput → (S → Bool)
-    → (S → Result (Unit {0}) (ReplayStop F) → List (List ℕ))
-    → S → Result (Unit {0}) (ReplayStop F) → List (List ℕ)
-with_times output is_timed texts s outcome =
-    texts s outcome ++ timeless_hint output (is_timed s) outcome ∷ []
+    → (S → List ℕ → Result (Unit {0}) (ReplayStop F) → List (List ℕ))
+    → S → (ordinals : List ℕ) → Result (Unit {0}) (ReplayStop F) → List (List ℕ)
+with_times output is_timed texts s ordinals outcome =
+    texts s ordinals outcome ++ timeless_hint output (is_timed s) outcome ∷ []

@@ -46,6 +46,7 @@ abbrev pub WatchedReads : {S : Type 0} (reads : S → List ℕ → List TimedRec
 WatchedReads reads s xs rs t ys =
     reads s.format xs rs t.format ys × (t.venues ≡ watched_after s.venues rs)
     × (t.seen ≡ s.seen ++ sightings_of s.sessions.now rs) × (t.sessions ≡ s.sessions)
+    × (t.next ≡ s.next)
 
 abbrev pub watching : {S F : Type 0} → Parsing S F → Parsing (WatchedFormat S) F
 watching parsing = record {
@@ -63,6 +64,7 @@ pub record IsWatched {S : Type 0} (format : S) (sessions : List (List ℕ)) (nex
   pub venues_are : w.venues ≡ replicate 16 unwatched
   pub seen_is : w.seen ≡ named_sightings next
   pub sessions_are : w.sessions.now ≡ sessions
+  pub next_are : w.next.now ≡ next
 
 -- ---- what is said
 
@@ -80,18 +82,22 @@ first_venues_texts ws zero = []
 first_venues_texts ws (suc n) =
     first_venues_texts ws n ++ venue_texts n (slice_index_or ws n unwatched)
 
--- of this many venues' lines, and then of sessions
-abbrev pub seen_texts : ℕ → List VenueWatch → List SessionSighting → List (List ℕ)
-seen_texts venues ws seen = first_venues_texts ws venues ++ sessions_texts (session_rows seen)
+-- of this many venues' lines, and then of sessions, of which these were named to follow, and the
+-- venues' last ones have these ordinals
+abbrev pub seen_texts : ℕ → List VenueWatch → List NextSession → (ordinals : List ℕ)
+    → List SessionSighting → List (List ℕ)
+seen_texts venues ws next ordinals seen =
+    first_venues_texts ws venues ++ sessions_texts next ordinals (session_rows seen)
 
 -- after a run over this many venues that came to its end
 abbrev pub watch_texts : {F : Type 0} → Result (Unit {0}) F → ℕ → List VenueWatch
-    → List SessionSighting → List (List ℕ)
-watch_texts (Ok done) venues ws seen = seen_texts venues ws seen
-watch_texts (Err stop) venues ws seen = []
+    → List NextSession → (ordinals : List ℕ) → List SessionSighting → List (List ℕ)
+watch_texts (Ok done) venues ws next ordinals seen = seen_texts venues ws next ordinals seen
+watch_texts (Err stop) venues ws next ordinals seen = []
 
 -- before what is said of the format
-abbrev pub watched_texts : {S F : Type 0} → (S → Result (Unit {0}) F → List (List ℕ))
-    → WatchedFormat S → Result (Unit {0}) F → List (List ℕ)
-watched_texts texts s outcome =
-    watch_texts outcome (length s.sessions.now) s.venues s.seen ++ texts s.format outcome
+abbrev pub watched_texts : {S F : Type 0} → (S → List ℕ → Result (Unit {0}) F → List (List ℕ))
+    → WatchedFormat S → (ordinals : List ℕ) → Result (Unit {0}) F → List (List ℕ)
+watched_texts texts s ordinals outcome =
+    watch_texts outcome (length s.sessions.now) s.venues s.next.now ordinals s.seen
+    ++ texts s.format ordinals outcome

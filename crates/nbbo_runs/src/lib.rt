@@ -24,6 +24,7 @@ mod ending;
 mod fed_sink;
 mod hints;
 mod lacks;
+mod named_sessions;
 mod own_capture;
 mod printing;
 mod program_run;

@@ -80,7 +80,7 @@ fn run_over<R: CaptureIn, F: ToldFormat + Drop, W: TextOut + Drop, E: TextOut>(
     tell_lacks(&printed.outcome, is_told, missing.lacks.as_slice(), errors);
     let symbols = settings.feed.symbols.as_slice();
     tell_absent(&printed.outcome, is_told, symbols, &missing.absent, errors);
-    format.tell_end(&printed.outcome, errors);
+    format.tell_end(missing.ordinals.as_slice(), &printed.outcome, errors);
     let hint = timeless_hint(settings.output, format.has_times(), &printed.outcome);
     write_stderr(hint, errors);
     write_late(printed.late, errors);
@@ -170,6 +170,6 @@ pub fn run_conversion<R: CaptureIn, W: TextOut, E: TextOut>(
     write_stderr(input_hint(terminals.input), errors);
     let mut format = PacketFormat::new(lines, VENUES);
     let outcome = convert(alloc, MAX_TURNS, &mut format, input, output);
-    format.tell_end(&outcome, errors);
+    format.tell_end(&[], &outcome, errors);
     status_of(&outcome)
 }

@@ -5,6 +5,7 @@ ghost use Rattle.nbbo_runs.specs.Sessions.{datagram_sightings, is_first, name_in
 ghost use Rattle.nbbo_runs.specs.Watches.{IsWatched, WatchedReads, first_venues_texts, seen_texts, silent_texts, unwatched, venue_texts, watch_texts, watched_by, watched_texts};
 ghost use Rattle.nbbo_runs.specs.WatchLaws.{watched_longer, watched_more, watched_none};
 
+use crate::named_sessions::NamedSessions;
 use crate::session_name::is_same_name;
 use crate::session_report::write_sessions;
 use crate::session_row::{SessionSighting, VenueSession};
@@ -22,13 +23,15 @@ const VENUES: usize = 16;
 const HEADER: usize = 20;
 
 /// A format of captures, and what is watched of the datagrams that it reads: which lines have one,
-/// and which are of another session than their venue's first.
+/// and which are of another session than their venue's first. The sessions that follow that are
+/// named.
 #[derive(Drop)]
 pub struct WatchedFormat<'a, F> {
     format: F,
     venues: [VenueWatch; VENUES],
     seen: SessionTable,
     sessions: &'a [[u8; 10]],
+    next: &'a [NextSession],
 }
 
 /// Notes a datagram, where one came.
@@ -185,12 +188,19 @@ fn write_venues<E: TextOut>(count: usize, venues: &[VenueWatch], errors: &mut E)
 }
 
 /// Writes what was watched of this many venues' lines, and of sessions.
-fn write_seen<E: TextOut>(count: usize, venues: &[VenueWatch], seen: &SessionTable, errors: &mut E)
+fn write_seen<E: TextOut>(
+    count: usize,
+    venues: &[VenueWatch],
+    named: NamedSessions<'_>,
+    seen: &SessionTable,
+    errors: &mut E,
+)
     ensures { SaysEach (record { adds = E.adds; failures = E.failures })
-        (seen_texts count venues.now seen.now) errors.old errors.new }
+        (seen_texts count venues.now named.next.now named.ordinals.now seen.now)
+        errors.old errors.new }
 {
     write_venues(count, venues, errors);
-    write_sessions(seen.rows(), errors);
+    write_sessions(named, seen.rows(), errors);
 }
 
 /// Writes what was watched of this many venues, after a run that came to its end.
@@ -198,14 +208,16 @@ fn write_watch<F, E: TextOut>(
     outcome: &Result<(), F>,
     count: usize,
     venues: &[VenueWatch],
+    named: NamedSessions<'_>,
     seen: &SessionTable,
     errors: &mut E,
 )
     ensures { SaysEach (record { adds = E.adds; failures = E.failures })
-        (watch_texts outcome.now count venues.now seen.now) errors.old errors.new }
+        (watch_texts outcome.now count venues.now named.next.now named.ordinals.now seen.now)
+        errors.old errors.new }
 {
     match outcome {
-        Ok(()) => write_seen(count, venues, seen, errors),
+        Ok(()) => write_seen(count, venues, named, seen, errors),
         Err(_) => {}
     }
 }
@@ -213,7 +225,7 @@ fn write_watch<F, E: TextOut>(
 impl<'a, F> WatchedFormat<'a, F> {
     /// Returns the format, of which nothing was read, for venues whose first sessions have these
     /// names, and whose next ones are named.
-    pub fn new(format: F, sessions: &'a [[u8; 10]], next: &[NextSession]) -> WatchedFormat<'a, F>
+    pub fn new(format: F, sessions: &'a [[u8; 10]], next: &'a [NextSession]) -> WatchedFormat<'a, F>
         ensures { IsWatched format sessions.now next.now result }
     {
         let mut seen = SessionTable::new();
@@ -223,6 +235,7 @@ impl<'a, F> WatchedFormat<'a, F> {
             venues: [VenueWatch::new(); VENUES],
             seen,
             sessions,
+            next,
         }
     }
 }
@@ -271,9 +284,18 @@ impl<F: ToldFormat> ToldFormat for WatchedFormat<'_, F> {
         self.format.has_times()
     }
 
-    fn tell_end<E: TextOut>(&self, outcome: &Result<(), ReplayStop<F::Fault>>, errors: &mut E) {
+    fn tell_end<E: TextOut>(
+        &self,
+        ordinals: &[u64],
+        outcome: &Result<(), ReplayStop<F::Fault>>,
+        errors: &mut E,
+    ) {
         let count = self.sessions.len();
-        write_watch(outcome, count, &self.venues, &self.seen, errors);
-        self.format.tell_end(outcome, errors);
+        let named = NamedSessions {
+            next: self.next,
+            ordinals,
+        };
+        write_watch(outcome, count, &self.venues, named, &self.seen, errors);
+        self.format.tell_end(ordinals, outcome, errors);
     }
 }

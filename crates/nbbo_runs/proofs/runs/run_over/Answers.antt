@@ -49,7 +49,8 @@ returns g c =
     let end = c.write_late.new.errors in
     let late = c.print-printed.result.late in
     let due = tells_lacks settings c.args.terminals in
-    let texts = g.F.ToldFormat.end_texts finish outcome in
+    let ordinals = missing.ordinals in
+    let texts = g.F.ToldFormat.end_texts finish ordinals outcome in
     let timeless = timeless_hint settings.output (g.F.ToldFormat.is_timed finish) outcome in
     let end_texts = texts ++ timeless ∷ [] in
     let hint : c.timeless_hint-hint.result.now ≡ timeless = c.timeless_hint-hint.ensures
@@ -59,16 +60,18 @@ returns g c =
       outcome = outcome;
       lacks = lacks;
       absent = absent;
+      ordinals = ordinals;
       late = late;
       prints = subst (λ (old : List Lack). PrintsAsked reading parsing
           (output_asked reading writing settings) settings due
           c.args.input.now c.print-printed.new.input c.args.format finish c.args.output
-          c.print-printed.result.output old lacks absent late outcome)
+          c.print-printed.result.output old lacks absent ordinals late outcome)
           c.new-missing.ensures.lacks
           (subst (λ (is_watched : Bool). PrintsAsked reading parsing
           (output_asked reading writing settings) settings is_watched
           c.args.input.now c.print-printed.new.input c.args.format finish c.args.output
-          c.print-printed.result.output c.new-missing.result.lacks.items lacks absent late outcome)
+          c.print-printed.result.output c.new-missing.result.lacks.items lacks absent
+          ordinals late outcome)
           (c.new-missing.ensures.watched ∙ c.tells_lacks-is_told.ensures)
           c.print-printed.ensures);
       says = (
