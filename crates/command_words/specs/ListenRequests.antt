@@ -59,8 +59,8 @@ pub record HasListenOptions (rows : List Row) (settings : ListenSettings) : Type
   pub complete_is : settings.complete ≡ is_flag_set (one_of (codes "complete") rows)
   pub follow_is : settings.follow ≡ is_followed rows
 
--- The feed that is listened to, its lines, where requests go, and the sessions that follow. They are
--- looked at in this order: sessions, lines, address of requests, sessions that follow, symbols.
+-- The feed that is listened to, its lines, where requests go, and the sessions that follow. They
+-- are looked at in this order: sessions, lines, address of requests, sessions that follow, symbols.
 abbrev pub ReadsReception : List Row → Result Reception Refusal → Type 0
 ReadsReception rows =
     Then (ReadsSessions true (list_in rows))

@@ -6,14 +6,14 @@ use Rattle.clap.specs.Walk.{Text}
 use Rattle.command_words.specs.declared.word_sources.WordSource.{WordSource}
 use Rattle.command_words.specs.declared.word_sources.WordSource.TheVariants.{Word, Lines}
 
-abbrev pub is_at : ℕ → Bool
-is_at byte = byte == 64
+abbrev pub is_at_sign : ℕ → Bool
+is_at_sign byte = byte == 64
 
 -- the file that a word names: what follows an @ with which it begins, if anything does
 abbrev pub file_named : Text → Option Text
 file_named word =
-    if length (before_first is_at word) == 0 && nat_lt 0 (length (after_first is_at word))
-    then Some (after_first is_at word) else None
+    if length (before_first is_at_sign word) == 0 && nat_lt 0 (length (after_first is_at_sign word))
+    then Some (after_first is_at_sign word) else None
 
 -- a word as it is, and the lines of a text
 abbrev pub words_of_source : WordSource → List Text

@@ -195,7 +195,10 @@ fn files_of(alloc: Global, words: &[String]) -> Result<StreamFiles, Refusal> {
 /// Writes after a run of this status that the file in place of standard output isn't whole, if
 /// there is one and it isn't.
 fn write_unwhole<E: TextOut>(files: &StreamFiles, status: u8, errors: &mut E) {
-    if let (Some(name), 1..) = (&files.output, status) {
+    let Some(name) = &files.output else {
+        return;
+    };
+    if status != 0 {
         write_stderr("nbbo: output not whole: ", errors);
         write_stderr(name.as_str(), errors);
         write_stderr("\n", errors);

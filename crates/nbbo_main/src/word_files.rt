@@ -78,7 +78,9 @@ fn sources_of(rt: &HostRuntime, words: Vec<String>) -> Result<Vec<WordSource>, W
         } else {
             source_of(rt, word)?
         };
-        sources.push(source)?;
+        if sources.push(source).is_err() {
+            return Err(WordsFault::Unread(ErrorKind::OutOfMemory));
+        }
         is_plain = false;
     }
     Ok(sources)
