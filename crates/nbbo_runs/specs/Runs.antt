@@ -71,7 +71,7 @@ pub record RunsWatched {R W E S F : Type 0} (devices : Devices R W E) (parsing :
   pub watch : WatchedFormat S
   pub is : IsWatched start settings.feed.sessions.items settings.next_sessions.items watch
   pub runs : RunsOver devices (watching parsing) Prints
-      (with_times settings.output (λ w. is_timed w.format) (watched_texts end_texts)) settings
+      (with_times settings (λ w. is_timed w.format) (watched_texts end_texts)) settings
       terminals watch before after status
 
 -- a run over a capture of the project's own format, whose datagrams are watched or not
@@ -80,7 +80,7 @@ abbrev pub RunsOwn : {R W E : Type 0} (devices : Devices R W E) (Prints : Output
     → Bool → Type 0
 RunsOwn devices Prints settings terminals before after status false =
     RunsOver devices own_capture_parsing Prints
-    (with_times settings.output (λ s. false) (of_any_sessions own_end_texts)) settings terminals
+    (with_times settings (λ s. false) (of_any_sessions own_end_texts)) settings terminals
     (new_own_capture (length settings.feed.sessions.items)) before after status
 RunsOwn devices Prints settings terminals before after status true =
     RunsWatched devices own_capture_parsing Prints (λ s. false) (of_any_sessions own_end_texts)

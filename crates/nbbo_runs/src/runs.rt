@@ -15,7 +15,7 @@ use crate::own_capture::OwnCapture;
 use crate::printing::print;
 use crate::symbol_hint::symbol_hint;
 use crate::terminals::Terminals;
-use crate::timeless::timeless_hint;
+use crate::timeless::tell_timeless;
 use crate::told_format::ToldFormat;
 use crate::watched_format::WatchedFormat;
 use crate::watched_sink::Missing;
@@ -67,7 +67,7 @@ fn run_over<R: CaptureIn, F: ToldFormat + Drop, W: TextOut + Drop, E: TextOut>(
         (record { gives = R.gives; ends = R.ends; failures = R.failures; fails = R.fails })
         (record { adds = W.adds; failures = W.failures })
         settings.now)
-        (with_times settings.now.output F.is_timed F.end_texts) settings.now terminals format
+        (with_times settings.now F.is_timed F.end_texts) settings.now terminals format
         (record { input = input.old; output = output; errors = errors.old })
         (record { input = input.new; output = result.output; errors = errors.new })
         result.status }
@@ -81,8 +81,7 @@ fn run_over<R: CaptureIn, F: ToldFormat + Drop, W: TextOut + Drop, E: TextOut>(
     let symbols = settings.feed.symbols.as_slice();
     tell_absent(&printed.outcome, is_told, symbols, &missing.absent, errors);
     format.tell_end(missing.ordinals.as_slice(), &printed.outcome, errors);
-    let hint = timeless_hint(settings.output, format.has_times(), &printed.outcome);
-    write_stderr(hint, errors);
+    tell_timeless(settings, format.has_times(), &printed.outcome, errors);
     write_late(printed.late, errors);
     RunEnd {
         status: status_of(&printed.outcome),
