@@ -297,9 +297,9 @@ pub record IsConfigOf (settings : RunSettings) (config : ReplayConfig) : Type 0 
   pub turns : config.turns ≡ 1000000000
 
 -- A capture was replayed with these settings, and printed by an output. Where it came to its end,
--- what its venues lack was appended to a list, these are the symbols of which no item came, if that is
--- watched, and these the ordinals of the venues' last sessions. So many datagrams were too late for
--- the periods that were kept.
+-- what its venues lack was appended to a list, these are the symbols of which no item came, if that
+-- is watched, and these the ordinals of the venues' last sessions. So many datagrams were too late
+-- for the periods that were kept.
 pub record PrintsAsked {R S F W : Type 0} (reading : Reading R) (parsing : Parsing S F)
     (Prints : Output R W) (settings : RunSettings) (is_watched : Bool) (from to : R)
     (start finish : S) (before after : W) (old new : List Lack) (absent : List (List ℕ))

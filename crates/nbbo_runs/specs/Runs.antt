@@ -69,7 +69,8 @@ pub record RunsWatched {R W E S F : Type 0} (devices : Devices R W E) (parsing :
     (settings : RunSettings) (terminals : Terminals) (start : S)
     (before after : Streams R W E) (status : ℕ) : Type 0 where
   pub watch : WatchedFormat S
-  pub is : IsWatched start settings.feed.sessions.items settings.next_sessions.items watch
+  pub is : IsWatched start settings.input settings.feed.sessions.items
+      settings.next_sessions.items watch
   pub runs : RunsOver devices (watching parsing) Prints
       (with_times settings (λ w. is_timed w.format) (watched_texts end_texts)) settings
       terminals watch before after status

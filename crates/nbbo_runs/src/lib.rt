@@ -22,6 +22,7 @@ mod config;
 mod discovery;
 mod ending;
 mod fed_sink;
+mod given_lines;
 mod hints;
 mod lacks;
 mod named_sessions;

@@ -121,20 +121,18 @@ pub fn run_settings<R: CaptureIn, W: TextOut + Drop, E: TextOut>(
         result.status settings.now.input }
 {
     let venues = settings.feed.sessions.len();
-    let sessions = settings.feed.sessions.as_slice();
-    let next = settings.next_sessions.as_slice();
     match &settings.input {
         RunInput::Own => {
             let format = OwnCapture::new(venues);
             if !tells_lacks(settings, terminals) {
                 return run_over(alloc, settings, terminals, format, input, output, errors);
             }
-            let format = WatchedFormat::new(format, sessions, next);
+            let format = WatchedFormat::new(format, settings);
             run_over(alloc, settings, terminals, format, input, output, errors)
         }
         RunInput::Packets(lines) => {
             let format = PacketFormat::new(lines.as_slice(), venues);
-            let format = WatchedFormat::new(format, sessions, next);
+            let format = WatchedFormat::new(format, settings);
             run_over(alloc, settings, terminals, format, input, output, errors)
         }
     }
