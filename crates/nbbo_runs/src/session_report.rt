@@ -63,9 +63,9 @@ fn write_named<E: TextOut>(row: &SessionRow, never_begins: bool, errors: &mut E)
 }
 
 /// Writes what was refused of a session, if nothing names it or it never began.
-fn write_session<E: TextOut>(named: NamedSessions<'_>, row: &SessionRow, errors: &mut E)
+fn write_session<E: TextOut>(named: &NamedSessions<'_>, row: &SessionRow, errors: &mut E)
     ensures { SaysEach (record { adds = E.adds; failures = E.failures })
-        (session_texts named.next.now named.ordinals.now row.now) errors.old errors.new }
+        (session_texts named.now.next.now named.now.ordinals.now row.now) errors.old errors.new }
 {
     if row.is_named {
         write_named(row, named.never_begins(&row.session), errors);
@@ -75,9 +75,9 @@ fn write_session<E: TextOut>(named: NamedSessions<'_>, row: &SessionRow, errors:
 }
 
 /// Writes what was refused of these sessions.
-fn write_rows<E: TextOut>(named: NamedSessions<'_>, rows: &[SessionRow], errors: &mut E)
+fn write_rows<E: TextOut>(named: &NamedSessions<'_>, rows: &[SessionRow], errors: &mut E)
     ensures { SaysEach (record { adds = E.adds; failures = E.failures })
-        (flat_map (session_texts named.next.now named.ordinals.now) rows.now)
+        (flat_map (session_texts named.now.next.now named.now.ordinals.now) rows.now)
         errors.old errors.new }
 {
     for row in rows {
@@ -98,12 +98,12 @@ fn write_full<E: TextOut>(rows: usize, errors: &mut E)
 
 /// Writes what is to be said of these sessions.
 pub(crate) fn write_sessions<E: TextOut>(
-    named: NamedSessions<'_>,
+    named: &NamedSessions<'_>,
     rows: &[SessionRow],
     errors: &mut E,
 )
     ensures { SaysEach (record { adds = E.adds; failures = E.failures })
-        (sessions_texts named.next.now named.ordinals.now rows.now) errors.old errors.new }
+        (sessions_texts named.now.next.now named.now.ordinals.now rows.now) errors.old errors.new }
 {
     write_rows(named, rows, errors);
     write_full(rows.len(), errors);

@@ -203,7 +203,7 @@ impl<F> WatchedFormat<'_, F> {
             ordinals,
         };
         write_venues(self.input, self.sessions.len(), &self.venues, errors);
-        write_sessions(named, self.seen.rows(), errors);
+        write_sessions(&named, self.seen.rows(), errors);
     }
 
     /// Writes it after a run that came to its end.

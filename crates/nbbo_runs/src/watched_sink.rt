@@ -149,16 +149,12 @@ pub(crate) fn replay_watched<R: CaptureIn, F: RecordFormat, K: EventSink>(
         absent,
         ordinals: first_ordinals(),
     };
-    let replayed = replay(alloc, config, format, reader, watched, &mut missing.lacks);
-    let WatchedSink {
-        sink,
-        absent,
-        ordinals,
-    } = replayed.sink;
+    let Replayed {
+        sink: watched,
+        outcome,
+    } = replay(alloc, config, format, reader, watched, &mut missing.lacks);
+    missing.ordinals = watched.ordinals;
+    let WatchedSink { sink, absent, .. } = watched;
     missing.absent = absent;
-    missing.ordinals = ordinals;
-    Replayed {
-        sink,
-        outcome: replayed.outcome,
-    }
+    Replayed { sink, outcome }
 }

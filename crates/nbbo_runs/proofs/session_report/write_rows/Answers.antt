@@ -10,7 +10,7 @@ pub loop-row-preserved : goal.loop-row-preserved
 loop-row-preserved g c =
     let w : Writing g.row.E.Denot =
     record { adds = g.E.TextOut.adds; failures = g.E.TextOut.failures } in
-    let texts = session_texts c.args.named.next.now c.args.named.ordinals.now in
+    let texts = session_texts c.args.named.now.next.now c.args.named.now.ordinals.now in
     let rows = c.args.rows.now in
     let i = c.loop-row.row-index in
     let x = c.row-item.result in
