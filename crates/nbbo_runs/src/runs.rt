@@ -80,7 +80,7 @@ fn run_over<R: CaptureIn, F: ToldFormat + Drop, W: TextOut + Drop, E: TextOut>(
     tell_lacks(&printed.outcome, is_told, missing.lacks.as_slice(), errors);
     let symbols = settings.feed.symbols.as_slice();
     tell_absent(&printed.outcome, is_told, symbols, &missing.absent, errors);
-    format.tell_end(missing.ordinals.as_slice(), &printed.outcome, errors);
+    format.tell_end(&missing.ordinals, &printed.outcome, errors);
     tell_timeless(settings, format.has_times(), &printed.outcome, errors);
     write_late(printed.late, errors);
     RunEnd {

@@ -1,4 +1,4 @@
-use Rattle.std.proofs.Common.{ℕ, List, length, subst}
+use Rattle.std.proofs.Common.{List, length, subst}
 use Rattle.feed_text.specs.Devices.{Writing}
 use Rattle.feed_text.specs.StandardError.{SaysEach}
 use Rattle.feed_text.specs.laws.SaidTexts.{says_each}
@@ -17,7 +17,6 @@ returns g c =
     let end = c.write_sessions.new.errors in
     says_each w (first_venues_texts s.input.now s.venues (length s.sessions.now))
     (sessions_texts s.next.now ordinals (session_rows s.seen)) c.args.errors.now told end
-    (subst (λ (n : ℕ). SaysEach w (first_venues_texts s.input.now s.venues n) c.args.errors.now
-    told) c.len.ensures c.write_venues.ensures)
+    c.write_venues.ensures
     (subst (λ (rows : List SessionRow). SaysEach w (sessions_texts s.next.now ordinals rows) told
     end) c.rows.ensures c.write_sessions.ensures)
