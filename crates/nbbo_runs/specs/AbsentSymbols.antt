@@ -1,4 +1,5 @@
--- The symbols of which no item comes in a replay, and what is said of them at the end.
+-- The symbols of which no item comes in a replay, and what is said of them at the end; and how far
+-- the venues' sessions come.
 use Rattle.std.specs.Prelude.{◌≡◌, ⊤, ℕ, Bool, true, false, ◌&&◌, not, List, [], filter, Result, Ok}
 use Rattle.std.specs.List.{list_any}
 use Rattle.feed_types.specs.Symbols.{key_of}
@@ -13,6 +14,7 @@ use Rattle.run_notes.specs.AbsentSymbols.{absent_texts, has_key, is_item_of}
 use Rattle.nbbo_runs.specs.declared.watched_sink.Missing.{Missing}
 use Rattle.nbbo_runs.specs.declared.watched_sink.WatchedSink.{WatchedSink}
 use Rattle.nbbo_runs.specs.Kept.{keeping}
+use Rattle.nbbo_runs.specs.NamedSessions.{first_ordinals, ordinals_after}
 
 -- ---- which symbols come
 
@@ -35,22 +37,24 @@ abbrev pub IsAfterItems : List ℕ → List TimedEvent → List ℕ → Type 0
 IsAfterItems before told after =
     (key : ℕ) → has_key after key ≡ (has_key before key && not (comes_in told key))
 
--- a sink took the events, and the symbols that they brought were noted
+-- a sink took the events, and the symbols that they brought were noted, and the sessions that began
 abbrev pub TakesWatched : {K : Type 0} → (K → List TimedEvent → K → Type 0)
     → WatchedSink K → List TimedEvent → WatchedSink K → Type 0
 TakesWatched takes before told after =
     takes before.sink told after.sink × IsAfterItems before.absent told after.absent
+    × (after.ordinals ≡ ordinals_after before.ordinals told)
 
--- A whole capture was replayed, and where that is watched these are the symbols of which no item
--- came.
+-- A whole capture was replayed; where that is watched these are the symbols of which no item came,
+-- and these are the ordinals of the venues' last sessions.
 pub record LeavesAbsent {R S F : Type 0} (reading : Reading R) (parsing : Parsing S F)
     (config : ReplayConfig) (from to : R) (start finish : S)
     (outcome : Result (Unit {0}) (ReplayStop F)) (is_watched : Bool) (absent : List (List ℕ))
-    : Type 0 where
+    (ordinals : List ℕ) : Type 0 where
   pub told : List TimedEvent
   pub run : AnswersRun reading parsing keeping (λ kept. ⊤) config (facts_of_run config)
       from to start finish [] told outcome
   pub are : is_watched ≡ true → absent ≡ absent_symbols told config.symbols.now
+  pub begun : ordinals ≡ ordinals_after first_ordinals told
 
 -- nothing is missing yet, and symbols are watched or not
 pub record IsNewMissing (is_watched : Bool) (missing : Missing) : Type 0 where

@@ -38,3 +38,8 @@ abbrev pub own_end_texts : {S : Type 0} → S → Result (Unit {0}) (ReplayStop 
     → List (List ℕ)
 own_end_texts read (Ok done) = []
 own_end_texts read (Err stop) = stop_line_text stop ∷ own_hint stop ∷ []
+
+-- texts of what was read and of the outcome, whichever sessions began
+abbrev pub of_any_sessions : {S F : Type 0} → (S → Result (Unit {0}) F → List (List ℕ))
+    → S → (ordinals : List ℕ) → Result (Unit {0}) F → List (List ℕ)
+of_any_sessions texts s ordinals outcome = texts s outcome

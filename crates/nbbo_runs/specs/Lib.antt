@@ -6,6 +6,7 @@ pub mod Ending
 pub mod Hints
 pub mod Kept
 pub mod Lacks
+pub mod NamedSessions
 pub mod OwnCaptureLaws
 pub mod OwnCaptures
 pub mod Printing

@@ -137,14 +137,15 @@ pub record IsStatsText (config : ReplayConfig) (timed : Bool) (told : List Timed
 -- ---- what is missing
 
 -- Where a replay came to its end, what its venues lack was appended to what is missing, and the
--- symbols are left in it of which no item came, if that is watched.
+-- symbols are left in it of which no item came, if that is watched, and the ordinals of the venues'
+-- last sessions.
 pub record LeavesMissing {R S F : Type 0} (reading : Reading R) (parsing : Parsing S F)
     (config : ReplayConfig) (from to : R) (start finish : S) (before after : Missing)
     (outcome : Result (Unit {0}) (ReplayStop F)) : Type 0 where
   pub lacks : OnOk outcome (AppendsLacks reading parsing config from to start finish
       before.lacks.items after.lacks.items)
   pub absent : OnOk outcome (LeavesAbsent reading parsing config from to start finish outcome
-      before.is_watched (symbols_with after.absent config.symbols.now))
+      before.is_watched (symbols_with after.absent config.symbols.now) after.ordinals)
 
 -- How a replay is printed, for any format of captures: a relation of its settings, of the reader
 -- and the format before and after, of the writer before and after, and of the outcome.
@@ -296,17 +297,19 @@ pub record IsConfigOf (settings : RunSettings) (config : ReplayConfig) : Type 0 
   pub turns : config.turns ≡ 1000000000
 
 -- A capture was replayed with these settings, and printed by an output. Where it came to its end,
--- what its venues lack was appended to a list, and these are the symbols of which no item came, if
--- that is watched. So many datagrams were too late for the periods that were kept.
+-- what its venues lack was appended to a list, these are the symbols of which no item came, if that
+-- is watched, and these the ordinals of the venues' last sessions. So many datagrams were too late
+-- for the periods that were kept.
 pub record PrintsAsked {R S F W : Type 0} (reading : Reading R) (parsing : Parsing S F)
     (Prints : Output R W) (settings : RunSettings) (is_watched : Bool) (from to : R)
     (start finish : S) (before after : W) (old new : List Lack) (absent : List (List ℕ))
-    (late : ℕ) (outcome : Result (Unit {0}) (ReplayStop F)) : Type 0 where
+    (ordinals : List ℕ) (late : ℕ) (outcome : Result (Unit {0}) (ReplayStop F)) : Type 0 where
   pub config : ReplayConfig
   pub is : IsConfigOf settings config
   pub prints : Prints S F parsing config from to start finish before after outcome
   pub lacks : OnOk outcome (AppendsLacks reading parsing config from to start finish old new)
   pub absent_are : OnOk outcome
-      (LeavesAbsent reading parsing config from to start finish outcome is_watched absent)
+      (LeavesAbsent reading parsing config from to start finish outcome is_watched absent
+      ordinals)
   pub late_is : LeavesLate reading parsing config settings.span from to start finish late outcome
       settings.output

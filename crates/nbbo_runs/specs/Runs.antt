@@ -21,7 +21,7 @@ use Rattle.command_words.specs.declared.task.Task.TheVariants.{Listen, Normalise
 use Rattle.nbbo_runs.specs.AbsentSymbols.{told_absent}
 use Rattle.nbbo_runs.specs.CaptureTexts.{capture_texts, is_timed_capture, late_texts}
 use Rattle.nbbo_runs.specs.Discovery.{Discovered}
-use Rattle.nbbo_runs.specs.Ending.{ending_status, own_end_texts, write_failed_text}
+use Rattle.nbbo_runs.specs.Ending.{ending_status, of_any_sessions, own_end_texts, write_failed_text}
 use Rattle.nbbo_runs.specs.Hints.{hint_text}
 use Rattle.nbbo_runs.specs.Lacks.{tells_lacks, told_lacks}
 use Rattle.nbbo_runs.specs.OwnCaptures.{new_own_capture, own_capture_parsing}
@@ -40,22 +40,24 @@ use Rattle.nbbo_runs.specs.declared.terminals.Terminals.{Terminals}
 -- to be said of what was read and of the outcome, by `end_texts`, and how many frames were too late
 -- for the periods that were kept.
 pub record RunsOver {R W E S F : Type 0} (devices : Devices R W E) (parsing : Parsing S F)
-    (Prints : Output R W) (end_texts : S → Result (Unit {0}) (ReplayStop F) → List (List ℕ))
+    (Prints : Output R W)
+    (end_texts : S → List ℕ → Result (Unit {0}) (ReplayStop F) → List (List ℕ))
     (settings : RunSettings) (terminals : Terminals) (start : S)
     (before after : Streams R W E) (status : ℕ) : Type 0 where
   pub finish : S
   pub outcome : Result (Unit {0}) (ReplayStop F)
   pub lacks : List Lack
   pub absent : List (List ℕ)
+  pub ordinals : List ℕ
   pub late : ℕ
   pub prints : PrintsAsked devices.reading parsing Prints settings
       (tells_lacks settings terminals) before.input after.input start finish before.output
-      after.output [] lacks absent late outcome
+      after.output [] lacks absent ordinals late outcome
   pub says : SaysEach devices.telling
       (hint_text terminals.input ∷ symbol_hint settings
       ∷ told_lacks outcome (tells_lacks settings terminals) lacks
       ++ (told_absent outcome (tells_lacks settings terminals) absent
-      ++ (end_texts finish outcome ++ late_texts late)))
+      ++ (end_texts finish ordinals outcome ++ late_texts late)))
       before.errors after.errors
   pub ends : status ≡ ending_status outcome
 
@@ -63,13 +65,14 @@ pub record RunsOver {R W E S F : Type 0} (devices : Devices R W E) (parsing : Pa
 -- lack.
 pub record RunsWatched {R W E S F : Type 0} (devices : Devices R W E) (parsing : Parsing S F)
     (Prints : Output R W) (is_timed : S → Bool)
-    (end_texts : S → Result (Unit {0}) (ReplayStop F) → List (List ℕ))
+    (end_texts : S → List ℕ → Result (Unit {0}) (ReplayStop F) → List (List ℕ))
     (settings : RunSettings) (terminals : Terminals) (start : S)
     (before after : Streams R W E) (status : ℕ) : Type 0 where
   pub watch : WatchedFormat S
-  pub is : IsWatched start settings.feed.sessions.items settings.next_sessions.items watch
+  pub is : IsWatched start settings.input settings.feed.sessions.items
+      settings.next_sessions.items watch
   pub runs : RunsOver devices (watching parsing) Prints
-      (with_times settings.output (λ w. is_timed w.format) (watched_texts end_texts)) settings
+      (with_times settings (λ w. is_timed w.format) (watched_texts end_texts)) settings
       terminals watch before after status
 
 -- a run over a capture of the project's own format, whose datagrams are watched or not
@@ -78,10 +81,11 @@ abbrev pub RunsOwn : {R W E : Type 0} (devices : Devices R W E) (Prints : Output
     → Bool → Type 0
 RunsOwn devices Prints settings terminals before after status false =
     RunsOver devices own_capture_parsing Prints
-    (with_times settings.output (λ s. false) own_end_texts) settings terminals
+    (with_times settings (λ s. false) (of_any_sessions own_end_texts)) settings terminals
     (new_own_capture (length settings.feed.sessions.items)) before after status
 RunsOwn devices Prints settings terminals before after status true =
-    RunsWatched devices own_capture_parsing Prints (λ s. false) own_end_texts settings terminals
+    RunsWatched devices own_capture_parsing Prints (λ s. false) (of_any_sessions own_end_texts)
+    settings terminals
     (new_own_capture (length settings.feed.sessions.items)) before after status
 
 -- a run over a capture of the project's own format, or over a packet capture
@@ -91,7 +95,8 @@ abbrev pub RunsBy : {R W E : Type 0} (devices : Devices R W E) (Prints : Output 
 RunsBy devices Prints settings terminals before after status Own =
     RunsOwn devices Prints settings terminals before after status (tells_lacks settings terminals)
 RunsBy devices Prints settings terminals before after status (Packets lines) =
-    RunsWatched devices packet_parsing Prints is_timed_capture capture_texts settings terminals
+    RunsWatched devices packet_parsing Prints is_timed_capture (of_any_sessions capture_texts)
+    settings terminals
     (new_packets (length settings.feed.sessions.items) lines.items) before after status
 
 -- The words ask for a run, and it was made, and printed by the output that they ask for.

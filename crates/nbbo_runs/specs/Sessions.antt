@@ -11,6 +11,7 @@ use Rattle.line_discovery.specs.KeyedRows.{Keying, keyed_rows}
 use Rattle.line_discovery.specs.Tables.{up_to_most}
 use Rattle.run_notes.specs.SessionNames.{name_texts}
 use Rattle.run_settings.specs.declared.next_session.NextSession.{NextSession}
+use Rattle.nbbo_runs.specs.NamedSessions.{never_begins}
 use Rattle.nbbo_runs.specs.declared.session_row.SessionRow.{SessionRow}
 use Rattle.nbbo_runs.specs.declared.session_row.SessionSighting.{SessionSighting}
 use Rattle.nbbo_runs.specs.declared.session_row.VenueSession.{VenueSession}
@@ -99,23 +100,37 @@ refused_texts venue count =
     codes "nbbo: venue " ∷ decimal venue ∷ codes " refused " ∷ decimal count
     ∷ datagrams_text count ∷ []
 
--- how many datagrams were refused of a session that nothing names
-abbrev pub row_texts : Bool → SessionRow → List (List ℕ)
-row_texts true r = []
-row_texts false r =
-    refused_texts r.session.venue r.datagrams
-    ++ (name_texts r.session.name ++ codes ", which isn't named\n" ∷ [])
+abbrev pub unnamed_end : List ℕ
+unnamed_end = codes ", which isn't named\n"
 
-abbrev pub session_texts : SessionRow → List (List ℕ)
-session_texts r = row_texts r.is_named r
+abbrev pub never_begun_end : List ℕ
+never_begun_end = codes ", which never began: the one before it wasn't over\n"
+
+-- how many datagrams of a session were refused, and then why
+abbrev pub row_texts : (why : List ℕ) → SessionRow → List (List ℕ)
+row_texts why r =
+    refused_texts r.session.venue r.datagrams ++ (name_texts r.session.name ++ why ∷ [])
+
+-- of a session that is named, if it came and never began
+abbrev pub named_texts : (never_begins : Bool) → SessionRow → List (List ℕ)
+named_texts never_begins r =
+    if nat_lt 0 r.datagrams && never_begins then row_texts never_begun_end r else []
+
+-- of a session, where these were named to follow, and the venues' last ones have these ordinals
+abbrev pub session_texts : List NextSession → (ordinals : List ℕ) → SessionRow → List (List ℕ)
+session_texts next ordinals r =
+    if r.is_named then named_texts (never_begins next ordinals r.session) r
+    else row_texts unnamed_end r
 
 -- that there are as many rows as can be
 abbrev pub full_texts : ℕ → List (List ℕ)
 full_texts rows =
     if nat_le 64 rows then codes "nbbo: sessions after the first 64 aren't counted\n" ∷ [] else []
 
-abbrev pub sessions_texts : List SessionRow → List (List ℕ)
-sessions_texts rows = flat_map session_texts rows ++ full_texts (length rows)
+abbrev pub sessions_texts : List NextSession → (ordinals : List ℕ) → List SessionRow
+    → List (List ℕ)
+sessions_texts next ordinals rows =
+    flat_map (session_texts next ordinals) rows ++ full_texts (length rows)
 
 -- ---- one thing more. Only private clauses cite this part.
 

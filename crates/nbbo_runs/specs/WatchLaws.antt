@@ -25,7 +25,7 @@ seen_more sessions a b c rs qs e d =
 module _ {S : Type 0} (reads : S → List ℕ → List TimedRecord → S → List ℕ → Type 0) where
   pub watched_none : ((s : S) (xs : List ℕ) → reads s xs [] s xs)
       → (s : WatchedFormat S) (xs : List ℕ) → WatchedReads reads s xs [] s xs
-  watched_none none s xs = (none s.format xs, refl, sym (append-nil s.seen), refl)
+  watched_none none s xs = (none s.format xs, refl, sym (append-nil s.seen), refl, refl, refl)
 
   pub watched_more : ((s t u : S) (xs ys zs : List ℕ) (rs qs : List TimedRecord)
       → reads s xs rs t ys → reads t ys qs u zs → reads s xs (rs ++ qs) u zs)
@@ -38,6 +38,8 @@ module _ {S : Type 0} (reads : S → List ℕ → List TimedRecord → S → Lis
     seen_more s.sessions.now s.seen t.seen u.seen rs qs a.2
         (b.2 ∙ ap (λ (names : _). t.seen ++ sightings_of names.now qs) a.3),
     b.3 ∙ a.3,
+    b.4 ∙ a.4,
+    b.5 ∙ a.5,
   )
 
   pub watched_longer : ((s t : S) (xs ys more : List ℕ) (rs : List TimedRecord)
@@ -45,4 +47,4 @@ module _ {S : Type 0} (reads : S → List ℕ → List TimedRecord → S → Lis
       → (s t : WatchedFormat S) (xs ys more : List ℕ) (rs : List TimedRecord)
       → WatchedReads reads s xs rs t ys → WatchedReads reads s (xs ++ more) rs t (ys ++ more)
   watched_longer longer s t xs ys more rs a =
-      (longer s.format t.format xs ys more rs a.0, a.1, a.2, a.3)
+      (longer s.format t.format xs ys more rs a.0, a.1, a.2, a.3, a.4, a.5)

@@ -1,12 +1,17 @@
 -- What is watched of the datagrams of a capture, and what is said of it at the end.
-use Rattle.std.specs.Prelude.{◌≡◌, ℕ, zero, suc, Bool, true, false, List, [], ◌∷◌, ◌++◌, codes, decimal, length, replicate, slice_index_or, slice_set, Result, Ok, Err}
+use Rattle.std.specs.Prelude.{◌≡◌, ℕ, zero, suc, ◌==◌, Bool, true, false, ◌&&◌, ◌||◌, not, List, [], ◌∷◌, ◌++◌, codes, decimal, length, replicate, slice_index_or, slice_set, Result, Ok, Err}
+use Rattle.std.specs.List.{list_any}
+use Rattle.feed_types.specs.Text.{line_letter}
 use Rattle.feed_types.specs.declared.line.LineId.{LineId}
 use Rattle.feed_types.specs.declared.line.LineId.TheVariants.{A, B}
 use Rattle.feed_text.specs.declared.record_format.Step.{Step}
 use Rattle.feed_text.specs.declared.record_format.Step.TheVariants.{Came}
 use Rattle.feed_text.specs.Capture.{CaptureRecord, datagram_record, record_of}
 use Rattle.feed_text.specs.Formats.{Parsing, TimedRecord}
+use Rattle.run_settings.specs.declared.captured_line.CapturedLine.{CapturedLine}
 use Rattle.run_settings.specs.declared.next_session.NextSession.{NextSession}
+use Rattle.run_settings.specs.declared.run_input.RunInput.{RunInput}
+use Rattle.run_settings.specs.declared.run_input.RunInput.TheVariants.{Own, Packets}
 use Rattle.nbbo_runs.specs.declared.session_row.SessionSighting.{SessionSighting}
 use Rattle.nbbo_runs.specs.declared.venue_watch.VenueWatch.{VenueWatch}
 use Rattle.nbbo_runs.specs.declared.watched_format.WatchedFormat.{WatchedFormat}
@@ -46,6 +51,7 @@ abbrev pub WatchedReads : {S : Type 0} (reads : S → List ℕ → List TimedRec
 WatchedReads reads s xs rs t ys =
     reads s.format xs rs t.format ys × (t.venues ≡ watched_after s.venues rs)
     × (t.seen ≡ s.seen ++ sightings_of s.sessions.now rs) × (t.sessions ≡ s.sessions)
+    × (t.next ≡ s.next) × (t.input ≡ s.input)
 
 abbrev pub watching : {S F : Type 0} → Parsing S F → Parsing (WatchedFormat S) F
 watching parsing = record {
@@ -55,14 +61,16 @@ watching parsing = record {
   is_whole = λ s. parsing.is_whole s.format;
 }
 
--- nothing was read of the format, whose venues' first sessions have these names, and whose next
--- ones are named
-pub record IsWatched {S : Type 0} (format : S) (sessions : List (List ℕ)) (next : List NextSession)
-    (w : WatchedFormat S) : Type 0 where
+-- nothing was read of the format of an input, whose venues' first sessions have these names, and
+-- whose next ones are named
+pub record IsWatched {S : Type 0} (format : S) (input : RunInput) (sessions : List (List ℕ))
+    (next : List NextSession) (w : WatchedFormat S) : Type 0 where
   pub format_is : w.format ≡ format
   pub venues_are : w.venues ≡ replicate 16 unwatched
   pub seen_is : w.seen ≡ named_sightings next
   pub sessions_are : w.sessions.now ≡ sessions
+  pub next_are : w.next.now ≡ next
+  pub input_is : w.input.now ≡ input
 
 -- ---- what is said
 
@@ -71,27 +79,41 @@ silent_texts venue line true = []
 silent_texts venue line false =
     codes "nbbo: venue " ∷ decimal venue ∷ codes " line " ∷ line ∷ codes " had no datagram\n" ∷ []
 
-abbrev pub venue_texts : ℕ → VenueWatch → List (List ℕ)
-venue_texts venue w = silent_texts venue (codes "A") w.a ++ silent_texts venue (codes "B") w.b
+abbrev pub is_line : ℕ → LineId → CapturedLine → Bool
+is_line venue line l = (l.venue == venue) && (line_letter l.line == line_letter line)
+
+-- whether a packet capture is to have a line of the venue; a capture of the project's own format
+-- has each
+abbrev pub is_given : RunInput → ℕ → LineId → Bool
+is_given Own venue line = true
+is_given (Packets lines) venue line = list_any (is_line venue line) lines.items
+
+-- of the venue's lines that are given
+abbrev pub venue_texts : RunInput → ℕ → VenueWatch → List (List ℕ)
+venue_texts input venue w =
+    silent_texts venue (codes "A") (w.a || not (is_given input venue A))
+    ++ silent_texts venue (codes "B") (w.b || not (is_given input venue B))
 
 -- of the first venues, this many
-abbrev pub first_venues_texts : List VenueWatch → ℕ → List (List ℕ)
-first_venues_texts ws zero = []
-first_venues_texts ws (suc n) =
-    first_venues_texts ws n ++ venue_texts n (slice_index_or ws n unwatched)
+abbrev pub first_venues_texts : RunInput → List VenueWatch → ℕ → List (List ℕ)
+first_venues_texts input ws zero = []
+first_venues_texts input ws (suc n) =
+    first_venues_texts input ws n ++ venue_texts input n (slice_index_or ws n unwatched)
 
--- of this many venues' lines, and then of sessions
-abbrev pub seen_texts : ℕ → List VenueWatch → List SessionSighting → List (List ℕ)
-seen_texts venues ws seen = first_venues_texts ws venues ++ sessions_texts (session_rows seen)
+-- of the venues' lines, and then of sessions, where the venues' last ones have these ordinals
+abbrev pub seen_texts : {S : Type 0} → WatchedFormat S → (ordinals : List ℕ) → List (List ℕ)
+seen_texts s ordinals =
+    first_venues_texts s.input.now s.venues (length s.sessions.now)
+    ++ sessions_texts s.next.now ordinals (session_rows s.seen)
 
--- after a run over this many venues that came to its end
-abbrev pub watch_texts : {F : Type 0} → Result (Unit {0}) F → ℕ → List VenueWatch
-    → List SessionSighting → List (List ℕ)
-watch_texts (Ok done) venues ws seen = seen_texts venues ws seen
-watch_texts (Err stop) venues ws seen = []
+-- after a run that came to its end
+abbrev pub watch_texts : {S F : Type 0} → Result (Unit {0}) F → WatchedFormat S
+    → (ordinals : List ℕ) → List (List ℕ)
+watch_texts (Ok done) s ordinals = seen_texts s ordinals
+watch_texts (Err stop) s ordinals = []
 
 -- before what is said of the format
-abbrev pub watched_texts : {S F : Type 0} → (S → Result (Unit {0}) F → List (List ℕ))
-    → WatchedFormat S → Result (Unit {0}) F → List (List ℕ)
-watched_texts texts s outcome =
-    watch_texts outcome (length s.sessions.now) s.venues s.seen ++ texts s.format outcome
+abbrev pub watched_texts : {S F : Type 0} → (S → List ℕ → Result (Unit {0}) F → List (List ℕ))
+    → WatchedFormat S → (ordinals : List ℕ) → Result (Unit {0}) F → List (List ℕ)
+watched_texts texts s ordinals outcome =
+    watch_texts outcome s ordinals ++ texts s.format ordinals outcome

@@ -5,9 +5,9 @@
 //! prints lines, rows of best lines, statistics or rows of gaps (`specs/Printing.antt`), or lists
 //! the lines of a packet capture (`specs/Discovery.antt`); at its end standard error says what
 //! venues lack (`specs/Lacks.antt`), which symbols never came (`specs/AbsentSymbols.antt`), which
-//! lines had no datagram and which sessions nothing names (`specs/Watches.antt`,
-//! `specs/Sessions.antt`), and what is to be said of the capture and of the outcome
-//! (`specs/CaptureTexts.antt`, `specs/Ending.antt`).
+//! lines had no datagram, which sessions nothing names and which named ones never began
+//! (`specs/Watches.antt`, `specs/Sessions.antt`), and what is to be said of the capture and of the
+//! outcome (`specs/CaptureTexts.antt`, `specs/Ending.antt`).
 //!
 //! Outside of it stand hints (`hints.rt`), which are made of the values that a run returns, and the
 //! program, which opens the streams and listens (`nbbo_main`).
@@ -22,8 +22,10 @@ mod config;
 mod discovery;
 mod ending;
 mod fed_sink;
+mod given_lines;
 mod hints;
 mod lacks;
+mod named_sessions;
 mod normalisation;
 mod own_capture;
 mod printing;

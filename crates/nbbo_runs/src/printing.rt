@@ -465,8 +465,8 @@ pub fn print<R: CaptureIn, F: RecordFormat, W: TextOut + Drop>(
         settings.now)
         settings.now missing.old.is_watched input.old input.new format.old format.new
         output result.output missing.old.lacks.items missing.new.lacks.items
-        (symbols_with missing.new.absent settings.now.feed.symbols.items) result.late
-        result.outcome }
+        (symbols_with missing.new.absent settings.now.feed.symbols.items) missing.new.ordinals
+        result.late result.outcome }
 {
     let config = config_of(settings);
     let timed = is_packet_input(&settings.input);

@@ -15,7 +15,7 @@ use crate::own_capture::OwnCapture;
 use crate::printing::print;
 use crate::symbol_hint::symbol_hint;
 use crate::terminals::Terminals;
-use crate::timeless::timeless_hint;
+use crate::timeless::tell_timeless;
 use crate::told_format::ToldFormat;
 use crate::watched_format::WatchedFormat;
 use crate::watched_sink::Missing;
@@ -67,7 +67,7 @@ fn run_over<R: CaptureIn, F: ToldFormat + Drop, W: TextOut + Drop, E: TextOut>(
         (record { gives = R.gives; ends = R.ends; failures = R.failures; fails = R.fails })
         (record { adds = W.adds; failures = W.failures })
         settings.now)
-        (with_times settings.now.output F.is_timed F.end_texts) settings.now terminals format
+        (with_times settings.now F.is_timed F.end_texts) settings.now terminals format
         (record { input = input.old; output = output; errors = errors.old })
         (record { input = input.new; output = result.output; errors = errors.new })
         result.status }
@@ -80,9 +80,8 @@ fn run_over<R: CaptureIn, F: ToldFormat + Drop, W: TextOut + Drop, E: TextOut>(
     tell_lacks(&printed.outcome, is_told, missing.lacks.as_slice(), errors);
     let symbols = settings.feed.symbols.as_slice();
     tell_absent(&printed.outcome, is_told, symbols, &missing.absent, errors);
-    format.tell_end(&printed.outcome, errors);
-    let hint = timeless_hint(settings.output, format.has_times(), &printed.outcome);
-    write_stderr(hint, errors);
+    format.tell_end(&missing.ordinals, &printed.outcome, errors);
+    tell_timeless(settings, format.has_times(), &printed.outcome, errors);
     write_late(printed.late, errors);
     RunEnd {
         status: status_of(&printed.outcome),
@@ -122,20 +121,18 @@ pub fn run_settings<R: CaptureIn, W: TextOut + Drop, E: TextOut>(
         result.status settings.now.input }
 {
     let venues = settings.feed.sessions.len();
-    let sessions = settings.feed.sessions.as_slice();
-    let next = settings.next_sessions.as_slice();
     match &settings.input {
         RunInput::Own => {
             let format = OwnCapture::new(venues);
             if !tells_lacks(settings, terminals) {
                 return run_over(alloc, settings, terminals, format, input, output, errors);
             }
-            let format = WatchedFormat::new(format, sessions, next);
+            let format = WatchedFormat::new(format, settings);
             run_over(alloc, settings, terminals, format, input, output, errors)
         }
         RunInput::Packets(lines) => {
             let format = PacketFormat::new(lines.as_slice(), venues);
-            let format = WatchedFormat::new(format, sessions, next);
+            let format = WatchedFormat::new(format, settings);
             run_over(alloc, settings, terminals, format, input, output, errors)
         }
     }
@@ -170,6 +167,6 @@ pub fn run_conversion<R: CaptureIn, W: TextOut, E: TextOut>(
     write_stderr(input_hint(terminals.input), errors);
     let mut format = PacketFormat::new(lines, VENUES);
     let outcome = convert(alloc, MAX_TURNS, &mut format, input, output);
-    format.tell_end(&outcome, errors);
+    format.tell_end(&[], &outcome, errors);
     status_of(&outcome)
 }

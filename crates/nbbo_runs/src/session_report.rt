@@ -1,8 +1,11 @@
-//! What is said of sessions that nothing names, on standard error.
+//! What is said of sessions that nothing names, and of named ones that never began, on standard
+//! error.
 ghost use Rattle.std.specs.Prelude.{◌≡◌, false, flat_map};
 ghost use Rattle.feed_text.specs.StandardError.{SaysEach};
-ghost use Rattle.nbbo_runs.specs.Sessions.{datagrams_text, full_texts, refused_texts, row_texts, session_texts, sessions_texts};
+ghost use Rattle.nbbo_runs.specs.NamedSessions.{never_begins};
+ghost use Rattle.nbbo_runs.specs.Sessions.{datagrams_text, full_texts, named_texts, refused_texts, row_texts, session_texts, sessions_texts};
 
+use crate::named_sessions::NamedSessions;
 use crate::session_row::SessionRow;
 use feed_text::{TextOut, write_number, write_stderr};
 use feed_types::VenueId;
@@ -10,6 +13,11 @@ use run_notes::write_session_name;
 
 /// The most rows of sessions.
 const MOST: usize = 64;
+
+/// The ends of lines, which say why datagrams are refused.
+const UNNAMED: &str = ", which isn't named\n";
+
+const NEVER_BEGUN: &str = ", which never began: the one before it wasn't over\n";
 
 /// What stands between a count of datagrams and the session's name.
 fn datagrams(count: u64) -> &'static str
@@ -34,34 +42,46 @@ fn write_refused<E: TextOut>(venue: VenueId, count: u64, errors: &mut E)
     write_stderr(datagrams(count), errors);
 }
 
-/// Writes what was refused of a session that nothing names.
-fn write_unnamed<E: TextOut>(row: &SessionRow, errors: &mut E)
+/// Writes what was refused of a session, and why.
+fn write_row<E: TextOut>(row: &SessionRow, why: &str, errors: &mut E)
     ensures { SaysEach (record { adds = E.adds; failures = E.failures })
-        (row_texts false row.now) errors.old errors.new }
+        (row_texts why.now row.now) errors.old errors.new }
 {
     write_refused(row.session.venue, row.datagrams, errors);
     write_session_name(&row.session.name, errors);
-    write_stderr(", which isn't named\n", errors);
+    write_stderr(why, errors);
 }
 
-/// Writes what was refused of a session, unless it is named.
-fn write_session<E: TextOut>(row: &SessionRow, errors: &mut E)
+/// Writes what was refused of a session that is named, if it came and never began.
+fn write_named<E: TextOut>(row: &SessionRow, never_begins: bool, errors: &mut E)
     ensures { SaysEach (record { adds = E.adds; failures = E.failures })
-        (session_texts row.now) errors.old errors.new }
+        (named_texts never_begins row.now) errors.old errors.new }
+{
+    if row.datagrams > 0 && never_begins {
+        write_row(row, NEVER_BEGUN, errors);
+    }
+}
+
+/// Writes what was refused of a session, if nothing names it or it never began.
+fn write_session<E: TextOut>(named: &NamedSessions<'_>, row: &SessionRow, errors: &mut E)
+    ensures { SaysEach (record { adds = E.adds; failures = E.failures })
+        (session_texts named.now.next.now named.now.ordinals.now row.now) errors.old errors.new }
 {
     if row.is_named {
-        return;
+        write_named(row, named.never_begins(&row.session), errors);
+    } else {
+        write_row(row, UNNAMED, errors);
     }
-    write_unnamed(row, errors);
 }
 
 /// Writes what was refused of these sessions.
-fn write_rows<E: TextOut>(rows: &[SessionRow], errors: &mut E)
+fn write_rows<E: TextOut>(named: &NamedSessions<'_>, rows: &[SessionRow], errors: &mut E)
     ensures { SaysEach (record { adds = E.adds; failures = E.failures })
-        (flat_map session_texts rows.now) errors.old errors.new }
+        (flat_map (session_texts named.now.next.now named.now.ordinals.now) rows.now)
+        errors.old errors.new }
 {
     for row in rows {
-        write_session(row, errors);
+        write_session(named, row, errors);
     }
 }
 
@@ -77,10 +97,14 @@ fn write_full<E: TextOut>(rows: usize, errors: &mut E)
 }
 
 /// Writes what is to be said of these sessions.
-pub(crate) fn write_sessions<E: TextOut>(rows: &[SessionRow], errors: &mut E)
+pub(crate) fn write_sessions<E: TextOut>(
+    named: &NamedSessions<'_>,
+    rows: &[SessionRow],
+    errors: &mut E,
+)
     ensures { SaysEach (record { adds = E.adds; failures = E.failures })
-        (sessions_texts rows.now) errors.old errors.new }
+        (sessions_texts named.now.next.now named.now.ordinals.now rows.now) errors.old errors.new }
 {
-    write_rows(rows, errors);
+    write_rows(named, rows, errors);
     write_full(rows.len(), errors);
 }

@@ -5,8 +5,11 @@ ghost use Rattle.nbbo_runs.specs.SymbolHints.{bests_hint, symbol_hint};
 use feed_types::SymbolName;
 use run_settings::{RunOutput, RunSettings};
 
-/// The line for best lines of no symbol.
+/// The lines for best lines of no symbol, and for rows of how long bests of none stood.
 const NO_SYMBOL: &str = "nbbo: --best-only without a symbol prints no best: name one at least\n";
+
+const NO_SYMBOL_IN_PERIODS: &str =
+    "nbbo: --bests without a symbol prints no best: name one at least\n";
 
 /// Returns the line for an output of these symbols; empty where it has something to print.
 fn bests_hint(output: RunOutput, symbols: &[SymbolName]) -> &'static str
@@ -14,11 +17,12 @@ fn bests_hint(output: RunOutput, symbols: &[SymbolName]) -> &'static str
 {
     match output {
         RunOutput::Bests(_) if symbols.is_empty() => NO_SYMBOL,
+        RunOutput::BestTimes(_) if symbols.is_empty() => NO_SYMBOL_IN_PERIODS,
         _ => "",
     }
 }
 
-/// Returns the line for settings that ask for best lines of no symbol; empty for others.
+/// Returns the line for settings that ask for bests of no symbol; empty for others.
 pub fn symbol_hint(settings: &RunSettings) -> &'static str
     ensures { result.now ≡ symbol_hint settings.now }
 {

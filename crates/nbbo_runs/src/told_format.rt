@@ -3,7 +3,7 @@ ghost use Rattle.std.specs.Prelude.{◌≡◌, ℕ, Bool, false, List, Result};
 ghost use Rattle.feed_text.specs.declared.replay_stop.ReplayStop.{ReplayStop};
 ghost use Rattle.feed_text.specs.StandardError.{SaysEach};
 ghost use Rattle.nbbo_runs.specs.CaptureTexts.{capture_texts, is_timed_capture};
-ghost use Rattle.nbbo_runs.specs.Ending.{own_end_texts};
+ghost use Rattle.nbbo_runs.specs.Ending.{of_any_sessions, own_end_texts};
 
 use crate::capture_report::{write_counts, write_dropped, write_outcome, write_second};
 use crate::ending::{own_hint, stop_line};
@@ -13,8 +13,9 @@ use line_captures::{BadPiece, PacketFormat};
 
 /// A format of captures that has something to say after a run.
 pub trait ToldFormat: RecordFormat {
-    /// What is said of what was read and of the outcome.
-    ghost end_texts: { Self → Result (Unit {0}) (ReplayStop Self.Fault) → List (List ℕ) };
+    /// What is said of what was read and of the outcome, where the venues' last sessions have these
+    /// ordinals.
+    ghost end_texts: { Self → List ℕ → Result (Unit {0}) (ReplayStop Self.Fault) → List (List ℕ) };
 
     /// Whether anything that was read had a time.
     ghost is_timed: { Self → Bool };
@@ -23,14 +24,20 @@ pub trait ToldFormat: RecordFormat {
     fn has_times(&self) -> bool
         ensures { result ≡ is_timed self.now };
 
-    /// Writes what is to be said of what was read and of the outcome.
-    fn tell_end<E: TextOut>(&self, outcome: &Result<(), ReplayStop<Self::Fault>>, errors: &mut E)
+    /// Writes what is to be said of what was read and of the outcome, where the venues' last
+    /// sessions have these ordinals.
+    fn tell_end<E: TextOut>(
+        &self,
+        ordinals: &[u64],
+        outcome: &Result<(), ReplayStop<Self::Fault>>,
+        errors: &mut E,
+    )
         ensures { SaysEach (record { adds = E.adds; failures = E.failures })
-            (end_texts self.now outcome.now) errors.old errors.new };
+            (end_texts self.now ordinals.now outcome.now) errors.old errors.new };
 }
 
 impl ToldFormat for OwnCapture {
-    ghost end_texts = { own_end_texts };
+    ghost end_texts = { of_any_sessions own_end_texts };
 
     ghost is_timed = { λ s. false };
 
@@ -38,7 +45,12 @@ impl ToldFormat for OwnCapture {
         false
     }
 
-    fn tell_end<E: TextOut>(&self, outcome: &Result<(), ReplayStop<BadRecord>>, errors: &mut E) {
+    fn tell_end<E: TextOut>(
+        &self,
+        _ordinals: &[u64],
+        outcome: &Result<(), ReplayStop<BadRecord>>,
+        errors: &mut E,
+    ) {
         match outcome {
             Ok(()) => {}
             Err(stop) => {
@@ -50,7 +62,7 @@ impl ToldFormat for OwnCapture {
 }
 
 impl ToldFormat for PacketFormat<'_> {
-    ghost end_texts = { capture_texts };
+    ghost end_texts = { of_any_sessions capture_texts };
 
     ghost is_timed = { is_timed_capture };
 
@@ -58,7 +70,12 @@ impl ToldFormat for PacketFormat<'_> {
         self.latest_time() != 0
     }
 
-    fn tell_end<E: TextOut>(&self, outcome: &Result<(), ReplayStop<BadPiece>>, errors: &mut E) {
+    fn tell_end<E: TextOut>(
+        &self,
+        _ordinals: &[u64],
+        outcome: &Result<(), ReplayStop<BadPiece>>,
+        errors: &mut E,
+    ) {
         let frames = self.counts();
         let lost = self.dropped();
         write_counts(&frames, errors);

@@ -5,6 +5,8 @@ ghost use Rattle.nbbo_runs.specs.Sessions.{datagram_sightings, is_first, name_in
 ghost use Rattle.nbbo_runs.specs.Watches.{IsWatched, WatchedReads, first_venues_texts, seen_texts, silent_texts, unwatched, venue_texts, watch_texts, watched_by, watched_texts};
 ghost use Rattle.nbbo_runs.specs.WatchLaws.{watched_longer, watched_more, watched_none};
 
+use crate::given_lines::is_given;
+use crate::named_sessions::NamedSessions;
 use crate::session_name::is_same_name;
 use crate::session_report::write_sessions;
 use crate::session_row::{SessionSighting, VenueSession};
@@ -12,8 +14,8 @@ use crate::session_table::SessionTable;
 use crate::told_format::ToldFormat;
 use crate::venue_watch::VenueWatch;
 use feed_text::{Record, RecordFormat, ReplayStop, Step, TextOut, write_number, write_stderr};
-use feed_types::VenueId;
-use run_settings::NextSession;
+use feed_types::{LineId, VenueId};
+use run_settings::{NextSession, RunInput, RunSettings};
 
 /// The most venues of a capture.
 const VENUES: usize = 16;
@@ -22,13 +24,16 @@ const VENUES: usize = 16;
 const HEADER: usize = 20;
 
 /// A format of captures, and what is watched of the datagrams that it reads: which lines have one,
-/// and which are of another session than their venue's first.
+/// and which are of another session than their venue's first. The sessions that follow that are
+/// named.
 #[derive(Drop)]
 pub struct WatchedFormat<'a, F> {
     format: F,
     venues: [VenueWatch; VENUES],
     seen: SessionTable,
     sessions: &'a [[u8; 10]],
+    next: &'a [NextSession],
+    input: &'a RunInput,
 }
 
 /// Notes a datagram, where one came.
@@ -165,64 +170,71 @@ fn watch_at(venues: &[VenueWatch], place: usize) -> VenueWatch
     VenueWatch::new()
 }
 
-/// Writes what was watched of a venue's lines.
-fn write_venue<E: TextOut>(venue: usize, w: &VenueWatch, errors: &mut E)
+/// Writes what was watched of a venue's lines that are given.
+fn write_venue<E: TextOut>(input: &RunInput, venue: usize, w: &VenueWatch, errors: &mut E)
     ensures { SaysEach (record { adds = E.adds; failures = E.failures })
-        (venue_texts venue w.now) errors.old errors.new }
+        (venue_texts input.now venue w.now) errors.old errors.new }
 {
-    write_silent(venue, "A", w.a, errors);
-    write_silent(venue, "B", w.b, errors);
+    let a = w.a || !is_given(input, venue, LineId::A);
+    let b = w.b || !is_given(input, venue, LineId::B);
+    write_silent(venue, "A", a, errors);
+    write_silent(venue, "B", b, errors);
 }
 
 /// Writes what was watched of the lines of the first venues.
-fn write_venues<E: TextOut>(count: usize, venues: &[VenueWatch], errors: &mut E)
+fn write_venues<E: TextOut>(input: &RunInput, count: usize, venues: &[VenueWatch], errors: &mut E)
     ensures { SaysEach (record { adds = E.adds; failures = E.failures })
-        (first_venues_texts venues.now count) errors.old errors.new }
+        (first_venues_texts input.now venues.now count) errors.old errors.new }
 {
     for venue in 0..count {
-        write_venue(venue, &watch_at(venues, venue), errors);
+        write_venue(input, venue, &watch_at(venues, venue), errors);
     }
 }
 
-/// Writes what was watched of this many venues' lines, and of sessions.
-fn write_seen<E: TextOut>(count: usize, venues: &[VenueWatch], seen: &SessionTable, errors: &mut E)
-    ensures { SaysEach (record { adds = E.adds; failures = E.failures })
-        (seen_texts count venues.now seen.now) errors.old errors.new }
-{
-    write_venues(count, venues, errors);
-    write_sessions(seen.rows(), errors);
-}
+impl<F> WatchedFormat<'_, F> {
+    /// Writes what was watched of the venues' lines, and of sessions, where the venues' last ones
+    /// have these ordinals.
+    fn write_seen<E: TextOut>(&self, ordinals: &[u64], errors: &mut E)
+        ensures { SaysEach (record { adds = E.adds; failures = E.failures })
+            (seen_texts self.now ordinals.now) errors.old errors.new }
+    {
+        let named = NamedSessions {
+            next: self.next,
+            ordinals,
+        };
+        write_venues(self.input, self.sessions.len(), &self.venues, errors);
+        write_sessions(&named, self.seen.rows(), errors);
+    }
 
-/// Writes what was watched of this many venues, after a run that came to its end.
-fn write_watch<F, E: TextOut>(
-    outcome: &Result<(), F>,
-    count: usize,
-    venues: &[VenueWatch],
-    seen: &SessionTable,
-    errors: &mut E,
-)
-    ensures { SaysEach (record { adds = E.adds; failures = E.failures })
-        (watch_texts outcome.now count venues.now seen.now) errors.old errors.new }
-{
-    match outcome {
-        Ok(()) => write_seen(count, venues, seen, errors),
-        Err(_) => {}
+    /// Writes it after a run that came to its end.
+    fn write_watch<O, E: TextOut>(&self, ordinals: &[u64], outcome: &Result<(), O>, errors: &mut E)
+        ensures { SaysEach (record { adds = E.adds; failures = E.failures })
+            (watch_texts outcome.now self.now ordinals.now) errors.old errors.new }
+    {
+        match outcome {
+            Ok(()) => self.write_seen(ordinals, errors),
+            Err(_) => {}
+        }
     }
 }
 
 impl<'a, F> WatchedFormat<'a, F> {
-    /// Returns the format, of which nothing was read, for venues whose first sessions have these
-    /// names, and whose next ones are named.
-    pub fn new(format: F, sessions: &'a [[u8; 10]], next: &[NextSession]) -> WatchedFormat<'a, F>
-        ensures { IsWatched format sessions.now next.now result }
+    /// Returns the format, of which nothing was read, for the input, the venues and the sessions of
+    /// the settings.
+    pub fn new(format: F, settings: &'a RunSettings) -> WatchedFormat<'a, F>
+        ensures { IsWatched format settings.now.input settings.now.feed.sessions.items
+            settings.now.next_sessions.items result }
     {
         let mut seen = SessionTable::new();
+        let next = settings.next_sessions.as_slice();
         name_sessions(&mut seen, next);
         WatchedFormat {
             format,
             venues: [VenueWatch::new(); VENUES],
             seen,
-            sessions,
+            sessions: settings.feed.sessions.as_slice(),
+            next,
+            input: &settings.input,
         }
     }
 }
@@ -271,9 +283,13 @@ impl<F: ToldFormat> ToldFormat for WatchedFormat<'_, F> {
         self.format.has_times()
     }
 
-    fn tell_end<E: TextOut>(&self, outcome: &Result<(), ReplayStop<F::Fault>>, errors: &mut E) {
-        let count = self.sessions.len();
-        write_watch(outcome, count, &self.venues, &self.seen, errors);
-        self.format.tell_end(outcome, errors);
+    fn tell_end<E: TextOut>(
+        &self,
+        ordinals: &[u64],
+        outcome: &Result<(), ReplayStop<F::Fault>>,
+        errors: &mut E,
+    ) {
+        self.write_watch(ordinals, outcome, errors);
+        self.format.tell_end(ordinals, outcome, errors);
     }
 }

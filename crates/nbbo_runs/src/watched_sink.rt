@@ -8,6 +8,7 @@ ghost use Rattle.feed_text.specs.SinkEvents.{told_by};
 ghost use Rattle.nbbo_runs.specs.AbsentSymbols.{IsNewMissing, LeavesAbsent, brings_item};
 ghost use Rattle.run_notes.specs.AbsentSymbols.{AreKeysOf, has_key, symbols_with};
 
+use crate::named_sessions::{Ordinals, first_ordinals, note_renewal};
 use feed_text::replay::ReplayConfig;
 use feed_text::{CaptureIn, Event, EventSink, Lack, RecordFormat, ReplayStop, Replayed, SinkStop};
 use feed_types::SymbolName;
@@ -15,11 +16,13 @@ use replay_run::replay;
 use run_notes::AbsentSymbols;
 use std::alloc::{AllocError, Global};
 
-/// A sink, and the symbols of which no item came to it yet.
+/// A sink, the symbols of which no item came to it yet, and the ordinals of the venues' sessions
+/// that began last.
 #[derive(Drop)]
 pub struct WatchedSink<K> {
     pub(crate) sink: K,
     pub(crate) absent: AbsentSymbols,
+    pub(crate) ordinals: Ordinals,
 }
 
 /// Takes out the symbol of an event, if that is an item.
@@ -55,6 +58,7 @@ impl<K: EventSink> EventSink for WatchedSink<K> {
     #[inline(always)]
     fn take(&mut self, time: Option<u64>, event: &Event<'_>) -> Result<(), SinkStop> {
         note_event(&mut self.absent, event);
+        note_renewal(&mut self.ordinals, event);
         self.sink.take(time, event)
     }
 
@@ -72,6 +76,8 @@ pub struct Missing {
     pub(crate) lacks: Vec<Lack>,
     /// The symbols of which no item came, where they are watched.
     pub(crate) absent: AbsentSymbols,
+    /// The ordinals of the venues' last sessions.
+    pub(crate) ordinals: Ordinals,
 }
 
 impl Missing {
@@ -83,6 +89,7 @@ impl Missing {
             is_watched,
             lacks: Vec::new(alloc),
             absent: AbsentSymbols::none(alloc),
+            ordinals: first_ordinals(),
         }
     }
 
@@ -100,7 +107,8 @@ impl Missing {
 
 /// Reads a capture of a format to its end, and gives a sink the events of its records
 /// ([`replay_run::replay`]). What each venue lacks at the end is appended to what is missing, and
-/// the symbols of which no item came are left in it, where symbols are watched.
+/// the symbols of which no item came are left in it, where symbols are watched, and the ordinals
+/// of the venues' last sessions.
 #[inline(always)]
 pub(crate) fn replay_watched<R: CaptureIn, F: RecordFormat, K: EventSink>(
     alloc: Global,
@@ -127,7 +135,8 @@ pub(crate) fn replay_watched<R: CaptureIn, F: RecordFormat, K: EventSink>(
         (record { gives = R.gives; ends = R.ends; failures = R.failures; fails = R.fails })
         (record { reads = F.reads; wants = F.wants; is_bad = F.is_bad; is_whole = F.is_whole })
         config.now reader.old reader.new format.old format.new result.outcome
-        missing.old.is_watched (symbols_with missing.new.absent config.now.symbols.now)) }
+        missing.old.is_watched (symbols_with missing.new.absent config.now.symbols.now)
+        missing.new.ordinals) }
 {
     let Ok(absent) = missing.watched(alloc, config.symbols) else {
         return Replayed {
@@ -135,12 +144,17 @@ pub(crate) fn replay_watched<R: CaptureIn, F: RecordFormat, K: EventSink>(
             outcome: Err(ReplayStop::NoMemory),
         };
     };
-    let watched = WatchedSink { sink, absent };
-    let replayed = replay(alloc, config, format, reader, watched, &mut missing.lacks);
-    let WatchedSink { sink, absent } = replayed.sink;
-    missing.absent = absent;
-    Replayed {
+    let watched = WatchedSink {
         sink,
-        outcome: replayed.outcome,
-    }
+        absent,
+        ordinals: first_ordinals(),
+    };
+    let Replayed {
+        sink: watched,
+        outcome,
+    } = replay(alloc, config, format, reader, watched, &mut missing.lacks);
+    missing.ordinals = watched.ordinals;
+    let WatchedSink { sink, absent, .. } = watched;
+    missing.absent = absent;
+    Replayed { sink, outcome }
 }

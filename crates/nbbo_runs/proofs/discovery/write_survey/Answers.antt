@@ -1,4 +1,4 @@
-use Rattle.std.proofs.Common.{◌≡◌, ◌++◌, List, ℕ, Option, ap, subst, ◌∙◌, length}
+use Rattle.std.proofs.Common.{◌≡◌, ◌++◌, ℕ, Option, subst, length}
 use Rattle.feed_text.specs.Devices.{Writing}
 use Rattle.feed_text.specs.StandardError.{SaysEach}
 use Rattle.feed_text.specs.laws.SaidTexts.{says_each}

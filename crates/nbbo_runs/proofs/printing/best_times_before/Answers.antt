@@ -1,4 +1,4 @@
-use Rattle.std.proofs.Common.{◌≡◌, [], sym, subst}
+use Rattle.std.proofs.Common.{[], sym, subst}
 use Rattle.feed_text.specs.EventReplays.{venues_in}
 use Rattle.report_rows.specs.RowSinks.{IsNewRowSink}
 use Rattle.report_rows.specs.RowTexts.{header_text}

@@ -1,4 +1,4 @@
-use Rattle.std.proofs.Common.{◌≡◌, subst}
+use Rattle.std.proofs.Common.{subst}
 use Rattle.report_rows.specs.RowSinks.{IsNewRowSink}
 use Rattle.report_rows.specs.RowTexts.{header_text}
 use Rattle.period_rows.specs.CountRows.{count_names}

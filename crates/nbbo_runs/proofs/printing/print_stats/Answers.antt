@@ -2,7 +2,6 @@ use Rattle.std.proofs.Common.{rules, ◌≡◌, ◌<◌, List, ℕ, [], Err, ref
 use Rattle.std.specs.Prelude.{IsOkAnd}
 use Rattle.feed_text.specs.declared.replay_stop.ReplayStop.TheVariants.{NoMemory}
 use Rattle.feed_text.specs.Devices.{Reading, Writing}
-use Rattle.feed_text.specs.EventReplays.{venues_in}
 use Rattle.feed_text.specs.Formats.{Parsing}
 use Rattle.feed_text.specs.ReplayStates.{SinkTaking}
 use Rattle.replay_run.specs.Printed.{facts_of_run}

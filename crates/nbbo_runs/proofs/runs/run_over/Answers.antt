@@ -1,16 +1,16 @@
-use Rattle.std.proofs.Common.{◌≡◌, ℕ, List, [], ◌∷◌, ◌++◌, ◌∙◌, ap, subst}
+use Rattle.std.proofs.Common.{ℕ, List, ◌++◌, ◌∙◌, subst}
 use Rattle.std.specs.Prelude.{Bool}
 use Rattle.feed_text.specs.declared.lack.Lack.{Lack}
 use Rattle.feed_text.specs.Devices.{Reading, Writing}
 use Rattle.feed_text.specs.Formats.{Parsing}
-use Rattle.feed_text.specs.StandardError.{Says}
-use Rattle.feed_text.specs.laws.SaidTexts.{says_each, says_one}
+use Rattle.feed_text.specs.StandardError.{Says, SaysEach}
+use Rattle.feed_text.specs.laws.SaidTexts.{says_each}
 use Rattle.nbbo_runs.specs.AbsentSymbols.{told_absent}
 use Rattle.run_notes.specs.AbsentSymbols.{symbols_with}
 use Rattle.nbbo_runs.specs.CaptureTexts.{late_texts}
 use Rattle.nbbo_runs.specs.Lacks.{tells_lacks, told_lacks}
 use Rattle.nbbo_runs.specs.Printing.{PrintsAsked, output_asked}
-use Rattle.nbbo_runs.specs.Timeless.{timeless_hint}
+use Rattle.nbbo_runs.specs.Timeless.{timeless_texts}
 use Rattle.nbbo_runs.proofs.SaidLacks.{tells_absent, tells_items}
 use Rattle.nbbo_runs.proofs.runs.run_over.Goals as goal
 
@@ -45,30 +45,31 @@ returns g c =
     let lacking = c.tell_lacks.new.errors in
     let said = c.tell_absent.new.errors in
     let told = c.tell_end.new.errors in
-    let hinted_last = c.write_stderr-3.new.errors in
+    let hinted_last = c.tell_timeless.new.errors in
     let end = c.write_late.new.errors in
     let late = c.print-printed.result.late in
     let due = tells_lacks settings c.args.terminals in
-    let texts = g.F.ToldFormat.end_texts finish outcome in
-    let timeless = timeless_hint settings.output (g.F.ToldFormat.is_timed finish) outcome in
-    let end_texts = texts ++ timeless ∷ [] in
-    let hint : c.timeless_hint-hint.result.now ≡ timeless = c.timeless_hint-hint.ensures
-    ∙ ap (λ (timed : Bool). timeless_hint settings.output timed outcome) c.has_times.ensures in
+    let ordinals = missing.ordinals in
+    let texts = g.F.ToldFormat.end_texts finish ordinals outcome in
+    let timeless = timeless_texts settings (g.F.ToldFormat.is_timed finish) outcome in
+    let end_texts = texts ++ timeless in
     record {
       finish = finish;
       outcome = outcome;
       lacks = lacks;
       absent = absent;
+      ordinals = ordinals;
       late = late;
       prints = subst (λ (old : List Lack). PrintsAsked reading parsing
           (output_asked reading writing settings) settings due
           c.args.input.now c.print-printed.new.input c.args.format finish c.args.output
-          c.print-printed.result.output old lacks absent late outcome)
+          c.print-printed.result.output old lacks absent ordinals late outcome)
           c.new-missing.ensures.lacks
           (subst (λ (is_watched : Bool). PrintsAsked reading parsing
           (output_asked reading writing settings) settings is_watched
           c.args.input.now c.print-printed.new.input c.args.format finish c.args.output
-          c.print-printed.result.output c.new-missing.result.lacks.items lacks absent late outcome)
+          c.print-printed.result.output c.new-missing.result.lacks.items lacks absent
+          ordinals late outcome)
           (c.new-missing.ensures.watched ∙ c.tells_lacks-is_told.ensures)
           c.print-printed.ensures);
       says = (
@@ -88,10 +89,10 @@ returns g c =
               (tells_absent telling outcome _ due _ symbols missing.absent lacking said
               c.tells_lacks-is_told.ensures c.as_slice-symbols.ensures.value c.tell_absent.ensures)
               (says_each telling end_texts (late_texts late) said hinted_last end
-              (says_each telling texts (timeless ∷ []) said told hinted_last c.tell_end.ensures
-              (says_one telling timeless told hinted_last
-              (subst (λ (text : List ℕ). Says telling text told hinted_last) hint
-              c.write_stderr-3.ensures))) c.write_late.ensures)),
+              (says_each telling texts timeless said told hinted_last c.tell_end.ensures
+              (subst (λ (timed : Bool). SaysEach telling (timeless_texts settings timed outcome)
+              told hinted_last) c.has_times.ensures c.tell_timeless.ensures))
+              c.write_late.ensures)),
         ),
       );
       ends = c.status_of.ensures;

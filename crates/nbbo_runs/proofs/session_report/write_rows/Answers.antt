@@ -10,12 +10,13 @@ pub loop-row-preserved : goal.loop-row-preserved
 loop-row-preserved g c =
     let w : Writing g.row.E.Denot =
     record { adds = g.E.TextOut.adds; failures = g.E.TextOut.failures } in
+    let texts = session_texts c.args.named.now.next.now c.args.named.now.ordinals.now in
     let rows = c.args.rows.now in
     let i = c.loop-row.row-index in
     let x = c.row-item.result in
     let mid = c.write_session.new.errors in
     λ t says. c.loop-row.invariant t
-    (texts_more w session_texts rows i x c.loop-row.errors mid t
+    (texts_more w texts rows i x c.loop-row.errors mid t
     (slice_get-get_or rows i x c.loop-row-test.true
     ∙ ap (λ (y : SessionRow). Some y) (sym c.row-item.is))
     c.write_session.ensures says)

@@ -4,5 +4,5 @@ use Rattle.nbbo_runs.proofs.session_report.write_rows.Given as goal
 
 abbrev pub invariant-loop-row : goal.invariant-loop-row
 invariant-loop-row g l =
-    SaysRest (record { adds = g.E.TextOut.adds; failures = g.E.TextOut.failures }) session_texts
-    l.rows l.row-index l.fn.errors l.errors
+    SaysRest (record { adds = g.E.TextOut.adds; failures = g.E.TextOut.failures })
+    (session_texts l.named.next.now l.named.ordinals.now) l.rows l.row-index l.fn.errors l.errors

@@ -9,6 +9,7 @@ returns g c =
     let w : Writing g.row.E.Denot =
     record { adds = g.E.TextOut.adds; failures = g.E.TextOut.failures } in
     let rows = c.args.rows.now in
-    says_each w (flat_map session_texts rows) (full_texts (length rows)) c.args.errors.now
+    let texts = session_texts c.args.named.now.next.now c.args.named.now.ordinals.now in
+    says_each w (flat_map texts rows) (full_texts (length rows)) c.args.errors.now
     c.write_rows.new.errors c.write_full.new.errors c.write_rows.ensures
     c.write_full.ensures

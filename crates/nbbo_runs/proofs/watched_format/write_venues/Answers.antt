@@ -11,13 +11,14 @@ loop-venue-preserved g c =
     let w : Writing g.row.E.Denot =
     record { adds = g.E.TextOut.adds; failures = g.E.TextOut.failures } in
     let ws = c.args.venues.now in
+    let input = c.args.input.now in
     let n = c.loop-venue.venue in
     let start = c.loop-venue.errors in
     let end = c.write_venue.new.errors in
-    subst (λ (k : ℕ). SaysEach w (first_venues_texts ws k) c.args.errors.now end)
+    subst (λ (k : ℕ). SaysEach w (first_venues_texts input ws k) c.args.errors.now end)
     (sym (add-one n))
-    (says_each w (first_venues_texts ws n)
-    (venue_texts n (slice_index_or ws n unwatched)) c.args.errors.now start end
+    (says_each w (first_venues_texts input ws n)
+    (venue_texts input n (slice_index_or ws n unwatched)) c.args.errors.now start end
     c.loop-venue.invariant
-    (subst (λ (v : VenueWatch). SaysEach w (venue_texts n v) start end) c.watch_at.ensures
+    (subst (λ (v : VenueWatch). SaysEach w (venue_texts input n v) start end) c.watch_at.ensures
     c.write_venue.ensures))

@@ -5,10 +5,11 @@ pub returns-clause-headline : goal.returns-clause-headline
 returns-clause-headline g c =
     sink_run _ _ c.args.config.now
     (record { takes = g.K.EventSink.takes; fails = g.K.EventSink.fails }) g.K.EventSink.is_shown
-    _ _ _ _ _ _ _ c.replay-replayed.ensures.headline
+    _ _ _ _ _ _ _ c.replay-watched.ensures.headline
 
 pub returns-clause-absent : goal.returns-clause-absent
 returns-clause-absent g c =
     leaves_absent _ _ c.args.config.now
     (record { takes = g.K.EventSink.takes; fails = g.K.EventSink.fails }) g.K.EventSink.is_shown
-    _ _ _ _ _ _ _ c.args.missing.now.is_watched c.in-Ok.ensures c.replay-replayed.ensures.headline
+    _ _ _ _ _ _ _ c.args.missing.now.is_watched c.in-Ok.ensures c.first_ordinals.ensures
+    c.replay-watched.ensures.headline

@@ -1,4 +1,3 @@
-use Rattle.std.proofs.Common.{length}
 use Rattle.feed_text.specs.Devices.{Writing}
 use Rattle.feed_text.specs.laws.SaidTexts.{says_each}
 use Rattle.nbbo_runs.specs.Watches.{watch_texts}
@@ -10,6 +9,7 @@ returns g c =
     record { adds = g.E.TextOut.adds; failures = g.E.TextOut.failures } in
     let s = c.args.self.now in
     let outcome = c.args.outcome.now in
-    says_each w (watch_texts outcome (length s.sessions.now) s.venues s.seen)
-    (g.F.ToldFormat.end_texts s.format outcome) c.args.errors.now c.write_watch.new.errors
+    let ordinals = c.args.ordinals.now in
+    says_each w (watch_texts outcome s ordinals)
+    (g.F.ToldFormat.end_texts s.format ordinals outcome) c.args.errors.now c.write_watch.new.errors
     c.tell_end.new.errors c.write_watch.ensures c.tell_end.ensures

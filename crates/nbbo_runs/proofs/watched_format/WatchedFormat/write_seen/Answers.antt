@@ -1,20 +1,22 @@
-use Rattle.std.proofs.Common.{List, subst}
+use Rattle.std.proofs.Common.{List, length, subst}
 use Rattle.feed_text.specs.Devices.{Writing}
 use Rattle.feed_text.specs.StandardError.{SaysEach}
 use Rattle.feed_text.specs.laws.SaidTexts.{says_each}
 use Rattle.nbbo_runs.specs.declared.session_row.SessionRow.{SessionRow}
 use Rattle.nbbo_runs.specs.Sessions.{session_rows, sessions_texts}
 use Rattle.nbbo_runs.specs.Watches.{first_venues_texts}
-use Rattle.nbbo_runs.proofs.watched_format.write_seen.Goals as goal
+use Rattle.nbbo_runs.proofs.watched_format.WatchedFormat.write_seen.Goals as goal
 
 pub returns : goal.returns
 returns g c =
     let w : Writing g.row.E.Denot =
     record { adds = g.E.TextOut.adds; failures = g.E.TextOut.failures } in
+    let s = c.args.self.now in
+    let ordinals = c.args.ordinals.now in
     let told = c.write_venues.new.errors in
     let end = c.write_sessions.new.errors in
-    says_each w (first_venues_texts c.args.venues.now c.args.count)
-    (sessions_texts (session_rows c.args.seen.now)) c.args.errors.now told end
+    says_each w (first_venues_texts s.input.now s.venues (length s.sessions.now))
+    (sessions_texts s.next.now ordinals (session_rows s.seen)) c.args.errors.now told end
     c.write_venues.ensures
-    (subst (λ (rows : List SessionRow). SaysEach w (sessions_texts rows) told end) c.rows.ensures
-    c.write_sessions.ensures)
+    (subst (λ (rows : List SessionRow). SaysEach w (sessions_texts s.next.now ordinals rows) told
+    end) c.rows.ensures c.write_sessions.ensures)

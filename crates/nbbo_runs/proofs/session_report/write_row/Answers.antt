@@ -1,9 +1,9 @@
-use Rattle.std.proofs.Common.{[], ◌∷◌, ◌++◌, codes}
+use Rattle.std.proofs.Common.{[], ◌∷◌, ◌++◌}
 use Rattle.feed_text.specs.Devices.{Writing}
 use Rattle.feed_text.specs.laws.SaidTexts.{says_each, says_one}
 use Rattle.nbbo_runs.specs.Sessions.{refused_texts}
 use Rattle.run_notes.specs.SessionNames.{name_texts}
-use Rattle.nbbo_runs.proofs.session_report.write_unnamed.Goals as goal
+use Rattle.nbbo_runs.proofs.session_report.write_row.Goals as goal
 
 pub returns : goal.returns
 returns g c =
@@ -11,7 +11,8 @@ returns g c =
     record { adds = g.E.TextOut.adds; failures = g.E.TextOut.failures } in
     let row = c.args.row.now in
     let name = name_texts row.session.name in
-    let last = codes ", which isn't named\n" ∷ [] in
+    let why = c.args.why.now in
+    let last = why ∷ [] in
     let errors_before = c.args.errors.now in
     let refused = c.write_refused.new.errors in
     let named = c.write_session_name.new.errors in
@@ -20,4 +21,4 @@ returns g c =
     refused end
     c.write_refused.ensures
     (says_each w name last refused named end c.write_session_name.ensures
-    (says_one w (codes ", which isn't named\n") named end c.write_stderr.ensures))
+    (says_one w why named end c.write_stderr.ensures))
