@@ -1,9 +1,9 @@
 -- A replay to a sink of rows of gaps prints them.
-use Rattle.std.proofs.Common.{◌≡◌, ℕ, ◌+◌, List, [], ◌++◌, append-nil, refl, sym, ap, subst, ◌∙◌}
+use Rattle.std.proofs.Common.{◌≡◌, ℕ, List, [], ◌++◌, append-nil, refl, sym, ap, subst, ◌∙◌}
 use Rattle.std.specs.Prelude.{⊤, Result}
 use Rattle.feed_text.specs.declared.replay.ReplayConfig.{ReplayConfig}
 use Rattle.feed_text.specs.declared.replay_stop.ReplayStop.{ReplayStop}
-use Rattle.feed_text.specs.Devices.{Reading, Writing, Wrote}
+use Rattle.feed_text.specs.Devices.{Reading, Writing}
 use Rattle.feed_text.specs.EventReplays.{AnswersRun}
 use Rattle.feed_text.specs.Formats.{Parsing}
 use Rattle.feed_text.specs.SinkEvents.{TimedEvent}

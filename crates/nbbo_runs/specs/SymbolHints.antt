@@ -1,5 +1,5 @@
 -- That a run prints no best lines, since it has no symbol.
-use Rattle.std.specs.Prelude.{ℕ, List, [], ◌∷◌, codes}
+use Rattle.std.specs.Prelude.{ℕ, List, [], codes}
 use Rattle.run_settings.specs.declared.run_output.RunOutput.{RunOutput}
 use Rattle.run_settings.specs.declared.run_output.RunOutput.TheVariants.{Bests, BestTimes}
 use Rattle.run_settings.specs.declared.run_settings.RunSettings.{RunSettings}

@@ -12,7 +12,6 @@ use Rattle.run_settings.specs.declared.captured_line.CapturedLine.{CapturedLine}
 use Rattle.run_settings.specs.declared.next_session.NextSession.{NextSession}
 use Rattle.run_settings.specs.declared.run_input.RunInput.{RunInput}
 use Rattle.run_settings.specs.declared.run_input.RunInput.TheVariants.{Own, Packets}
-use Rattle.nbbo_runs.specs.declared.session_row.SessionSighting.{SessionSighting}
 use Rattle.nbbo_runs.specs.declared.venue_watch.VenueWatch.{VenueWatch}
 use Rattle.nbbo_runs.specs.declared.watched_format.WatchedFormat.{WatchedFormat}
 use Rattle.nbbo_runs.specs.Sessions.{named_sightings, session_rows, sessions_texts, sightings_of}
