@@ -18,9 +18,9 @@ const ABOUT: &str = "\
 Brings the redundant lines of each venue's MoldUDP64 feed into one sequence, and keeps the
 national best bid and offer of each symbol";
 
-/// The program's version, and the sum of the logic that it is proved with, which a kit's version
+/// The version, and the sum of the logic that the sources have proofs of, which a kit's version
 /// ends with.
-const VERSION: &str = "0.1.0\nproved with the logic dac8208d650f15bf";
+const VERSION: &str = "0.1.0\nits sources have proofs of the logic dac8208d650f15bf";
 
 const EXAMPLE: &str = "\
 Examples:
