@@ -129,11 +129,11 @@ fn tell<F: ToldFormat, E: TextOut>(
     }
     match &run.outcome {
         Ok(()) => {
-            format.tell_end(&Ok(()), errors);
+            format.tell_end(&[], &Ok(()), errors);
             0
         }
         Err(NormaliseStop::Replay(stop)) => {
-            format.tell_end(&Err(*stop), errors);
+            format.tell_end(&[], &Err(*stop), errors);
             1
         }
         Err(NormaliseStop::Fault(fault)) => {
@@ -141,7 +141,7 @@ fn tell<F: ToldFormat, E: TextOut>(
             1
         }
         Err(NormaliseStop::Book(venue, fault)) => {
-            format.tell_end(&Ok(()), errors);
+            format.tell_end(&[], &Ok(()), errors);
             write_book_fault(*venue, *fault, errors);
             1
         }
