@@ -10,4 +10,4 @@ returns-clause-fits c =
     (record { begun = a.begun; highest = a.highest; «open» = a.«open» })
     (record { begun = b.begun; highest = b.highest; «open» = b.«open» })
     (record { begun = all.begun; highest = all.highest; «open» = all.«open» })
-    (far_none _ c.all.ensures)
+    (far_none _ c.all.ensures) refl

@@ -33,7 +33,7 @@ returns-clause-fits c = λ events fits.
       highest = c.renew-3.ensures.highest;
       «open» = rw c.renew-3.ensures.«open» closed.all.«open»;
     })
-    (far_none _ c.all-self.ensures)
+    (far_none _ c.all-self.ensures) refl
 
 pub returns-clause-just : goal.returns-clause-just
 returns-clause-just c = λ earlier last closes fits whole.
