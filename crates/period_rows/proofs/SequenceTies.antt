@@ -427,25 +427,29 @@ module _ (line : LineId) (gap_line : GapLine)
       (sequence_told line earlier) refl refl
       (no_skip (beginning_stands gap_line (in_session earlier))
       (highest_on gap_line (in_session earlier)) (told_renewal venue (Err fault)) refl)
-      (noted time (told_renewal venue (Err fault)) (in_session earlier) (sequence_told line earlier) t)
+      (noted time (told_renewal venue (Err fault)) (in_session earlier)
+      (sequence_told line earlier) t)
   step time (told_skip venue number (Err fault)) earlier t =
       idle (timed_event time (told_skip venue number (Err fault))) (in_session earlier)
       (sequence_told line earlier) refl refl
       (no_skip (beginning_stands gap_line (in_session earlier))
       (highest_on gap_line (in_session earlier)) (told_skip venue number (Err fault)) refl)
-      (noted time (told_skip venue number (Err fault)) (in_session earlier) (sequence_told line earlier) t)
+      (noted time (told_skip venue number (Err fault)) (in_session earlier)
+      (sequence_told line earlier) t)
   step time (told_declaration venue is position) earlier t =
       idle (timed_event time (told_declaration venue is position)) (in_session earlier)
       (sequence_told line earlier) refl refl
       (no_skip (beginning_stands gap_line (in_session earlier))
       (highest_on gap_line (in_session earlier)) (told_declaration venue is position) refl)
-      (noted time (told_declaration venue is position) (in_session earlier) (sequence_told line earlier) t)
+      (noted time (told_declaration venue is position) (in_session earlier)
+      (sequence_told line earlier) t)
   step time (told_last venue sent a b recovery) earlier t =
       idle (timed_event time (told_last venue sent a b recovery)) (in_session earlier)
       (sequence_told line earlier) refl refl
       (no_skip (beginning_stands gap_line (in_session earlier))
       (highest_on gap_line (in_session earlier)) (told_last venue sent a b recovery) refl)
-      (noted time (told_last venue sent a b recovery) (in_session earlier) (sequence_told line earlier) t)
+      (noted time (told_last venue sent a b recovery) (in_session earlier)
+      (sequence_told line earlier) t)
   step time (told_before event) earlier t =
       idle (timed_event time (told_before event)) (in_session earlier)
       (sequence_told line earlier) refl refl

@@ -19,7 +19,12 @@ returns-then-goes_on-clause-takes c = λ earlier venue bytes fits.
     let last = packet_event packet venue bytes (Ok Ahead) in
     other_far earlier last old _ c.set.new.self _ _
     (c.take_numbers.ensures.takes earlier last
-    (record { counts = counts; brings_none = λ n. refl; passes_none = λ n. refl; has_no_messages = refl })
+    (record {
+      counts = counts;
+      brings_none = λ n. refl;
+      passes_none = λ n. refl;
+      has_no_messages = refl;
+    })
     (record {
       counts = counts;
       goes_on = refl;
