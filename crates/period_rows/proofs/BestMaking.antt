@@ -15,7 +15,7 @@ use Rattle.report_rows.specs.FirstTexts.{first_texts}
 use Rattle.report_rows.specs.RowSinks.{FailsMaking, Makes}
 use Rattle.report_rows.specs.SpanEvents.{ends_all}
 use Rattle.period_rows.specs.BestHolding.{AreBegun, AreBegunIf, AreChanged, AreBestsTaken, IsChanged, IsNewTable, IsSymbolHeld, IsBestTable, is_another}
-use Rattle.period_rows.specs.BestMakers.{AreBests, AreLive, IsLiveStep, IsPassed, IsStepped, MakesBests, TellsBests, begin_with, begun_by, best_made_text, clock_with, live_text, over_at, period_of_clock, period_to}
+use Rattle.period_rows.specs.BestMakers.{AreBests, AreLive, IsLiveStep, IsPassed, IsStepped, MakesBests, TellsBests, begin_with, period_at_hand, best_made_text, clock_with, live_text, over_at, period_of_clock, period_to}
 use Rattle.period_rows.specs.BestRows.{BestSetting, best_period, best_rows_with, period_ended_by, rows_at, symbol_rows}
 use Rattle.period_rows.specs.BestTimes.{no_symbol, over_rows, settled_at}
 use Rattle.period_rows.specs.Bests.{begin_after, begin_told, best_in, clock_after, clock_told, overlap, stood, time_of_event}
@@ -194,15 +194,15 @@ module _ (setting : BestSetting) (earlier : List TimedEvent) (m : BestMaker)
   begin_same : begin_with m e ≡ begin_told setting.style.length setting.from (e ∷ earlier)
   begin_same =
       let o = time_of_event e.event e.time in
-      ap (λ (style : PeriodStyle). begin_after style.length o m.clock (begun_by m)) are.style
-      ∙ ap (λ (clock : ℕ). begin_after setting.style.length o clock (begun_by m)) live.clock
+      ap (λ (style : PeriodStyle). begin_after style.length o m.clock (period_at_hand m)) are.style
+      ∙ ap (λ (clock : ℕ). begin_after setting.style.length o clock (period_at_hand m)) live.clock
       ∙ ap (begin_after setting.style.length o (clock_told setting.from earlier)) live.begin
 
   live_after : (new : BestMaker) → IsLiveStep m e new → AreLive setting (e ∷ earlier) new
   live_after new step =
       let begun = subst (λ (o : Option ℕ). AreBegun o (begin_told setting.style.length
       setting.from (e ∷ earlier)) m.table.times.items step.mid) live.begin
-      (subst (λ (o : Option ℕ). AreBegun (begun_by m) o m.table.times.items step.mid) begin_same
+      (subst (λ (o : Option ℕ). AreBegun (period_at_hand m) o m.table.times.items step.mid) begin_same
       step.begun) in
       let taken = subst (λ (at : ℕ). AreBestsTaken m.table.keys.keys at e.event step.mid
       new.table.times.items) clock_same step.taken in
@@ -494,7 +494,7 @@ passes_bests old new time event stays goes =
     let e = timed_event time (told_before event) in
     let none : live_text old e ≡ [] =
     ap (λ (o : Option ℕ). over_rows (option_map (period_to old old.clock) o)
-    old.table.times.items) (ended_same (begun_by old)) in
+    old.table.times.items) (ended_same (period_at_hand old)) in
     let text : best_made_text old e ≡ [] = elim (cases_Bool old.over) [
       | inl ends ↦ ap (λ (b : Bool). cond b [] (live_text old e)) ends
       | inr on ↦ ap (λ (b : Bool). cond b [] (live_text old e)) on ∙ none
@@ -511,7 +511,7 @@ passes_bests old new time event stays goes =
             begin = begun_is is.style is.is_timed is.clock;
             keys = is.keys;
             mid = old.table.times.items;
-            begun = begun_same (begun_by old) old.table.times.items;
+            begun = begun_same (period_at_hand old) old.table.times.items;
             taken = is.taken;
           },
     ) in
@@ -521,7 +521,7 @@ passes_bests old new time event stays goes =
     }
   where
     begun_is : new.style ≡ old.style → new.is_timed ≡ old.is_timed → new.clock ≡ old.clock
-        → begun_by new ≡ begun_by old
+        → period_at_hand new ≡ period_at_hand old
     begun_is style timed clock =
         ap (λ (s : PeriodStyle). period_of_clock s.length new.is_timed new.clock) style
         ∙ ap (λ (b : Bool). period_of_clock old.style.length b new.clock) timed

@@ -4,3 +4,4 @@ pub mod BestSteps
 pub mod BestLists
 pub mod BestMaking
 pub mod SequenceTies
+pub mod PeriodSteps

@@ -18,14 +18,14 @@ abbrev pub period_of_clock : ℕ → Bool → ℕ → Option ℕ
 period_of_clock length timed clock = if timed then Some (period_begin length clock) else None
 
 -- when the period at hand began
-abbrev pub begun_by : BestMaker → Option ℕ
-begun_by m = period_of_clock m.style.length m.is_timed m.clock
+abbrev pub period_at_hand : BestMaker → Option ℕ
+period_at_hand m = period_of_clock m.style.length m.is_timed m.clock
 
 -- what is kept while the capture goes on
 pub record AreLive (setting : BestSetting) (events : List TimedEvent) (m : BestMaker) : Type 0
   where
     pub clock : m.clock ≡ clock_told setting.from events
-    pub begin : begun_by m ≡ begin_told setting.style.length setting.from events
+    pub begin : period_at_hand m ≡ begin_told setting.style.length setting.from events
     pub times : AreAllHeld setting.style.length setting.from setting.symbols events
         m.table.times.items
 
@@ -56,13 +56,15 @@ period_to m clock begin = record {
 }
 
 abbrev pub over_at : BestMaker → Bool → Option ℕ → ℕ → Option PeriodOver
-over_at m ends begin clock = option_map (period_to m clock) (period_ended_by ends (begun_by m) begin)
+over_at m ends begin clock =
+    option_map (period_to m clock) (period_ended_by ends (period_at_hand m) begin)
 
 abbrev pub clock_with : BestMaker → TimedEvent → ℕ
 clock_with m e = clock_after (time_of_event e.event e.time) m.clock
 
 abbrev pub begin_with : BestMaker → TimedEvent → Option ℕ
-begin_with m e = begin_after m.style.length (time_of_event e.event e.time) m.clock (begun_by m)
+begin_with m e =
+    begin_after m.style.length (time_of_event e.event e.time) m.clock (period_at_hand m)
 
 abbrev pub live_text : BestMaker → TimedEvent → List ℕ
 live_text m e =
@@ -76,10 +78,10 @@ pub record IsLiveStep (old : BestMaker) (e : TimedEvent) (new : BestMaker) : Typ
   pub venues : new.venues ≡ old.venues
   pub over : new.over ≡ ends_all e.event
   pub clock : new.clock ≡ clock_with old e
-  pub begin : begun_by new ≡ begin_with old e
+  pub begin : period_at_hand new ≡ begin_with old e
   pub keys : new.table.keys ≡ old.table.keys
   pub mid : List SymbolTimes
-  pub begun : AreBegun (begun_by old) (begin_with old e) old.table.times.items mid
+  pub begun : AreBegun (period_at_hand old) (begin_with old e) old.table.times.items mid
   pub taken : AreBestsTaken old.table.keys.keys (clock_with old e) e.event mid new.table.times.items
 
 abbrev pub IsStepped : BestMaker → TimedEvent → BestMaker → Type 0

@@ -12,3 +12,4 @@ pub mod BestRows
 pub mod BestHolding
 pub mod BestTimes
 pub mod BestMakers
+pub mod PeriodSums

@@ -128,7 +128,7 @@ drop_rest zero (x ∷ []) few = refl
 drop_rest zero (x ∷ y ∷ ys) few = absurd (omega (arith, few))
 drop_rest (suc n) (x ∷ xs) few = drop_rest n xs (omega (arith, few))
 
-drop_put : {X : Type 0} (n i : ℕ) (xs : List X) (y : X) → i ≤ n → i ≤ length xs
+pub drop_put : {X : Type 0} (n i : ℕ) (xs : List X) (y : X) → i ≤ n → i ≤ length xs
     → length xs ≤ suc n → drop (suc n) (insert xs i y) ≡ option_to_list (slice_get xs n)
 drop_put n zero xs y to within few = drop_rest n xs few
 drop_put n (suc i) [] y to within few = absurd (omega (arith, within))
@@ -342,6 +342,15 @@ once_told length (e ∷ earlier) goes_on =
       map-append (λ p. p.begin) (ended_with length e s.periods) (ended_told length earlier),
       stays,
     ) after
+
+-- At most 16 are kept.
+pub few_are_kept : (length_ns : ℕ) (events : List TimedEvent)
+    → list_any (λ e. ends_all e.event) events ≡ false
+    → length (state_told length_ns events).periods ≤ 16
+few_are_kept length_ns events goes_on =
+    let count = length-map (state_told length_ns events).periods (λ p. p.begin) in
+    let few = (once_told length_ns events goes_on).few in
+    omega (arith, count, few)
 
 -- Each period is ended at most once, none that is kept was ended, and all come in order of time:
 -- those that are kept are later than all that were ended, as long as the capture goes on.

@@ -1,5 +1,5 @@
 -- The rows of counts are those of the periods that events end.
-use Rattle.std.proofs.Common.{◌≡◌, ℕ, zero, suc, ◌+◌, ◌-◌, ◌<◌, inl, inr, List, [], ◌∷◌, ◌++◌, Option, None, Some, append-nil, arith, ap, length, refl, reverse, sym, ◌∙◌}
+use Rattle.std.proofs.Common.{◌≡◌, ℕ, zero, suc, ◌-◌, ◌<◌, inl, inr, List, [], ◌∷◌, ◌++◌, Option, None, Some, append-nil, arith, ap, length, refl, reverse, sym, ◌∙◌}
 use Rattle.std.specs.Prelude.{flat_map, option_to_list, slice_index_or}
 use Rattle.std.proofs.lemmas.Bool.{cases_Bool}
 use Rattle.std.proofs.lemmas.Grind.{flat_map-append}

@@ -5,7 +5,7 @@ ghost use Rattle.feed_text.specs.TextPages.{FailsPage, TakesPage};
 ghost use Rattle.report_rows.specs.RowSinks.{IsNewRowSink};
 ghost use Rattle.report_rows.specs.RowTexts.{header_text};
 ghost use Rattle.period_rows.specs.BestHolding.{IsNewTable};
-ghost use Rattle.period_rows.specs.BestMakers.{AreBests, IsLiveStep, IsPassed, IsStepped, begun_by, best_made_text, live_text, over_at};
+ghost use Rattle.period_rows.specs.BestMakers.{AreBests, IsLiveStep, IsPassed, IsStepped, period_at_hand, best_made_text, live_text, over_at};
 ghost use Rattle.period_rows.specs.BestRows.{best_names};
 ghost use Rattle.period_rows.specs.Bests.{begin_after, clock_after};
 
@@ -84,7 +84,7 @@ impl BestMaker {
 
     /// Returns when the period at hand began, if there is one.
     fn begun(&self) -> Option<u64>
-        ensures { result ≡ begun_by self.now }
+        ensures { result ≡ period_at_hand self.now }
     {
         if self.is_timed {
             return Some(period_begin(self.style.length, self.clock));
@@ -112,8 +112,8 @@ impl BestMaker {
     fn goes_on(&self, time: Option<u64>) -> bool
         ensures clock { result ≡ false → clock_after time self.now.clock ≡ self.now.clock }
         ensures begun { result ≡ false
-            → begin_after self.now.style.length time self.now.clock (begun_by self.now)
-            ≡ begun_by self.now }
+            → begin_after self.now.style.length time self.now.clock (period_at_hand self.now)
+            ≡ period_at_hand self.now }
     {
         match time {
             Some(time) => !self.is_timed || self.clock < time,

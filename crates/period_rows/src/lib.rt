@@ -30,7 +30,7 @@ pub use best_table::BestTable;
 pub use best_times::PeriodOver;
 pub use count_figures::CountFigures;
 pub use count_maker::{PeriodCounter, new_count_rows};
-pub use laws::missing_is_of_gaps;
+pub use laws::{figures_are_sums, missing_is_of_gaps};
 pub use line_figures::LineFigures;
 pub use line_sequence::LineSequence;
 pub use symbol_times::SymbolTimes;

@@ -8,233 +8,90 @@ use crate::report::figures::{
 };
 use crate::report::statistics_report::Report;
 use crate::report::values::{put_count, put_value};
-use crate::report::venue_report::{GapReport, VenueReport};
-use feed_types::PerLine;
+use crate::report::venue_report::VenueReport;
 use run_settings::TimeStyle;
 use std::alloc::{AllocError, Global};
 
-/// How rows are written, and of which venue they are, or of none.
-#[derive(Clone, Copy)]
-struct CsvStyle {
+/// The rows that are written, and how.
+#[derive(Drop)]
+struct CsvRows<'a> {
     alloc: Global,
+    text: &'a mut Vec<u8>,
     style: TimeStyle,
+    /// The venue of the rows that come, if they are of one.
     venue: Option<u64>,
 }
 
-impl CsvStyle {
-    /// The same of a venue.
-    fn of_venue(self, venue: u64) -> CsvStyle {
-        CsvStyle {
-            alloc: self.alloc,
-            style: self.style,
-            venue: Some(venue),
+impl CsvRows<'_> {
+    fn put(&mut self, text: &str) -> Result<(), AllocError> {
+        self.text.extend_from_slice(text.as_bytes())
+    }
+
+    /// Appends the number of the venue, if there is one.
+    fn put_venue_number(&mut self) -> Result<(), AllocError> {
+        match self.venue {
+            Some(venue) => put_count(self.text, venue),
+            None => Ok(()),
         }
     }
-}
 
-/// Appends a text.
-fn put(text: &mut Vec<u8>, more: &str) -> Result<(), AllocError> {
-    text.extend_from_slice(more.as_bytes())
-}
-
-/// Appends the number of a venue, if there is one.
-fn put_venue_number(text: &mut Vec<u8>, venue: Option<u64>) -> Result<(), AllocError> {
-    match venue {
-        Some(venue) => put_count(text, venue),
-        None => Ok(()),
+    /// Appends the row of a figure of the line, whose name stands after that of its group.
+    fn put_row(&mut self, line: &str, group: &str, figure: &Figure) -> Result<(), AllocError> {
+        self.put_venue_number()?;
+        self.put(",")?;
+        self.put(line)?;
+        self.put(",")?;
+        self.put(group)?;
+        self.put(figure.name)?;
+        self.put(",")?;
+        put_value(self.alloc, self.text, self.style, b"", figure.value)?;
+        self.put("\n")
     }
-}
 
-/// Appends whose figure it is.
-fn put_place(text: &mut Vec<u8>, venue: Option<u64>, line: &str) -> Result<(), AllocError> {
-    put_venue_number(text, venue)?;
-    put(text, ",")?;
-    put(text, line)?;
-    put(text, ",")
-}
-
-/// Appends a name after that of its group.
-fn put_name(text: &mut Vec<u8>, group: &str, name: &str) -> Result<(), AllocError> {
-    put(text, group)?;
-    put(text, name)?;
-    put(text, ",")
-}
-
-/// Appends whose figure it is, and its name after that of its group.
-fn put_head(
-    text: &mut Vec<u8>,
-    venue: Option<u64>,
-    line: &str,
-    group: &str,
-    name: &str,
-) -> Result<(), AllocError> {
-    put_place(text, venue, line)?;
-    put_name(text, group, name)
-}
-
-/// Appends the row of a figure.
-fn put_row(
-    text: &mut Vec<u8>,
-    how: CsvStyle,
-    line: &str,
-    group: &str,
-    figure: &Figure,
-) -> Result<(), AllocError> {
-    put_head(text, how.venue, line, group, figure.name)?;
-    put_value(how.alloc, text, how.style, b"", figure.value)?;
-    put(text, "\n")
-}
-
-/// Appends the row of the figure at a place, if there is one.
-fn put_row_at(
-    text: &mut Vec<u8>,
-    how: CsvStyle,
-    line: &str,
-    group: &str,
-    figures: &[Figure],
-    place: usize,
-) -> Result<(), AllocError> {
-    match figures.get(place) {
-        Some(figure) => put_row(text, how, line, group, figure),
-        None => Ok(()),
+    /// Appends the rows of figures of the line.
+    fn put_rows(&mut self, line: &str, group: &str, figures: &[Figure]) -> Result<(), AllocError> {
+        for figure in figures {
+            self.put_row(line, group, figure)?;
+        }
+        Ok(())
     }
-}
 
-/// Appends the rows of figures.
-fn put_rows(
-    text: &mut Vec<u8>,
-    how: CsvStyle,
-    line: &str,
-    group: &str,
-    figures: &[Figure],
-) -> Result<(), AllocError> {
-    for place in 0..figures.len() {
-        put_row_at(text, how, line, group, figures, place)?;
+    /// Appends the rows of a line's counts.
+    fn put_line(&mut self, line: &str, counts: &LineCounts) -> Result<(), AllocError> {
+        self.put_rows(line, "", &line_figures(counts))?;
+        self.put_rows(line, "refused_", &refusal_figures(counts))
     }
-    Ok(())
-}
 
-/// Appends the rows of a line's counts.
-fn put_line(
-    text: &mut Vec<u8>,
-    how: CsvStyle,
-    line: &str,
-    counts: &LineCounts,
-) -> Result<(), AllocError> {
-    put_rows(text, how, line, "", &line_figures(counts))?;
-    put_rows(text, how, line, "refused_", &refusal_figures(counts))
-}
-
-/// Appends the rows of a venue's lines.
-fn put_lines(
-    text: &mut Vec<u8>,
-    how: CsvStyle,
-    lines: &PerLine<LineCounts>,
-) -> Result<(), AllocError> {
-    put_line(text, how, "A", &lines.a)?;
-    put_line(text, how, "B", &lines.b)?;
-    put_line(text, how, "recovery", &lines.recovery)
-}
-
-/// Appends the rows of gaps.
-fn put_gaps(text: &mut Vec<u8>, how: CsvStyle, gaps: &GapReport) -> Result<(), AllocError> {
-    put_rows(text, how, "A", "gaps_", &gap_figures(&gaps.a))?;
-    put_rows(text, how, "B", "gaps_", &gap_figures(&gaps.b))?;
-    put_rows(text, how, "all", "gaps_", &gap_figures(&gaps.all))
-}
-
-/// Appends the rows of what the lines lost, and lack together.
-fn put_losses(text: &mut Vec<u8>, how: CsvStyle, gaps: &GapReport) -> Result<(), AllocError> {
-    put_rows(text, how, "A", "", &line_loss_figures(&gaps.a))?;
-    put_rows(text, how, "B", "", &line_loss_figures(&gaps.b))?;
-    put_rows(text, how, "", "", &loss_figures(gaps))
-}
-
-/// Appends the rows of a venue's items and sessions.
-fn put_own(text: &mut Vec<u8>, how: CsvStyle, r: &VenueReport) -> Result<(), AllocError> {
-    put_rows(text, how, "", "items_", &item_figures(&r.counts.items))?;
-    put_rows(text, how, "", "", &venue_figures(&r.counts))?;
-    put_rows(text, how, "", "", &leading_figures(r.bids, r.offers))
-}
-
-/// Appends the rows of how a venue's lines run in time.
-fn put_times(text: &mut Vec<u8>, how: CsvStyle, r: &VenueReport) -> Result<(), AllocError> {
-    put_rows(text, how, "A", "lead_", &duration_figures(&r.a_first))?;
-    put_rows(text, how, "B", "lead_", &duration_figures(&r.b_first))?;
-    put_rows(
-        text,
-        how,
-        "",
-        "last_packet_",
-        &packet_figures(&r.last_packets),
-    )
-}
-
-/// Appends these, where the records have times.
-fn put_times_if(
-    text: &mut Vec<u8>,
-    how: CsvStyle,
-    has_times: bool,
-    r: &VenueReport,
-) -> Result<(), AllocError> {
-    match has_times {
-        true => put_times(text, how, r),
-        false => Ok(()),
+    /// Appends the rows of the gaps of a venue's lines, and of what these lost.
+    fn put_gaps(&mut self, r: &VenueReport) -> Result<(), AllocError> {
+        self.put_rows("A", "gaps_", &gap_figures(&r.gaps.a))?;
+        self.put_rows("B", "gaps_", &gap_figures(&r.gaps.b))?;
+        self.put_rows("all", "gaps_", &gap_figures(&r.gaps.all))?;
+        self.put_rows("A", "", &line_loss_figures(&r.gaps.a))?;
+        self.put_rows("B", "", &line_loss_figures(&r.gaps.b))?;
+        self.put_rows("", "", &loss_figures(&r.gaps))
     }
-}
 
-/// Appends the rows of a venue.
-fn put_venue(
-    text: &mut Vec<u8>,
-    how: CsvStyle,
-    has_times: bool,
-    r: &VenueReport,
-) -> Result<(), AllocError> {
-    put_lines(text, how, &r.counts.lines)?;
-    put_gaps(text, how, &r.gaps)?;
-    put_losses(text, how, &r.gaps)?;
-    put_own(text, how, r)?;
-    put_times_if(text, how, has_times, r)
-}
-
-/// Appends the rows of the venue at a place, if there is one.
-fn put_venue_at(
-    text: &mut Vec<u8>,
-    how: CsvStyle,
-    has_times: bool,
-    venues: &[VenueReport],
-    place: usize,
-) -> Result<(), AllocError> {
-    match venues.get(place) {
-        Some(venue) => put_venue(text, how.of_venue(place as u64), has_times, venue),
-        None => Ok(()),
+    /// Appends the rows of how a venue's lines run in time.
+    fn put_times(&mut self, r: &VenueReport) -> Result<(), AllocError> {
+        self.put_rows("A", "lead_", &duration_figures(&r.a_first))?;
+        self.put_rows("B", "lead_", &duration_figures(&r.b_first))?;
+        self.put_rows("", "last_packet_", &packet_figures(&r.last_packets))
     }
-}
 
-/// Appends the rows of all venues.
-fn put_venues(
-    text: &mut Vec<u8>,
-    how: CsvStyle,
-    has_times: bool,
-    venues: &[VenueReport],
-) -> Result<(), AllocError> {
-    for place in 0..venues.len() {
-        put_venue_at(text, how, has_times, venues, place)?;
-    }
-    Ok(())
-}
-
-/// Appends the rows of the busiest periods, where the records have times.
-fn put_busiest(text: &mut Vec<u8>, how: CsvStyle, report: &Report) -> Result<(), AllocError> {
-    match report.has_times {
-        true => put_rows(
-            text,
-            how,
-            "",
-            "",
-            &busiest_figures(&report.second, &report.millisecond),
-        ),
-        false => Ok(()),
+    /// Appends the rows of a venue, those of time where the records have times.
+    fn put_venue(&mut self, r: &VenueReport, has_times: bool) -> Result<(), AllocError> {
+        self.put_line("A", &r.counts.lines.a)?;
+        self.put_line("B", &r.counts.lines.b)?;
+        self.put_line("recovery", &r.counts.lines.recovery)?;
+        self.put_gaps(r)?;
+        self.put_rows("", "items_", &item_figures(&r.counts.items))?;
+        self.put_rows("", "", &venue_figures(&r.counts))?;
+        self.put_rows("", "", &leading_figures(r.bids, r.offers))?;
+        if has_times {
+            self.put_times(r)?;
+        }
+        Ok(())
     }
 }
 
@@ -245,13 +102,22 @@ pub(crate) fn put_csv(
     style: TimeStyle,
     report: &Report,
 ) -> Result<(), AllocError> {
-    let how = CsvStyle {
+    let mut rows = CsvRows {
         alloc,
+        text,
         style,
         venue: None,
     };
-    put(text, "venue,line,figure,value\n")?;
-    put_venues(text, how, report.has_times, report.venues.as_slice())?;
-    put_rows(text, how, "", "changes_", &state_figures(&report.states))?;
-    put_busiest(text, how, report)
+    rows.put("venue,line,figure,value\n")?;
+    for place in 0..report.venues.len() {
+        rows.venue = Some(place as u64);
+        rows.put_venue(&report.venues[place], report.has_times)?;
+    }
+    rows.venue = None;
+    rows.put_rows("", "changes_", &state_figures(&report.states))?;
+    if report.has_times {
+        let busiest = busiest_figures(&report.second, &report.millisecond);
+        rows.put_rows("", "", &busiest)?;
+    }
+    Ok(())
 }
