@@ -202,8 +202,8 @@ module _ (setting : BestSetting) (earlier : List TimedEvent) (m : BestMaker)
   live_after new step =
       let begun = subst (λ (o : Option ℕ). AreBegun o (begin_told setting.style.length
       setting.from (e ∷ earlier)) m.table.times.items step.mid) live.begin
-      (subst (λ (o : Option ℕ). AreBegun (period_at_hand m) o m.table.times.items step.mid) begin_same
-      step.begun) in
+      (subst (λ (o : Option ℕ). AreBegun (period_at_hand m) o m.table.times.items step.mid)
+      begin_same step.begun) in
       let taken = subst (λ (at : ℕ). AreBestsTaken m.table.keys.keys at e.event step.mid
       new.table.times.items) clock_same step.taken in
       let mids = mid_count (begin_told setting.style.length setting.from earlier)
