@@ -219,12 +219,12 @@ abbrev pub skipped_at : Option ℕ → ℕ → ℕ → TimedEvent
 skipped_at time venue number = timed_event time (told_skip venue number (Ok tt))
 
 pub line_skipped : (line : GapLine) (earlier : List TimedEvent) (time : Option ℕ)
-    (venue number : ℕ) (has_come : Bool) (lost : LostNumbers) (old new : LineGaps)
-    → Agrees (skipped_at time venue number ∷ earlier) lost → has_come ≡ any_has_come earlier
-    → FitsLine line earlier old → SkipsLine (joined_at has_come number) time lost old new
+    (venue number : ℕ) (joined : Option ℕ) (lost : LostNumbers) (old new : LineGaps)
+    → Agrees (skipped_at time venue number ∷ earlier) lost
+    → joined ≡ joined_at (any_has_come earlier) number
+    → FitsLine line earlier old → SkipsLine joined time lost old new
     → FitsLine line (skipped_at time venue number ∷ earlier) new
-line_skipped line earlier time venue number has_come lost old new agree come fits skips =
-    let joined = joined_at has_come number in
+line_skipped line earlier time venue number joined lost old new agree is fits skips =
     let begun = has_begun line earlier in
     let high = highest_on line earlier in
     let last = skipped_at time venue number in
@@ -237,7 +237,7 @@ line_skipped line earlier time venue number has_come lost old new agree come fit
       highest = skips.highest
           ∙ ap (λ (b : Bool). highest_joined b old.highest joined) fits.begun
           ∙ ap (λ (h : ℕ). highest_joined begun h joined) fits.highest
-          ∙ ap (λ (c : Bool). highest_joined begun high (joined_at c number)) come
+          ∙ ap (λ (j : Option ℕ). highest_joined begun high j) is
           ∙ skip_high begun (any_has_come earlier) high venue number;
       «open» = gaps ∙ ap (λ (gs : List OpenGap). filter p gs) fits.«open»;
       stand = subst (λ (gs : List OpenGap). AreStanding line (last ∷ earlier) gs) (sym gaps)

@@ -130,18 +130,19 @@ venue_heard earlier last packet filled lost old new before after heard fits lost
 
 -- A skip.
 pub venue_skipped : (earlier : List TimedEvent) (time : Option ℕ) (venue number : ℕ)
-    (lost : LostNumbers) (old new : VenueGaps) (before after : List EndedGap)
+    (joined : Option ℕ) (lost : LostNumbers) (old new : VenueGaps) (before after : List EndedGap)
     → FitsSession earlier old → FitsLost (skipped_at time venue number ∷ earlier) lost
     → KeepsDropped old.lost lost → new.lost ≡ lost → new.far ≡ old.far
-    → new.has_come ≡ old.has_come
-    → SkipsLine (joined_at old.has_come number) time lost old.a new.a
-    → SkipsLine (joined_at old.has_come number) time lost old.b new.b
-    → SkipsLine (joined_at old.has_come number) time lost old.all new.all
+    → new.has_come ≡ old.has_come → joined ≡ joined_at old.has_come number
+    → SkipsLine joined time lost old.a new.a → SkipsLine joined time lost old.b new.b
+    → SkipsLine joined time lost old.all new.all
     → after ≡ before ++ three (over_skipped time lost old.a)
     (over_skipped time lost old.b) (over_skipped time lost old.all)
     → StepsOn earlier (skipped_at time venue number) old new before after
-venue_skipped earlier time venue number lost old new before after fits lost_fits kept same far
-    come a b all are =
+venue_skipped earlier time venue number joined lost old new before after fits lost_fits kept same
+    far come join a b all are =
+    let is : joined ≡ joined_at (any_has_come earlier) number =
+    join ∙ ap (λ (c : Bool). joined_at c number) fits.come in
     let last = skipped_at time venue number in
     let whole_now = λ (w : KeptAll new.lost). subst KeptAll same w in
     let was = λ (w : KeptAll new.lost). was_whole old.lost lost kept (whole_now w) in
@@ -155,12 +156,12 @@ venue_skipped earlier time venue number lost old new before after fits lost_fits
     record {
       fits = record {
         lost = subst (λ (l : LostNumbers). FitsLost (last ∷ earlier) l) (sym same) lost_fits;
-        a = λ w. line_skipped lines.A earlier time venue number old.has_come lost old.a new.a
-            (agree w) fits.come (fits.a (was w)) a;
-        b = λ w. line_skipped lines.B earlier time venue number old.has_come lost old.b new.b
-            (agree w) fits.come (fits.b (was w)) b;
-        all = λ w. line_skipped lines.All earlier time venue number old.has_come lost old.all
-            new.all (agree w) fits.come (fits.all (was w)) all;
+        a = λ w. line_skipped lines.A earlier time venue number joined lost old.a new.a
+            (agree w) is (fits.a (was w)) a;
+        b = λ w. line_skipped lines.B earlier time venue number joined lost old.b new.b
+            (agree w) is (fits.b (was w)) b;
+        all = λ w. line_skipped lines.All earlier time venue number joined lost old.all
+            new.all (agree w) is (fits.all (was w)) all;
         far = λ line. rw far (fits.far line);
         come = come ∙ fits.come;
       };

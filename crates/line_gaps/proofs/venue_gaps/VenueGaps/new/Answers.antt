@@ -1,3 +1,4 @@
+use Rattle.std.proofs.Common.{refl}
 use Rattle.line_gaps.proofs.VenueLemmas.{far_none, fits_none}
 use Rattle.line_gaps.proofs.venue_gaps.VenueGaps.new.Goals as goal
 

@@ -1,4 +1,4 @@
-use Rattle.std.proofs.Common.{◌∙◌}
+use Rattle.std.proofs.Common.{refl, ◌∙◌}
 use Rattle.line_gaps.proofs.EndLemmas.{venue_same}
 use Rattle.line_gaps.proofs.VenueLemmas.{closed_just, far_none, fits_none, whole_back}
 use Rattle.line_gaps.proofs.venue_gaps.VenueGaps.renew.Goals as goal
