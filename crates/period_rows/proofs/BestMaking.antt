@@ -288,11 +288,11 @@ new_bests setting m some style venues over new clock timed = record {
   };
 }
   where
-    begun_new : (len : ℕ) (from : Option ℕ)
-        → period_of_clock len (is_some from) (unwrap_or from 0)
-        ≡ option_map (period_begin len) from
-    begun_new len None = refl
-    begun_new len (Some first) = refl
+    begun_new : (length_ns : ℕ) (from : Option ℕ)
+        → period_of_clock length_ns (is_some from) (unwrap_or from 0)
+        ≡ option_map (period_begin length_ns) from
+    begun_new length_ns None = refl
+    begun_new length_ns (Some time) = refl
 
 -- once the capture is over nothing changes
 bests_over : (setting : BestSetting) (earlier : List TimedEvent) (m new : BestMaker)

@@ -90,7 +90,7 @@ overlap length begin from to = min to (begin + length) - max from begin
 
 -- the sum over the pieces of time between events, from the first time on: how much of each lies in
 -- the period, times what the symbol's national best weighs that stood meanwhile
-abbrev pub stood : (National → ℕ) → ℕ → ℕ → Option ℕ → List TimedEvent → ℕ
+abbrev pub stood : (National → ℕ) → ℕ → ℕ → ℕ → Option ℕ → List TimedEvent → ℕ
 stood weight key length begin from [] = 0
 stood weight key length begin from (last ∷ earlier) =
     weight (best_told key earlier)

@@ -38,7 +38,6 @@ pub struct BestMaker {
 impl BestMaker {
     /// Of the symbols of a table of which nothing came, and of this many venues. All is told from
     /// a time on, if there is one.
-    #[tactic(auto, using(crate::proofs::BestMaking::new_bests))]
     fn of(style: PeriodStyle, venues: usize, table: BestTable, from: Option<u64>) -> BestMaker
         ensures { (symbols : List (List ℕ)) → IsNewTable (unwrap_or from 0) symbols table
             → AreBests (record {
