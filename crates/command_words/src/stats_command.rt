@@ -66,7 +66,8 @@ Printed for each venue, from 0; rows of zeros alone are left out:
 and then the changes of national bests, by the state after.
 
 A number far ahead, as of a packet past the window, counts as known once a second packet goes on
-from it. A line lost the numbers that it passed over and never brought, and those past its last one.
+from it. A line lost the numbers that it passed over and never brought, and those past its last one;
+it begins where its session was joined, before any message of it came, else at 1.
 
 With --lines there follows, by the times of the frames, of each venue, of the messages that both
 lines brought, how long the second line took where the other one was first in time: the mean; half
@@ -90,18 +91,20 @@ share the symbol's bid was below its offer ('normal'), in which both were equal 
 which the bid was above ('crossed'); and the mean spread in dollars over the time in which it was
 normal, empty or null where there was none. Rows of zeros are left out. The best that stands when a
 period begins stands in it from then on. The time is the latest of the frames so far: a late frame
-changes a best at that time. The last period's time ends with the capture's last frame, its share is
-of a whole period all the same. In csv the columns are time, symbol, venue, bid, offer, normal,
-locked, crossed and spread; JSON has also time_ns.
+changes a best at that time. With --from it begins there. The last period's time ends with the
+capture's last frame, with --to with the last one before that, its share is of a whole period all
+the same. A period without a frame has no row, though a best stood in it. In csv the columns are
+time, symbol, venue, bid, offer, normal, locked, crossed and spread; JSON has also time_ns.
 
 With --gaps a row has the venue; the line, A, B or 'all' for what all lines together left out; the
 first and the last number; how many messages were left out, and how many of these were given up;
 when the gap began and when it ended, as --times says, in JSON also in nanoseconds, empty or null
 where the frame has no time or there are no frames; and what ended it: the line A, B or 'recovery'
-whose packet brought the last of its messages, 'skip' where some were given up, 'before' where
-another line had brought them when it was shown, or 'open' where nothing did, to the end of its
-session or of the capture. In csv the columns are venue, line, first, last, messages, given_up,
-began, ended and ended_by; JSON has also began_ns and ended_ns.
+whose packet brought the last of its messages, 'skip' where the last of them were given up, or some
+before it was shown, 'before' where another line had brought them then, or 'open' where nothing did,
+to the end of its session or of the capture. What a join gives up is no gap. In csv the columns are
+venue, line, first, last, messages, given_up, began, ended and ended_by; JSON has also began_ns and
+ended_ns.
 
 In JSON the counts are one object; null stands where nothing is known:
   venues           a list with an object for each venue: its number as 'venue'; and

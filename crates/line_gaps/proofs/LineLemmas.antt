@@ -16,7 +16,7 @@ use Rattle.line_gaps.specs.declared.open_gap.GapEnd.{GapEnd}
 use Rattle.line_gaps.specs.declared.open_gap.GapEnd.TheVariants as ends
 use Rattle.line_gaps.specs.declared.open_gap.OpenGap.{OpenGap}
 use Rattle.line_gaps.specs.Ends.{KeepsLine, gap_over, is_open_gap, joined_gap, open_gap_of, opened, over_at_once, over_first, over_new}
-use Rattle.line_gaps.specs.Gaps.{counts_on, counts_with, has_begun, highest_on, known_number, highest_skipped, highest_with, is_given_up, is_missing, is_packet_of, of_line}
+use Rattle.line_gaps.specs.Gaps.{beginning_stands, counts_on, counts_with, highest_on, known_number, highest_skipped, highest_with, is_given_up, is_missing, is_packet_of, of_line}
 use Rattle.line_gaps.specs.LineSteps.{PassesLine, Reaches, TakesLine, kept_open, over_if, gaps_over_with, pass_of, still_open}
 use Rattle.line_gaps.specs.Missing.{FitsLost, KeptAll}
 use Rattle.line_gaps.specs.OpenGaps.{add_gap, given_up_of, ended_gap, is_open_after, join_newest, over_before, gap_passed}
@@ -249,8 +249,9 @@ more_skipped false highest (told_before event) = omega arith
 pub reached : (line : GapLine) (earlier : List TimedEvent) (last : TimedEvent)
     → Reached line earlier last
 reached line earlier last =
-    let base = highest_skipped (has_begun line earlier) (highest_on line earlier) last.event in
-    let skip = more_skipped (has_begun line earlier) (highest_on line earlier) last.event in
+    let stands = beginning_stands line earlier in
+    let base = highest_skipped stands (highest_on line earlier) last.event in
+    let skip = more_skipped stands (highest_on line earlier) last.event in
     let more = more_with base (counts_on line earlier last) in
     record {
       known = more_with (known_number earlier) (counts_with earlier last.time last.event);

@@ -19,8 +19,8 @@ use Rattle.line_gaps.specs.declared.open_gap.GapEnd.{GapEnd}
 use Rattle.line_gaps.specs.declared.open_gap.GapEnd.TheVariants as ends
 use Rattle.line_gaps.specs.declared.open_gap.OpenGap.{OpenGap}
 use Rattle.line_gaps.specs.Ends.{end_on, gap_over, is_open_gap, over_first, over_new, over_now}
-use Rattle.line_gaps.specs.Gaps.{brings_number, counts_on, counts_with, has_begun, highest_on, highest_skipped, highest_with, is_missing, is_missing_by, is_packet_of, known_number, last_number_told, number_has_come, of_line, passes, was_passed}
-use Rattle.line_gaps.specs.LineSteps.{ClosesLine, Reaches, SkipsLine, TakesLine, kept_open, over_closed, over_if, over_skipped, gaps_over_with, pass_of, still_open}
+use Rattle.line_gaps.specs.Gaps.{any_has_come, beginning_stands, brings_number, counts_on, counts_with, has_begun, highest_on, highest_skipped, highest_with, is_missing, is_missing_by, is_packet_of, known_number, last_number_told, number_has_come, of_line, passes, was_passed}
+use Rattle.line_gaps.specs.LineSteps.{ClosesLine, Reaches, SkipsLine, TakesLine, highest_joined, joined_at, kept_open, over_closed, over_if, over_skipped, gaps_over_with, pass_of, still_open}
 use Rattle.line_gaps.specs.Missing.{FitsLost, is_learnt}
 use Rattle.line_gaps.specs.OpenGaps.{add_gap, closes_gaps, end_with, ended_gap, ended_on, is_open_after, open_on, over_before, gap_passed}
 use Rattle.line_gaps.specs.Runs.{is_in_run, meets_runs}
@@ -123,7 +123,8 @@ line_after line earlier last packet filled lost old new heard agree stays fits t
       highest = takes.highest
           ∙ ap (λ (q : Option HeardPacket). highest_with old.highest q) own
           ∙ ap (λ (h : ℕ). highest_with h o) (fits.highest
-          ∙ sym (heard.skips_none (has_begun line earlier) (highest_on line earlier)));
+          ∙ sym (heard.skips_none (beginning_stands line earlier)
+          (highest_on line earlier)));
       «open» = gaps
           ∙ ap (λ (gs : List OpenGap). fold add_gap (filter p gs)
           (filter p (gap_passed (highest_on line earlier) o))) fits.«open»
@@ -207,21 +208,25 @@ over_after line earlier last packet filled lost old heard agree stays ends_by fi
 
 -- ---- a skip
 
-skip_high : (begun : Bool) (highest venue number : ℕ)
-    → (if begun then highest else max highest (number - 1))
-    ≡ highest_skipped begun highest (told_skip venue number (Ok tt))
-skip_high true highest venue number = refl
-skip_high false highest venue number = refl
+skip_high : (begun come : Bool) (highest venue number : ℕ)
+    → highest_joined begun highest (joined_at come number)
+    ≡ highest_skipped (begun || come) highest (told_skip venue number (Ok tt))
+skip_high true come highest venue number = refl
+skip_high false true highest venue number = refl
+skip_high false false highest venue number = refl
 
 abbrev pub skipped_at : Option ℕ → ℕ → ℕ → TimedEvent
 skipped_at time venue number = timed_event time (told_skip venue number (Ok tt))
 
 pub line_skipped : (line : GapLine) (earlier : List TimedEvent) (time : Option ℕ)
-    (venue number : ℕ) (lost : LostNumbers) (old new : LineGaps)
-    → Agrees (skipped_at time venue number ∷ earlier) lost → FitsLine line earlier old
-    → SkipsLine number time lost old new
+    (venue number : ℕ) (joined : Option ℕ) (lost : LostNumbers) (old new : LineGaps)
+    → Agrees (skipped_at time venue number ∷ earlier) lost
+    → joined ≡ joined_at (any_has_come earlier) number
+    → FitsLine line earlier old → SkipsLine joined time lost old new
     → FitsLine line (skipped_at time venue number ∷ earlier) new
-line_skipped line earlier time venue number lost old new agree fits skips =
+line_skipped line earlier time venue number joined lost old new agree is fits skips =
+    let begun = has_begun line earlier in
+    let high = highest_on line earlier in
     let last = skipped_at time venue number in
     let p = is_open_after (last ∷ earlier) in
     let gaps : new.«open».items ≡ filter p old.«open».items =
@@ -230,9 +235,10 @@ line_skipped line earlier time venue number lost old new agree fits skips =
       line_is = skips.line ∙ fits.line_is;
       begun = skips.begun ∙ fits.begun;
       highest = skips.highest
-          ∙ ap (λ (b : Bool). if b then old.highest else max old.highest (number - 1)) fits.begun
-          ∙ ap (λ (h : ℕ). if has_begun line earlier then h else max h (number - 1)) fits.highest
-          ∙ skip_high (has_begun line earlier) (highest_on line earlier) venue number;
+          ∙ ap (λ (b : Bool). highest_joined b old.highest joined) fits.begun
+          ∙ ap (λ (h : ℕ). highest_joined begun h joined) fits.highest
+          ∙ ap (λ (j : Option ℕ). highest_joined begun high j) is
+          ∙ skip_high begun (any_has_come earlier) high venue number;
       «open» = gaps ∙ ap (λ (gs : List OpenGap). filter p gs) fits.«open»;
       stand = subst (λ (gs : List OpenGap). AreStanding line (last ∷ earlier) gs) (sym gaps)
           (filter_stands line earlier last old.«open».items fits.stand);
@@ -292,8 +298,9 @@ idle_base : (line : GapLine) (earlier : List TimedEvent) (last : TimedEvent)
     (new : LineGaps) → SaysNothing earlier last → new.highest ≡ highest_on line earlier
     → new.highest ≡ highest_on line (last ∷ earlier)
 idle_base line earlier last new says is =
-    let base = highest_skipped (has_begun line earlier) (highest_on line earlier) last.event in
-    is ∙ sym (says.skips_none (has_begun line earlier) (highest_on line earlier))
+    let stands = beginning_stands line earlier in
+    let base = highest_skipped stands (highest_on line earlier) last.event in
+    is ∙ sym (says.skips_none stands (highest_on line earlier))
     ∙ ap (λ (o : Option HeardPacket). highest_with base o)
     (sym (no_counts line earlier last says))
 

@@ -21,8 +21,8 @@ use Rattle.line_gaps.specs.declared.open_gap.OpenGap.{OpenGap}
 use Rattle.line_gaps.specs.declared.venue_gaps.VenueGaps.{VenueGaps}
 use Rattle.line_gaps.specs.declared.venue_gaps.VenueSums.{VenueSums}
 use Rattle.line_gaps.specs.Ends.{EndsGaps, KeepsLine}
-use Rattle.line_gaps.specs.Gaps.{brings_number, counts_with, far_on, far_that, goes_on, highest_skipped, highest_with, is_given_up, known_number, number_has_come, packet_heard, passes, was_passed}
-use Rattle.line_gaps.specs.LineSteps.{ClosesLine, SkipsLine, TakesLine, over_closed, over_skipped, gaps_over_with}
+use Rattle.line_gaps.specs.Gaps.{any_has_come, brings_messages, brings_number, counts_with, far_on, far_that, goes_on, highest_skipped, highest_with, is_given_up, known_number, number_has_come, packet_heard, passes, was_passed}
+use Rattle.line_gaps.specs.LineSteps.{ClosesLine, SkipsLine, TakesLine, joined_at, over_closed, over_skipped, gaps_over_with}
 use Rattle.line_gaps.specs.Missing.{FitsLost, KeptAll, KeepsDropped}
 use Rattle.line_gaps.specs.OpenGaps.{starts_session, closes_gaps, in_session}
 use Rattle.line_gaps.specs.Sums.{AreSumsOf}
@@ -66,6 +66,7 @@ fits_but earlier last gaps fits far = record {
   b = fits.b;
   all = fits.all;
   far = λ line. fits.far line ∙ sym (far line);
+  come = fits.come;
 }
 
 -- three lists after another, each equal to another
@@ -87,7 +88,7 @@ pub venue_heard : (earlier : List TimedEvent) (last : TimedEvent) (packet : Hear
     (filled : Bool) (lost : LostNumbers) (old new : VenueGaps) (before after : List EndedGap)
     → IsHeard earlier last packet → FitsBut earlier last old
     → FitsLost (last ∷ earlier) lost → KeepsDropped old.lost lost → new.lost ≡ lost
-    → new.far ≡ old.far
+    → new.far ≡ old.far → new.has_come ≡ any_has_come (last ∷ earlier)
     → (KeptAll old.lost → filled ≡ false → Stays earlier last)
     → (filled ≡ true → EndsBy last packet)
     → TakesLine packet filled lost old.a new.a → TakesLine packet filled lost old.b new.b
@@ -96,7 +97,7 @@ pub venue_heard : (earlier : List TimedEvent) (last : TimedEvent) (packet : Hear
     (gaps_over_with packet filled lost old.b) (gaps_over_with packet filled lost old.all)
     → StepsOn earlier last old new before after
 venue_heard earlier last packet filled lost old new before after heard fits lost_fits kept same far
-    stays ends_by a b all are =
+    come stays ends_by a b all are =
     let whole_now = λ (w : KeptAll new.lost). subst KeptAll same w in
     let was = λ (w : KeptAll new.lost). was_whole old.lost lost kept (whole_now w) in
     let agree = λ (w : KeptAll new.lost). agrees (last ∷ earlier) lost lost_fits (whole_now w) in
@@ -116,6 +117,7 @@ venue_heard earlier last packet filled lost old new before after heard fits lost
         all = λ w. line_after lines.All earlier last packet filled lost old.all new.all heard
             (agree w) (stays (was w)) (fits.all (was w)) all;
         far = λ line. rw far (fits.far line);
+        come = come;
       };
       ends = λ w. record {
         are = are ∙ ap (λ (l : List EndedGap). before ++ l)
@@ -128,16 +130,19 @@ venue_heard earlier last packet filled lost old new before after heard fits lost
 
 -- A skip.
 pub venue_skipped : (earlier : List TimedEvent) (time : Option ℕ) (venue number : ℕ)
-    (lost : LostNumbers) (old new : VenueGaps) (before after : List EndedGap)
+    (joined : Option ℕ) (lost : LostNumbers) (old new : VenueGaps) (before after : List EndedGap)
     → FitsSession earlier old → FitsLost (skipped_at time venue number ∷ earlier) lost
     → KeepsDropped old.lost lost → new.lost ≡ lost → new.far ≡ old.far
-    → SkipsLine number time lost old.a new.a → SkipsLine number time lost old.b new.b
-    → SkipsLine number time lost old.all new.all
+    → new.has_come ≡ old.has_come → joined ≡ joined_at old.has_come number
+    → SkipsLine joined time lost old.a new.a → SkipsLine joined time lost old.b new.b
+    → SkipsLine joined time lost old.all new.all
     → after ≡ before ++ three (over_skipped time lost old.a)
     (over_skipped time lost old.b) (over_skipped time lost old.all)
     → StepsOn earlier (skipped_at time venue number) old new before after
-venue_skipped earlier time venue number lost old new before after fits lost_fits kept same far
-    a b all are =
+venue_skipped earlier time venue number joined lost old new before after fits lost_fits kept same
+    far come join a b all are =
+    let is : joined ≡ joined_at (any_has_come earlier) number =
+    join ∙ ap (λ (c : Bool). joined_at c number) fits.come in
     let last = skipped_at time venue number in
     let whole_now = λ (w : KeptAll new.lost). subst KeptAll same w in
     let was = λ (w : KeptAll new.lost). was_whole old.lost lost kept (whole_now w) in
@@ -151,13 +156,14 @@ venue_skipped earlier time venue number lost old new before after fits lost_fits
     record {
       fits = record {
         lost = subst (λ (l : LostNumbers). FitsLost (last ∷ earlier) l) (sym same) lost_fits;
-        a = λ w. line_skipped lines.A earlier time venue number lost old.a new.a (agree w)
-            (fits.a (was w)) a;
-        b = λ w. line_skipped lines.B earlier time venue number lost old.b new.b (agree w)
-            (fits.b (was w)) b;
-        all = λ w. line_skipped lines.All earlier time venue number lost old.all new.all (agree w)
-            (fits.all (was w)) all;
+        a = λ w. line_skipped lines.A earlier time venue number joined lost old.a new.a
+            (agree w) is (fits.a (was w)) a;
+        b = λ w. line_skipped lines.B earlier time venue number joined lost old.b new.b
+            (agree w) is (fits.b (was w)) b;
+        all = λ w. line_skipped lines.All earlier time venue number joined lost old.all
+            new.all (agree w) is (fits.all (was w)) all;
         far = λ line. rw far (fits.far line);
+        come = come ∙ fits.come;
       };
       ends = λ w. record {
         are = are ∙ ap (λ (l : List EndedGap). before ++ l)
@@ -199,11 +205,19 @@ stay_sums rows over old new same none are =
     (subst (λ (l : List EndedGap). AreSumsOf (rows ++ l) old.sums) none
     (subst (λ (l : List EndedGap). AreSumsOf l old.sums) (sym (append-nil rows)) are))
 
+-- where no message comes
+pub come_idle : (earlier : List TimedEvent) (last : TimedEvent)
+    → brings_messages last.event ≡ false → (come : Bool) → come ≡ any_has_come earlier
+    → come ≡ any_has_come (last ∷ earlier)
+come_idle earlier last none come is =
+    is ∙ sym (ap (λ (b : Bool). b || any_has_come earlier) none)
+
 pub venue_idle : (earlier : List TimedEvent) (last : TimedEvent) (old new : VenueGaps)
     (before : List EndedGap) → SaysNothing earlier last → closes_gaps last.event ≡ false
-    → FitsBut earlier last old → new.lost ≡ old.lost → new.far ≡ old.far → new.a ≡ old.a
+    → FitsBut earlier last old → new.lost ≡ old.lost → new.far ≡ old.far
+    → new.has_come ≡ old.has_come → new.a ≡ old.a
     → new.b ≡ old.b → new.all ≡ old.all → StepsOn earlier last old new before before
-venue_idle earlier last old new before says goes_on fits lost far a b all =
+venue_idle earlier last old new before says goes_on fits lost far come a b all =
     let was = λ (w : KeptAll new.lost). subst KeptAll lost w in
     let over_a = λ (w : KeptAll new.lost). idle_after lines.A earlier last old.a says goes_on
     (fits.a (was w)) in
@@ -222,6 +236,7 @@ venue_idle earlier last old new before says goes_on fits lost far a b all =
         all = λ w. subst (λ (g : LineGaps). FitsLine lines.All (last ∷ earlier) g) (sym all)
             (line_idle lines.All earlier last old.all says goes_on (fits.all (was w)));
         far = λ line. rw far (fits.far line);
+        come = come ∙ come_idle earlier last says.has_no_messages old.has_come fits.come;
       };
       ends = λ w. record {
         are = sym (append-nil before) ∙ ap (λ (l : List EndedGap). before ++ l)
@@ -277,13 +292,13 @@ closed_just earlier last old mid new before after closes fits whole a b all same
 pub venue_closed : (earlier : List TimedEvent) (last : TimedEvent) (old new : VenueGaps)
     (before after : List EndedGap) → SaysNothing earlier last → closes_gaps last.event ≡ true
     → FitsBut earlier last old → FitsSession earlier old
-    → new.lost ≡ old.lost → new.far ≡ old.far
+    → new.lost ≡ old.lost → new.far ≡ old.far → new.has_come ≡ old.has_come
     → ClosesLine old.lost old.a new.a → ClosesLine old.lost old.b new.b
     → ClosesLine old.lost old.all new.all
     → after ≡ before ++ three (over_closed old.lost old.a) (over_closed old.lost old.b)
     (over_closed old.lost old.all)
     → StepsOn earlier last old new before after
-venue_closed earlier last old new before after says closes but fits lost far a b all are =
+venue_closed earlier last old new before after says closes but fits lost far come a b all are =
     let was = λ (w : KeptAll new.lost). subst KeptAll lost w in
     record {
       fits = record {
@@ -296,6 +311,7 @@ venue_closed earlier last old new before after says closes but fits lost far a b
         all = λ w. line_closed lines.All earlier last old.lost old.all new.all says closes
             (fits.all (was w)) all;
         far = λ line. rw far (but.far line);
+        come = come ∙ come_idle earlier last says.has_no_messages old.has_come fits.come;
       };
       ends = λ w. closed_just earlier last old new new before after closes fits (was w) a b all refl
           refl refl are;
@@ -321,13 +337,14 @@ pub fits_none : (gaps : VenueGaps) → FitsLost [] gaps.lost
     → (KeptAll gaps.lost → gaps.a.line ≡ lines.A) → (KeptAll gaps.lost → gaps.b.line ≡ lines.B)
     → (KeptAll gaps.lost → gaps.all.line ≡ lines.All) → IsFresh gaps.a → IsFresh gaps.b
     → IsFresh gaps.all → ((line : LineId) → on_line line gaps.far ≡ None)
-    → FitsSession [] gaps
-fits_none gaps lost line_a line_b line_all a b all far = record {
+    → gaps.has_come ≡ false → FitsSession [] gaps
+fits_none gaps lost line_a line_b line_all a b all far come = record {
   lost = lost;
   a = λ w. fresh_line lines.A gaps.a (line_a w) a;
   b = λ w. fresh_line lines.B gaps.b (line_b w) b;
   all = λ w. fresh_line lines.All gaps.all (line_all w) all;
   far = far;
+  come = come;
 }
 
 pub far_none : (far : PerLine (Option HeardPacket)) → far ≡ on_all None → (line : LineId)
@@ -407,6 +424,7 @@ fits_restarted events gaps a b all sums fits = record {
   b = λ w. other_sums lines.B events gaps.b b (fits.b w);
   all = λ w. other_sums lines.All events gaps.all all (fits.all w);
   far = fits.far;
+  come = fits.come;
 }
 
 -- the event before which all gaps ended
@@ -452,6 +470,7 @@ far_but earlier packet venue bytes old far fits is = record {
       ap (λ (f : PerLine (Option HeardPacket)). on_line line f) is
       ∙ far_set earlier packet.time venue packet.line packet.number packet.count bytes old.far
       fits.far line;
+  come = fits.come;
 }
 
 -- ---- events that say nothing of numbers
@@ -478,10 +497,12 @@ no_skip false highest (told_before event) is = refl
 pub says_nothing : (earlier : List TimedEvent) (last : TimedEvent)
     → counts_with earlier last.time last.event ≡ None
     → ((n : ℕ) → brings_number n last.event ≡ false) → ((n : ℕ) → passes n last.event ≡ false)
-    → is_granted_skip last.event ≡ false → SaysNothing earlier last
-says_nothing earlier last counts brings passed skip = record {
+    → is_granted_skip last.event ≡ false → brings_messages last.event ≡ false
+    → SaysNothing earlier last
+says_nothing earlier last counts brings passed skip messages = record {
   counts = counts;
   brings_none = brings;
+  has_no_messages = messages;
   passes_none = passed;
   skips_none = λ begun highest. no_skip begun highest last.event skip;
 }
@@ -495,4 +516,4 @@ pub nothing_timed : (earlier : List TimedEvent) (last : TimedEvent) (gaps : Venu
 nothing_timed earlier last gaps before says goes_on same far none fits =
     steps_timed earlier last gaps gaps before before same none
     (venue_idle (in_session earlier) last gaps gaps before says goes_on
-    (fits_but (in_session earlier) last gaps fits far) refl refl refl refl refl)
+    (fits_but (in_session earlier) last gaps fits far) refl refl refl refl refl refl)

@@ -29,6 +29,14 @@ abbrev pub passes : ℕ → SinkEvent → Bool
 passes n (told_skip venue number (Ok done)) = nat_lt n number
 passes n _ = false
 
+-- messages came with a packet
+abbrev pub brings_messages : SinkEvent → Bool
+brings_messages (told_packet venue line number count bytes (Ok (Taken new repeated))) = true
+brings_messages _ = false
+
+abbrev pub any_has_come : List TimedEvent → Bool
+any_has_come events = list_any (λ e. brings_messages e.event) events
+
 abbrev pub number_has_come : List TimedEvent → ℕ → Bool
 number_has_come events n = list_any (λ e. brings_number n e.event) events
 
@@ -116,17 +124,22 @@ abbrev pub highest_with : ℕ → Option HeardPacket → ℕ
 highest_with highest None = highest
 highest_with highest (Some packet) = max highest (last_number_told packet.number packet.count)
 
--- and after a skip: a line of which nothing counted begins there
+-- and after a skip: unless the line has begun, or a message came on any, it begins there
 abbrev pub highest_skipped : Bool → ℕ → SinkEvent → ℕ
 highest_skipped false highest (told_skip venue number (Ok done)) = max highest (number - 1)
-highest_skipped begun highest _ = highest
+highest_skipped stands highest _ = highest
+
+-- A line's beginning stands once a packet of it counted, or a message of its session came: a skip
+-- before any message joins the session, a later one moves no beginning.
+abbrev pub beginning_stands : GapLine → List TimedEvent → Bool
+beginning_stands line events = has_begun line events || any_has_come events
 
 -- the highest number of a line that counts
 abbrev pub highest_on : GapLine → List TimedEvent → ℕ
 highest_on line [] = 0
 highest_on line (last ∷ earlier) =
     highest_with
-    (highest_skipped (has_begun line earlier) (highest_on line earlier) last.event)
+    (highest_skipped (beginning_stands line earlier) (highest_on line earlier) last.event)
     (counts_on line earlier last)
 
 -- the highest number that a packet tells of

@@ -1,5 +1,5 @@
 -- What a line's gaps make of a packet, by the numbers of the venue that are missing.
-use Rattle.std.specs.Prelude.{◌≡◌, ℕ, ◌+◌, ◌-◌, ◌≤◌, Bool, max, List, [], ◌++◌, map, is_some, ◌||◌, Option, None, Some, if◌then◌else◌}
+use Rattle.std.specs.Prelude.{◌≡◌, ℕ, ◌+◌, ◌-◌, ◌≤◌, Bool, false, max, List, [], ◌++◌, map, is_some, ◌||◌, Option, None, Some, if◌then◌else◌}
 use Rattle.std.specs.List.{filter, fold}
 use Rattle.feed_types.specs.FullCounts.{count_after}
 use Rattle.line_gaps.specs.declared.gap_line.GapLine.{GapLine}
@@ -68,13 +68,22 @@ abbrev pub over_skipped : Option ℕ → LostNumbers → LineGaps → List Ended
 over_skipped time lost old =
     over_now old.line lost (record { by = ends.Skip; time = time }) old.«open».items
 
--- A skip to a number ends gaps, and a line of which nothing came begins there.
-pub record SkipsLine (number : ℕ) (time : Option ℕ) (lost : LostNumbers) (old new : LineGaps)
-    : Type 0 where
+-- the number to which a skip goes, where it joins the session: no message of it came before
+abbrev pub joined_at : Bool → ℕ → Option ℕ
+joined_at has_come number = if has_come then None else Some number
+
+-- a line of which nothing counted begins there
+abbrev pub highest_joined : Bool → ℕ → Option ℕ → ℕ
+highest_joined false highest (Some number) = max highest (number - 1)
+highest_joined begun highest _ = highest
+
+-- A skip ends gaps, and a line of which nothing counted begins where it joined the session, if it
+-- did.
+pub record SkipsLine (joined : Option ℕ) (time : Option ℕ) (lost : LostNumbers)
+    (old new : LineGaps) : Type 0 where
   pub line : new.line ≡ old.line
   pub begun : new.begun ≡ old.begun
-  pub highest : new.highest
-      ≡ (if old.begun then old.highest else max old.highest (number - 1))
+  pub highest : new.highest ≡ highest_joined old.begun old.highest joined
   pub «open» : new.«open».items ≡ still_open lost old.«open».items
   pub sums : (rows : List EndedGap) → AreSumsOf rows old.sums
       → AreSumsOf (rows ++ over_skipped time lost old) new.sums

@@ -3,7 +3,7 @@ use Rattle.std.specs.Prelude.{◌≡◌, ℕ, ◌<◌, ◌≤◌, Bool, false, �
 use Rattle.feed_text.specs.SinkEvents.{TimedEvent}
 use Rattle.line_gaps.specs.declared.heard_packet.HeardPacket.{HeardPacket}
 use Rattle.line_gaps.specs.declared.lost_numbers.LostNumbers.{LostNumbers}
-use Rattle.line_gaps.specs.Gaps.{brings_number, counts_with, number_has_come, is_given_up, is_left, is_missing, known_number, passes, was_passed}
+use Rattle.line_gaps.specs.Gaps.{brings_messages, brings_number, counts_with, number_has_come, is_given_up, is_left, is_missing, known_number, passes, was_passed}
 use Rattle.line_gaps.specs.Runs.{AreAscending, HaveJust, count_below}
 
 -- Just the numbers that are missing after these events are kept, as long as no run was dropped, and
@@ -27,6 +27,7 @@ pub record CountsNumbers (events : List TimedEvent) (last : TimedEvent) (packet 
     : Type 0 where
   pub counts : counts_with events last.time last.event ≡ Some packet
   pub brings_none : (n : ℕ) → brings_number n last.event ≡ false
+  pub has_no_messages : brings_messages last.event ≡ false
   pub passes_none : (n : ℕ) → passes n last.event ≡ false
 
 -- all but what is missing stays

@@ -15,7 +15,7 @@ use Rattle.line_gaps.specs.declared.open_gap.EndedGap.{EndedGap}
 use Rattle.line_gaps.specs.declared.open_gap.OpenGap.{OpenGap}
 use Rattle.line_gaps.specs.declared.venue_gaps.VenueGaps.{VenueGaps}
 use Rattle.line_gaps.specs.declared.venue_gaps.VenueSums.{VenueSums}
-use Rattle.line_gaps.specs.Gaps.{brings_number, counts_with, far_on, has_begun, highest_on, highest_skipped, is_missing, known_number, passes}
+use Rattle.line_gaps.specs.Gaps.{any_has_come, brings_messages, brings_number, counts_with, far_on, has_begun, highest_on, highest_skipped, is_missing, known_number, passes}
 use Rattle.line_gaps.specs.Missing.{FitsLost, KeptAll}
 use Rattle.line_gaps.specs.OpenGaps.{closes_gaps, ended_on, gaps_ended, in_session, is_open_after, open_on}
 use Rattle.line_gaps.specs.Runs.{count_below}
@@ -66,6 +66,7 @@ pub record FitsSession (events : List TimedEvent) (gaps : VenueGaps) : Type 0 wh
   pub b : KeptAll gaps.lost → FitsLine lines.B events gaps.b
   pub all : KeptAll gaps.lost → FitsLine lines.All events gaps.all
   pub far : (line : LineId) → on_line line gaps.far ≡ far_on line events
+  pub come : gaps.has_come ≡ any_has_come events
 
 -- A venue after these events of all its sessions.
 abbrev pub FitsGaps : List TimedEvent → VenueGaps → Type 0
@@ -79,6 +80,7 @@ pub record FitsBut (earlier : List TimedEvent) (last : TimedEvent) (gaps : Venue
   pub b : KeptAll gaps.lost → FitsLine lines.B earlier gaps.b
   pub all : KeptAll gaps.lost → FitsLine lines.All earlier gaps.all
   pub far : (line : LineId) → on_line line gaps.far ≡ far_on line (last ∷ earlier)
+  pub come : gaps.has_come ≡ any_has_come earlier
 
 -- the event of a packet that was answered so
 abbrev pub packet_event : HeardPacket → ℕ → ℕ → Result Outcome LineFault → TimedEvent
@@ -98,6 +100,7 @@ pub record IsHeard (earlier : List TimedEvent) (last : TimedEvent) (packet : Hea
 pub record SaysNothing (earlier : List TimedEvent) (last : TimedEvent) : Type 0 where
   pub counts : counts_with earlier last.time last.event ≡ None
   pub brings_none : (n : ℕ) → brings_number n last.event ≡ false
+  pub has_no_messages : brings_messages last.event ≡ false
   pub passes_none : (n : ℕ) → passes n last.event ≡ false
   pub skips_none : (begun : Bool) (highest : ℕ)
       → highest_skipped begun highest last.event ≡ highest

@@ -11,6 +11,7 @@ pub record PassesVenue (packet : HeardPacket) (filled : Bool) (old new : VenueGa
     (before after : EndedGaps) : Type 0 where
   pub lost : new.lost ≡ old.lost
   pub far : new.far ≡ old.far
+  pub come : new.has_come ≡ old.has_come
   pub ends : EndsVenue old new before after
   pub a : TakesLine packet filled old.lost old.a new.a
   pub b : TakesLine packet filled old.lost old.b new.b

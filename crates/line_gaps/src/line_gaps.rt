@@ -9,7 +9,7 @@ ghost use Rattle.line_gaps.specs.Sums.{AreSumsOf};
 ghost use Rattle.line_gaps.specs.Ends.{EndsGaps, KeepsLine, end_on, gap_over, joined_gap, opened, over_at_once, over_new, over_now};
 ghost use Rattle.line_gaps.specs.Gaps.{is_packet_of, of_line};
 ghost use Rattle.line_gaps.specs.OpenGaps.{add_gap, gap_passed};
-ghost use Rattle.line_gaps.specs.LineSteps.{PassesLine, SkipsLine, TakesLine, kept_open, over_if, over_skipped, gaps_over_with, pass_of, still_open};
+ghost use Rattle.line_gaps.specs.LineSteps.{PassesLine, SkipsLine, TakesLine, highest_joined, kept_open, over_if, over_skipped, gaps_over_with, pass_of, still_open};
 
 use crate::ended_gaps::EndedGaps;
 use crate::gap_line::GapLine;
@@ -393,38 +393,41 @@ impl LineGaps {
         self.pass_own(packet, lost, ended);
     }
 
-    /// Takes a skip to a number: where no packet came yet, the line begins there.
-    pub(crate) fn skip_to(
+    /// Takes a skip. Where it joined the session at a number, and no packet came yet, the line
+    /// begins there.
+    pub(crate) fn skip(
         &mut self,
-        number: u64,
+        joined: Option<u64>,
         time: Option<u64>,
         lost: &LostNumbers,
         ended: &mut EndedGaps,
     )
         requires { length ended.old.gaps.items + 17 ≤ 51 }
         ensures ends { EndsGaps 17 self.old self.new ended.old ended.new }
-        ensures skips { SkipsLine number time lost.now self.old self.new }
+        ensures skips { SkipsLine joined time lost.now self.old self.new }
         ensures ended { ended.new.gaps.items ≡ ended.old.gaps.items
             ++ over_skipped time lost.now self.old }
     {
         let by = GapEnd::Skip;
         self.end_over(lost, GapPass { by, time }, ended);
-        self.begin_at(number);
+        self.begin_at(joined);
     }
 
-    /// Has the line begin at a number, where no packet came yet.
-    fn begin_at(&mut self, number: u64)
+    /// Has the line begin where a skip joined the session, if it did and no packet came yet.
+    fn begin_at(&mut self, joined: Option<u64>)
         ensures line { self.new.line ≡ self.old.line }
         ensures begun { self.new.begun ≡ self.old.begun }
         ensures highest { self.new.highest
-            ≡ (if self.old.begun then self.old.highest else max self.old.highest (number - 1)) }
+            ≡ highest_joined self.old.begun self.old.highest joined }
         ensures open { self.new.open ≡ self.old.open }
         ensures sums { self.new.sums ≡ self.old.sums }
     {
-        if self.begun {
-            return;
+        match joined {
+            Some(number) if !self.begun => {
+                self.highest = self.highest.max(number.saturating_sub(1));
+            }
+            _ => {}
         }
-        self.highest = self.highest.max(number.saturating_sub(1));
     }
 
     /// Counts what the line didn't reach of the numbers up to this one, which packets of the venue

@@ -6,7 +6,7 @@ ghost use Rattle.feed_text.specs.SinkEvents.{TimedEvent, timed_event, told_by, t
 ghost use Rattle.line_arbiter.specs.declared.outcome.Outcome.TheVariants.{Ahead, Taken};
 ghost use Rattle.line_gaps.specs.Ends.{EndsVenue, recovered_on, sums_on};
 ghost use Rattle.line_gaps.specs.Gaps.{is_missing};
-ghost use Rattle.line_gaps.specs.LineSteps.{ClosesLine, over_closed};
+ghost use Rattle.line_gaps.specs.LineSteps.{ClosesLine, joined_at, over_closed};
 ghost use Rattle.line_gaps.specs.VenueSteps.{PassesVenue};
 ghost use Rattle.line_gaps.specs.Missing.{CountsNumbers, FitsLost, KeptAll};
 ghost use Rattle.line_gaps.specs.OpenGaps.{closes_gaps};
@@ -330,6 +330,17 @@ impl VenueGaps {
         }
     }
 
+    /// Returns the number to which a skip goes, where it joins the session: no message of it came
+    /// before.
+    fn joined_at(&self, number: u64) -> Option<u64>
+        ensures { result ≡ joined_at self.now.has_come number }
+    {
+        if self.has_come {
+            return None;
+        }
+        Some(number)
+    }
+
     /// Takes a skip to a number, which was granted.
     #[cold]
     #[inline(never)]
@@ -345,9 +356,10 @@ impl VenueGaps {
     {
         let count = self.lost.give_up(number);
         self.sums.give_up(count, self.has_come);
-        self.a.skip_to(number, time, &self.lost, ended);
-        self.b.skip_to(number, time, &self.lost, ended);
-        self.all.skip_to(number, time, &self.lost, ended);
+        let joined = self.joined_at(number);
+        self.a.skip(joined, time, &self.lost, ended);
+        self.b.skip(joined, time, &self.lost, ended);
+        self.all.skip(joined, time, &self.lost, ended);
     }
 
     /// Takes a skip to a number with its answer.
@@ -378,6 +390,7 @@ impl VenueGaps {
         ensures ends { EndsVenue self.old self.new ended.old ended.new }
         ensures lost { self.new.lost ≡ self.old.lost }
         ensures far { self.new.far ≡ self.old.far }
+        ensures come { self.new.has_come ≡ self.old.has_come }
         ensures a { ClosesLine self.old.lost self.old.a self.new.a }
         ensures b { ClosesLine self.old.lost self.old.b self.new.b }
         ensures all { ClosesLine self.old.lost self.old.all self.new.all }

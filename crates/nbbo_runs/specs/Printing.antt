@@ -263,9 +263,12 @@ abbrev pub PrintsBestTimes : {R W : Type 0} → Reading R → Writing W → Peri
     → Output R W
 PrintsBestTimes reading writing style span S F parsing config =
     PrintsRows reading writing
-    (text_of_bests
-    (record { style = style; venues = venues_in config; symbols = config.symbols.now })) span
-    S F parsing config
+    (text_of_bests (record {
+      style = style;
+      venues = venues_in config;
+      symbols = config.symbols.now;
+      from = span.from;
+    })) span S F parsing config
 
 -- The output that is asked for. Rows of best lines and statistics are `timed` where the records
 -- have times.

@@ -255,11 +255,19 @@ fn best_times_before<W>(
           style = style;
           venues = venues_in config.now.replay;
           symbols = config.now.replay.symbols.now;
+          from = config.now.span.from;
         }) output) }
     ensures refused { IfErr result (λ back. back ≡ output) }
 {
     let venues = config.replay.sessions.len();
-    let Ok(maker) = BestMaker::new(alloc, style, venues, config.replay.symbols) else {
+    let made = BestMaker::new(
+        alloc,
+        style,
+        venues,
+        config.replay.symbols,
+        config.span.from,
+    );
+    let Ok(maker) = made else {
         return Err(output);
     };
     match page_before(alloc, output) {

@@ -166,21 +166,21 @@ module _ (keys : List ℕ) (key at : ℕ) (best : National) (old new : List Symb
 
 -- ---- new ones
 
-pub new_more : (symbols : List (List ℕ)) (times : List SymbolTimes)
+pub new_more : (since : ℕ) (symbols : List (List ℕ)) (times : List SymbolTimes)
     (one : SymbolTimes) (n : ℕ) → length times ≡ n
-    → ((place : ℕ) (none : SymbolTimes) → place < n → IsNewSymbol
+    → ((place : ℕ) (none : SymbolTimes) → place < n → IsNewSymbol since
     (slice_index_or symbols place []) (slice_index_or times place none))
-    → IsNewSymbol (slice_index_or symbols n []) one
-    → (place : ℕ) (none : SymbolTimes) → place < n + 1 → IsNewSymbol
+    → IsNewSymbol since (slice_index_or symbols n []) one
+    → (place : ℕ) (none : SymbolTimes) → place < n + 1 → IsNewSymbol since
     (slice_index_or symbols place []) (slice_index_or (times ++ one ∷ []) place none)
-new_more symbols times one n count before of_one place none less = elim (cases_eq place n) [
+new_more since symbols times one n count before of_one place none less = elim (cases_eq place n) [
   | inl same ↦
-      subst (λ (t : SymbolTimes). IsNewSymbol (slice_index_or symbols place []) t)
+      subst (λ (t : SymbolTimes). IsNewSymbol since (slice_index_or symbols place []) t)
       (sym (get_or_push times one none place (count ∙ sym same)))
-      (subst (λ (k : ℕ). IsNewSymbol (slice_index_or symbols k []) one) (sym same) of_one)
+      (subst (λ (k : ℕ). IsNewSymbol since (slice_index_or symbols k []) one) (sym same) of_one)
   | inr other ↦
       let few : place < n = omega (arith, less, other) in
-      subst (λ (t : SymbolTimes). IsNewSymbol (slice_index_or symbols place []) t)
+      subst (λ (t : SymbolTimes). IsNewSymbol since (slice_index_or symbols place []) t)
       (sym (get_or_append_left times (one ∷ []) none place (omega (arith, few, count))))
       (before place none few)
 ]

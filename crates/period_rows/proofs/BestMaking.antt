@@ -1,6 +1,6 @@
 -- What is kept of national bests, and their rows, with one event more.
 use Rattle.std.proofs.Common.{◌≡◌, ℕ, zero, suc, ◌+◌, ◌-◌, ◌*◌, ◌<◌, ◌≤◌, inl, inr, Bool, true, false, cond, List, [], ◌∷◌, ◌++◌, append-nil, Option, None, Some, length, refl, sym, ap, subst, ◌∙◌, arith, slice_index_or, Result, Ok, Err}
-use Rattle.std.specs.Prelude.{OnErr, OnOk, max, min, nat_eq, option_map}
+use Rattle.std.specs.Prelude.{OnErr, OnOk, is_some, max, min, nat_eq, option_map, unwrap_or}
 use Rattle.std.specs.List.{list_any}
 use Rattle.std.proofs.lemmas.Bool.{cases_Bool}
 use Rattle.std.proofs.lemmas.Bool.Decides.{nat_tests}
@@ -14,7 +14,7 @@ use Rattle.run_settings.specs.declared.period_style.PeriodStyle.{PeriodStyle}
 use Rattle.report_rows.specs.FirstTexts.{first_texts}
 use Rattle.report_rows.specs.RowSinks.{FailsMaking, Makes}
 use Rattle.report_rows.specs.SpanEvents.{ends_all}
-use Rattle.period_rows.specs.BestHolding.{AreBegun, AreBegunIf, AreChanged, AreBestsTaken, IsChanged, IsSymbolHeld, IsBestTable, is_another}
+use Rattle.period_rows.specs.BestHolding.{AreBegun, AreBegunIf, AreChanged, AreBestsTaken, IsChanged, IsNewTable, IsSymbolHeld, IsBestTable, is_another}
 use Rattle.period_rows.specs.BestMakers.{AreBests, AreLive, IsLiveStep, IsPassed, IsStepped, MakesBests, TellsBests, begin_with, period_at_hand, best_made_text, clock_with, live_text, over_at, period_of_clock, period_to}
 use Rattle.period_rows.specs.BestRows.{BestSetting, best_period, best_rows_with, period_ended_by, rows_at, symbol_rows}
 use Rattle.period_rows.specs.BestTimes.{no_symbol, over_rows, settled_at}
@@ -23,7 +23,7 @@ use Rattle.period_rows.specs.Periods.{period_begin}
 use Rattle.period_rows.specs.declared.best_maker.BestMaker.{BestMaker}
 use Rattle.period_rows.specs.declared.best_times.PeriodOver.{PeriodOver}
 use Rattle.period_rows.specs.declared.symbol_times.SymbolTimes.{SymbolTimes}
-use Rattle.period_rows.proofs.BestSteps.{IsMidHeld, before_next, begin_is, clock_later, held_changed, held_still, in_own, mid_next, mid_same, no_begin}
+use Rattle.period_rows.proofs.BestSteps.{IsMidHeld, before_next, begin_is, clock_later, held_changed, held_new, held_still, in_own, mid_next, mid_same, no_begin}
 use Rattle.period_rows.proofs.HeldFigures.{symbol_text_is}
 
 -- ---- an event's own change
@@ -69,15 +69,17 @@ module _ (keys : List ℕ) (key at : ℕ) (mid new : List SymbolTimes) (place : 
   taken_by (told_declaration venue on position) is = stays is
   taken_by (told_last venue sent a b recovery) is = stays is
 
-held_by : (length_ns : ℕ) (some : 0 < length_ns) (symbol : List ℕ) (e : TimedEvent)
+held_by : (length_ns : ℕ) (some : 0 < length_ns) (from : Option ℕ) (symbol : List ℕ)
+    (e : TimedEvent)
     (earlier : List TimedEvent) (mid new : SymbolTimes) (o : Option National)
-    → best_in (key_of symbol) e.event ≡ o → IsTakenBy o (clock_told (e ∷ earlier)) mid new
-    → IsMidHeld length_ns symbol e earlier mid → IsSymbolHeld length_ns symbol (e ∷ earlier) new
-held_by length_ns some symbol e earlier mid new None found is held =
-    subst (λ (t : SymbolTimes). IsSymbolHeld length_ns symbol (e ∷ earlier) t) (sym is)
-    (held_still length_ns some symbol e earlier mid found held)
-held_by length_ns some symbol e earlier mid new (Some best) found is held =
-    held_changed length_ns some symbol e earlier mid best new found is held
+    → best_in (key_of symbol) e.event ≡ o → IsTakenBy o (clock_told from (e ∷ earlier)) mid new
+    → IsMidHeld length_ns from symbol e earlier mid → IsSymbolHeld length_ns from symbol
+    (e ∷ earlier) new
+held_by length_ns some from symbol e earlier mid new None found is held =
+    subst (λ (t : SymbolTimes). IsSymbolHeld length_ns from symbol (e ∷ earlier) t) (sym is)
+    (held_still length_ns some from symbol e earlier mid found held)
+held_by length_ns some from symbol e earlier mid new (Some best) found is held =
+    held_changed length_ns some from symbol e earlier mid best new found is held
 
 -- ---- the period at hand
 
@@ -100,56 +102,60 @@ module _ (setting : BestSetting) (e : TimedEvent) (earlier : List TimedEvent)
   abbrev len : ℕ
   len = setting.style.length
 
+  abbrev first : Option ℕ
+  first = setting.from
+
   abbrev symbol_at : ℕ → List ℕ
   symbol_at place = slice_index_or setting.symbols place []
 
   -- the clock of the events before is before a period that is another one
-  early : (old : Option ℕ) (begin : ℕ) → begin_told len earlier ≡ old
-      → is_another old begin ≡ true → begin_told len (e ∷ earlier) ≡ Some begin
-      → clock_told earlier ≤ begin
+  early : (old : Option ℕ) (begin : ℕ) → begin_told len first earlier ≡ old
+      → is_another old begin ≡ true → begin_told len first (e ∷ earlier) ≡ Some begin
+      → clock_told first earlier ≤ begin
   early None begin was other is =
-      let none = no_begin len earlier was in
+      let none = no_begin len first earlier was in
       omega (arith, none)
   early (Some before) begin was other is =
-      let b = begin_is len earlier before was in
-      let n = begin_is len (e ∷ earlier) begin is in
-      let apart : period_begin len (clock_told earlier)
-      ≡ period_begin len (clock_told (e ∷ earlier)) → ⊥ =
+      let b = begin_is len first earlier before was in
+      let n = begin_is len first (e ∷ earlier) begin is in
+      let apart : period_begin len (clock_told first earlier)
+      ≡ period_begin len (clock_told first (e ∷ earlier)) → ⊥ =
       λ same.
       let is_same : before ≡ begin = b ∙ same ∙ sym n in
       grind (arith, nat_tests, other, is_same) in
-      subst (λ (k : ℕ). clock_told earlier ≤ k) (sym n)
-      (before_next len (clock_told earlier) (clock_told (e ∷ earlier)) some
-      (clock_later e earlier) apart)
+      subst (λ (k : ℕ). clock_told first earlier ≤ k) (sym n)
+      (before_next len (clock_told first earlier) (clock_told first (e ∷ earlier)) some
+      (clock_later first e earlier) apart)
 
   module _ (old mid : List SymbolTimes) (place : ℕ) (none : SymbolTimes)
       (few : place < length old)
-      (held : IsSymbolHeld len (symbol_at place) earlier (slice_index_or old place none)) where
-    begun_if : (b : Bool) (begin : ℕ) → is_another (begin_told len earlier) begin ≡ b
-        → begin_told len (e ∷ earlier) ≡ Some begin → AreBegunIf b begin old mid
-        → IsMidHeld len (symbol_at place) e earlier (slice_index_or mid place none)
+      (held : IsSymbolHeld len first (symbol_at place) earlier
+      (slice_index_or old place none)) where
+    begun_if : (b : Bool) (begin : ℕ) → is_another (begin_told len first earlier) begin ≡ b
+        → begin_told len first (e ∷ earlier) ≡ Some begin → AreBegunIf b begin old mid
+        → IsMidHeld len first (symbol_at place) e earlier (slice_index_or mid place none)
     begun_if true begin other is (count, each) =
-        mid_next len some (symbol_at place) e earlier (slice_index_or old place none) begin
+        mid_next len some first (symbol_at place) e earlier (slice_index_or old place none) begin
         (slice_index_or mid place none) is
-        (early (begin_told len earlier) begin refl other is) held (each place none few)
+        (early (begin_told len first earlier) begin refl other is) held (each place none few)
     begun_if false begin other is same =
-        subst (λ (ts : List SymbolTimes). IsMidHeld len (symbol_at place) e earlier
+        subst (λ (ts : List SymbolTimes). IsMidHeld len first (symbol_at place) e earlier
         (slice_index_or ts place none)) (sym same)
-        (mid_same len some (symbol_at place) e earlier (slice_index_or old place none)
-        (is ∙ sym (same_begin (begin_told len earlier) begin other)) held)
+        (mid_same len some first (symbol_at place) e earlier (slice_index_or old place none)
+        (is ∙ sym (same_begin (begin_told len first earlier) begin other)) held)
 
-    begun_to : (new : Option ℕ) → begin_told len (e ∷ earlier) ≡ new
-        → AreBegun (begin_told len earlier) new old mid
-        → IsMidHeld len (symbol_at place) e earlier (slice_index_or mid place none)
+    begun_to : (new : Option ℕ) → begin_told len first (e ∷ earlier) ≡ new
+        → AreBegun (begin_told len first earlier) new old mid
+        → IsMidHeld len first (symbol_at place) e earlier (slice_index_or mid place none)
     begun_to None is same =
-        let was = begin_none len (time_of_event e.event e.time) (clock_told earlier)
-        (begin_told len earlier) is in
-        subst (λ (ts : List SymbolTimes). IsMidHeld len (symbol_at place) e earlier
+        let was = begin_none len (time_of_event e.event e.time) (clock_told first earlier)
+        (begin_told len first earlier) is in
+        subst (λ (ts : List SymbolTimes). IsMidHeld len first (symbol_at place) e earlier
         (slice_index_or ts place none)) (sym same)
-        (mid_same len some (symbol_at place) e earlier (slice_index_or old place none)
+        (mid_same len some first (symbol_at place) e earlier (slice_index_or old place none)
         (is ∙ sym was) held)
     begun_to (Some begin) is begun =
-        begun_if (is_another (begin_told len earlier) begin) begin refl is begun
+        begun_if (is_another (begin_told len first earlier) begin) begin refl is begun
 
 -- ---- all that is kept
 
@@ -182,27 +188,29 @@ module _ (setting : BestSetting) (earlier : List TimedEvent) (m : BestMaker)
   abbrev live : AreLive setting earlier m
   live = are.live goes
 
-  clock_same : clock_with m e ≡ clock_told (e ∷ earlier)
+  clock_same : clock_with m e ≡ clock_told setting.from (e ∷ earlier)
   clock_same = ap (clock_after (time_of_event e.event e.time)) live.clock
 
-  begin_same : begin_with m e ≡ begin_told setting.style.length (e ∷ earlier)
+  begin_same : begin_with m e ≡ begin_told setting.style.length setting.from (e ∷ earlier)
   begin_same =
       let o = time_of_event e.event e.time in
       ap (λ (style : PeriodStyle). begin_after style.length o m.clock (period_at_hand m)) are.style
       ∙ ap (λ (clock : ℕ). begin_after setting.style.length o clock (period_at_hand m)) live.clock
-      ∙ ap (begin_after setting.style.length o (clock_told earlier)) live.begin
+      ∙ ap (begin_after setting.style.length o (clock_told setting.from earlier)) live.begin
 
   live_after : (new : BestMaker) → IsLiveStep m e new → AreLive setting (e ∷ earlier) new
   live_after new step =
       let begun = subst (λ (o : Option ℕ). AreBegun o (begin_told setting.style.length
-      (e ∷ earlier)) m.table.times.items step.mid) live.begin
+      setting.from (e ∷ earlier)) m.table.times.items step.mid) live.begin
       (subst (λ (o : Option ℕ). AreBegun (period_at_hand m) o m.table.times.items step.mid)
       begin_same step.begun) in
       let taken = subst (λ (at : ℕ). AreBestsTaken m.table.keys.keys at e.event step.mid
       new.table.times.items) clock_same step.taken in
-      let mids = mid_count (begin_told setting.style.length earlier)
-      (begin_told setting.style.length (e ∷ earlier)) m.table.times.items step.mid begun in
-      let news = taken_count m.table.keys.keys (clock_told (e ∷ earlier)) e.event step.mid
+      let mids = mid_count (begin_told setting.style.length setting.from earlier)
+      (begin_told setting.style.length setting.from (e ∷ earlier)) m.table.times.items
+      step.mid begun in
+      let news = taken_count m.table.keys.keys (clock_told setting.from
+      (e ∷ earlier)) e.event step.mid
       new.table.times.items taken in
       record {
         clock = step.clock ∙ clock_same;
@@ -219,12 +227,13 @@ module _ (setting : BestSetting) (earlier : List TimedEvent) (m : BestMaker)
               let symbol = slice_index_or setting.symbols place [] in
               let held = begun_to setting e earlier are.some m.table.times.items step.mid place
               none few_old (live.times.each place none few_old)
-              (begin_told setting.style.length (e ∷ earlier)) refl begun in
-              held_by setting.style.length are.some symbol e earlier
+              (begin_told setting.style.length setting.from (e ∷ earlier)) refl begun in
+              held_by setting.style.length are.some setting.from symbol e earlier
               (slice_index_or step.mid place none)
               (slice_index_or new.table.times.items place none)
               (best_in (key_of symbol) e.event) refl
-              (taken_by m.table.keys.keys (key_of symbol) (clock_told (e ∷ earlier)) step.mid
+              (taken_by m.table.keys.keys (key_of symbol) (clock_told setting.from
+              (e ∷ earlier)) step.mid
               new.table.times.items place none of_keys few_mid
               (are.table.each place of_symbols) e.event taken) held;
         };
@@ -251,6 +260,39 @@ module _ (setting : BestSetting) (earlier : List TimedEvent) (m : BestMaker)
         table = table_after new step;
         live = λ on. live_after new step;
       }
+
+-- of nothing that came
+pub new_bests : (setting : BestSetting) (m : BestMaker) → 0 < setting.style.length
+    → m.style ≡ setting.style → m.venues ≡ setting.venues → m.over ≡ false
+    → IsNewTable (unwrap_or setting.from 0) setting.symbols m.table
+    → m.clock ≡ unwrap_or setting.from 0 → m.is_timed ≡ is_some setting.from
+    → AreBests setting [] m
+new_bests setting m some style venues over new clock timed = record {
+  some = some;
+  style = style;
+  venues = venues;
+  over = over;
+  table = new.is;
+  live = λ on. record {
+    clock = clock;
+    begin = ap (λ (style : PeriodStyle). period_of_clock style.length m.is_timed m.clock) style
+        ∙ ap (λ (b : Bool). period_of_clock setting.style.length b m.clock) timed
+        ∙ ap (period_of_clock setting.style.length (is_some setting.from)) clock
+        ∙ begun_new setting.style.length setting.from;
+    times = record {
+      count = new.times.0;
+      each = λ place none few.
+          held_new setting.style.length setting.from (slice_index_or setting.symbols place [])
+          (slice_index_or m.table.times.items place none) (new.times.1 place none few);
+    };
+  };
+}
+  where
+    begun_new : (length_ns : ℕ) (from : Option ℕ)
+        → period_of_clock length_ns (is_some from) (unwrap_or from 0)
+        ≡ option_map (period_begin length_ns) from
+    begun_new length_ns None = refl
+    begun_new length_ns (Some time) = refl
 
 -- once the capture is over nothing changes
 bests_over : (setting : BestSetting) (earlier : List TimedEvent) (m new : BestMaker)
@@ -306,30 +348,32 @@ module _ (setting : BestSetting) (earlier : List TimedEvent) (m : BestMaker)
   abbrev kept : AreLive setting earlier m
   kept = are.live goes
 
-  place_text : (begin place : ℕ) → begin_told setting.style.length earlier ≡ Some begin
+  place_text : (begin place : ℕ) → begin_told setting.style.length setting.from earlier ≡ Some begin
       → place < length m.table.times.items
-      → settled_at (period_to m (clock_told (e ∷ earlier)) begin) m.table.times.items place
+      → settled_at (period_to m (clock_told setting.from (e ∷ earlier))
+      begin) m.table.times.items place
       ≡ rows_at setting begin (e ∷ earlier) place
   place_text begin place is few =
-      let over = period_to m (clock_told (e ∷ earlier)) begin in
+      let over = period_to m (clock_told setting.from (e ∷ earlier)) begin in
       let t = slice_index_or m.table.times.items place no_symbol in
       let held = kept.times.each place no_symbol few in
       let symbol = slice_index_or setting.symbols place [] in
-      let c = clock_told earlier in
-      let d = clock_told (e ∷ earlier) in
+      let c = clock_told setting.from earlier in
+      let d = clock_told setting.from (e ∷ earlier) in
       let l = setting.style.length in
-      let own = in_own l earlier begin are.some is in
-      let on = clock_later e earlier in
+      let own = in_own l setting.from earlier begin are.some is in
+      let on = clock_later setting.from e earlier in
       let length_is : m.style.length ≡ l = ap (λ (s : PeriodStyle). s.length) are.style in
       let end_is : over.end ≡ min d (begin + l) =
       ap (λ (k : ℕ). min d (begin + k)) length_is in
       let part : overlap l begin c d ≡ over.end - c = omega (arith, end_is, own.from, own.to) in
       let all : (National → ℕ) → ℕ =
-      λ weight. stood weight (key_of symbol) l begin (e ∷ earlier) in
-      symbol_text_is over c t (λ weight. stood weight (key_of symbol) l begin earlier) all
+      λ weight. stood weight (key_of symbol) l begin setting.from (e ∷ earlier) in
+      symbol_text_is over c t (λ weight. stood weight (key_of symbol) l
+      begin setting.from earlier) all
       (omega (arith, end_is, own.to, on)) (held.held begin is)
       (λ weight.
-      ap (λ (k : ℕ). k + stood weight (key_of symbol) l begin earlier)
+      ap (λ (k : ℕ). k + stood weight (key_of symbol) l begin setting.from earlier)
       (ap (λ (b : National). weight b * overlap l begin c d) (sym held.best_is)
       ∙ ap (λ (k : ℕ). weight t.best * k) part))
       ∙ ap (λ (style : PeriodStyle). symbol_rows style m.venues begin t.symbol all) are.style
@@ -337,13 +381,15 @@ module _ (setting : BestSetting) (earlier : List TimedEvent) (m : BestMaker)
       ∙ ap (λ (s : List ℕ). symbol_rows setting.style setting.venues begin s all) held.symbol_is
 
   period_text_is : (o : Option ℕ)
-      → ((begin : ℕ) → o ≡ Some begin → begin_told setting.style.length earlier ≡ Some begin)
-      → over_rows (option_map (period_to m (clock_told (e ∷ earlier))) o) m.table.times.items
+      → ((begin : ℕ) → o ≡ Some begin → begin_told setting.style.length setting.from earlier
+      ≡ Some begin)
+      → over_rows (option_map (period_to m (clock_told setting.from
+      (e ∷ earlier))) o) m.table.times.items
       ≡ best_period setting o (e ∷ earlier)
   period_text_is None was = refl
   period_text_is (Some begin) was =
       let ts = m.table.times.items in
-      let over = period_to m (clock_told (e ∷ earlier)) begin in
+      let over = period_to m (clock_told setting.from (e ∷ earlier)) begin in
       texts_within (settled_at over ts) (rows_at setting begin (e ∷ earlier)) (length ts)
       (λ place few. place_text begin place (was begin refl) few)
       ∙ ap (first_texts (rows_at setting begin (e ∷ earlier))) kept.times.count
@@ -353,18 +399,21 @@ module _ (setting : BestSetting) (earlier : List TimedEvent) (m : BestMaker)
       let ends = ends_all e.event in
       let was : list_any (λ one. ends_all one.event) earlier ≡ false = sym are.over ∙ goes in
       let l = setting.style.length in
-      let o = period_ended_by ends (begin_told l earlier) (begin_told l (e ∷ earlier)) in
+      let o = period_ended_by ends (begin_told l setting.from earlier) (begin_told l setting.from
+      (e ∷ earlier)) in
       let same : over_at m ends (begin_with m e) (clock_with m e)
-      ≡ option_map (period_to m (clock_told (e ∷ earlier))) o =
+      ≡ option_map (period_to m (clock_told setting.from (e ∷ earlier))) o =
       ap (λ (old : Option ℕ). option_map (period_to m (clock_with m e))
       (period_ended_by ends old (begin_with m e))) kept.begin
       ∙ ap (λ (new : Option ℕ). option_map (period_to m (clock_with m e))
-      (period_ended_by ends (begin_told l earlier) new)) (begin_same setting earlier m are goes e)
+      (period_ended_by ends (begin_told l setting.from earlier) new))
+      (begin_same setting earlier m are goes e)
       ∙ ap (λ (clock : ℕ). option_map (period_to m clock) o)
       (clock_same setting earlier m are goes e) in
       ap (λ (over : Option PeriodOver). over_rows over m.table.times.items) same
       ∙ period_text_is o (λ begin is.
-      ended_is ends (begin_told l earlier) (begin_told l (e ∷ earlier)) begin is)
+      ended_is ends (begin_told l setting.from earlier) (begin_told l setting.from
+      (e ∷ earlier)) begin is)
       ∙ ap (λ (b : Bool). best_period setting (cond b None o) (e ∷ earlier)) (sym was)
 
 text_over : (setting : BestSetting) (earlier : List TimedEvent) (e : TimedEvent)
@@ -372,7 +421,8 @@ text_over : (setting : BestSetting) (earlier : List TimedEvent) (e : TimedEvent)
     → [] ≡ best_rows_with setting e earlier
 text_over setting earlier e ends =
     let l = setting.style.length in
-    let o = period_ended_by (ends_all e.event) (begin_told l earlier) (begin_told l
+    let o = period_ended_by (ends_all e.event) (begin_told l setting.from earlier)
+    (begin_told l setting.from
     (e ∷ earlier)) in
     ap (λ (b : Bool). best_period setting (cond b None o) (e ∷ earlier)) (sym ends)
 

@@ -12,12 +12,13 @@ use Rattle.line_arbiter.specs.declared.outcome.Outcome.{Outcome}
 use Rattle.line_arbiter.specs.declared.outcome.Outcome.TheVariants.{Ahead, Ended, Heartbeat, Taken}
 use Rattle.line_gaps.specs.declared.gap_line.GapLine.{GapLine}
 use Rattle.line_gaps.specs.declared.heard_packet.HeardPacket.{HeardPacket}
-use Rattle.line_gaps.specs.Gaps.{counts_on, far_on, far_that, far_with, goes_on, has_begun, highest_on, highest_skipped, highest_with, is_packet_of, latest, of_line, packet_heard}
+use Rattle.line_gaps.specs.Gaps.{any_has_come, beginning_stands, brings_messages, counts_on, far_on, far_that, far_with, goes_on, has_begun, highest_on, highest_skipped, highest_with, is_packet_of, latest, of_line, packet_heard}
 use Rattle.line_gaps.specs.Ends.{open_gap_of}
+use Rattle.line_gaps.specs.LineSteps.{highest_joined, joined_at}
 use Rattle.line_gaps.specs.OpenGaps.{gap_passed, in_session}
 use Rattle.period_rows.specs.declared.line_sequence.LineSequence.{LineSequence}
 use Rattle.period_rows.specs.SequenceGaps.{MissesItsGaps, is_of_other, messages_of, sequence_told}
-use Rattle.period_rows.specs.Sequences.{counts_now, far_after, passed_by, sequence_after, sequence_counted}
+use Rattle.period_rows.specs.Sequences.{come_after, counts_now, far_after, passed_by, sequence_after, sequence_counted}
 
 if_yes : {X : Type 0} (b : Bool) (x y : X) → b ≡ true → (if b then x else y) ≡ x
 if_yes true x y e = refl
@@ -139,11 +140,12 @@ no_skip false highest (told_declaration venue it position) is = refl
 no_skip false highest (told_last venue sent a b recovery) is = refl
 no_skip false highest (told_before event) is = refl
 
-skip_begun : (begun : Bool) (highest venue number : ℕ)
-    → (if begun then highest else max highest (number - 1))
-    ≡ highest_skipped begun highest (told_skip venue number (Ok tt))
-skip_begun true highest venue number = refl
-skip_begun false highest venue number = refl
+skip_begun : (begun come : Bool) (highest venue number : ℕ)
+    → highest_joined begun highest (joined_at come number)
+    ≡ highest_skipped (begun || come) highest (told_skip venue number (Ok tt))
+skip_begun true come highest venue number = refl
+skip_begun false true highest venue number = refl
+skip_begun false false highest venue number = refl
 
 count_is : (n : ℕ) → count_after 0 n ≡ min n 18446744073709551615
 count_is zero = refl
@@ -172,11 +174,32 @@ record IsTied (line : LineId) (gap_line : GapLine) (own : List TimedEvent) (s : 
   begun : s.begun ≡ has_begun gap_line own
   highest : s.highest ≡ highest_on gap_line own
   far : s.far ≡ untimed (far_on line own)
+  come : s.has_come ≡ any_has_come own
+
+-- the same, but for messages: those that came with the last event are noted
+record IsNoted (line : LineId) (gap_line : GapLine) (last : TimedEvent) (own : List TimedEvent)
+    (s : LineSequence) : Type 0 where
+  begun : s.begun ≡ has_begun gap_line own
+  highest : s.highest ≡ highest_on gap_line own
+  far : s.far ≡ untimed (far_on line own)
+  come : s.has_come ≡ any_has_come (last ∷ own)
 
 module _ (line : LineId) (gap_line : GapLine)
     (own_is : (p : HeardPacket) → is_packet_of gap_line p ≡ is_same_line p.line line) where
   abbrev Ties : List TimedEvent → LineSequence → Type 0
   Ties own s = IsTied line gap_line own s
+
+  abbrev Noted : TimedEvent → List TimedEvent → LineSequence → Type 0
+  Noted last own s = IsNoted line gap_line last own s
+
+  noted : (time : Option ℕ) (event : SinkEvent) (own : List TimedEvent) (s : LineSequence)
+      → Ties own s → Noted (timed_event time event) own (come_after s event)
+  noted time event own s t = record {
+    begun = t.begun;
+    highest = t.highest;
+    far = t.far;
+    come = ap (λ (b : Bool). brings_messages event || b) t.come;
+  }
 
   own_that : (b : Bool) (o : Option HeardPacket) (l : LineId) → IsOn l o → is_same_line l line ≡ b
       → of_line gap_line o ≡ (if b then o else None)
@@ -197,11 +220,11 @@ module _ (line : LineId) (gap_line : GapLine)
 
   -- the packet of the line that counts with its event
   counts_same : (time : Option ℕ) (event : SinkEvent) (own : List TimedEvent) (s : LineSequence)
-      → Ties own s → is_of_other line event ≡ false
+      → s.far ≡ untimed (far_on line own) → is_of_other line event ≡ false
       → counts_now s.far event ≡ untimed (counts_on gap_line own (timed_event time event))
   counts_same time (told_packet venue l number count bytes (Ok Ahead)) own s t it =
       let same : is_same_line l line ≡ true = is_so (is_same_line l line) it in
-      ap (far_that number) t.far ∙ same_far number (far_on line own)
+      ap (far_that number) t ∙ same_far number (far_on line own)
       ∙ ap (λ (m : LineId). untimed (far_that number (far_on m own)))
       (sym (same_line l line same))
       ∙ ap untimed (sym (own_that true (far_that number (far_on l own)) l
@@ -253,27 +276,29 @@ module _ (line : LineId) (gap_line : GapLine)
   -- nothing of the line counts
   idle : (last : TimedEvent) (own : List TimedEvent) (s : LineSequence)
       → counts_on gap_line own last ≡ None → far_with line last.time last.event ≡ None
-      → highest_skipped (has_begun gap_line own) (highest_on gap_line own) last.event
+      → highest_skipped (beginning_stands gap_line own) (highest_on gap_line own) last.event
       ≡ highest_on gap_line own
-      → Ties own s → Ties (last ∷ own) s
+      → Noted last own s → Ties (last ∷ own) s
   idle last own s counts far skip t =
       let before = has_begun gap_line own in
-      let high = highest_skipped before (highest_on gap_line own) last.event in
+      let high = highest_skipped (beginning_stands gap_line own) (highest_on gap_line own)
+      last.event in
       record {
         begun = t.begun ∙ sym (ap (λ (o : Option HeardPacket). is_some o || before) counts);
         highest = t.highest ∙ sym skip
             ∙ sym (ap (λ (o : Option HeardPacket). highest_with high o) counts);
         far = t.far
             ∙ sym (ap (λ (o : Option HeardPacket). untimed (latest o (far_on line own))) far);
+        come = t.come;
       }
 
   -- a packet of it counts
   counted : (last : TimedEvent) (own : List TimedEvent) (s : LineSequence)
       (now far : Option HeardPacket) → now ≡ untimed (counts_on gap_line own last)
       → far ≡ untimed (far_on line (last ∷ own))
-      → highest_skipped (has_begun gap_line own) (highest_on gap_line own) last.event
+      → highest_skipped (beginning_stands gap_line own) (highest_on gap_line own) last.event
       ≡ highest_on gap_line own
-      → Ties own s → Ties (last ∷ own) (sequence_counted s now far)
+      → Noted last own s → Ties (last ∷ own) (sequence_counted s now far)
   counted last own s now far is far_is skip t =
       let o = counts_on gap_line own last in
       let before = has_begun gap_line own in
@@ -286,6 +311,7 @@ module _ (line : LineId) (gap_line : GapLine)
             ∙ same_highest (highest_on gap_line own) o
             ∙ ap (λ (h : ℕ). highest_with h o) (sym skip);
         far = far_is;
+        come = t.come;
       }
 
   -- a packet past the window is the line's latest one
@@ -309,110 +335,130 @@ module _ (line : LineId) (gap_line : GapLine)
 
   own_far : (time : Option ℕ) (venue : ℕ) (l : LineId) (number count bytes : ℕ)
       (answer : Result Outcome LineFault) (own : List TimedEvent) (s : LineSequence)
-      → is_same_line l line ≡ true → Ties own s
+      → is_same_line l line ≡ true → s.far ≡ untimed (far_on line own)
       → far_after s.far (told_packet venue l number count bytes answer)
       ≡ untimed (far_on line
       (timed_event time (told_packet venue l number count bytes answer) ∷ own))
   own_far time venue l number count bytes (Ok Ahead) own s same t =
       ahead_far time venue l number count bytes own same
-  own_far time venue l number count bytes (Ok (Taken new repeated)) own s same t = t.far
-  own_far time venue l number count bytes (Ok Heartbeat) own s same t = t.far
-  own_far time venue l number count bytes (Ok Ended) own s same t = t.far
-  own_far time venue l number count bytes (Err fault) own s same t = t.far
+  own_far time venue l number count bytes (Ok (Taken new repeated)) own s same t = t
+  own_far time venue l number count bytes (Ok Heartbeat) own s same t = t
+  own_far time venue l number count bytes (Ok Ended) own s same t = t
+  own_far time venue l number count bytes (Err fault) own s same t = t
 
   -- a packet of the line, and one of another
   packet_tied : (time : Option ℕ) (venue : ℕ) (l : LineId) (number count bytes : ℕ)
       (answer : Result Outcome LineFault) (own : List TimedEvent) (s : LineSequence) (b : Bool)
-      → is_same_line l line ≡ b → Ties own s
+      → is_same_line l line ≡ b
+      → Noted (timed_event time (told_packet venue l number count bytes answer)) own s
       → Ties (timed_event time (told_packet venue l number count bytes answer) ∷ own)
       (if not b then s else sequence_after s (told_packet venue l number count bytes answer))
   packet_tied time venue l number count bytes answer own s true same t =
       counted (timed_event time (told_packet venue l number count bytes answer)) own s
       (counts_now s.far (told_packet venue l number count bytes answer))
       (far_after s.far (told_packet venue l number count bytes answer))
-      (counts_same time (told_packet venue l number count bytes answer) own s t (ap not same))
-      (own_far time venue l number count bytes answer own s same t)
-      (no_skip (has_begun gap_line own) (highest_on gap_line own)
+      (counts_same time (told_packet venue l number count bytes answer) own s t.far (ap not same))
+      (own_far time venue l number count bytes answer own s same t.far)
+      (no_skip (beginning_stands gap_line own) (highest_on gap_line own)
       (told_packet venue l number count bytes answer) refl) t
   packet_tied time venue l number count bytes answer own s false other t =
       idle (timed_event time (told_packet venue l number count bytes answer)) own s
       (counts_none time (told_packet venue l number count bytes answer) own (ap not other))
       (other_far time venue l number count bytes answer other)
-      (no_skip (has_begun gap_line own) (highest_on gap_line own)
+      (no_skip (beginning_stands gap_line own) (highest_on gap_line own)
       (told_packet venue l number count bytes answer) refl) t
 
   -- a skip that was granted
   skip_tied : (time : Option ℕ) (venue number : ℕ) (own : List TimedEvent) (s : LineSequence)
       → Ties own s → Ties (timed_event time (told_skip venue number (Ok tt)) ∷ own)
       (sequence_after s (told_skip venue number (Ok tt)))
-  skip_tied time venue number own s t = record {
-    begun = t.begun;
-    highest = ap (λ (h : ℕ). if s.begun then h else max h (number - 1)) t.highest
-        ∙ ap (λ (b : Bool). if b then highest_on gap_line own
-        else max (highest_on gap_line own) (number - 1)) t.begun
-        ∙ skip_begun (has_begun gap_line own) (highest_on gap_line own) venue number;
-    far = t.far;
-  }
+  skip_tied time venue number own s t =
+      let high = highest_on gap_line own in
+      let begun = has_begun gap_line own in
+      record {
+        begun = t.begun;
+        highest = ap (λ (h : ℕ). highest_joined s.begun h (joined_at s.has_come number)) t.highest
+            ∙ ap (λ (b : Bool). highest_joined b high (joined_at s.has_come number)) t.begun
+            ∙ ap (λ (c : Bool). highest_joined begun high (joined_at c number)) t.come
+            ∙ skip_begun begun (any_has_come own) high venue number;
+        far = t.far;
+        come = t.come;
+      }
 
   step : (time : Option ℕ) (event : SinkEvent) (earlier : List TimedEvent)
       → Ties (in_session earlier) (sequence_told line earlier)
       → Ties (in_session (timed_event time event ∷ earlier))
       (sequence_told line (timed_event time event ∷ earlier))
   step time (told_packet venue l number count bytes answer) earlier t =
+      let last = told_packet venue l number count bytes answer in
       packet_tied time venue l number count bytes answer (in_session earlier)
-      (sequence_told line earlier) (is_same_line l line) refl t
+      (come_after (sequence_told line earlier) last) (is_same_line l line) refl
+      (noted time last (in_session earlier) (sequence_told line earlier) t)
   step time (told_renewal venue (Ok ordinal)) earlier t =
-      record { begun = refl; highest = refl; far = refl }
+      record { begun = refl; highest = refl; far = refl; come = refl }
   step time (told_skip venue number (Ok done)) earlier t =
       skip_tied time venue number (in_session earlier) (sequence_told line earlier) t
   step time (told_refusal venue l fault) earlier t =
       idle (timed_event time (told_refusal venue l fault)) (in_session earlier)
       (sequence_told line earlier) refl refl
-      (no_skip (has_begun gap_line (in_session earlier))
-      (highest_on gap_line (in_session earlier)) (told_refusal venue l fault) refl) t
+      (no_skip (beginning_stands gap_line (in_session earlier))
+      (highest_on gap_line (in_session earlier)) (told_refusal venue l fault) refl)
+      (noted time (told_refusal venue l fault) (in_session earlier) (sequence_told line earlier) t)
   step time (told_item venue numbered) earlier t =
       idle (timed_event time (told_item venue numbered)) (in_session earlier)
       (sequence_told line earlier) refl refl
-      (no_skip (has_begun gap_line (in_session earlier))
-      (highest_on gap_line (in_session earlier)) (told_item venue numbered) refl) t
+      (no_skip (beginning_stands gap_line (in_session earlier))
+      (highest_on gap_line (in_session earlier)) (told_item venue numbered) refl)
+      (noted time (told_item venue numbered) (in_session earlier) (sequence_told line earlier) t)
   step time (told_best notice) earlier t =
       idle (timed_event time (told_best notice)) (in_session earlier)
       (sequence_told line earlier) refl refl
-      (no_skip (has_begun gap_line (in_session earlier))
-      (highest_on gap_line (in_session earlier)) (told_best notice) refl) t
+      (no_skip (beginning_stands gap_line (in_session earlier))
+      (highest_on gap_line (in_session earlier)) (told_best notice) refl)
+      (noted time (told_best notice) (in_session earlier) (sequence_told line earlier) t)
   step time (told_gap venue request) earlier t =
       idle (timed_event time (told_gap venue request)) (in_session earlier)
       (sequence_told line earlier) refl refl
-      (no_skip (has_begun gap_line (in_session earlier))
-      (highest_on gap_line (in_session earlier)) (told_gap venue request) refl) t
+      (no_skip (beginning_stands gap_line (in_session earlier))
+      (highest_on gap_line (in_session earlier)) (told_gap venue request) refl)
+      (noted time (told_gap venue request) (in_session earlier) (sequence_told line earlier) t)
   step time (told_renewal venue (Err fault)) earlier t =
       idle (timed_event time (told_renewal venue (Err fault))) (in_session earlier)
       (sequence_told line earlier) refl refl
-      (no_skip (has_begun gap_line (in_session earlier))
-      (highest_on gap_line (in_session earlier)) (told_renewal venue (Err fault)) refl) t
+      (no_skip (beginning_stands gap_line (in_session earlier))
+      (highest_on gap_line (in_session earlier)) (told_renewal venue (Err fault)) refl)
+      (noted time (told_renewal venue (Err fault)) (in_session earlier)
+      (sequence_told line earlier) t)
   step time (told_skip venue number (Err fault)) earlier t =
       idle (timed_event time (told_skip venue number (Err fault))) (in_session earlier)
       (sequence_told line earlier) refl refl
-      (no_skip (has_begun gap_line (in_session earlier))
-      (highest_on gap_line (in_session earlier)) (told_skip venue number (Err fault)) refl) t
+      (no_skip (beginning_stands gap_line (in_session earlier))
+      (highest_on gap_line (in_session earlier)) (told_skip venue number (Err fault)) refl)
+      (noted time (told_skip venue number (Err fault)) (in_session earlier)
+      (sequence_told line earlier) t)
   step time (told_declaration venue is position) earlier t =
       idle (timed_event time (told_declaration venue is position)) (in_session earlier)
       (sequence_told line earlier) refl refl
-      (no_skip (has_begun gap_line (in_session earlier))
-      (highest_on gap_line (in_session earlier)) (told_declaration venue is position) refl) t
+      (no_skip (beginning_stands gap_line (in_session earlier))
+      (highest_on gap_line (in_session earlier)) (told_declaration venue is position) refl)
+      (noted time (told_declaration venue is position) (in_session earlier)
+      (sequence_told line earlier) t)
   step time (told_last venue sent a b recovery) earlier t =
       idle (timed_event time (told_last venue sent a b recovery)) (in_session earlier)
       (sequence_told line earlier) refl refl
-      (no_skip (has_begun gap_line (in_session earlier))
-      (highest_on gap_line (in_session earlier)) (told_last venue sent a b recovery) refl) t
+      (no_skip (beginning_stands gap_line (in_session earlier))
+      (highest_on gap_line (in_session earlier)) (told_last venue sent a b recovery) refl)
+      (noted time (told_last venue sent a b recovery) (in_session earlier)
+      (sequence_told line earlier) t)
   step time (told_before event) earlier t =
       idle (timed_event time (told_before event)) (in_session earlier)
       (sequence_told line earlier) refl refl
-      (no_skip (has_begun gap_line (in_session earlier))
-      (highest_on gap_line (in_session earlier)) (told_before event) refl) t
+      (no_skip (beginning_stands gap_line (in_session earlier))
+      (highest_on gap_line (in_session earlier)) (told_before event) refl)
+      (noted time (told_before event) (in_session earlier) (sequence_told line earlier) t)
 
   tied : (events : List TimedEvent) → Ties (in_session events) (sequence_told line events)
-  tied [] = record { begun = refl; highest = refl; far = refl }
+  tied [] = record { begun = refl; highest = refl; far = refl; come = refl }
   tied (last ∷ earlier) = step last.time last.event earlier (tied earlier)
 
   -- What the event adds to the messages that are missing are those of the gap that begins with it.
@@ -422,7 +468,7 @@ module _ (line : LineId) (gap_line : GapLine)
       let s = sequence_told line earlier in
       let o = counts_on gap_line (in_session earlier) last in
       ap (λ (p : Option HeardPacket). count_after 0 (passed_by s.highest p))
-      (counts_same last.time last.event (in_session earlier) s t own)
+      (counts_same last.time last.event (in_session earlier) s t.far own)
       ∙ ap (λ (n : ℕ). count_after 0 n) (same_passed s.highest o)
       ∙ ap (λ (h : ℕ). count_after 0 (passed_by h o)) t.highest
       ∙ gap_messages (highest_on gap_line (in_session earlier)) o

@@ -56,25 +56,27 @@ AreNone f = (f.normal ≡ 0) × (f.locked ≡ 0) × (f.crossed ≡ 0) × (f.spre
 -- ---- a symbol
 
 -- What is kept of a symbol after these events.
-pub record IsSymbolHeld (length_ns : ℕ) (symbol : List ℕ) (events : List TimedEvent)
-    (t : SymbolTimes) : Type 0 where
+pub record IsSymbolHeld (length_ns : ℕ) (from : Option ℕ) (symbol : List ℕ)
+    (events : List TimedEvent) (t : SymbolTimes) : Type 0 where
   pub symbol_is : t.symbol ≡ symbol
   pub best_is : t.best ≡ best_told (key_of symbol) events
-  pub held : (begin : ℕ) → begin_told length_ns events ≡ Some begin
-      → AreBestsHeld t.figures t.best t.since (clock_told events)
-      (λ weight. stood weight (key_of symbol) length_ns begin events)
+  pub held : (begin : ℕ) → begin_told length_ns from events ≡ Some begin
+      → AreBestsHeld t.figures t.best t.since (clock_told from events)
+      (λ weight. stood weight (key_of symbol) length_ns begin from events)
 
 -- Of each symbol, in order.
-pub record AreAllHeld (length_ns : ℕ) (symbols : List (List ℕ)) (events : List TimedEvent)
-    (times : List SymbolTimes) : Type 0 where
+pub record AreAllHeld (length_ns : ℕ) (from : Option ℕ) (symbols : List (List ℕ))
+    (events : List TimedEvent) (times : List SymbolTimes) : Type 0 where
   pub count : length times ≡ length symbols
   pub each : (place : ℕ) (none : SymbolTimes) → place < length times
-      → IsSymbolHeld length_ns (slice_index_or symbols place []) events
+      → IsSymbolHeld length_ns from (slice_index_or symbols place []) events
       (slice_index_or times place none)
 
-pub record IsNewSymbol (symbol : List ℕ) (t : SymbolTimes) : Type 0 where
+pub record IsNewSymbol (since : ℕ) (symbol : List ℕ) (t : SymbolTimes) : Type 0 where
   pub symbol_is : t.symbol ≡ symbol
   pub best_is : t.best ≡ no_best
+  pub since_is : t.since ≡ since
+  pub none : AreNone t.figures
 
 pub record IsBestSettled (to : ℕ) (old new : SymbolTimes) : Type 0 where
   pub symbol_is : new.symbol ≡ old.symbol
@@ -138,10 +140,10 @@ AreBestsTaken keys at (told_best notice) old new =
 AreBestsTaken keys at (told_before event) old new = AreBestsTaken keys at event old new
 AreBestsTaken keys at _ old new = new ≡ old
 
--- what is kept of symbols of which nothing came
-abbrev pub AreNewTimes : List (List ℕ) → List SymbolTimes → Type 0
-AreNewTimes symbols ts = (length ts ≡ length symbols) × ((place : ℕ) (none : SymbolTimes)
-    → place < length ts → IsNewSymbol (slice_index_or symbols place [])
+-- what is kept of symbols of which nothing came, from a time on
+abbrev pub AreNewTimes : ℕ → List (List ℕ) → List SymbolTimes → Type 0
+AreNewTimes since symbols ts = (length ts ≡ length symbols) × ((place : ℕ) (none : SymbolTimes)
+    → place < length ts → IsNewSymbol since (slice_index_or symbols place [])
     (slice_index_or ts place none))
 
 -- its keys are those of the symbols, in order
@@ -151,6 +153,6 @@ pub record IsBestTable (symbols : List (List ℕ)) (table : BestTable) : Type 0 
       → slice_index_or table.keys.keys place 0 ≡ key_of (slice_index_or symbols place [])
   pub count : length table.times.items ≡ length symbols
 
-pub record IsNewTable (symbols : List (List ℕ)) (table : BestTable) : Type 0 where
+pub record IsNewTable (since : ℕ) (symbols : List (List ℕ)) (table : BestTable) : Type 0 where
   pub is : IsBestTable symbols table
-  pub times : AreNewTimes symbols table.times.items
+  pub times : AreNewTimes since symbols table.times.items

@@ -24,9 +24,10 @@ period_at_hand m = period_of_clock m.style.length m.is_timed m.clock
 -- what is kept while the capture goes on
 pub record AreLive (setting : BestSetting) (events : List TimedEvent) (m : BestMaker) : Type 0
   where
-    pub clock : m.clock ≡ clock_told events
-    pub begin : period_at_hand m ≡ begin_told setting.style.length events
-    pub times : AreAllHeld setting.style.length setting.symbols events m.table.times.items
+    pub clock : m.clock ≡ clock_told setting.from events
+    pub begin : period_at_hand m ≡ begin_told setting.style.length setting.from events
+    pub times : AreAllHeld setting.style.length setting.from setting.symbols events
+        m.table.times.items
 
 -- it writes as the setting says, and what it keeps is of events
 pub record AreBests (setting : BestSetting) (events : List TimedEvent) (m : BestMaker) : Type 0

@@ -81,11 +81,13 @@ best_row format begin symbol venue s =
 
 -- ---- the rows of a period
 
--- how rows are written, and of how many venues and of which symbols
+-- how rows are written, of how many venues and of which symbols, and the time from which all is
+-- told, if there is one
 pub record BestSetting : Type 0 where
   pub style : PeriodStyle
   pub venues : ℕ
   pub symbols : List (List ℕ)
+  pub from : Option ℕ
 
 abbrev pub best_venue_row : PeriodStyle → ℕ → List ℕ → ((National → ℕ) → ℕ) → ℕ → List ℕ
 best_venue_row style begin symbol sum venue =
@@ -100,7 +102,7 @@ abbrev pub rows_at : BestSetting → ℕ → List TimedEvent → ℕ → List �
 rows_at setting begin events place =
     let symbol = slice_index_or setting.symbols place [] in
     symbol_rows setting.style setting.venues begin symbol
-    (λ weight. stood weight (key_of symbol) setting.style.length begin events)
+    (λ weight. stood weight (key_of symbol) setting.style.length begin setting.from events)
 
 -- those of all symbols, once these events came
 abbrev pub best_period : BestSetting → Option ℕ → List TimedEvent → List ℕ
@@ -119,15 +121,15 @@ period_ended_by ends (Some old) (Some new) = if ends then Some old
 
 -- the begin of the period that is over with an event after these, if one is; once the capture was
 -- over none is
-abbrev pub period_over : ℕ → TimedEvent → List TimedEvent → Option ℕ
-period_over length e earlier =
+abbrev pub period_over : ℕ → Option ℕ → TimedEvent → List TimedEvent → Option ℕ
+period_over length from e earlier =
     if list_any (λ one. ends_all one.event) earlier then None
-    else period_ended_by (ends_all e.event) (begin_told length earlier) (begin_told length
-    (e ∷ earlier))
+    else period_ended_by (ends_all e.event) (begin_told length from earlier)
+    (begin_told length from (e ∷ earlier))
 
 abbrev pub best_rows_with : BestSetting → TimedEvent → List TimedEvent → List ℕ
 best_rows_with setting e earlier =
-    best_period setting (period_over setting.style.length e earlier) (e ∷ earlier)
+    best_period setting (period_over setting.style.length setting.from e earlier) (e ∷ earlier)
 
 -- the header, and the rows of all events
 abbrev pub text_of_bests : BestSetting → List TimedEvent → List ℕ

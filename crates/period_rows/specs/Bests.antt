@@ -1,6 +1,6 @@
 -- How long the national bests of a symbol stood in a period of the clock. Of a list of events the
 -- last one stands first.
-use Rattle.std.specs.Prelude.{ℕ, ◌+◌, ◌-◌, ◌*◌, Bool, true, false, nat_eq, List, [], ◌∷◌, max, min, Option, Some, None, unwrap_or, if◌then◌else◌}
+use Rattle.std.specs.Prelude.{ℕ, ◌+◌, ◌-◌, ◌*◌, Bool, true, false, nat_eq, List, [], ◌∷◌, max, min, Option, Some, None, option_map, unwrap_or, if◌then◌else◌}
 use Rattle.feed_types.specs.Nationals.{state_of}
 use Rattle.feed_types.specs.Symbols.{key_of}
 use Rattle.feed_types.specs.declared.national.Best.{Best}
@@ -65,20 +65,22 @@ abbrev pub clock_after : Option ℕ → ℕ → ℕ
 clock_after None clock = clock
 clock_after (Some time) clock = max clock time
 
-abbrev pub clock_told : List TimedEvent → ℕ
-clock_told [] = 0
-clock_told (last ∷ earlier) = clock_after (time_of_event last.event last.time) (clock_told earlier)
+-- that from which all is told is the first one, if there is such a time
+abbrev pub clock_told : Option ℕ → List TimedEvent → ℕ
+clock_told from [] = unwrap_or from 0
+clock_told from (last ∷ earlier) =
+    clock_after (time_of_event last.event last.time) (clock_told from earlier)
 
 -- when the period at hand began, if a time is known: that of the clock
 abbrev pub begin_after : ℕ → Option ℕ → ℕ → Option ℕ → Option ℕ
 begin_after length None clock begin = begin
 begin_after length (Some time) clock begin = Some (period_begin length (max clock time))
 
-abbrev pub begin_told : ℕ → List TimedEvent → Option ℕ
-begin_told length [] = None
-begin_told length (last ∷ earlier) =
-    begin_after length (time_of_event last.event last.time) (clock_told earlier)
-    (begin_told length earlier)
+abbrev pub begin_told : ℕ → Option ℕ → List TimedEvent → Option ℕ
+begin_told length from [] = option_map (period_begin length) from
+begin_told length from (last ∷ earlier) =
+    begin_after length (time_of_event last.event last.time) (clock_told from earlier)
+    (begin_told length from earlier)
 
 -- ---- how long something stood
 
@@ -86,11 +88,11 @@ begin_told length (last ∷ earlier) =
 abbrev pub overlap : ℕ → ℕ → ℕ → ℕ → ℕ
 overlap length begin from to = min to (begin + length) - max from begin
 
--- the sum over the pieces of time between events: how much of each lies in the period, times what
--- the symbol's national best weighs that stood meanwhile
-abbrev pub stood : (National → ℕ) → ℕ → ℕ → ℕ → List TimedEvent → ℕ
-stood weight key length begin [] = 0
-stood weight key length begin (last ∷ earlier) =
+-- the sum over the pieces of time between events, from the first time on: how much of each lies in
+-- the period, times what the symbol's national best weighs that stood meanwhile
+abbrev pub stood : (National → ℕ) → ℕ → ℕ → ℕ → Option ℕ → List TimedEvent → ℕ
+stood weight key length begin from [] = 0
+stood weight key length begin from (last ∷ earlier) =
     weight (best_told key earlier)
-    * overlap length begin (clock_told earlier) (clock_told (last ∷ earlier))
-    + stood weight key length begin earlier
+    * overlap length begin (clock_told from earlier) (clock_told from (last ∷ earlier))
+    + stood weight key length begin from earlier

@@ -8,7 +8,7 @@ use Rattle.line_arbiter.specs.Streams.{is_same_line}
 use Rattle.line_gaps.specs.declared.gap_line.GapLine.{GapLine}
 use Rattle.line_gaps.specs.declared.open_gap.OpenGap.{OpenGap}
 use Rattle.line_gaps.specs.OpenGaps.{gaps_with, in_session}
-use Rattle.period_rows.specs.Sequences.{no_sequence, passed_over, sequence_after}
+use Rattle.period_rows.specs.Sequences.{come_after, no_sequence, passed_over, sequence_after}
 use Rattle.period_rows.specs.declared.line_sequence.LineSequence.{LineSequence}
 
 -- a packet of another line of the venue; an event before a span stands here as itself
@@ -20,8 +20,8 @@ is_of_other line _ = false
 abbrev pub sequence_told : LineId → List TimedEvent → LineSequence
 sequence_told line [] = no_sequence
 sequence_told line (last ∷ earlier) =
-    if is_of_other line last.event then sequence_told line earlier
-    else sequence_after (sequence_told line earlier) last.event
+    let s = come_after (sequence_told line earlier) last.event in
+    if is_of_other line last.event then s else sequence_after s last.event
 
 -- the messages of gaps
 abbrev pub messages_of : List OpenGap → ℕ

@@ -1,17 +1,18 @@
 -- The numbers of lines' packets, and how many of them their packets pass over.
-use Rattle.std.specs.Prelude.{ℕ, ◌+◌, ◌-◌, ◌*◌, ◌||◌, false, is_some, List, max, Option, None, Some, Ok, slice_index_or, slice_set, if◌then◌else◌}
+use Rattle.std.specs.Prelude.{ℕ, ◌+◌, ◌-◌, ◌*◌, ◌||◌, false, is_some, List, Option, None, Some, Ok, slice_index_or, slice_set, if◌then◌else◌}
 use Rattle.feed_types.specs.declared.line.LineId.{LineId}
 use Rattle.feed_types.specs.declared.line.LineId.TheVariants.{A, B, Recovery}
 use Rattle.line_arbiter.specs.declared.outcome.Outcome.TheVariants.{Ahead}
 use Rattle.feed_text.specs.SinkEvents.{SinkEvent, told_before, told_packet, told_renewal, told_skip}
-use Rattle.line_gaps.specs.Gaps.{far_that, packet_heard, highest_with}
+use Rattle.line_gaps.specs.Gaps.{brings_messages, far_that, packet_heard, highest_with}
+use Rattle.line_gaps.specs.LineSteps.{highest_joined, joined_at}
 use Rattle.line_gaps.specs.declared.heard_packet.HeardPacket.{HeardPacket}
 use Rattle.period_rows.specs.declared.line_sequence.LineSequence.{LineSequence}
 
 -- ---- a line
 
 abbrev pub no_sequence : LineSequence
-no_sequence = record { begun = false; highest = 0; far = None }
+no_sequence = record { begun = false; highest = 0; far = None; has_come = false }
 
 -- The packet that counts with an event of the line: its own, unless that was refused, or is past
 -- the window. One past the window counts with the line's next one of these, if that goes on from it
@@ -35,17 +36,23 @@ sequence_counted s counted far = record {
   begun = is_some counted || s.begun;
   highest = highest_with s.highest counted;
   far = far;
+  has_come = s.has_come;
 }
 
+-- after an event of any line of its venue, with which a message came or didn't
+abbrev pub come_after : LineSequence → SinkEvent → LineSequence
+come_after s event = record s { has_come = brings_messages event || s.has_come }
+
 -- A line's numbers after an event of it or of its venue: a packet that is refused says nothing, a
--- next session begins at 1, and after a skip a line of which nothing came begins there.
+-- next session begins at 1, and after a skip that joins the session, since no message of it came
+-- before on any line, a line of which nothing came begins there.
 abbrev pub sequence_after : LineSequence → SinkEvent → LineSequence
 sequence_after s (told_packet venue line number count bytes answer) =
     sequence_counted s (counts_now s.far (told_packet venue line number count bytes answer))
     (far_after s.far (told_packet venue line number count bytes answer))
 sequence_after s (told_renewal venue (Ok ordinal)) = no_sequence
 sequence_after s (told_skip venue number (Ok done)) =
-    record s { highest = if s.begun then s.highest else max s.highest (number - 1) }
+    record s { highest = highest_joined s.begun s.highest (joined_at s.has_come number) }
 sequence_after s _ = s
 
 -- how many numbers a packet passes over: those between the highest one and its own
@@ -78,10 +85,22 @@ abbrev pub both_sequences : SinkEvent → List LineSequence → ℕ → List Lin
 both_sequences event ss venue =
     sequence_at event (sequence_at event ss (2 * venue)) (2 * venue + 1)
 
+-- a message that comes on one line of a venue has come for both
+abbrev pub come_at : SinkEvent → List LineSequence → ℕ → List LineSequence
+come_at event ss place =
+    slice_set ss place (come_after (slice_index_or ss place no_sequence) event)
+
+abbrev pub both_come : SinkEvent → List LineSequence → ℕ → List LineSequence
+both_come event ss venue = come_at event (come_at event ss (2 * venue)) (2 * venue + 1)
+
+abbrev pub packet_sequences : SinkEvent → List LineSequence → ℕ → LineId → List LineSequence
+packet_sequences event ss venue line =
+    own_sequence event (both_come event ss venue) (line_place venue line)
+
 -- the numbers of all lines after an event, be it told or before all that is told
 abbrev pub sequences_after : List LineSequence → SinkEvent → List LineSequence
 sequences_after ss (told_packet venue line number count bytes answer) =
-    own_sequence (told_packet venue line number count bytes answer) ss (line_place venue line)
+    packet_sequences (told_packet venue line number count bytes answer) ss venue line
 sequences_after ss (told_renewal venue answer) =
     both_sequences (told_renewal venue answer) ss venue
 sequences_after ss (told_skip venue number answer) =

@@ -1,5 +1,5 @@
 //! A clock that never goes back, and the period at hand.
-ghost use Rattle.std.specs.Prelude.{◌≡◌};
+ghost use Rattle.std.specs.Prelude.{◌≡◌, unwrap_or};
 ghost use Rattle.feed_text.specs.SinkEvents.{told_by};
 ghost use Rattle.period_rows.specs.BestRows.{period_ended_by};
 ghost use Rattle.period_rows.specs.Bests.{begin_after, clock_after, time_of_event};
@@ -18,6 +18,16 @@ pub(crate) fn time_in(time: Option<u64>, event: &Event<'_>) -> Option<u64>
         return None;
     }
     time
+}
+
+/// Returns the first time of a clock: that from which all is told, if there is one.
+pub(crate) fn first_clock(from: Option<u64>) -> u64
+    ensures { result ≡ unwrap_or from 0 }
+{
+    match from {
+        Some(from) => from,
+        None => 0,
+    }
 }
 
 /// Returns the latest time so far, after one more.

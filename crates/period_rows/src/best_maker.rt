@@ -1,5 +1,5 @@
 //! What makes the rows of how long national bests stood in each period.
-ghost use Rattle.std.specs.Prelude.{◌≡◌, ◌++◌, ℕ, List, [], IfOk, OnErr, OnOk, false, true};
+ghost use Rattle.std.specs.Prelude.{◌≡◌, ◌++◌, ℕ, List, [], IfOk, OnErr, OnOk, false, true, unwrap_or};
 ghost use Rattle.feed_text.specs.SinkEvents.{timed_event, told_by};
 ghost use Rattle.feed_text.specs.TextPages.{FailsPage, TakesPage};
 ghost use Rattle.report_rows.specs.RowSinks.{IsNewRowSink};
@@ -9,7 +9,7 @@ ghost use Rattle.period_rows.specs.BestMakers.{AreBests, IsLiveStep, IsPassed, I
 ghost use Rattle.period_rows.specs.BestRows.{best_names};
 ghost use Rattle.period_rows.specs.Bests.{begin_after, clock_after};
 
-use crate::best_clock::{begin_after, clock_after, ended_by, time_in};
+use crate::best_clock::{begin_after, clock_after, ended_by, first_clock, time_in};
 use crate::best_table::BestTable;
 use crate::best_times::{PeriodOver, best_names, write_best_period};
 use crate::times::period_begin;
@@ -36,38 +36,47 @@ pub struct BestMaker {
 }
 
 impl BestMaker {
-    /// Of the symbols of a table of which nothing came, and of this many venues.
-    fn of(style: PeriodStyle, venues: usize, table: BestTable) -> BestMaker
-        ensures { (symbols : List (List ℕ)) → IsNewTable symbols table
-            → AreBests (record { style = style; venues = venues; symbols = symbols }) [] result }
+    /// Of the symbols of a table of which nothing came, and of this many venues. All is told from
+    /// a time on, if there is one.
+    fn of(style: PeriodStyle, venues: usize, table: BestTable, from: Option<u64>) -> BestMaker
+        ensures { (symbols : List (List ℕ)) → IsNewTable (unwrap_or from 0) symbols table
+            → AreBests (record {
+              style = style;
+              venues = venues;
+              symbols = symbols;
+              from = from;
+            }) [] result }
     {
         let _length = style.length.nanoseconds();
         BestMaker {
             style,
             venues,
-            clock: 0,
-            is_timed: false,
+            clock: first_clock(from),
+            is_timed: from.is_some(),
             over: false,
             table,
         }
     }
 
-    /// Of these symbols, of which nothing came, and of this many venues. Fails where memory is
+    /// Of these symbols, of which nothing came, and of this many venues. All is told from a time
+    /// on, if there is one: what a best stood before it doesn't count. Fails where memory is
     /// refused, or a symbol is there twice.
     pub fn new(
         alloc: Global,
         style: PeriodStyle,
         venues: usize,
         symbols: &[SymbolName],
+        from: Option<u64>,
     ) -> Result<BestMaker, AllocError>
         ensures { IfOk result (AreBests (record {
           style = style;
           venues = venues;
           symbols = symbols.now;
+          from = from;
         }) []) }
     {
-        match BestTable::new(alloc, symbols) {
-            Ok(table) => Ok(BestMaker::of(style, venues, table)),
+        match BestTable::new(alloc, symbols, first_clock(from)) {
+            Ok(table) => Ok(BestMaker::of(style, venues, table, from)),
             Err(error) => Err(error),
         }
     }

@@ -57,9 +57,14 @@ fn keys_of(alloc: Global, symbols: &[SymbolName]) -> Result<IndexSet<u64>, Alloc
     Ok(keys)
 }
 
-/// Returns what is kept of symbols of which nothing came. Fails where memory is refused.
-fn new_times(alloc: Global, symbols: &[SymbolName]) -> Result<Vec<SymbolTimes>, AllocError>
-    ensures { IfOk result (λ times. AreNewTimes symbols.now times.items) }
+/// Returns what is kept of symbols of which nothing came, from a time on. Fails where memory is
+/// refused.
+fn new_times(
+    alloc: Global,
+    symbols: &[SymbolName],
+    since: u64,
+) -> Result<Vec<SymbolTimes>, AllocError>
+    ensures { IfOk result (λ times. AreNewTimes since symbols.now times.items) }
 {
     let mut times = Vec::new(alloc);
     for place in 0..symbols.len() {
@@ -67,7 +72,7 @@ fn new_times(alloc: Global, symbols: &[SymbolName]) -> Result<Vec<SymbolTimes>, 
             bid: None,
             offer: None,
         };
-        let one = SymbolTimes::new(symbols[place], &none);
+        let one = SymbolTimes::new(symbols[place], &none, since);
         times.push(one)?;
     }
     Ok(times)
@@ -108,16 +113,16 @@ fn is_another(old: Option<u64>, new: u64) -> bool
 }
 
 impl BestTable {
-    /// The table of these symbols, of which nothing came. Fails where memory is refused, or a
-    /// symbol is there twice.
-    pub fn new(alloc: Global, symbols: &[SymbolName]) -> Result<BestTable, AllocError>
-        ensures { IfOk result (IsNewTable symbols.now) }
+    /// The table of these symbols, of which nothing came, from a time on. Fails where memory is
+    /// refused, or a symbol is there twice.
+    pub fn new(alloc: Global, symbols: &[SymbolName], since: u64) -> Result<BestTable, AllocError>
+        ensures { IfOk result (IsNewTable since symbols.now) }
     {
         let keys = keys_of(alloc, symbols)?;
         if !are_keys(keys.as_slice(), symbols) {
             return Err(AllocError);
         }
-        let times = new_times(alloc, symbols)?;
+        let times = new_times(alloc, symbols, since)?;
         Ok(BestTable { keys, times })
     }
 

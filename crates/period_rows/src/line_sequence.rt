@@ -1,8 +1,9 @@
 //! The numbers of a line's packets.
 ghost use Rattle.std.specs.Prelude.{◌≡◌, ◌<◌, IfSome, None, length};
 ghost use Rattle.feed_text.specs.SinkEvents.{told_by};
-ghost use Rattle.line_gaps.specs.Gaps.{packet_heard};
-ghost use Rattle.period_rows.specs.Sequences.{both_sequences, counts_now, line_place, own_sequence, passed_over, sequence_after, sequence_at, sequence_counted, sequences_after};
+ghost use Rattle.line_gaps.specs.Gaps.{brings_messages, packet_heard};
+ghost use Rattle.line_gaps.specs.LineSteps.{highest_joined, joined_at};
+ghost use Rattle.period_rows.specs.Sequences.{both_come, both_sequences, come_after, come_at, counts_now, line_place, packet_sequences, passed_over, sequence_after, sequence_at, sequence_counted, sequences_after};
 
 use feed_text::Event;
 use feed_types::{LineId, VenueId};
@@ -19,6 +20,8 @@ pub struct LineSequence {
     pub highest: u64,
     /// The latest packet past the window.
     pub far: Option<HeardPacket>,
+    /// Whether a message of the venue's present session came, on any of its lines.
+    pub has_come: bool,
 }
 
 /// Returns a packet of a line, without its time.
@@ -33,7 +36,42 @@ fn heard(line: LineId, number: u64, count: u16) -> HeardPacket
     }
 }
 
+/// Returns whether messages came with a packet.
+#[inline(always)]
+fn brings_messages(event: &Event<'_>) -> bool
+    ensures { result ≡ brings_messages (told_by event.now) }
+{
+    matches!(
+        event,
+        Event::Packet {
+            answer: Ok(Outcome::Taken { .. }),
+            ..
+        }
+    )
+}
+
 impl LineSequence {
+    /// Notes whether a message came with an event of the venue.
+    #[inline(always)]
+    fn note(&mut self, event: &Event<'_>)
+        ensures { self.new ≡ come_after self.old (told_by event.now) }
+    {
+        self.has_come = brings_messages(event) || self.has_come;
+    }
+
+    /// Has the line begin where a skip goes, unless it has begun, or a message came before.
+    fn begin_at(&mut self, number: u64)
+        ensures { self.new ≡ record self.old {
+          highest = highest_joined self.old.begun self.old.highest
+              (joined_at self.old.has_come number);
+        } }
+    {
+        if self.begun || self.has_come {
+            return;
+        }
+        self.highest = self.highest.max(number.saturating_sub(1));
+    }
+
     /// Returns the packet that counts with an event of the line: its own, but of packets past the
     /// window the one before, where this one goes on from it.
     fn counts_now(&self, event: &Event<'_>) -> Option<HeardPacket>
@@ -103,11 +141,7 @@ impl LineSequence {
                 number,
                 answer: Ok(()),
                 ..
-            } => {
-                if !self.begun {
-                    self.highest = self.highest.max(number.saturating_sub(1));
-                }
-            }
+            } => self.begin_at(*number),
             _ => {}
         }
     }
@@ -143,12 +177,32 @@ fn take_both(sequences: &mut [LineSequence], venue: VenueId, event: &Event<'_>)
     take_at(sequences, 2 * venue.index() + 1, event);
 }
 
+/// Notes for the line at a place whether a message came with an event of its venue.
+#[inline(always)]
+fn note_at(sequences: &mut [LineSequence], place: usize, event: &Event<'_>)
+    requires all { length sequences.old ≡ 32 }
+    requires within { place < 32 }
+    ensures { sequences.new ≡ come_at (told_by event.now) sequences.old place }
+{
+    sequences[place].note(event);
+}
+
+/// Notes for both lines of a venue whether a message came with an event.
+#[inline(always)]
+fn note_both(sequences: &mut [LineSequence], venue: VenueId, event: &Event<'_>)
+    requires { length sequences.old ≡ 32 }
+    ensures { sequences.new ≡ both_come (told_by event.now) sequences.old venue }
+{
+    note_at(sequences, 2 * venue.index(), event);
+    note_at(sequences, 2 * venue.index() + 1, event);
+}
+
 /// Takes a packet of a line.
 fn take_packet(sequences: &mut [LineSequence], venue: VenueId, line: LineId, event: &Event<'_>)
     requires { length sequences.old ≡ 32 }
-    ensures { sequences.new ≡ own_sequence (told_by event.now) sequences.old
-        (line_place venue line) }
+    ensures { sequences.new ≡ packet_sequences (told_by event.now) sequences.old venue line }
 {
+    note_both(sequences, venue, event);
     match line_place(venue, line) {
         Some(place) => take_at(sequences, place, event),
         None => {}

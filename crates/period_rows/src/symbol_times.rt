@@ -19,14 +19,14 @@ pub struct SymbolTimes {
 }
 
 impl SymbolTimes {
-    /// Of a symbol of which nothing came, with a national best that has no side.
-    pub(crate) fn new(symbol: SymbolName, best: &National) -> SymbolTimes
-        ensures { best.now ≡ no_best → IsNewSymbol symbol result }
+    /// Of a symbol of which nothing came, with a national best that has no side, from a time on.
+    pub(crate) fn new(symbol: SymbolName, best: &National, since: u64) -> SymbolTimes
+        ensures { best.now ≡ no_best → IsNewSymbol since symbol result }
     {
         SymbolTimes {
             symbol,
             best: *best,
-            since: 0,
+            since,
             figures: BestFigures::new(),
         }
     }

@@ -18,6 +18,7 @@ returns-in-Ok-page_before-clause-rows g c =
       style = style;
       venues = venues_in c.args.config.now.replay;
       symbols = c.args.config.now.replay.symbols.now;
+      from = c.args.config.now.span.from;
     }) [] made = c.in-Ok.ensures in
     record {
       is = subst (λ (m : BestMaker). IsNewRowSink c.args.output m
@@ -31,5 +32,6 @@ returns-in-Ok-page_before-clause-rows g c =
         style = style;
         venues = venues_in c.args.config.now.replay;
         symbols = c.args.config.now.replay.symbols.now;
+        from = c.args.config.now.span.from;
       }) [] m) (sym new.maker_is) are;
     }

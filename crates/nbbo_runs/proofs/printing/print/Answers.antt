@@ -63,8 +63,12 @@ returns-in-BestTimes g c =
     record { adds = g.W.TextOut.adds; failures = g.W.TextOut.failures } in
     let config = c.config_of-config.result.replay in
     let style = c.in-BestTimes.style in
-    let setting : BestSetting =
-    record { style = style; venues = venues_in config; symbols = config.symbols.now } in
+    let setting : BestSetting = record {
+      style = style;
+      venues = venues_in config;
+      symbols = config.symbols.now;
+      from = c.config_of-config.result.span.from;
+    } in
     let output = c.args.output in
     let printed = c.print_rows.ensures (text_of_bests setting) output
     (made_writes writing AreBests best_rows_with

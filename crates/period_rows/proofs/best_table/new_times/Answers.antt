@@ -19,10 +19,10 @@ loop-place-preserved c =
     record {
       count = ap length is ∙ length-append old (one ∷ []) ∙ ap (λ (k : ℕ). k + 1) count;
       each = λ place none few.
-          subst (λ (ts : List SymbolTimes). IsNewSymbol
+          subst (λ (ts : List SymbolTimes). IsNewSymbol c.args.since
           (slice_index_or c.args.symbols.now place []) (slice_index_or ts place none)) (sym is)
-          (new_more c.args.symbols.now old one n count
+          (new_more c.args.since c.args.symbols.now old one n count
           (λ at out less. c.loop-place.invariant.each at out less)
-          (subst (λ (symbol : List ℕ). IsNewSymbol symbol one) symbol_is
+          (subst (λ (symbol : List ℕ). IsNewSymbol c.args.since symbol one) symbol_is
           (c.new-one.ensures refl)) place none few);
     }

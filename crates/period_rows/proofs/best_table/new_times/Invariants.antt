@@ -7,5 +7,6 @@ abbrev pub invariant-loop-place : goal.invariant-loop-place
 invariant-loop-place l = record {
   count : length l.times.items ≡ l.place;
   each : (place : ℕ) (none : SymbolTimes) → place < l.place
-      → IsNewSymbol (slice_index_or l.symbols place []) (slice_index_or l.times.items place none);
+      → IsNewSymbol l.since (slice_index_or l.symbols place [])
+      (slice_index_or l.times.items place none);
 }

@@ -1,3 +1,4 @@
+use Rattle.std.proofs.Common.{refl}
 use Rattle.line_gaps.proofs.VenueLemmas.{far_none, fits_none}
 use Rattle.line_gaps.proofs.venue_gaps.VenueGaps.new.Goals as goal
 
@@ -10,4 +11,4 @@ returns-clause-fits c =
     (record { begun = a.begun; highest = a.highest; «open» = a.«open» })
     (record { begun = b.begun; highest = b.highest; «open» = b.«open» })
     (record { begun = all.begun; highest = all.highest; «open» = all.«open» })
-    (far_none _ c.all.ensures)
+    (far_none _ c.all.ensures) refl

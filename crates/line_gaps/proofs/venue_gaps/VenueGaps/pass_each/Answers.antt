@@ -7,6 +7,7 @@ pub returns : goal.returns
 returns c = record {
   lost = refl;
   far = refl;
+  come = refl;
   ends = venue_ends _ _ _ _ _ _ c.take.ensures.ends c.take-2.ensures.ends c.take-3.ensures.ends;
   a = c.take.ensures.takes;
   b = c.take-2.ensures.takes;

@@ -1,4 +1,4 @@
-use Rattle.std.proofs.Common.{◌∙◌}
+use Rattle.std.proofs.Common.{refl, ◌∙◌}
 use Rattle.line_gaps.proofs.EndLemmas.{venue_same}
 use Rattle.line_gaps.proofs.VenueLemmas.{closed_just, far_none, fits_none, whole_back}
 use Rattle.line_gaps.proofs.venue_gaps.VenueGaps.renew.Goals as goal
@@ -33,7 +33,7 @@ returns-clause-fits c = λ events fits.
       highest = c.renew-3.ensures.highest;
       «open» = rw c.renew-3.ensures.«open» closed.all.«open»;
     })
-    (far_none _ c.all-self.ensures)
+    (far_none _ c.all-self.ensures) refl
 
 pub returns-clause-just : goal.returns-clause-just
 returns-clause-just c = λ earlier last closes fits whole.

@@ -30,9 +30,9 @@ returns-in-Last-clause-takes c = λ earlier fits.
     c.close.new.ended.gaps.items refl c.requires
     (venue_closed (in_session earlier) _ c.args.self.now c.close.new.self
     c.args.ended.now.gaps.items c.close.new.ended.gaps.items
-    (says_nothing (in_session earlier) _ refl (λ n. refl) (λ n. refl) refl) refl
+    (says_nothing (in_session earlier) _ refl (λ n. refl) (λ n. refl) refl refl) refl
     (fits_but (in_session earlier) _ c.args.self.now fits (λ line. refl)) fits said.lost said.far
-    said.a said.b said.all said.ended))
+    said.come said.a said.b said.all said.ended))
 
 pub returns-in-Refusal-clause-ends : goal.returns-in-Refusal-clause-ends
 returns-in-Refusal-clause-ends c = venue_keeps _ _ c.args.ended.now refl refl refl
@@ -41,7 +41,7 @@ pub returns-in-Refusal-clause-takes : goal.returns-in-Refusal-clause-takes
 returns-in-Refusal-clause-takes c = λ earlier fits.
     rw c.in-Refusal.is
     (nothing_timed earlier _ c.args.self.now c.args.ended.now.gaps.items
-    (says_nothing (in_session earlier) _ refl (λ n. refl) (λ n. refl) refl) refl refl
+    (says_nothing (in_session earlier) _ refl (λ n. refl) (λ n. refl) refl refl) refl refl
     (λ line. refl) c.requires fits)
 
 pub returns-in-Item-clause-ends : goal.returns-in-Item-clause-ends
@@ -51,7 +51,7 @@ pub returns-in-Item-clause-takes : goal.returns-in-Item-clause-takes
 returns-in-Item-clause-takes c = λ earlier fits.
     rw c.in-Item.is
     (nothing_timed earlier _ c.args.self.now c.args.ended.now.gaps.items
-    (says_nothing (in_session earlier) _ refl (λ n. refl) (λ n. refl) refl) refl refl
+    (says_nothing (in_session earlier) _ refl (λ n. refl) (λ n. refl) refl refl) refl refl
     (λ line. refl) c.requires fits)
 
 pub returns-in-Best-clause-ends : goal.returns-in-Best-clause-ends
@@ -61,7 +61,7 @@ pub returns-in-Best-clause-takes : goal.returns-in-Best-clause-takes
 returns-in-Best-clause-takes c = λ earlier fits.
     rw c.in-Best.is
     (nothing_timed earlier _ c.args.self.now c.args.ended.now.gaps.items
-    (says_nothing (in_session earlier) _ refl (λ n. refl) (λ n. refl) refl) refl refl
+    (says_nothing (in_session earlier) _ refl (λ n. refl) (λ n. refl) refl refl) refl refl
     (λ line. refl) c.requires fits)
 
 pub returns-in-Gap-clause-ends : goal.returns-in-Gap-clause-ends
@@ -71,7 +71,7 @@ pub returns-in-Gap-clause-takes : goal.returns-in-Gap-clause-takes
 returns-in-Gap-clause-takes c = λ earlier fits.
     rw c.in-Gap.is
     (nothing_timed earlier _ c.args.self.now c.args.ended.now.gaps.items
-    (says_nothing (in_session earlier) _ refl (λ n. refl) (λ n. refl) refl) refl refl
+    (says_nothing (in_session earlier) _ refl (λ n. refl) (λ n. refl) refl refl) refl refl
     (λ line. refl) c.requires fits)
 
 pub returns-in-Declaration-clause-ends : goal.returns-in-Declaration-clause-ends
@@ -81,5 +81,5 @@ pub returns-in-Declaration-clause-takes : goal.returns-in-Declaration-clause-tak
 returns-in-Declaration-clause-takes c = λ earlier fits.
     rw c.in-Declaration.is
     (nothing_timed earlier _ c.args.self.now c.args.ended.now.gaps.items
-    (says_nothing (in_session earlier) _ refl (λ n. refl) (λ n. refl) refl) refl refl
+    (says_nothing (in_session earlier) _ refl (λ n. refl) (λ n. refl) refl refl) refl refl
     (λ line. refl) c.requires fits)

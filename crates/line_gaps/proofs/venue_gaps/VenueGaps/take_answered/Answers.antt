@@ -14,5 +14,5 @@ pub returns-in-Err-clause-takes : goal.returns-in-Err-clause-takes
 returns-in-Err-clause-takes c = λ earlier venue bytes fits.
     rw c.in-Err.is
     (venue_idle earlier _ c.args.self.now c.args.self.now c.args.ended.now.gaps.items
-    (says_nothing earlier _ refl (λ n. refl) (λ n. refl) refl) refl
-    (fits_but earlier _ c.args.self.now fits (λ line. refl)) refl refl refl refl refl)
+    (says_nothing earlier _ refl (λ n. refl) (λ n. refl) refl refl) refl
+    (fits_but earlier _ c.args.self.now fits (λ line. refl)) refl refl refl refl refl refl)

@@ -19,7 +19,12 @@ returns-then-goes_on-clause-takes c = λ earlier venue bytes fits.
     let last = packet_event packet venue bytes (Ok Ahead) in
     other_far earlier last old _ c.set.new.self _ _
     (c.take_numbers.ensures.takes earlier last
-    (record { counts = counts; brings_none = λ n. refl; passes_none = λ n. refl })
+    (record {
+      counts = counts;
+      brings_none = λ n. refl;
+      passes_none = λ n. refl;
+      has_no_messages = refl;
+    })
     (record {
       counts = counts;
       goes_on = refl;
@@ -44,9 +49,9 @@ returns-else-goes_on-clause-takes c = λ earlier venue bytes fits.
     other_far earlier last old _ c.set.new.self _ _
     (venue_idle earlier last (record old { far = c.set.new.self })
     (record old { far = c.set.new.self }) c.args.ended.now.gaps.items
-    (says_nothing earlier last counts (λ n. refl) (λ n. refl) refl) refl
+    (says_nothing earlier last counts (λ n. refl) (λ n. refl) refl refl) refl
     (far_but earlier packet venue bytes old c.set.new.self fits c.set.ensures)
-    refl refl refl refl refl)
+    refl refl refl refl refl refl)
 
 pub returns-in-None-clause-ends : goal.returns-in-None-clause-ends
 returns-in-None-clause-ends c = venue_keeps _ _ c.args.ended.now refl refl refl
@@ -63,6 +68,6 @@ returns-in-None-clause-takes c = λ earlier venue bytes fits.
     other_far earlier last old _ c.set.new.self _ _
     (venue_idle earlier last (record old { far = c.set.new.self })
     (record old { far = c.set.new.self }) c.args.ended.now.gaps.items
-    (says_nothing earlier last counts (λ n. refl) (λ n. refl) refl) refl
+    (says_nothing earlier last counts (λ n. refl) (λ n. refl) refl refl) refl
     (far_but earlier packet venue bytes old c.set.new.self fits c.set.ensures)
-    refl refl refl refl refl)
+    refl refl refl refl refl refl)

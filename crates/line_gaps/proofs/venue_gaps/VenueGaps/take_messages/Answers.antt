@@ -23,7 +23,7 @@ returns-clause-takes c = λ earlier venue bytes repeated fits.
     })
     (fits_but earlier _ old fits (λ line. refl))
     (said.fits earlier venue bytes c.args.new repeated fits.lost) said.dropped
-    c.pass.ensures.lost c.pass.ensures.far
+    c.pass.ensures.lost c.pass.ensures.far c.pass.ensures.come
     (λ whole unfilled.
     stays_taken earlier packet venue bytes c.args.new repeated old.lost fits.lost whole.missing
     (sym said.found ∙ unfilled))

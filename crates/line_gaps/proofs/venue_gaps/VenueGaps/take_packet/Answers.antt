@@ -13,7 +13,12 @@ returns-in-Heartbeat-clause-takes c = λ earlier venue bytes fits.
     let last = packet_event c.args.packet.now venue bytes (Ok Heartbeat) in
     rw c.in-Heartbeat.is
     (c.take_numbers.ensures.takes earlier last
-    (record { counts = refl; brings_none = λ n. refl; passes_none = λ n. refl })
+    (record {
+      counts = refl;
+      brings_none = λ n. refl;
+      passes_none = λ n. refl;
+      has_no_messages = refl;
+    })
     (record {
       counts = refl;
       goes_on = refl;
@@ -26,7 +31,12 @@ returns-in-Ended-clause-takes c = λ earlier venue bytes fits.
     let last = packet_event c.args.packet.now venue bytes (Ok Ended) in
     rw c.in-Ended.is
     (c.take_numbers-in-Ended.ensures.takes earlier last
-    (record { counts = refl; brings_none = λ n. refl; passes_none = λ n. refl })
+    (record {
+      counts = refl;
+      brings_none = λ n. refl;
+      passes_none = λ n. refl;
+      has_no_messages = refl;
+    })
     (record {
       counts = refl;
       goes_on = refl;

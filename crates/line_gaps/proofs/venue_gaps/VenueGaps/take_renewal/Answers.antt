@@ -19,5 +19,5 @@ pub returns-in-Err-clause-takes : goal.returns-in-Err-clause-takes
 returns-in-Err-clause-takes c = λ earlier time venue fits.
     rw c.in-Err.is
     (nothing_timed earlier _ c.args.self.now c.args.ended.now.gaps.items
-    (says_nothing (in_session earlier) _ refl (λ n. refl) (λ n. refl) refl) refl refl
+    (says_nothing (in_session earlier) _ refl (λ n. refl) (λ n. refl) refl refl) refl refl
     (λ line. refl) c.requires fits)
