@@ -2,7 +2,7 @@
 use Rattle.std.proofs.Common.{◌≡◌, ℕ, ◌+◌, ◌*◌, ◌≤◌, List, [], ◌∷◌, ◌++◌, length, take, append_assoc, ap, ◌∙◌, arith, length-append}
 use Rattle.std.proofs.lemmas.List.{take_all}
 use Rattle.std.specs.Prelude.{flat_map}
-use Rattle.feed_text.specs.Pages.{Appends, BufferedText, memory_of}
+use Rattle.text_out.specs.Pages.{Appends, BufferedText, memory_of}
 use Rattle.best_rows.specs.Quoting.{escaped_byte, quoted}
 
 -- a text that became longer at its end, within its memory

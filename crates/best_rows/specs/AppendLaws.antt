@@ -1,6 +1,6 @@
 -- Laws of parts that were appended, one after the other.
 use Rattle.std.proofs.Common.{◌≡◌, ℕ, ◌+◌, List, ◌++◌, length, append_assoc, ap, subst, ◌∙◌, arith, length-append}
-use Rattle.feed_text.specs.Pages.{Appends, BufferedText}
+use Rattle.text_out.specs.Pages.{Appends, BufferedText}
 
 -- one part after another
 pub appends_more : {a b c : BufferedText} {xs ys : List ℕ} {m n : ℕ}

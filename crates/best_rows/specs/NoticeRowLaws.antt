@@ -4,7 +4,7 @@ use Rattle.std.specs.Prelude.{flat_map, map}
 use Rattle.std.proofs.lemmas.Grind.{flat_map-append}
 use Rattle.std.proofs.lemmas.List.{map-append}
 use Rattle.feed_types.specs.declared.journal.Notice.{Notice}
-use Rattle.feed_text.specs.Lines.{best_line}
+use Rattle.event_sinks.specs.Lines.{best_line}
 use Rattle.run_settings.specs.declared.formats.BestFormat.{BestFormat}
 use Rattle.run_settings.specs.declared.formats.BestFormat.TheVariants.{Text}
 use Rattle.best_rows.specs.NoticeRows.{AreRowsOf, IsTextOf, TimedNotice, notice_row, timed_row}

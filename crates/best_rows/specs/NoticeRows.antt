@@ -1,7 +1,7 @@
 -- The rows of notices that are taken as they come.
 use Rattle.std.specs.Prelude.{◌≡◌, ℕ, List, ◌++◌, flat_map, map, Option}
 use Rattle.feed_types.specs.declared.journal.Notice.{Notice}
-use Rattle.feed_text.specs.SinkEvents.{told_best}
+use Rattle.event_sinks.specs.SinkEvents.{told_best}
 use Rattle.best_rows.specs.RowTexts.{header_of, told_row}
 use Rattle.best_rows.specs.declared.style.RowStyle.{RowStyle}
 

@@ -8,8 +8,8 @@ use Rattle.feed_types.specs.Text.{price_text, state_text}
 use Rattle.run_settings.specs.declared.formats.BestFormat.{BestFormat}
 use Rattle.run_settings.specs.declared.formats.BestFormat.TheVariants.{Text, Csv, Json}
 use Rattle.run_settings.specs.declared.formats.TimeStyle.{TimeStyle}
-use Rattle.feed_text.specs.Lines.{best_line}
-use Rattle.feed_text.specs.SinkEvents.{SinkEvent, TimedEvent, told_best}
+use Rattle.event_sinks.specs.Lines.{best_line}
+use Rattle.event_sinks.specs.SinkEvents.{SinkEvent, TimedEvent, told_best}
 use Rattle.best_rows.specs.declared.row_time.RowTime.{RowTime}
 use Rattle.best_rows.specs.declared.style.RowStyle.{RowStyle}
 use Rattle.best_rows.specs.Quoting.{csv_text, quoted}

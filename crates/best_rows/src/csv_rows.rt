@@ -1,7 +1,7 @@
 //! Rows of comma-separated values.
 ghost use Rattle.std.specs.Prelude.{◌≤◌};
 ghost use Rattle.journal_book.specs.Changes.{notice_of};
-ghost use Rattle.feed_text.specs.Pages.{Appends};
+ghost use Rattle.text_out.specs.Pages.{Appends};
 ghost use Rattle.best_rows.specs.RowTexts.{csv_row, csv_side};
 ghost use Rattle.best_rows.specs.Times.{csv_time};
 
@@ -9,10 +9,10 @@ use crate::quoting::put_csv_name;
 use crate::row_time::RowTime;
 use crate::rows::put_state;
 use crate::time_styles::put_time;
-use feed_text::{LineBuffer, put_bytes, put_number, put_price};
 use feed_types::Best;
 use nbbo_book::Change;
 use run_settings::TimeStyle;
+use text_out::{LineBuffer, put_bytes, put_number, put_price};
 
 /// Appends the venue, the price and the size of a side, each empty where there is none.
 fn put_csv_side(text: &mut LineBuffer, side: &Option<Best>)

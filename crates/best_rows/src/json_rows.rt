@@ -1,7 +1,7 @@
 //! Rows that are JSON objects.
 ghost use Rattle.std.specs.Prelude.{◌≤◌};
 ghost use Rattle.journal_book.specs.Changes.{notice_of};
-ghost use Rattle.feed_text.specs.Pages.{Appends};
+ghost use Rattle.text_out.specs.Pages.{Appends};
 ghost use Rattle.best_rows.specs.RowTexts.{json_row, json_side};
 ghost use Rattle.best_rows.specs.Times.{json_known_time, json_time};
 
@@ -9,10 +9,10 @@ use crate::quoting::put_quoted;
 use crate::row_time::RowTime;
 use crate::rows::put_state;
 use crate::time_styles::put_time_value;
-use feed_text::{LineBuffer, put_bytes, put_number, put_price};
 use feed_types::Best;
 use nbbo_book::Change;
 use run_settings::TimeStyle;
+use text_out::{LineBuffer, put_bytes, put_number, put_price};
 
 /// Appends a side as an object of its venue, price and size, or null.
 fn put_json_side(text: &mut LineBuffer, side: &Option<Best>)

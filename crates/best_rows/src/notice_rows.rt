@@ -4,10 +4,10 @@ ghost use Rattle.best_rows.specs.NoticeRows.{notice_row};
 
 use crate::rows::put_row;
 use crate::style::RowStyle;
-use feed_text::LineBuffer;
 use feed_types::Notice;
 use nbbo_book::Change;
 use std::alloc::AllocError;
+use text_out::LineBuffer;
 
 /// The bytes of room that a row needs.
 const ROW: usize = 1_024;

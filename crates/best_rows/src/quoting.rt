@@ -1,11 +1,11 @@
 //! Symbols in quotation marks.
 ghost use Rattle.std.specs.Prelude.{◌≡◌, ◌≤◌, length};
 ghost use Rattle.feed_types.specs.Symbols.{name_of};
-ghost use Rattle.feed_text.specs.Pages.{Appends};
+ghost use Rattle.text_out.specs.Pages.{Appends};
 ghost use Rattle.best_rows.specs.Quoting.{csv_text, needs_quotes, quoted};
 
-use feed_text::{LineBuffer, put_bytes, put_name};
 use feed_types::SymbolName;
+use text_out::{LineBuffer, put_bytes, put_name};
 
 /// Appends a name in quotation marks, each mark in it after the escape.
 pub fn put_quoted(text: &mut LineBuffer, name: &[u8], escape: u8)

@@ -2,7 +2,7 @@
 ghost use Rattle.std.specs.Prelude.{◌≡◌, ◌≤◌, ◌++◌};
 ghost use Rattle.journal_book.specs.Changes.{notice_of};
 ghost use Rattle.feed_types.specs.Text.{state_text};
-ghost use Rattle.feed_text.specs.Pages.{Appends, memory_of};
+ghost use Rattle.text_out.specs.Pages.{Appends, memory_of};
 ghost use Rattle.best_rows.specs.RowTexts.{row_of};
 ghost use Rattle.best_rows.specs.Times.{row_time};
 
@@ -10,10 +10,11 @@ use crate::csv_rows::put_csv;
 use crate::json_rows::put_json;
 use crate::row_time::RowTime;
 use crate::style::RowStyle;
-use feed_text::{LineBuffer, put_bytes, put_change};
+use event_sinks::put_change;
 use feed_types::NationalState;
 use nbbo_book::Change;
 use run_settings::BestFormat;
+use text_out::{LineBuffer, put_bytes};
 
 /// Appends the word of a state.
 pub(crate) fn put_state(text: &mut LineBuffer, state: NationalState)

@@ -1,9 +1,9 @@
 //! Times as seconds.
 ghost use Rattle.std.specs.Prelude.{◌≡◌, ◌<◌, ◌≤◌, ◌/◌, ◌%◌, ◌∷◌, [], decimal};
-ghost use Rattle.feed_text.specs.Pages.{Appends};
+ghost use Rattle.text_out.specs.Pages.{Appends};
 ghost use Rattle.best_rows.specs.Times.{nine_digits, seconds_text};
 
-use feed_text::{LineBuffer, put_bytes, put_number};
+use text_out::{LineBuffer, put_bytes, put_number};
 
 /// The nanoseconds of a second.
 const SECOND: u64 = 1_000_000_000;

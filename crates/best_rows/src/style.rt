@@ -1,10 +1,10 @@
 //! How rows are written, and what stands before the first one.
 ghost use Rattle.std.specs.Prelude.{◌≡◌, ◌≤◌};
-ghost use Rattle.feed_text.specs.Pages.{Appends};
+ghost use Rattle.text_out.specs.Pages.{Appends};
 ghost use Rattle.best_rows.specs.RowTexts.{has_times, header_of, time_name};
 
-use feed_text::{LineBuffer, put_bytes};
 use run_settings::BestFormat;
+use text_out::{LineBuffer, put_bytes};
 
 /// How the rows of national bests are written.
 #[derive(Clone, Copy, Debug, PartialEq, Eq)]

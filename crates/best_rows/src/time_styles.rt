@@ -1,12 +1,12 @@
 //! Times in a style.
 ghost use Rattle.std.specs.Prelude.{◌≤◌};
-ghost use Rattle.feed_text.specs.Pages.{Appends};
+ghost use Rattle.text_out.specs.Pages.{Appends};
 ghost use Rattle.best_rows.specs.Times.{json_time_value, time_text};
 
 use crate::seconds::put_seconds;
 use crate::utc::put_utc;
-use feed_text::{LineBuffer, put_bytes};
 use run_settings::TimeStyle;
+use text_out::{LineBuffer, put_bytes};
 
 /// Appends a time in nanoseconds from 1970 on, in the style.
 pub fn put_time(text: &mut LineBuffer, style: TimeStyle, time: u64)

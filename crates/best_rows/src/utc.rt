@@ -1,13 +1,13 @@
 //! Times as dates with a time of day, in UTC.
 ghost use Rattle.std.specs.Prelude.{◌≡◌, ◌≤◌, Ok, length, pos};
-ghost use Rattle.feed_text.specs.Pages.{Appends};
+ghost use Rattle.text_out.specs.Pages.{Appends};
 ghost use Rattle.jiff_fmt.specs.Temporal.{parse_timestamp};
 ghost use Rattle.best_rows.specs.UtcTexts.{utc_text};
 
 use arrayvec::ArrayString;
-use feed_text::{LineBuffer, put_bytes};
 use jiff_core::Timestamp;
 use jiff_fmt::temporal::DateTimePrinter;
+use text_out::{LineBuffer, put_bytes};
 
 /// Appends the bytes of a text.
 fn put_text(text: &mut LineBuffer, spelled: &[u8])

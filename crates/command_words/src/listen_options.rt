@@ -63,7 +63,8 @@ const REQUEST_AFTER: CommandOption<'static> = CommandOption {
     long_help: text!("\
 With --request: for how many milliseconds a gap stands before its messages are asked for, 0
 to " MAX_COUNT ", so that the other line can bring them first. By default 0, with a further option
-" USUAL_WAIT ". A further option is one other than --sessions, --lines, --request, --window, --journal,
+" USUAL_WAIT ". With 0 a request leaves with a datagram of the venue alone, so that nothing is asked for
+again while none comes. A further option is one other than --sessions, --lines, --request, --window, --journal,
 --datagrams and --end any; sessions that follow others are one, too"),
 };
 

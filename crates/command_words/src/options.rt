@@ -118,8 +118,9 @@ pub const FROM_TIME: CommandOption<'static> = CommandOption {
 The rows or statistics are of what came at this time or later, in UTC as
 2026-11-28T14:30:00Z, or with up to nine decimals of a second, or as rows have it, in seconds
 from 1970 on with nine decimals: 1795876200.000000000. All of the capture is replayed; only
-with --lines, by the times of the frames. Messages that a packet told of before are neither
-missing nor left out; with --bests the best from before this time stands at first",
+with --lines, by the times of the frames. Gaps and losses are counted as if the capture began
+at this time; with --every, messages that a packet of the line passed over before aren't missing.
+With --bests the best from before stands at first, and counts from this time on",
 };
 
 /// `--to TIME`.

@@ -85,8 +85,9 @@ With --lines standard error says at the end, where the count isn't 0:
   frames that the capture says its interfaces dropped
   frames that the capture says its system dropped
 and 'no datagram goes to a line', 'venue V line L had no datagram', 'venue V refused N datagrams of
-session NAME, which isn't named', 'a second capture seems to begin at byte N', as after 'cat' of
-two files.
+session NAME, which isn't named', or, of a session that is named to follow another, 'which never
+began: the one before it wasn't over'; 'no frame has a time', where an option goes by times;
+'a second capture seems to begin at byte N', as after 'cat' of two files.
 
 At the end of a whole capture standard error says what each venue still lacks: the first messages
 that never came, though later ones did, as far as the window goes; and which symbols never came:

@@ -11,7 +11,7 @@ use Rattle.line_arbiter.specs.Histories.{History, new_history, names_of, after_i
 use Rattle.line_arbiter.specs.laws.EveryAnswer.{every_answer, every_renewal}
 use Rattle.line_arbiter.specs.laws.SkipAnswers.{every_skip}
 use Rattle.feed_text.specs.declared.replay.ReplayConfig.{ReplayConfig}
-use Rattle.feed_text.specs.Capture.{CaptureRecord, datagram_record, renewal_record, skip_record, self_help_record, record_venue, IsRecord, HoldsBytes}
+use Rattle.capture_records.specs.Capture.{CaptureRecord, datagram_record, renewal_record, skip_record, self_help_record, record_venue, IsRecord, HoldsBytes}
 use Rattle.feed_text.specs.ReplayEvents.{ReplayEvent, packet_answered, packet_refused, renewal_answered, skip_answered, self_help_declared}
 use Rattle.line_arbiter.specs.LastSent.{last_sent}
 use Rattle.feed_text.specs.Emitted.{gap_emitted, items_emitted, EmitsAt, EmitsRecord, Emits}

@@ -1,5 +1,3 @@
-pub mod Ranges
-pub mod Calls
 pub mod Taking
 pub mod RuleSteps
 pub mod PutInSteps
@@ -14,8 +12,6 @@ pub mod Tales
 pub mod Telling
 pub mod EveryTelling
 pub mod OneTelling
-pub mod Digits
-pub mod Places
 pub mod Passing
 pub mod ToldRecords
 pub mod TakenRecords
@@ -23,4 +19,3 @@ pub mod RecordStops
 pub mod ReadRecords
 pub mod Runs
 pub mod RunEnds
-pub mod OwnSteps

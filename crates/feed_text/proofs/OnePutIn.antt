@@ -13,8 +13,8 @@ use Rattle.line_arbiter.specs.Outcomes.{IsOutcome}
 use Rattle.run_settings.specs.declared.skip_rule.SkipRule.{SkipRule}
 use Rattle.run_settings.specs.declared.skip_rule.SkipRule.TheVariants.{Never, Join, Gaps, After}
 use Rattle.feed_text.specs.declared.replay.ReplayConfig.{ReplayConfig}
-use Rattle.feed_text.specs.Capture.{CaptureRecord, datagram_record, renewal_record, skip_record, self_help_record, record_venue}
-use Rattle.feed_text.specs.Formats.{TimedRecord}
+use Rattle.capture_records.specs.Capture.{CaptureRecord, datagram_record, renewal_record, skip_record, self_help_record, record_venue}
+use Rattle.capture_records.specs.Formats.{TimedRecord}
 use Rattle.feed_text.specs.Rules.{GivesUpOverdue, IsLowestOverdue, IsOverdueAt, PutsAt, PutsBefore, PutsIn, ReplayPoint, RenewsBefore, SkipsBefore, next_come}
 
 -- packets are read in one way

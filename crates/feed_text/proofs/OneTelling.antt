@@ -19,12 +19,12 @@ use Rattle.feed_text.specs.Rules.{AreTakenOf, IsTakenNext, ReplayPoint, new_poin
 use Rattle.feed_text.proofs.OnePutIn.{one_put}
 use Rattle.line_arbiter.specs.Histories.{History, names_of, after_input, history_after, skip_after}
 use Rattle.feed_text.specs.declared.replay.ReplayConfig.{ReplayConfig}
-use Rattle.feed_text.specs.Capture.{CaptureRecord, datagram_record, renewal_record, skip_record, self_help_record, record_venue}
+use Rattle.capture_records.specs.Capture.{CaptureRecord, datagram_record, renewal_record, skip_record, self_help_record, record_venue}
 use Rattle.feed_text.specs.ReplayEvents.{ReplayEvent, packet_answered, packet_refused, renewal_answered, skip_answered, entries_after, entries_of}
 use Rattle.line_arbiter.specs.LastSent.{last_sent}
 use Rattle.feed_text.specs.Emitted.{gap_emitted, items_emitted, EmitsFault, EmitsPacket, EmitsAt, EmitsRecord, Emits}
-use Rattle.feed_text.specs.Formats.{TimedRecord, timed_record, what_of}
-use Rattle.feed_text.specs.SinkEvents.{TimedEvent, at_time}
+use Rattle.capture_records.specs.Formats.{TimedRecord, timed_record, what_of}
+use Rattle.event_sinks.specs.SinkEvents.{TimedEvent, at_time}
 use Rattle.feed_text.specs.Tellings.{lasts_told, told_of}
 use Rattle.feed_text.specs.Texts.{new_histories, EmitsAll, HasJournalRoom}
 use Rattle.feed_text.specs.Told.{told_by_records, point_told, IsToldUpTo, IsToldOf, IsToldOfAll, IsToldToFull}

@@ -15,9 +15,9 @@ use Rattle.feed_text.specs.declared.replay.ReplayConfig.{ReplayConfig}
 use Rattle.feed_text.specs.declared.replay_sink.PublishStop.{PublishStop}
 use Rattle.feed_text.specs.declared.standing_gap.StandingGap.{StandingGap}
 use Rattle.feed_text.specs.declared.standing_gaps.StandingGaps.{StandingGaps}
-use Rattle.feed_text.specs.Capture.{CaptureRecord, datagram_record, renewal_record, self_help_record, skip_record, record_venue}
+use Rattle.capture_records.specs.Capture.{CaptureRecord, datagram_record, renewal_record, self_help_record, skip_record, record_venue}
 use Rattle.feed_text.specs.Following.{VenueList, EmitsNext, FollowAll}
-use Rattle.feed_text.specs.Formats.{TimedRecord, timed_record}
+use Rattle.capture_records.specs.Formats.{TimedRecord, timed_record}
 use Rattle.feed_text.specs.PuttingIn.{GivesUpNone, KeepsFor, PutsNoSkip, PutsOne, StandsFor, clock_of, left_in}
 use Rattle.feed_text.specs.RenewingVenues.{BeginsAtVenue, RenewsOne, StaysAtVenue}
 use Rattle.feed_text.specs.ReplayStates.{SinkTaking, ReplayState}

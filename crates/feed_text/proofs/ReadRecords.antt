@@ -3,9 +3,9 @@ use Rattle.std.proofs.Common.{◌≡◌, ℕ, ◌+◌, List, [], ◌∷◌, ◌+
 use Rattle.std.specs.Prelude.{All}
 use Rattle.std.proofs.lemmas.List.{map-append}
 use Rattle.std.proofs.lemmas.List.Elements.{All-nil, All-push}
-use Rattle.feed_text.specs.Capture.{IsRecord}
-use Rattle.feed_text.specs.Devices.{Reading, HasGiven}
-use Rattle.feed_text.specs.Formats.{TimedRecord, Parsing, TakesPiece, HasReadRecords, what_of}
+use Rattle.capture_records.specs.Capture.{IsRecord}
+use Rattle.text_out.specs.Devices.{Reading, HasGiven}
+use Rattle.capture_records.specs.Formats.{TimedRecord, Parsing, TakesPiece, HasReadRecords, what_of}
 
 -- the laws of a reader and a format
 pub record InLaws {R S F : Type 0} (reading : Reading R) (parsing : Parsing S F) : Type 0 where

@@ -8,12 +8,12 @@ use Rattle.feed_text.specs.declared.replay.ReplayConfig.{ReplayConfig}
 use Rattle.feed_text.specs.declared.replay_sink.PublishStop.TheVariants as stops
 use Rattle.feed_text.specs.Emitted.{EmitsRecord}
 use Rattle.feed_text.specs.EventReplays.{IsToldPart}
-use Rattle.feed_text.specs.Formats.{TimedRecord}
+use Rattle.capture_records.specs.Formats.{TimedRecord}
 use Rattle.feed_text.specs.ReplayEvents.{ReplayEvent, entries_after, entries_of}
 use Rattle.feed_text.specs.ReplayStates.{SinkTaking, ReplayState, GoesToFull, FailsWithin}
 use Rattle.feed_text.specs.Rules.{IsTakenNext, ReplayPoint, new_point, point_after}
 use Rattle.feed_text.specs.Running.{StoppedAt}
-use Rattle.feed_text.specs.SinkEvents.{TimedEvent, at_time}
+use Rattle.event_sinks.specs.SinkEvents.{TimedEvent, at_time}
 use Rattle.feed_text.specs.Tellings.{told_of}
 use Rattle.feed_text.specs.Texts.{new_histories}
 use Rattle.feed_text.specs.Told.{IsToldSome, IsToldToFull, told_facts}

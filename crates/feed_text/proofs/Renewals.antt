@@ -7,7 +7,7 @@ use Rattle.mold_packet.specs.Content.{Content, Spells}
 use Rattle.line_arbiter.specs.Histories.{History}
 use Rattle.run_settings.specs.declared.next_session.NextSession.{NextSession}
 use Rattle.feed_text.specs.declared.replay_sink.PublishStop.{PublishStop}
-use Rattle.feed_text.specs.Capture.{renewal_record}
+use Rattle.capture_records.specs.Capture.{renewal_record}
 use Rattle.feed_text.specs.Following.{ReplayVenue, VenueList, EmitsNext, FollowAll, Follows}
 use Rattle.feed_text.specs.Renewing.{BeginsNextSession, BeginsNone, IsNextName, IsPresentOver, RenewsOrStays}
 use Rattle.feed_text.specs.RenewingVenues.{BeginsAtVenue, RenewsAtVenue, RenewsOne}

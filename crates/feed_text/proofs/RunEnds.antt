@@ -2,20 +2,20 @@
 use Rattle.std.proofs.Common.{◌≡◌, inl, inr, ℕ, ◌+◌, ◌≤◌, List, [], ◌∷◌, ◌++◌, drop, append-nil, refl, sym, subst, None}
 use Rattle.std.specs.Prelude.{Result, Ok, Err, ◌⊎◌, ⊤}
 use Rattle.feed_text.specs.declared.replay.ReplayConfig.{ReplayConfig}
-use Rattle.feed_text.specs.declared.replay_stop.ReplayStop.{ReplayStop}
-use Rattle.feed_text.specs.declared.replay_stop.ReplayStop.TheVariants.{SinkFailed, Bad, JournalFull, ReadFailed, Short, TooManyTurns, NoMemory}
+use Rattle.event_sinks.specs.declared.replay_stop.ReplayStop.{ReplayStop}
+use Rattle.event_sinks.specs.declared.replay_stop.ReplayStop.TheVariants.{SinkFailed, Bad, JournalFull, ReadFailed, Short, TooManyTurns, NoMemory}
 use Rattle.feed_text.specs.declared.replay_sink.PublishStop.TheVariants as stops
-use Rattle.feed_text.specs.Capture.{IsRecord}
-use Rattle.feed_text.specs.Devices.{Reading}
+use Rattle.capture_records.specs.Capture.{IsRecord}
+use Rattle.text_out.specs.Devices.{Reading}
 use Rattle.feed_text.specs.EventReplays.{ReadAndTold, IsToldPart, AnswersRun, TookAll, venues_in}
 use Rattle.feed_text.specs.Following.{VenueList, FollowAll}
-use Rattle.feed_text.specs.Formats.{TimedRecord, Parsing, TakesPiece, HasReadRecords}
+use Rattle.capture_records.specs.Formats.{TimedRecord, Parsing, TakesPiece, HasReadRecords}
 use Rattle.feed_text.specs.declared.standing_gaps.StandingGaps.{StandingGaps}
 use Rattle.feed_text.specs.Rules.{ReplayPoint}
 use Rattle.feed_text.specs.Standings.{Knows}
 use Rattle.feed_text.specs.ReplayStates.{SinkTaking, ReplayState}
 use Rattle.feed_text.specs.Running.{ClosesSink, RanToEnd, ShowsBefore, StoppedAt, StopsShown}
-use Rattle.feed_text.specs.SinkEvents.{TimedEvent, at_time}
+use Rattle.event_sinks.specs.SinkEvents.{TimedEvent, at_time}
 use Rattle.feed_text.specs.Tellings.{lasts_told}
 use Rattle.feed_text.specs.Told.{IsToldOf, IsToldSome, told_facts}
 use Rattle.feed_text.proofs.Tales.{SinkLaws}

@@ -4,11 +4,11 @@ use Rattle.std.specs.Prelude.{Ok}
 use Rattle.std.proofs.lemmas.List.Elements.{All-nil}
 use Rattle.journal_book.specs.NumberedBooks.{NumberedState}
 use Rattle.feed_text.specs.declared.replay.ReplayConfig.{ReplayConfig}
-use Rattle.feed_text.specs.Capture.{IsRecord}
-use Rattle.feed_text.specs.Devices.{Reading, HasGiven}
+use Rattle.capture_records.specs.Capture.{IsRecord}
+use Rattle.text_out.specs.Devices.{Reading, HasGiven}
 use Rattle.feed_text.specs.EventReplays.{venues_in}
 use Rattle.feed_text.specs.Following.{VenueList, FollowAll}
-use Rattle.feed_text.specs.Formats.{TimedRecord, Parsing, TakesPiece, HasReadRecords}
+use Rattle.capture_records.specs.Formats.{TimedRecord, Parsing, TakesPiece, HasReadRecords}
 use Rattle.feed_text.specs.declared.standing_gaps.StandingGaps.{StandingGaps}
 use Rattle.feed_text.specs.Rules.{ReplayPoint}
 use Rattle.feed_text.specs.Standings.{KeepsNone, Knows}

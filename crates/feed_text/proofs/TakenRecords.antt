@@ -8,14 +8,14 @@ use Rattle.feed_types.specs.declared.journal.Entry.{Entry}
 use Rattle.feed_text.specs.declared.replay.ReplayConfig.{ReplayConfig}
 use Rattle.feed_text.specs.EventReplays.{venues_in}
 use Rattle.feed_text.specs.Following.{VenueList, FollowAll}
-use Rattle.feed_text.specs.Formats.{TimedRecord}
+use Rattle.capture_records.specs.Formats.{TimedRecord}
 use Rattle.feed_text.specs.ReplayEvents.{ReplayEvent, entries_of}
 use Rattle.feed_text.specs.ReplayStates.{SinkTaking, ReplayState, IsWithinJournal, GoesOn}
 use Rattle.feed_text.specs.Rules.{AreTakenOf, ReplayPoint, new_point, gap_standing_after}
 use Rattle.feed_text.specs.Standings.{KeepsNone, Knows, kept_at}
 use Rattle.feed_text.specs.declared.standing_gaps.StandingGaps.{StandingGaps}
 use Rattle.feed_text.specs.Running.{IsReplayStart, KeepsVenues, TakesNext, TookSome}
-use Rattle.feed_text.specs.SinkEvents.{TimedEvent, at_time}
+use Rattle.event_sinks.specs.SinkEvents.{TimedEvent, at_time}
 use Rattle.feed_text.specs.Tellings.{told_of}
 use Rattle.feed_text.specs.Texts.{HasJournalRoom, new_histories}
 use Rattle.feed_text.specs.Told.{IsToldUpTo}

@@ -11,8 +11,8 @@ use Rattle.run_settings.specs.declared.skip_rule.SkipRule.TheVariants.{Never, Af
 use Rattle.mold_packet.specs.Content.{Content}
 use Rattle.feed_text.specs.declared.standing_gap.StandingGap.{StandingGap}
 use Rattle.feed_text.specs.declared.standing_gaps.StandingGaps.{StandingGaps}
-use Rattle.feed_text.specs.Capture.{CaptureRecord, datagram_record, renewal_record, skip_record, self_help_record, record_venue}
-use Rattle.feed_text.specs.Formats.{TimedRecord, timed_record, what_of}
+use Rattle.capture_records.specs.Capture.{CaptureRecord, datagram_record, renewal_record, skip_record, self_help_record, record_venue}
+use Rattle.capture_records.specs.Formats.{TimedRecord, timed_record, what_of}
 use Rattle.feed_text.specs.ReplayEvents.{ReplayEvent}
 use Rattle.feed_text.specs.Emitted.{EmitsRecord, Emits}
 use Rattle.feed_text.specs.Rules.{AreTakenOf, GivesUpOverdue, IsTakenNext, PutsBefore, PutsIn, SkipsBefore, names_after, ReplayPoint, gap_at, point_after, gap_standing_after, stands_then}

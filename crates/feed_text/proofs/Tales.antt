@@ -18,7 +18,7 @@ use Rattle.feed_text.specs.Emitted.{gap_event}
 use Rattle.feed_text.specs.laws.Entries.{entries_more}
 use Rattle.feed_text.specs.declared.replay_sink.PublishStop.{PublishStop}
 use Rattle.feed_text.specs.declared.replay_sink.PublishStop.TheVariants.{JournalFull, SinkFailed}
-use Rattle.feed_text.specs.SinkEvents.{SinkEvent, TimedEvent, at_time, timed_event, told_best, told_declaration}
+use Rattle.event_sinks.specs.SinkEvents.{SinkEvent, TimedEvent, at_time, timed_event, told_best, told_declaration}
 use Rattle.feed_text.specs.Tellings.{own_told, told_since, told_of}
 use Rattle.feed_text.specs.ReplayStates.{SinkTaking, ReplayState, told_from, GoesOn, GoesToFull, FailsWithin, EmitsInto}
 use Rattle.feed_text.proofs.Rest.{rest_at}

@@ -6,7 +6,7 @@ use Rattle.std.proofs.Math.ListN.{length-set, drop_of_length-le}
 use Rattle.std.proofs.lemmas.List.{length-map, map-append, take_more}
 use Rattle.std.proofs.lemmas.Grind.{common_steps}
 use Rattle.std.proofs.lemmas.Option.{slice_get_within}
-use Rattle.feed_text.specs.Capture.{CaptureRecord, self_help_record, record_venue}
+use Rattle.capture_records.specs.Capture.{CaptureRecord, self_help_record, record_venue}
 use Rattle.line_arbiter.specs.Histories.{History, new_history}
 use Rattle.feed_text.specs.declared.replay_sink.PublishStop.{PublishStop}
 use Rattle.feed_text.specs.Tellings.{last_told, lasts_told}
@@ -15,7 +15,7 @@ use Rattle.feed_text.specs.ReplayEvents.{self_help_declared}
 use Rattle.feed_text.specs.Following.{ReplayVenue, VenueList, Follows, FollowAll, EmitsNext, EmitsOne, TakesRecord}
 use Rattle.feed_types.specs.ListLaws.{get_within}
 use Rattle.feed_text.specs.laws.Lists.{get_set_same, get_set_other, same_or_not, same_set}
-use Rattle.feed_text.specs.declared.lack.Lack.{Lack}
+use Rattle.event_sinks.specs.declared.lack.Lack.{Lack}
 use Rattle.feed_text.specs.Lacks.{lack_of, lacks_of}
 use Rattle.feed_text.proofs.VenueSteps.{on_ok}
 use Rattle.feed_text.proofs.Rest.{rest_at}

@@ -5,10 +5,10 @@ use Rattle.line_arbiter.specs.Histories.{History}
 use Rattle.feed_types.specs.declared.journal.Entry.{Entry}
 use Rattle.feed_text.specs.declared.replay.ReplayConfig.{ReplayConfig}
 use Rattle.feed_text.specs.Emitted.{EmitsRecord, Emits}
-use Rattle.feed_text.specs.Formats.{TimedRecord, what_of}
+use Rattle.capture_records.specs.Formats.{TimedRecord, what_of}
 use Rattle.feed_text.specs.ReplayEvents.{ReplayEvent, entries_of}
 use Rattle.feed_text.specs.Rules.{AreTakenOf, IsTakenNext, ReplayPoint, point_after}
-use Rattle.feed_text.specs.SinkEvents.{TimedEvent, at_time, timed_event}
+use Rattle.event_sinks.specs.SinkEvents.{TimedEvent, at_time, timed_event}
 use Rattle.feed_text.specs.Tellings.{told_of}
 use Rattle.feed_text.specs.Told.{told_by_records}
 use Rattle.feed_text.specs.laws.Entries.{entries_more}

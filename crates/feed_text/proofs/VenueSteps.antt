@@ -28,8 +28,8 @@ use Rattle.line_arbiter.specs.laws.Placing.{place_same, place_skip, sent_back}
 use Rattle.line_arbiter.specs.laws.StreamGrowth.{closed_same, closed_skip}
 use Rattle.line_arbiter.specs.laws.FitsHistory.{fits_new, fits_packet, fits_push, fits_renewal, keeping_its_session_is_transitive, outcome_in, renewal_in, shown_more}
 use Rattle.feed_text.specs.declared.replay_sink.PublishStop.{PublishStop}
-use Rattle.feed_text.specs.Capture.{datagram_record, renewal_record, skip_record}
-use Rattle.feed_text.specs.SinkEvents.{told_last}
+use Rattle.capture_records.specs.Capture.{datagram_record, renewal_record, skip_record}
+use Rattle.event_sinks.specs.SinkEvents.{told_last}
 use Rattle.feed_text.specs.ReplayEvents.{ReplayEvent, packet_answered, packet_refused, item_taken, renewal_answered, skip_answered}
 use Rattle.line_arbiter.specs.LastSent.{last_sent}
 use Rattle.feed_text.specs.Emitted.{items_emitted, gap_event, gap_emitted, EmitsAt}

@@ -17,11 +17,11 @@ use Rattle.line_arbiter.specs.Counts.{shown}
 use Rattle.line_arbiter.specs.States.{State, KeepsAllButSent}
 use Rattle.line_arbiter.specs.Fits.{Fits, FitsHistory}
 use Rattle.feed_text.specs.declared.replay_sink.PublishStop.{PublishStop}
-use Rattle.feed_text.specs.Capture.{CaptureRecord, record_venue}
+use Rattle.capture_records.specs.Capture.{CaptureRecord, record_venue}
 use Rattle.feed_text.specs.ReplayEvents.{ReplayEvent, item_taken, packet_answered}
 use Rattle.line_arbiter.specs.LastSent.{stream_length, last_sent}
 use Rattle.feed_text.specs.Emitted.{items_emitted, EmitsAt, EmitsRecord}
-use Rattle.feed_text.specs.declared.lack.Lack.{Lack}
+use Rattle.event_sinks.specs.declared.lack.Lack.{Lack}
 use Rattle.feed_text.specs.Lacks.{lacks_of}
 use Rattle.feed_text.specs.ReplayStates.{SinkTaking, ReplayState, EmitsInto}
 

@@ -1,20 +1,15 @@
 -- What venues lack at the end of a capture.
-use Rattle.std.specs.Prelude.{◌≡◌, ℕ, ◌+◌, List, [], ◌∷◌, ◌++◌, Option, Some, None}
-use Rattle.mold_packet.specs.declared.request.Request.{Request}
+use Rattle.std.specs.Prelude.{◌≡◌, ℕ, ◌+◌, List, [], ◌∷◌, ◌++◌, Option}
 use Rattle.line_arbiter.specs.Histories.{History}
-use Rattle.feed_text.specs.declared.lack.Lack.{Lack}
+use Rattle.event_sinks.specs.declared.lack.Lack.{Lack}
 use Rattle.feed_text.specs.declared.replay.ReplayConfig.{ReplayConfig}
 use Rattle.feed_text.specs.declared.standing_gap.StandingGap.{StandingGap}
-use Rattle.feed_text.specs.Devices.{Reading}
+use Rattle.text_out.specs.Devices.{Reading}
 use Rattle.line_arbiter.specs.LastSent.{last_gap}
 use Rattle.feed_text.specs.EventReplays.{venues_in}
-use Rattle.feed_text.specs.Formats.{TimedRecord, Parsing, HasReadRecords}
+use Rattle.capture_records.specs.Formats.{TimedRecord, Parsing, HasReadRecords}
 use Rattle.feed_text.specs.Rules.{AreTakenOf, new_point}
-
--- what a venue lacks by its gap
-abbrev pub lack_by : ℕ → Option Request → List Lack
-lack_by venue None = []
-lack_by venue (Some gap) = record { venue = venue; number = gap.number; count = gap.count } ∷ []
+use Rattle.event_sinks.specs.VenueLacks.{lack_by}
 
 -- what a venue with this history lacks
 abbrev pub lack_of : ℕ → ℕ → History → List Lack

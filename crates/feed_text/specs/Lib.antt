@@ -1,8 +1,3 @@
-pub mod Capture
-pub mod Devices
-pub mod Kind
-pub mod DeviceLaws
-pub mod Lines
 pub mod ReplayEvents
 pub mod Emitted
 pub mod Rules
@@ -18,21 +13,10 @@ pub mod ReplayStates
 pub mod Following
 pub mod Replays
 pub mod Lacks
-pub mod Placing
-pub mod Pages
-pub mod SinkEvents
 pub mod Tellings
-pub mod Formats
-pub mod TextPages
-pub mod TextPageLaws
-pub mod EventLines
-pub mod OwnFormats
-pub mod OwnFormatLaws
 pub mod Told
 pub mod ToldJournal
 pub mod EventReplays
 pub mod Running
-pub mod StandardError
-pub mod LackTexts
 -- laws, which proofs of the crates above cite
 pub mod laws

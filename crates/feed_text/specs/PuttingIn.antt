@@ -7,9 +7,9 @@ use Rattle.feed_text.specs.declared.put_in.Coming.{Coming}
 use Rattle.feed_text.specs.declared.replay.ReplayConfig.{ReplayConfig}
 use Rattle.feed_text.specs.declared.replay_sink.PublishStop.{PublishStop}
 use Rattle.feed_text.specs.declared.standing_gaps.StandingGaps.{StandingGaps}
-use Rattle.feed_text.specs.Capture.{CaptureRecord, record_venue}
+use Rattle.capture_records.specs.Capture.{CaptureRecord, record_venue}
 use Rattle.feed_text.specs.Following.{ReplayVenue, EmitsNext, FollowAll}
-use Rattle.feed_text.specs.Formats.{TimedRecord, timed_record}
+use Rattle.capture_records.specs.Formats.{TimedRecord, timed_record}
 use Rattle.feed_text.specs.ReplayStates.{SinkTaking, ReplayState}
 use Rattle.feed_text.specs.Rules.{GivesUpOverdue, PutsIn, ReplayPoint, datagram_bytes, point_after}
 use Rattle.feed_text.specs.Skipping.{SkipsAtVenue}

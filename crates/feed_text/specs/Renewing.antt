@@ -7,7 +7,7 @@ use Rattle.line_arbiter.specs.Packets.{end_of}
 use Rattle.line_arbiter.specs.Renewals.{HasEnded}
 use Rattle.run_settings.specs.declared.next_session.NextSession.{NextSession}
 use Rattle.feed_text.specs.declared.replay_sink.PublishStop.{PublishStop}
-use Rattle.feed_text.specs.Capture.{renewal_record}
+use Rattle.capture_records.specs.Capture.{renewal_record}
 use Rattle.feed_text.specs.Following.{ReplayVenue, EmitsOne, Follows}
 use Rattle.feed_text.specs.ReplayStates.{SinkTaking, ReplayState}
 use Rattle.feed_text.specs.Rules.{RenewsBefore, names_after}

@@ -4,7 +4,7 @@ use Rattle.mold_packet.specs.Content.{Content, Spells}
 use Rattle.line_arbiter.specs.Histories.{History}
 use Rattle.run_settings.specs.declared.next_session.NextSession.{NextSession}
 use Rattle.feed_text.specs.declared.replay_sink.PublishStop.{PublishStop}
-use Rattle.feed_text.specs.Capture.{renewal_record}
+use Rattle.capture_records.specs.Capture.{renewal_record}
 use Rattle.feed_text.specs.Following.{VenueList, EmitsNext, FollowAll}
 use Rattle.feed_text.specs.Renewing.{BeginsNone}
 use Rattle.feed_text.specs.ReplayStates.{SinkTaking, ReplayState}

@@ -6,7 +6,7 @@ use Rattle.feed_text.specs.declared.replay_sink.ReplaySink.{ReplaySink}
 use Rattle.feed_text.specs.declared.replay_sink.PublishStop.{PublishStop}
 use Rattle.feed_text.specs.declared.replay_sink.PublishStop.TheVariants.{JournalFull, SinkFailed}
 use Rattle.feed_text.specs.ReplayEvents.{ReplayEvent, entries_after, entries_of}
-use Rattle.feed_text.specs.SinkEvents.{SinkEvent, TimedEvent, at_time}
+use Rattle.event_sinks.specs.SinkEvents.{SinkEvent, TimedEvent, at_time}
 use Rattle.feed_text.specs.Tellings.{own_told, told_of}
 
 -- How sinks of a type go on: they take these events, or fail within them. These are members of the

@@ -5,14 +5,14 @@ use Rattle.std.specs.Str.{bytes_eq}
 use Rattle.feed_text.specs.declared.fault.ReplayFault.{ReplayFault}
 use Rattle.feed_text.specs.declared.fault.ReplayFault.TheVariants as faults
 use Rattle.feed_text.specs.declared.replay.ReplayConfig.{ReplayConfig}
-use Rattle.feed_text.specs.declared.replay_stop.ReplayStop.{ReplayStop}
-use Rattle.feed_text.specs.declared.replay_stop.ReplayStop.TheVariants as stops
-use Rattle.feed_text.specs.Devices.{Reading, Writing, Wrote}
-use Rattle.feed_text.specs.EventLines.{timed_line}
+use Rattle.event_sinks.specs.declared.replay_stop.ReplayStop.{ReplayStop}
+use Rattle.event_sinks.specs.declared.replay_stop.ReplayStop.TheVariants as stops
+use Rattle.text_out.specs.Devices.{Reading, Writing, Wrote}
+use Rattle.event_sinks.specs.EventLines.{timed_line}
 use Rattle.feed_text.specs.EventReplays.{AnswersRun, venues_in}
-use Rattle.feed_text.specs.OwnFormats.{own_parsing}
+use Rattle.capture_records.specs.OwnFormats.{own_parsing}
 use Rattle.feed_text.specs.ReplayStates.{SinkTaking}
-use Rattle.feed_text.specs.SinkEvents.{TimedEvent}
+use Rattle.event_sinks.specs.SinkEvents.{TimedEvent}
 use Rattle.feed_text.specs.Told.{ToldFacts}
 
 -- What a replay asks of its settings: 1 to 16 sessions, a window of 1 to 65,535, and at most 4,096

@@ -24,8 +24,8 @@ use Rattle.run_settings.specs.declared.skip_rule.SkipRule.{SkipRule}
 use Rattle.run_settings.specs.declared.skip_rule.SkipRule.TheVariants.{Never, Join, Gaps, After}
 use Rattle.feed_text.specs.declared.replay.ReplayConfig.{ReplayConfig}
 use Rattle.feed_text.specs.declared.standing_gap.StandingGap.{StandingGap}
-use Rattle.feed_text.specs.Capture.{CaptureRecord, datagram_record, renewal_record, skip_record, record_venue}
-use Rattle.feed_text.specs.Formats.{TimedRecord, timed_record}
+use Rattle.capture_records.specs.Capture.{CaptureRecord, datagram_record, renewal_record, skip_record, record_venue}
+use Rattle.capture_records.specs.Formats.{TimedRecord, timed_record}
 use Rattle.feed_text.specs.ReplayEvents.{ReplayEvent}
 use Rattle.feed_text.specs.Emitted.{EmitsRecord}
 use Rattle.feed_text.specs.Texts.{new_histories}

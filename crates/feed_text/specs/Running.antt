@@ -3,21 +3,21 @@ use Rattle.std.specs.Prelude.{◌≡◌, ◌⊎◌, ℕ, ◌+◌, ◌≤◌, Lis
 use Rattle.journal_book.specs.NumberedBooks.{NumberedState, new_numbered}
 use Rattle.line_arbiter.specs.Histories.{History}
 use Rattle.feed_text.specs.declared.replay.ReplayConfig.{ReplayConfig}
-use Rattle.feed_text.specs.declared.replay_stop.ReplayStop.{ReplayStop}
-use Rattle.feed_text.specs.declared.replay_stop.ReplayStop.TheVariants.{JournalFull, SinkFailed}
+use Rattle.event_sinks.specs.declared.replay_stop.ReplayStop.{ReplayStop}
+use Rattle.event_sinks.specs.declared.replay_stop.ReplayStop.TheVariants.{JournalFull, SinkFailed}
 use Rattle.feed_text.specs.declared.replay_sink.PublishStop.{PublishStop}
 use Rattle.feed_text.specs.declared.replay_sink.PublishStop.TheVariants as stops
 use Rattle.feed_text.specs.declared.standing_gaps.StandingGaps.{StandingGaps}
-use Rattle.feed_text.specs.Capture.{CaptureRecord}
-use Rattle.feed_text.specs.Devices.{Reading}
+use Rattle.capture_records.specs.Capture.{CaptureRecord}
+use Rattle.text_out.specs.Devices.{Reading}
 use Rattle.feed_text.specs.Emitted.{EmitsRecord, Emits}
 use Rattle.feed_text.specs.EventReplays.{AnswersRun, venues_in}
 use Rattle.feed_text.specs.Following.{ReplayVenue, VenueList, FollowAll}
-use Rattle.feed_text.specs.Formats.{TimedRecord, Parsing, HasReadRecords, what_of}
+use Rattle.capture_records.specs.Formats.{TimedRecord, Parsing, HasReadRecords, what_of}
 use Rattle.feed_text.specs.ReplayEvents.{ReplayEvent}
 use Rattle.feed_text.specs.ReplayStates.{SinkTaking, ReplayState, EmitsInto, GoesOn}
 use Rattle.feed_text.specs.Rules.{AreTakenOf, IsTakenNext, PutsIn, ReplayPoint}
-use Rattle.feed_text.specs.SinkEvents.{TimedEvent, at_time}
+use Rattle.event_sinks.specs.SinkEvents.{TimedEvent, at_time}
 use Rattle.feed_text.specs.Standings.{Awaits, Knows}
 use Rattle.feed_text.specs.Tellings.{lasts_told}
 use Rattle.feed_text.specs.Texts.{new_histories}

@@ -5,8 +5,8 @@ use Rattle.run_settings.specs.declared.skip_rule.SkipRule.TheVariants.{After}
 use Rattle.feed_text.specs.declared.replay.ReplayConfig.{ReplayConfig}
 use Rattle.feed_text.specs.declared.standing_gap.StandingGap.{StandingGap}
 use Rattle.feed_text.specs.declared.standing_gaps.StandingGaps.{StandingGaps}
-use Rattle.feed_text.specs.Capture.{record_venue}
-use Rattle.feed_text.specs.Formats.{TimedRecord}
+use Rattle.capture_records.specs.Capture.{record_venue}
+use Rattle.capture_records.specs.Formats.{TimedRecord}
 use Rattle.feed_text.specs.Rules.{ReplayPoint, gap_standing_after}
 
 -- the gap that is kept of the venue at a place

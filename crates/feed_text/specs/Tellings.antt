@@ -6,7 +6,7 @@ use Rattle.nbbo_book.specs.Eligible.{is_so}
 use Rattle.line_arbiter.specs.Counts.{shown}
 use Rattle.line_arbiter.specs.Histories.{History, all_begun, streams_of, wins_in}
 use Rattle.feed_text.specs.ReplayEvents.{ReplayEvent, packet_answered, packet_refused, item_taken, gap_left, renewal_answered, skip_answered, self_help_declared, entries_after}
-use Rattle.feed_text.specs.SinkEvents.{SinkEvent, told_packet, told_refusal, told_item, told_best, told_gap, told_renewal, told_skip, told_declaration, told_last}
+use Rattle.event_sinks.specs.SinkEvents.{SinkEvent, told_packet, told_refusal, told_item, told_best, told_gap, told_renewal, told_skip, told_declaration, told_last}
 use Rattle.feed_text.specs.Texts.{event_notices}
 
 -- the position of the entry that a declaration adds, unless that is declared already

@@ -5,7 +5,7 @@ use Rattle.feed_types.specs.declared.journal.Notice.{Notice}
 use Rattle.line_arbiter.specs.Histories.{History, new_history}
 use Rattle.journal_book.specs.Changes.{notices_since}
 use Rattle.feed_text.specs.declared.replay.ReplayConfig.{ReplayConfig}
-use Rattle.feed_text.specs.Capture.{CaptureRecord}
+use Rattle.capture_records.specs.Capture.{CaptureRecord}
 use Rattle.feed_text.specs.ReplayEvents.{ReplayEvent, entries_after, entries_of}
 use Rattle.feed_text.specs.Emitted.{Emits}
 

@@ -5,10 +5,10 @@ use Rattle.feed_types.specs.declared.journal.Entry.{Entry}
 use Rattle.line_arbiter.specs.Histories.{History}
 use Rattle.feed_text.specs.declared.replay.ReplayConfig.{ReplayConfig}
 use Rattle.feed_text.specs.declared.standing_gap.StandingGap.{StandingGap}
-use Rattle.feed_text.specs.Formats.{TimedRecord, what_of}
+use Rattle.capture_records.specs.Formats.{TimedRecord, what_of}
 use Rattle.feed_text.specs.ReplayEvents.{ReplayEvent, entries_of}
 use Rattle.feed_text.specs.Emitted.{Emits, EmitsRecord}
-use Rattle.feed_text.specs.SinkEvents.{TimedEvent, at_time}
+use Rattle.event_sinks.specs.SinkEvents.{TimedEvent, at_time}
 use Rattle.feed_text.specs.Tellings.{told_of, lasts_told}
 use Rattle.feed_text.specs.Texts.{EmitsAll, HasJournalRoom, new_histories}
 use Rattle.feed_text.specs.Rules.{AreTakenOf, IsTakenNext, ReplayPoint, new_point}

@@ -5,7 +5,7 @@ use Rattle.feed_types.specs.declared.journal.Entry.{Entry}
 use Rattle.feed_types.specs.declared.journal.Entry.TheVariants.{Consumed, SelfHelp}
 use Rattle.feed_types.specs.declared.journal.Notice.{Notice}
 use Rattle.journal_book.specs.ItemsIn.{items_in}
-use Rattle.feed_text.specs.SinkEvents.{SinkEvent, TimedEvent, told_item, told_best, told_declaration}
+use Rattle.event_sinks.specs.SinkEvents.{SinkEvent, TimedEvent, told_item, told_best, told_declaration}
 
 -- the entry of an event: its item, or a declaration that changes something
 abbrev pub entry_told : SinkEvent → List Entry

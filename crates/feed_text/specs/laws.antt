@@ -3,5 +3,3 @@
 pub mod Lists
 pub mod Entries
 pub mod VenueItemsLaw
-pub mod Readings
-pub mod SaidTexts

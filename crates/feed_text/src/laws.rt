@@ -2,26 +2,17 @@
 ghost use Rattle.std.specs.Prelude.{◌≡◌, ℕ, Bool, List, [], Some, All, slice_get};
 ghost use Rattle.line_arbiter.specs.Histories.{History, streams_of};
 ghost use Rattle.feed_text.specs.declared.replay.ReplayConfig.{ReplayConfig};
-ghost use Rattle.feed_text.specs.Capture.{CaptureRecord, HoldsBytes, IsRecord, NoRecord, capture_of, record_venue};
+ghost use Rattle.capture_records.specs.Capture.{CaptureRecord, HoldsBytes, IsRecord, record_venue};
 ghost use Rattle.feed_text.specs.ReplayEvents.{ReplayEvent};
 ghost use Rattle.feed_text.specs.Emitted.{Emits, EmitsAt};
 ghost use Rattle.feed_text.specs.EventReplays.{venues_in};
-ghost use Rattle.feed_text.specs.Formats.{TimedRecord};
-ghost use Rattle.feed_text.specs.SinkEvents.{TimedEvent};
+ghost use Rattle.capture_records.specs.Formats.{TimedRecord};
+ghost use Rattle.event_sinks.specs.SinkEvents.{TimedEvent};
 ghost use Rattle.feed_text.specs.Texts.{EmitsAll};
 ghost use Rattle.feed_text.specs.Told.{IsToldOf, IsToldOfAll, IsToldToFull};
 ghost use Rattle.run_settings.specs.declared.skip_rule.SkipRule.{SkipRule};
 ghost use Rattle.feed_text.specs.Rules.{AreTakenOf, IsMade, PutsIn, ReplayPoint, new_point};
 ghost use Rattle.feed_text.specs.VenueItems.{items_taken};
-
-/// A capture has one reading: where the same bytes are records and then a rest that begins with
-/// none, the records and the rest are the same.
-pub fn one_reading()
-    ensures { (venues : ℕ) (xs ys : List CaptureRecord) (r s : List ℕ)
-        → All (IsRecord venues) xs → All (IsRecord venues) ys
-        → NoRecord venues r → NoRecord venues s
-        → capture_of xs r ≡ capture_of ys s → (xs ≡ ys) × (r ≡ s) }
-{}
 
 /// Records emit one list of events, and one list is told of them: what meets the definition is the
 /// same. So is what is told of a whole capture, and up to a full journal; and of records either the

@@ -5,7 +5,7 @@ ghost use Rattle.line_arbiter.specs.Histories.{History};
 ghost use Rattle.line_arbiter.specs.LastSent.{last_sent};
 ghost use Rattle.feed_text.specs.Following.{FollowAll, Follows};
 ghost use Rattle.feed_text.specs.Rules.{HasStood, IsLowestOverdue, IsOverdue, IsOverdueAt, ReplayPoint, next_come};
-ghost use Rattle.feed_text.specs.Capture.{skip_record};
+ghost use Rattle.capture_records.specs.Capture.{skip_record};
 ghost use Rattle.feed_text.specs.Standings.{IsStandingKept};
 
 use crate::standing_gap::StandingGap;

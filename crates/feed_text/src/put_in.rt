@@ -1,21 +1,21 @@
 //! The records that are put in before those of a capture.
 ghost use Rattle.std.specs.Prelude.{◌≡◌, ◌<◌, MatchOption, Ok, OnOk, true, length};
-ghost use Rattle.feed_text.specs.Capture.{IsRecord, record_of, skip_record};
+ghost use Rattle.capture_records.specs.Capture.{IsRecord, record_of, skip_record};
 ghost use Rattle.feed_text.specs.Following.{FollowAll};
-ghost use Rattle.feed_text.specs.Formats.{TimedRecord, timed_record};
+ghost use Rattle.capture_records.specs.Formats.{TimedRecord, timed_record};
 ghost use Rattle.feed_text.specs.ReplayStates.{state_of_replay};
 ghost use Rattle.feed_text.specs.Rules.{GivesUpOverdue, PutsIn, ReplayPoint};
 ghost use Rattle.feed_text.specs.PuttingIn.{GivesUpNone, IsPlain, KeepsFor, PutsNoSkip, PutsOne, StandsFor, clock_of, left_in};
 ghost use Rattle.feed_text.specs.Running.{FollowSome, KeepsVenues, TakesPutIn};
 ghost use Rattle.feed_text.specs.Standings.{Knows};
 
-use crate::capture::Record;
-use crate::event_sink::EventSink;
 use crate::overdue::{GapClock, GapSkip};
 use crate::replay::ReplayConfig;
 use crate::replay_sink::{PublishStop, ReplaySink};
 use crate::standing_gaps::StandingGaps;
 use crate::venues::Venues;
+use capture_records::Record;
+use event_sinks::EventSink;
 use feed_types::VenueId;
 use run_settings::SkipRule;
 

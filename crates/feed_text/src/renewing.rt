@@ -6,11 +6,10 @@ ghost use Rattle.feed_text.specs.ReplayStates.{state_of_replay};
 ghost use Rattle.feed_text.specs.Renewing.{IsNextName, IsPresentOver, RenewsOrStays};
 ghost use Rattle.feed_text.specs.Rules.{names_after};
 
-use crate::event::Event;
-use crate::event_sink::EventSink;
 use crate::joining::is_of_session;
 use crate::replay_sink::{PublishStop, ReplaySink};
 use crate::venue::VenueReplay;
+use event_sinks::{Event, EventSink};
 use feed_types::VenueId;
 use mold_packet::read_packet;
 use run_settings::NextSession;

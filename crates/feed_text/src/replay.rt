@@ -4,29 +4,22 @@ ghost use Rattle.journal_book.specs.NumberedBooks.{new_numbered};
 ghost use Rattle.feed_text.specs.EventReplays.{AnswersRun, venues_in};
 ghost use Rattle.feed_text.specs.Following.{LeavesLacks};
 ghost use Rattle.feed_text.specs.Lacks.{AppendsLacks};
-ghost use Rattle.feed_text.specs.OwnFormats.{own_parsing};
+ghost use Rattle.capture_records.specs.OwnFormats.{own_parsing};
 ghost use Rattle.feed_text.specs.Replays.{AnswersReplay, CanReplay, stop_by};
 ghost use Rattle.feed_text.specs.Running.{ClosesSink, IsReplayStart};
 ghost use Rattle.feed_text.specs.Told.{told_facts};
 
-use crate::devices::{CaptureIn, TextOut};
-use crate::event_sink::EventSink;
 use crate::fault::ReplayFault;
-use crate::lack::Lack;
-use crate::own_format::OwnFormat;
-use crate::page::LineBuffer;
-use crate::record_format::{CAPTURE_ROOM, RecordFormat};
 use crate::replay_sink::ReplaySink;
-use crate::replay_stop::{ReplayStop, Replayed};
 use crate::run::run;
-use crate::text_page::TextPage;
-use crate::text_sink::TextSink;
-use crate::unread::ReadBuffer;
 use crate::venues::Venues;
+use capture_records::{CAPTURE_ROOM, OwnFormat, ReadBuffer, RecordFormat};
+use event_sinks::{EventSink, Lack, ReplayStop, Replayed, TextPage, TextSink};
 use feed_types::SymbolName;
 use journal_book::NumberedBook;
 use run_settings::{NextSession, SkipRule};
 use std::alloc::{AllocError, Global};
+use text_out::{CaptureIn, LineBuffer, TextOut};
 
 /// The settings of a replay.
 #[derive(Clone, Copy, Debug)]

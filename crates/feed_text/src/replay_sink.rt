@@ -3,12 +3,11 @@ ghost use Rattle.std.specs.Prelude.{◌≡◌, ◌<◌, ◌≤◌, ◌∷◌, []
 ghost use Rattle.nbbo_book.specs.Books.{venue_of};
 ghost use Rattle.journal_book.specs.Changes.{notices_from};
 ghost use Rattle.feed_text.specs.ReplayEvents.{IsItemEntry, entry_event, self_help_declared};
-ghost use Rattle.feed_text.specs.SinkEvents.{at_time, timed_event, told_best, told_by};
+ghost use Rattle.event_sinks.specs.SinkEvents.{at_time, timed_event, told_best, told_by};
 ghost use Rattle.feed_text.specs.ReplayStates.{EmitsInto, EmitsPlain, state_of_replay};
 ghost use Rattle.feed_text.specs.declared.replay_sink.PublishStop.TheVariants.{SinkFailed};
 
-use crate::event::Event;
-use crate::event_sink::{EventSink, SinkStop};
+use event_sinks::{Event, EventSink, SinkStop};
 use feed_types::{Entry, VenueId};
 use journal_book::{EntryChanges, JournalFault, NumberedBook};
 

@@ -3,16 +3,14 @@ ghost use Rattle.std.specs.Prelude.{◌≡◌, length};
 ghost use Rattle.feed_text.specs.Replays.{CanReplay};
 ghost use Rattle.feed_text.specs.Running.{IsReplayStart, RunsToEnd, ShowsBefore, StopsShown};
 
-use crate::devices::CaptureIn;
-use crate::event_sink::{EventSink, SinkStop};
 use crate::put_in::follow_rule;
-use crate::record_format::{CAPTURE_ROOM, RecordFormat, Step, is_complete};
 use crate::replay::ReplayConfig;
 use crate::replay_sink::{PublishStop, ReplaySink};
-use crate::replay_stop::ReplayStop;
 use crate::standing_gaps::StandingGaps;
-use crate::unread::{ReadBuffer, ReadStep};
 use crate::venues::Venues;
+use capture_records::{CAPTURE_ROOM, ReadBuffer, ReadStep, RecordFormat, Step, is_complete};
+use event_sinks::{EventSink, ReplayStop, SinkStop};
+use text_out::CaptureIn;
 
 /// Shows what the sink took before a stop. Returns the stop, or that the sink failed.
 fn show_before<F: Copy, K: EventSink>(stop: ReplayStop<F>, sink: &mut K) -> ReplayStop<F>

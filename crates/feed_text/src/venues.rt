@@ -1,8 +1,8 @@
 //! The venues of a replay.
 ghost use Rattle.std.specs.Prelude.{◌≡◌, ◌<◌, ◌≤◌, ◌+◌, ℕ, List, IfOk, MatchOption, None, OnErr, OnOk, length, map, vec_capacity};
-ghost use Rattle.feed_text.specs.Capture.{IsRecord, record_of, skip_record};
+ghost use Rattle.capture_records.specs.Capture.{IsRecord, record_of, skip_record};
 ghost use Rattle.line_arbiter.specs.Histories.{History, new_history};
-ghost use Rattle.feed_text.specs.SinkEvents.{at_time};
+ghost use Rattle.event_sinks.specs.SinkEvents.{at_time};
 ghost use Rattle.feed_text.specs.Tellings.{lasts_told};
 ghost use Rattle.feed_text.specs.ReplayStates.{state_of_replay};
 ghost use Rattle.feed_text.specs.Following.{FollowAll, LeavesLacks, TakesRecord};
@@ -10,12 +10,11 @@ ghost use Rattle.feed_text.specs.Rules.{gap_at};
 ghost use Rattle.feed_text.specs.Skipping.{SkipsAtVenue};
 ghost use Rattle.feed_text.specs.RenewingVenues.{RenewsAtVenue};
 
-use crate::capture::Record;
-use crate::event_sink::{EventSink, SinkStop};
-use crate::lack::Lack;
 use crate::replay::ReplayConfig;
 use crate::replay_sink::{PublishStop, ReplaySink};
 use crate::venue::VenueReplay;
+use capture_records::Record;
+use event_sinks::{EventSink, Lack, SinkStop};
 use feed_types::VenueId;
 use mold_packet::Request;
 use std::alloc::{AllocError, Global};

@@ -3,9 +3,9 @@ use Rattle.std.proofs.Common.{◌≡◌, ◌<◌, ◌≤◌, ℕ, List, [], ◌�
 use Rattle.std.specs.Prelude.{OnErr, OnOk}
 use Rattle.std.proofs.lemmas.Bool.Decides.{nat_tests}
 use Rattle.run_settings.specs.declared.formats.RowFormat.{RowFormat}
-use Rattle.feed_text.specs.SinkEvents.{SinkEvent, TimedEvent, timed_event, told_before}
-use Rattle.feed_text.specs.TextPages.{FailsPage, TakesPage}
-use Rattle.feed_text.specs.declared.text_page.TextPage.{TextPage}
+use Rattle.event_sinks.specs.SinkEvents.{SinkEvent, TimedEvent, timed_event, told_before}
+use Rattle.event_sinks.specs.TextPages.{FailsPage, TakesPage}
+use Rattle.event_sinks.specs.declared.text_page.TextPage.{TextPage}
 use Rattle.line_gaps.specs.declared.open_gap.EndedGap.{EndedGap}
 use Rattle.line_gaps.specs.declared.venue_gaps.VenueGaps.{VenueGaps}
 use Rattle.report_rows.specs.RowSinks.{FailsMaking, Makes}

@@ -1,7 +1,7 @@
 -- Laws of a maker of rows of gaps.
 use Rattle.std.proofs.Common.{List, [], ◌∷◌, ◌++◌, ℕ, append_assoc, refl, sym, subst, ap, ◌∙◌}
 use Rattle.run_settings.specs.declared.formats.RowFormat.{RowFormat}
-use Rattle.feed_text.specs.SinkEvents.{TimedEvent}
+use Rattle.event_sinks.specs.SinkEvents.{TimedEvent}
 use Rattle.line_gaps.specs.declared.venue_gaps.VenueGaps.{VenueGaps}
 use Rattle.gap_rows.specs.declared.gap_maker.GapMaker.{GapMaker}
 use Rattle.gap_rows.specs.GapMakers.{MakesGaps, TakesEach, TellsGaps}

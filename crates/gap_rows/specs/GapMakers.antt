@@ -1,7 +1,7 @@
 -- What a maker of rows of gaps makes of events.
 use Rattle.std.specs.Prelude.{◌≡◌, ℕ, List, [], ◌∷◌, ◌++◌, length, nat_lt, Option, None, Some, if◌then◌else◌, slice_get, slice_set}
 use Rattle.run_settings.specs.declared.formats.RowFormat.{RowFormat}
-use Rattle.feed_text.specs.SinkEvents.{SinkEvent, TimedEvent, told_before, told_last, told_packet, told_renewal, told_skip, timed_event}
+use Rattle.event_sinks.specs.SinkEvents.{SinkEvent, TimedEvent, told_before, told_last, told_packet, told_renewal, told_skip, timed_event}
 use Rattle.line_gaps.specs.declared.ended_gaps.EndedGaps.{EndedGaps}
 use Rattle.line_gaps.specs.declared.open_gap.EndedGap.{EndedGap}
 use Rattle.line_gaps.specs.declared.venue_gaps.VenueGaps.{VenueGaps}

@@ -1,17 +1,18 @@
 //! What makes the rows of gaps.
 ghost use Rattle.std.specs.Prelude.{◌≡◌, ℕ, [], length, Some};
-ghost use Rattle.feed_text.specs.SinkEvents.{TimedEvent, timed_event, told_before, told_by};
+ghost use Rattle.event_sinks.specs.SinkEvents.{TimedEvent, timed_event, told_before, told_by};
 ghost use Rattle.report_rows.specs.RowSinks.{IsNewRowSink};
 ghost use Rattle.report_rows.specs.RowTexts.{header_text};
 ghost use Rattle.gap_rows.specs.GapCells.{gap_names};
 ghost use Rattle.gap_rows.specs.GapMakers.{EndsIn, one_of, said_at, said_by, shown_in, venue_in};
 
 use crate::gap_row::{gap_names, write_gaps};
-use feed_text::{Event, SinkStop, TextOut, TextPage};
+use event_sinks::{Event, SinkStop, TextPage};
 use feed_types::VenueId;
 use line_gaps::{EndedGaps, VenueGaps};
 use report_rows::{RowMaker, RowSink};
 use run_settings::RowFormat;
+use text_out::TextOut;
 
 /// What makes the rows of the gaps of venues, as they end, and at the end of the capture those of
 /// the gaps that are open.

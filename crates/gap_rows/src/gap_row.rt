@@ -1,16 +1,17 @@
 //! The row of a gap.
 ghost use Rattle.std.specs.Prelude.{◌≡◌, ◌≤◌, ◌++◌, OnErr, OnOk, length, slice_index_or};
 ghost use Rattle.std.specs.List.{AllByRecursion};
-ghost use Rattle.feed_text.specs.Pages.{memory_of};
-ghost use Rattle.feed_text.specs.TextPages.{FailsPage, TakesPage};
+ghost use Rattle.text_out.specs.Pages.{memory_of};
+ghost use Rattle.event_sinks.specs.TextPages.{FailsPage, TakesPage};
 ghost use Rattle.report_rows.specs.RowTexts.{IsShortCell, all_shown, row_room, texts_of};
 ghost use Rattle.gap_rows.specs.GapCells.{gap_end_word, gap_line_word, gap_names, gap_row, gap_rows_text, gap_values, no_gap};
 
-use feed_text::{LineBuffer, SinkStop, TextOut, TextPage};
+use event_sinks::{SinkStop, TextPage};
 use feed_types::VenueId;
 use line_gaps::{EndedGap, GapEnd, GapLine};
 use report_rows::{Cell, put_row};
 use run_settings::RowFormat;
+use text_out::{LineBuffer, TextOut};
 
 /// Returns the names of the columns.
 pub(crate) fn gap_names() -> [&'static str; 9]

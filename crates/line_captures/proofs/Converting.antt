@@ -5,9 +5,9 @@ use Rattle.std.proofs.lemmas.Grind.{flat_map-append}
 use Rattle.std.proofs.lemmas.List.{map-append}
 use Rattle.std.proofs.lemmas.List.Elements.{All-nil, All-cons, All-append}
 use Rattle.std.proofs.Math.Seq.{take-append-add}
-use Rattle.feed_text.specs.Capture.{IsRecord, bytes_of_record}
-use Rattle.feed_text.specs.Devices.{Reading, Writing, HasGiven, Moved, Wrote}
-use Rattle.feed_text.specs.Formats.{TimedRecord, Parsing, TakesPiece, HasReadRecords, what_of}
+use Rattle.capture_records.specs.Capture.{IsRecord, bytes_of_record}
+use Rattle.text_out.specs.Devices.{Reading, Writing, HasGiven, Moved, Wrote}
+use Rattle.capture_records.specs.Formats.{TimedRecord, Parsing, TakesPiece, HasReadRecords, what_of}
 use Rattle.line_captures.specs.Conversions.{HasConverted, spelled}
 
 -- the laws of a reader, a format and a writer

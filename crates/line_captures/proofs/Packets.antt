@@ -8,10 +8,10 @@ use Rattle.packet_capture.specs.declared.stop.Stop.{Stop}
 use Rattle.packet_capture.specs.declared.stop.Stop.TheVariants as stops
 use Rattle.packet_capture.specs.Captures.{Context, PieceContent, IsPiece, StopsReading, frames_in, list_of}
 use Rattle.packet_capture.specs.Frames.{FrameContent}
-use Rattle.feed_text.specs.Capture.{CaptureRecord, IsKind, IsRecord, record_of}
-use Rattle.feed_text.specs.declared.record_format.Step.{Step}
-use Rattle.feed_text.specs.declared.record_format.Step.TheVariants.{Came, Passed, Wants, Bad}
-use Rattle.feed_text.specs.Formats.{TimedRecord, TakesPiece, StepsTo, timed_record}
+use Rattle.capture_records.specs.Capture.{CaptureRecord, IsKind, IsRecord, record_of}
+use Rattle.capture_records.specs.declared.record_format.Step.{Step}
+use Rattle.capture_records.specs.declared.record_format.Step.TheVariants.{Came, Passed, Wants, Bad}
+use Rattle.capture_records.specs.Formats.{TimedRecord, TakesPiece, StepsTo, timed_record}
 use Rattle.run_settings.specs.declared.captured_line.CapturedLine.{CapturedLine}
 use Rattle.line_captures.specs.declared.bad_piece.BadPiece.{BadPiece}
 use Rattle.line_captures.specs.Counts.{CountsPieces}

@@ -1,10 +1,10 @@
 -- The results of a conversion of a capture into the project's own format.
 use Rattle.std.specs.Prelude.{◌≡◌, ⊤, ℕ, ◌+◌, ◌≤◌, List, [], Result, Ok, Err, map, flat_map}
-use Rattle.feed_text.specs.declared.replay_stop.ReplayStop.{ReplayStop}
-use Rattle.feed_text.specs.declared.replay_stop.ReplayStop.TheVariants.{ReadFailed, SinkFailed, Bad, Short, TooManyTurns, JournalFull, NoMemory}
-use Rattle.feed_text.specs.Capture.{bytes_of_record}
-use Rattle.feed_text.specs.Devices.{Reading, Writing, Wrote}
-use Rattle.feed_text.specs.Formats.{TimedRecord, Parsing, HasReadRecords, IsCutOff, what_of}
+use Rattle.event_sinks.specs.declared.replay_stop.ReplayStop.{ReplayStop}
+use Rattle.event_sinks.specs.declared.replay_stop.ReplayStop.TheVariants.{ReadFailed, SinkFailed, Bad, Short, TooManyTurns, JournalFull, NoMemory}
+use Rattle.capture_records.specs.Capture.{bytes_of_record}
+use Rattle.text_out.specs.Devices.{Reading, Writing, Wrote}
+use Rattle.capture_records.specs.Formats.{TimedRecord, Parsing, HasReadRecords, IsCutOff, what_of}
 
 -- the bytes of records
 abbrev pub spelled : List TimedRecord → List ℕ

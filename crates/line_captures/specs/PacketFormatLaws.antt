@@ -3,7 +3,7 @@ use Rattle.std.proofs.Common.{◌≡◌, ℕ, List, [], ◌∷◌, ◌++◌, map
 use Rattle.std.proofs.lemmas.Grind.{flat_map-append}
 use Rattle.packet_capture.specs.Captures.{Context, PieceContent, ArePieces, frames_in, frames_of, new_context}
 use Rattle.packet_capture.specs.Frames.{FrameContent}
-use Rattle.feed_text.specs.Formats.{TimedRecord}
+use Rattle.capture_records.specs.Formats.{TimedRecord}
 use Rattle.run_settings.specs.declared.captured_line.CapturedLine.{CapturedLine}
 use Rattle.line_captures.specs.Counts.{CountsPieces}
 use Rattle.line_captures.specs.CountLaws.{counts_none, counts_then}

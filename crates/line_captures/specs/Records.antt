@@ -5,7 +5,7 @@ use Rattle.packet_capture.specs.declared.fault.FrameFault.{FrameFault}
 use Rattle.packet_capture.specs.Datagrams.{DatagramContent, CarriesDatagram}
 use Rattle.packet_capture.specs.FrameFaults.{HasFrameFault}
 use Rattle.packet_capture.specs.Frames.{FrameContent}
-use Rattle.feed_text.specs.Capture.{CaptureRecord, datagram_record}
+use Rattle.capture_records.specs.Capture.{CaptureRecord, datagram_record}
 use Rattle.run_settings.specs.declared.captured_line.CapturedLine.{CapturedLine}
 use Rattle.line_captures.specs.Lines.{GoesTo, GoesToNone}
 

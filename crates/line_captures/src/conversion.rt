@@ -1,15 +1,16 @@
 //! A capture in the project's own format.
 ghost use Rattle.std.specs.Prelude.{◌≡◌, ◌+◌, ◌≤◌, ◌<◌, ◌++◌, [], ◌∷◌, ◌/◌, ◌%◌, IfOk, OnErr, OnOk, length};
-ghost use Rattle.feed_text.specs.Capture.{HasNumber, bytes_of_record, payload_of, record_of};
-ghost use Rattle.feed_text.specs.Devices.{Moved, Wrote};
+ghost use Rattle.capture_records.specs.Capture.{HasNumber, bytes_of_record, payload_of, record_of};
+ghost use Rattle.text_out.specs.Devices.{Moved, Wrote};
 ghost use Rattle.line_captures.specs.Conversions.{AnswersConversion};
 
-use feed_text::{
-    CAPTURE_ROOM, CaptureIn, ReadBuffer, ReadStep, Record, RecordFormat, ReplayStop, SinkStop,
-    Step, TextOut, WriteStop, is_complete, write_all,
+use capture_records::{
+    CAPTURE_ROOM, ReadBuffer, ReadStep, Record, RecordFormat, Step, is_complete,
 };
+use event_sinks::{ReplayStop, SinkStop};
 use feed_types::VenueId;
 use std::alloc::{AllocError, Global};
+use text_out::{CaptureIn, TextOut, WriteStop, write_all};
 
 /// How many bytes of records wait at most for the writer.
 const PAGE: usize = 131_072;
@@ -45,7 +46,7 @@ fn put_bytes(page: &mut ReadBuffer<PAGE>, venue: VenueId, kind: u8, payload: &[u
 
 /// Appends the bytes of a record.
 #[inline(always)]
-#[tactic(auto, unfolding(feed_text::specs::Capture::number_bytes))]
+#[tactic(auto, unfolding(capture_records::specs::Capture::number_bytes))]
 fn put_record(page: &mut ReadBuffer<PAGE>, next: &Record<'_>)
     requires len { length (payload_of (record_of next.now)) < 65536 }
     requires number { HasNumber (record_of next.now) }

@@ -1,7 +1,7 @@
 //! Packet captures (pcap or pcapng) as a format of records: those of the datagrams that a capture
 //! has for some lines, each at the time of its frame.
 //!
-//! A [`PacketFormat`] is a format of `feed_text`: a replay reads its records one by one, and
+//! A [`PacketFormat`] is a format of `capture_records`: a replay reads its records one by one, and
 //! nothing is copied or allocated. A [`CapturedLine`] is an address and port with the venue and the
 //! line whose datagrams go there.
 //!

@@ -3,8 +3,8 @@ ghost use Rattle.std.specs.Prelude.{◌≡◌, ◌<◌, ℕ, [], ◌∷◌, IfNo
 ghost use Rattle.packet_capture.specs.Captures.{IsPiece, piece_of};
 ghost use Rattle.packet_capture.specs.Datagrams.{CarriesDatagram, datagram_content};
 ghost use Rattle.packet_capture.specs.Frames.{FrameContent, frame_of};
-ghost use Rattle.feed_text.specs.Capture.{record_of};
-ghost use Rattle.feed_text.specs.Formats.{CameOf, StepsTo};
+ghost use Rattle.capture_records.specs.Capture.{record_of};
+ghost use Rattle.capture_records.specs.Formats.{CameOf, StepsTo};
 ghost use Rattle.line_captures.specs.Counts.{CountsFrame, CountsPieces};
 ghost use Rattle.line_captures.specs.DropCounts.{dropped_of};
 ghost use Rattle.run_settings.specs.Lists.{AreOfVenues};
@@ -18,7 +18,7 @@ use crate::drop_counts::DroppedFrames;
 use crate::frame_counts::FrameCounts;
 use crate::piece_step::{LineDatagram, PieceStep};
 use crate::progress::Progress;
-use feed_text::{RecordFormat, Step};
+use capture_records::{RecordFormat, Step};
 use packet_capture::{
     CaptureReader, Datagram, Frame, Piece, Stop, read_as_bytes_come, read_datagram,
     read_plain_datagram,

@@ -3,7 +3,7 @@ ghost use Rattle.std.specs.Prelude.{◌≡◌};
 ghost use Rattle.line_captures.specs.PacketFormats.{step_from};
 
 use crate::bad_piece::BadPiece;
-use feed_text::{Record, Step};
+use capture_records::{Record, Step};
 use feed_types::{LineId, VenueId};
 
 /// A datagram that came on a line.

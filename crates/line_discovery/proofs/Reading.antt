@@ -6,9 +6,9 @@ use Rattle.packet_capture.specs.declared.stop.Stop.{Stop}
 use Rattle.packet_capture.specs.declared.stop.Stop.TheVariants as stops
 use Rattle.packet_capture.specs.Captures.{Context, PieceContent, IsPiece, StopsReading, frames_of, list_of}
 use Rattle.packet_capture.specs.Frames.{FrameContent}
-use Rattle.feed_text.specs.declared.record_format.Step.{Step}
-use Rattle.feed_text.specs.declared.record_format.Step.TheVariants.{Came, Passed, Wants, Bad}
-use Rattle.feed_text.specs.Formats.{TakesPiece, StepsTo}
+use Rattle.capture_records.specs.declared.record_format.Step.{Step}
+use Rattle.capture_records.specs.declared.record_format.Step.TheVariants.{Came, Passed, Wants, Bad}
+use Rattle.capture_records.specs.Formats.{TakesPiece, StepsTo}
 use Rattle.line_captures.specs.declared.bad_piece.BadPiece.{BadPiece}
 use Rattle.line_captures.specs.declared.frame_counts.FrameCounts.{FrameCounts}
 use Rattle.line_captures.specs.declared.progress.Progress.{Progress}

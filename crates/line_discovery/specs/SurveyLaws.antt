@@ -5,7 +5,7 @@ use Rattle.std.specs.List.{AllZip}
 use Rattle.std.proofs.lemmas.Grind.{flat_map-append}
 use Rattle.packet_capture.specs.Captures.{Context, PieceContent, ArePieces, frames_in, frames_of}
 use Rattle.packet_capture.specs.Frames.{FrameContent}
-use Rattle.feed_text.specs.Formats.{TimedRecord}
+use Rattle.capture_records.specs.Formats.{TimedRecord}
 use Rattle.line_captures.specs.CountLaws.{counts_none as none_counted, counts_then as then_counted}
 use Rattle.line_discovery.specs.declared.counts.SurveyCounts.{SurveyCounts}
 use Rattle.line_discovery.specs.declared.survey.LineSurvey.{LineSurvey}

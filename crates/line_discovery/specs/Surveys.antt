@@ -5,9 +5,9 @@ use Rattle.packet_capture.specs.declared.reader.Format.TheVariants.{Start}
 use Rattle.packet_capture.specs.declared.stop.Stop.{Stop}
 use Rattle.packet_capture.specs.declared.stop.Stop.TheVariants as stops
 use Rattle.packet_capture.specs.Captures.{PieceContent, ArePieces, StopsReading, frames_of, new_context}
-use Rattle.feed_text.specs.declared.record_format.Step.{Step}
-use Rattle.feed_text.specs.declared.record_format.Step.TheVariants.{Wants, Bad}
-use Rattle.feed_text.specs.Formats.{TimedRecord, Parsing}
+use Rattle.capture_records.specs.declared.record_format.Step.{Step}
+use Rattle.capture_records.specs.declared.record_format.Step.TheVariants.{Wants, Bad}
+use Rattle.capture_records.specs.Formats.{TimedRecord, Parsing}
 use Rattle.line_captures.specs.declared.bad_piece.BadPiece.{BadPiece}
 use Rattle.line_captures.specs.Counts.{CountsPieces, counts_after, new_progress}
 use Rattle.line_captures.specs.Starts.{start_of}

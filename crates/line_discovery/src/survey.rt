@@ -8,7 +8,7 @@ ghost use Rattle.line_discovery.specs.Tables.{up_to_most};
 
 use crate::counts::SurveyCounts;
 use crate::text::text_of;
-use feed_text::{RecordFormat, Step};
+use capture_records::{RecordFormat, Step};
 use line_captures::{BadPiece, DroppedFrames, FrameCounts};
 use packet_capture::{CaptureReader, Stop, read_as_bytes_come};
 use run_settings::{StatsFormat, TimeStyle};

@@ -4,9 +4,9 @@ ghost use Rattle.line_discovery.specs.SurveyTexts.{date_member, time_cell, time_
 
 use crate::pieces::put_text;
 use best_rows::put_time;
-use feed_text::{LineBuffer, put_number};
 use run_settings::TimeStyle;
 use std::alloc::{AllocError, Global};
+use text_out::{LineBuffer, put_number};
 
 /// Returns a time in nanoseconds from 1970 on as a number of these, or as a date.
 fn time_value(alloc: Global, style: TimeStyle, time: u64) -> Result<LineBuffer, AllocError>

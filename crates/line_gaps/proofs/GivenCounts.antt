@@ -4,7 +4,7 @@ use Rattle.std.specs.Prelude.{◌&&◌, ◌||◌, not, nat_le, nat_lt}
 use Rattle.std.proofs.lemmas.Bool.{cases_Bool, cases_lt}
 use Rattle.std.proofs.lemmas.Bool.Decides.{nat_tests}
 use Rattle.feed_types.specs.FullCounts.{count_after}
-use Rattle.feed_text.specs.SinkEvents.{TimedEvent}
+use Rattle.event_sinks.specs.SinkEvents.{TimedEvent}
 use Rattle.line_gaps.specs.declared.lost_numbers.LostNumbers.{LostNumbers}
 use Rattle.line_gaps.specs.declared.number_run.NumberRun.{NumberRun}
 use Rattle.line_gaps.specs.Gaps.{number_has_come, is_left, is_missing, is_missing_by, known_number, was_passed}

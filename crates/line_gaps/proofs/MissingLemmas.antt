@@ -4,7 +4,7 @@ use Rattle.std.specs.Prelude.{◌&&◌, ◌||◌, not, nat_le}
 use Rattle.std.proofs.lemmas.Bool.{cases_lt}
 use Rattle.std.proofs.lemmas.Bool.Decides.{nat_tests}
 use Rattle.std.specs.Prelude.{Option, Some, nat_lt}
-use Rattle.feed_text.specs.SinkEvents.{TimedEvent}
+use Rattle.event_sinks.specs.SinkEvents.{TimedEvent}
 use Rattle.line_gaps.specs.declared.heard_packet.HeardPacket.{HeardPacket}
 use Rattle.line_gaps.specs.declared.lost_numbers.LostNumbers.{LostNumbers}
 use Rattle.line_gaps.specs.declared.number_runs.NumberRuns.{NumberRuns}

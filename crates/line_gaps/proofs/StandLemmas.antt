@@ -4,7 +4,7 @@ use Rattle.std.specs.Prelude.{◌&&◌, nat_le, nat_lt, if◌then◌else◌}
 use Rattle.std.specs.List.{filter, fold}
 use Rattle.std.proofs.lemmas.Bool.{cases_Bool}
 use Rattle.std.proofs.lemmas.Bool.Decides.{nat_tests}
-use Rattle.feed_text.specs.SinkEvents.{TimedEvent}
+use Rattle.event_sinks.specs.SinkEvents.{TimedEvent}
 use Rattle.line_gaps.specs.declared.gap_line.GapLine.{GapLine}
 use Rattle.line_gaps.specs.declared.heard_packet.HeardPacket.{HeardPacket}
 use Rattle.line_gaps.specs.declared.open_gap.OpenGap.{OpenGap}

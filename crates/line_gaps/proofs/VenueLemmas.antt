@@ -6,7 +6,7 @@ use Rattle.feed_types.specs.declared.line.LineId.{LineId}
 use Rattle.feed_types.specs.declared.line.LineId.TheVariants as on
 use Rattle.feed_types.specs.FullCounts.{count_after}
 use Rattle.feed_types.specs.PerLines.{on_all, on_line, with_line}
-use Rattle.feed_text.specs.SinkEvents.{SinkEvent, TimedEvent, timed_event, told_before, told_best, told_declaration, told_gap, told_item, told_last, told_packet, told_refusal, told_renewal, told_skip}
+use Rattle.event_sinks.specs.SinkEvents.{SinkEvent, TimedEvent, timed_event, told_before, told_best, told_declaration, told_gap, told_item, told_last, told_packet, told_refusal, told_renewal, told_skip}
 use Rattle.line_arbiter.specs.declared.outcome.Outcome.TheVariants.{Ahead}
 use Rattle.feed_types.specs.declared.per_line.PerLine.{PerLine}
 use Rattle.line_gaps.specs.declared.gap_line.GapLine.{GapLine}

@@ -7,7 +7,7 @@ use Rattle.feed_types.specs.declared.line.LineId.TheVariants as on
 use Rattle.feed_types.specs.FullCounts.{count_after}
 use Rattle.line_arbiter.specs.Streams.{is_same_line}
 use Rattle.line_arbiter.specs.declared.outcome.Outcome.TheVariants.{Taken, Ahead}
-use Rattle.feed_text.specs.SinkEvents.{SinkEvent, TimedEvent, told_packet, told_skip}
+use Rattle.event_sinks.specs.SinkEvents.{SinkEvent, TimedEvent, told_packet, told_skip}
 use Rattle.line_gaps.specs.declared.gap_line.GapLine.{GapLine}
 use Rattle.line_gaps.specs.declared.gap_line.GapLine.TheVariants as lines
 use Rattle.line_gaps.specs.declared.heard_packet.HeardPacket.{HeardPacket}

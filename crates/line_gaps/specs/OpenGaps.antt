@@ -2,7 +2,7 @@
 -- of events the last one stands first. All are of one session, but where it says otherwise.
 use Rattle.std.specs.Prelude.{ℕ, ◌+◌, ◌-◌, Bool, true, false, not, nat_lt, min, List, [], ◌∷◌, ◌++◌, length, map, Option, None, Some, Ok, if◌then◌else◌}
 use Rattle.std.specs.List.{filter, fold}
-use Rattle.feed_text.specs.SinkEvents.{SinkEvent, TimedEvent, told_last, told_packet, told_renewal}
+use Rattle.event_sinks.specs.SinkEvents.{SinkEvent, TimedEvent, told_last, told_packet, told_renewal}
 use Rattle.line_gaps.specs.declared.gap_line.GapLine.{GapLine}
 use Rattle.line_gaps.specs.declared.gap_line.GapLine.TheVariants as lines
 use Rattle.line_gaps.specs.declared.heard_packet.HeardPacket.{HeardPacket}

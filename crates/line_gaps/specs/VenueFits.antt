@@ -4,7 +4,7 @@ use Rattle.std.specs.Prelude.{◌≡◌, ℕ, ◌+◌, ◌-◌, ◌≤◌, Bool,
 use Rattle.feed_types.specs.declared.line.LineId.{LineId}
 use Rattle.feed_types.specs.FullCounts.{count_after}
 use Rattle.feed_types.specs.PerLines.{on_line}
-use Rattle.feed_text.specs.SinkEvents.{TimedEvent, timed_event, told_packet}
+use Rattle.event_sinks.specs.SinkEvents.{TimedEvent, timed_event, told_packet}
 use Rattle.line_arbiter.specs.declared.outcome.LineFault.{LineFault}
 use Rattle.line_arbiter.specs.declared.outcome.Outcome.{Outcome}
 use Rattle.line_gaps.specs.declared.gap_line.GapLine.{GapLine}

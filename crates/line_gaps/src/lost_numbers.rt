@@ -1,6 +1,6 @@
 //! The numbers of a venue that are missing or were given up.
 ghost use Rattle.std.specs.Prelude.{◌≡◌, ◌≤◌, ◌<◌, ◌-◌, ◌+◌, ℕ, Bool, true, ◌&&◌, ◌||◌, not, nat_le, nat_lt, max, [], ◌∷◌, List, Option, None, Ok};
-ghost use Rattle.feed_text.specs.SinkEvents.{SinkEvent, TimedEvent, timed_event, told_packet, told_skip};
+ghost use Rattle.event_sinks.specs.SinkEvents.{SinkEvent, TimedEvent, timed_event, told_packet, told_skip};
 ghost use Rattle.line_arbiter.specs.declared.outcome.Outcome.TheVariants.{Taken};
 ghost use Rattle.line_gaps.specs.Runs.{AreAscending, HaveJust, is_in_run, is_in_runs, meets_runs};
 ghost use Rattle.line_gaps.specs.Gaps.{last_number_told};

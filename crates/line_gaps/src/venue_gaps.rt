@@ -2,7 +2,7 @@
 
 ghost use Rattle.std.specs.Prelude.{◌≡◌, ℕ, Bool, true, List, [], ◌∷◌, ◌++◌, Option, IfOk, Ok, length, if◌then◌else◌};
 ghost use Rattle.feed_types.specs.FullCounts.{count_after};
-ghost use Rattle.feed_text.specs.SinkEvents.{TimedEvent, timed_event, told_by, told_packet, told_renewal, told_skip};
+ghost use Rattle.event_sinks.specs.SinkEvents.{TimedEvent, timed_event, told_by, told_packet, told_renewal, told_skip};
 ghost use Rattle.line_arbiter.specs.declared.outcome.Outcome.TheVariants.{Ahead, Taken};
 ghost use Rattle.line_gaps.specs.Ends.{EndsVenue, recovered_on, sums_on};
 ghost use Rattle.line_gaps.specs.Gaps.{is_missing};
@@ -20,7 +20,7 @@ use crate::gap_sums::{GapSums, raised};
 use crate::heard_packet::HeardPacket;
 use crate::line_gaps::LineGaps;
 use crate::lost_numbers::LostNumbers;
-use feed_text::Event;
+use event_sinks::Event;
 use feed_types::{LineId, PerLine};
 use line_arbiter::{LineFault, Outcome, RenewFault, SkipFault};
 use std::alloc::{AllocError, Global};

@@ -3,7 +3,7 @@ use Rattle.std.proofs.Common.{◌≡◌, ◌∙◌, ◌++◌, ℕ, Bool, List, [
 use Rattle.std.proofs.lemmas.Grind.{flat_map-append}
 use Rattle.std.proofs.lemmas.List.{append-nil, take-append-drop}
 use Rattle.std.proofs.Math.Seq.{take-length}
-use Rattle.feed_text.specs.Devices.{Wrote}
+use Rattle.text_out.specs.Devices.{Wrote}
 use Rattle.std.specs.Prelude.{Some, flat_map, slice_get, slice_set, take, drop}
 use Rattle.line_recordings.specs.Recordings.{PutsRecords, recorded_text}
 use Rattle.line_recordings.specs.Written.{HasWritten, HaveCome, HavePut, ClosesRecording, Part, cut, part_text}

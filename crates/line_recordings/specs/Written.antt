@@ -1,6 +1,6 @@
 -- What a recording has written of its venues: their datagrams and skips, as records.
 use Rattle.std.specs.Prelude.{◌≡◌, ◌⊎◌, ℕ, Bool, false, true, List, [], ◌∷◌, ◌++◌, Some, codes, flat_map, slice_get, slice_set}
-use Rattle.feed_text.specs.Devices.{Wrote}
+use Rattle.text_out.specs.Devices.{Wrote}
 use Rattle.line_recordings.specs.Recordings.{Fates, HasRecorded, recorded_text}
 use Rattle.line_recordings.specs.declared.recording.Recording.{Recording}
 use Rattle.line_recordings.specs.declared.venue_records.VenueRecords.{VenueRecords}

@@ -1,12 +1,13 @@
 //! A recording that is written as it comes.
 ghost use Rattle.std.specs.Prelude.{◌≡◌, ◌+◌, [], IfOk, OnErr, OnOk, false, true};
-ghost use Rattle.feed_text.specs.Devices.{Wrote};
+ghost use Rattle.text_out.specs.Devices.{Wrote};
 ghost use Rattle.line_recordings.specs.Written.{HasWritten, HavePut, ClosesRecording};
 
 use crate::recording_state::RecordingState;
 use crate::venue_records::{FULL, PAGE, VenueRecords};
-use feed_text::{ReadBuffer, TextOut, WriteStop, write_all};
+use capture_records::ReadBuffer;
 use std::alloc::{AllocError, Global};
+use text_out::{TextOut, WriteStop, write_all};
 
 /// The most rounds of one look.
 const MOST_ROUNDS: u32 = 1_024;

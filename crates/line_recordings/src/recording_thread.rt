@@ -1,10 +1,10 @@
 //! The thread of a recording.
-ghost use Rattle.feed_text.specs.StandardError.{SaysEach};
+ghost use Rattle.text_out.specs.StandardError.{SaysEach};
 ghost use Rattle.line_recordings.specs.Written.{WritesRecording, failure_texts};
 
 use crate::recording::Recording;
-use feed_text::{TextOut, write_stderr};
 use std::time::{Clock, Duration};
+use text_out::{TextOut, write_stderr};
 
 /// How long the thread waits between two looks, in milliseconds.
 const LOOK_MS: u64 = 5;

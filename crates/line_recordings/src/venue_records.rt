@@ -5,7 +5,7 @@ ghost use Rattle.line_recordings.specs.Recordings.{ComesFrom, HasHeardNone, IsTa
 use crate::placed::Placed;
 use crate::record_kind::RecordKind;
 use crate::record_source::{RecordSource, silent_source};
-use feed_text::ReadBuffer;
+use capture_records::ReadBuffer;
 use feed_types::{LineId, VenueId};
 use std::alloc::{AllocError, Global};
 use std::sync::Arc;

@@ -27,7 +27,6 @@ use crate::recording::{end_recording, open_recording, start_recording};
 use crate::streams::opened_streams;
 use crate::word_files::{WordsFault, words_of, write_unread};
 use command_words::{Refusal, StreamFiles, explanation_of, settings, stream_files, symbol_words};
-use feed_text::{Count, StreamIn, StreamOut, TextOut, write_stderr};
 use line_recordings::{RecordingState, SkipRecords};
 use nbbo_runs::{
     Next, RunFacts, Terminals, hint_at_file, journal_hint, refuse, run, run_normalisation,
@@ -42,6 +41,7 @@ use std::process::ExitCode;
 use std::sync::Wait;
 use std::sync::ledger::{Blank, Ledger};
 use std::thread::Threads;
+use text_out::{Count, StreamIn, StreamOut, TextOut, write_stderr};
 use udp_listening::{
     BindFault, ErrorsProgress, ListenSockets, ListenStreams, NO_MEMORY, OutputState, PatientOutput,
     SocketTables, UnheldErrors, bind_metrics, bind_sockets, enlarge, listen_with, listening_line,
@@ -238,8 +238,7 @@ fn run_over<C: Ledger, R: Ledger, W: Ledger, E: TextOut>(
         Next::Normalises(settings) => {
             let (mut input, mut output) = (ran.input, ran.output);
             let (input, output) = (&mut input, &mut output);
-            let status =
-                run_normalisation(rt.alloc(), &settings, terminals, input, output, errors);
+            let status = run_normalisation(rt.alloc(), &settings, terminals, input, output, errors);
             write_unwhole(files, status, errors);
             ProgramEnd::Status(status)
         }

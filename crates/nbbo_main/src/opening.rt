@@ -1,7 +1,7 @@
 //! Why files aren't opened.
 
-use feed_text::{TextOut, write_stderr};
 use std::io::ErrorKind;
+use text_out::{TextOut, write_stderr};
 
 /// Returns why a file isn't opened that is to be written, by an error of this kind.
 pub fn why_unwritten(kind: ErrorKind) -> &'static str {

@@ -1,6 +1,5 @@
 //! The recording of a run that listens.
 
-use feed_text::{Count, StreamOut, TextOut, write_number, write_stderr};
 use line_recordings::{Recording, RecordingState, VenueRecords, write_recording};
 use std::alloc::{AllocError, Global};
 use std::fs::File;
@@ -9,6 +8,7 @@ use std::sync::ledger::Ledger;
 use std::thread;
 use std::thread::Threads;
 use std::time::{Clock, Duration};
+use text_out::{Count, StreamOut, TextOut, write_number, write_stderr};
 
 /// How long one look waits at the end of a run until the recording is written, in milliseconds.
 const LOOK_MS: u64 = 10;

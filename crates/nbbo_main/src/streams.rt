@@ -2,10 +2,10 @@
 
 use crate::opening::{why_unread, why_unwritten, write_unopened};
 use command_words::StreamFiles;
-use feed_text::TextOut;
 use std::fs::{File, Metadata};
 use std::io::{self, ErrorKind, Read, Stdin, Stdout, Write};
 use std::os::unix::fs::MetadataExt;
+use text_out::TextOut;
 
 /// What is read.
 #[derive(Drop)]

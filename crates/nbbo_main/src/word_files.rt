@@ -2,11 +2,11 @@
 
 use crate::opening::{why_unread, write_unopened};
 use command_words::{WordSource, file_named, words_of_sources};
-use feed_text::TextOut;
 use std::alloc::AllocError;
 use std::env;
 use std::fs::File;
 use std::io::{self, ErrorKind, Read};
+use text_out::TextOut;
 
 /// The most bytes that a file of words has.
 const MOST_BYTES: u64 = 1_048_576;

@@ -2,12 +2,12 @@
 use Rattle.std.proofs.Common.{◌≡◌, ℕ, List, [], ◌++◌, append-nil, refl, sym, ap, subst, ◌∙◌}
 use Rattle.std.specs.Prelude.{⊤, Result}
 use Rattle.feed_text.specs.declared.replay.ReplayConfig.{ReplayConfig}
-use Rattle.feed_text.specs.declared.replay_stop.ReplayStop.{ReplayStop}
-use Rattle.feed_text.specs.Devices.{Reading, Writing}
+use Rattle.event_sinks.specs.declared.replay_stop.ReplayStop.{ReplayStop}
+use Rattle.text_out.specs.Devices.{Reading, Writing}
 use Rattle.feed_text.specs.EventReplays.{AnswersRun}
-use Rattle.feed_text.specs.Formats.{Parsing}
-use Rattle.feed_text.specs.SinkEvents.{TimedEvent}
-use Rattle.feed_text.specs.TextPages.{FailsPage}
+use Rattle.capture_records.specs.Formats.{Parsing}
+use Rattle.event_sinks.specs.SinkEvents.{TimedEvent}
+use Rattle.event_sinks.specs.TextPages.{FailsPage}
 use Rattle.run_settings.specs.declared.formats.RowFormat.{RowFormat}
 use Rattle.run_settings.specs.declared.time_span.TimeSpan.{TimeSpan}
 use Rattle.gap_rows.specs.GapCells.{gap_names}

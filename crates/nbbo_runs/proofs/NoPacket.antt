@@ -1,8 +1,8 @@
 -- That no datagram is a packet.
 use Rattle.std.proofs.Common.{◌≡◌, ℕ, zero, suc, [], ◌∷◌, refl, arith}
 use Rattle.std.specs.Prelude.{codes}
-use Rattle.feed_text.specs.Devices.{Writing}
-use Rattle.feed_text.specs.StandardError.{SaysEach}
+use Rattle.text_out.specs.Devices.{Writing}
+use Rattle.text_out.specs.StandardError.{SaysEach}
 use Rattle.nbbo_runs.specs.Discovery.{no_packet_texts}
 
 pub no_packet_some : {S : Type 0} (w : Writing S) (count : ℕ) (s : S) → (count ≡ 0 → ⊥)

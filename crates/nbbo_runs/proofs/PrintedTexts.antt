@@ -3,10 +3,10 @@ use Rattle.std.proofs.Common.{◌≡◌, List, ℕ, Ok, Err, subst}
 use Rattle.std.specs.Prelude.{IfOk, IsOkAnd, Result}
 use Rattle.std.specs.Result.{result_and}
 use Rattle.feed_text.specs.declared.replay.ReplayConfig.{ReplayConfig}
-use Rattle.feed_text.specs.declared.replay_stop.ReplayStop.{ReplayStop}
-use Rattle.feed_text.specs.declared.replay_stop.ReplayStop.TheVariants.{ReadFailed, SinkFailed, Bad, Short, TooManyTurns, JournalFull, NoMemory}
-use Rattle.feed_text.specs.Devices.{Reading, Writing}
-use Rattle.feed_text.specs.Formats.{Parsing}
+use Rattle.event_sinks.specs.declared.replay_stop.ReplayStop.{ReplayStop}
+use Rattle.event_sinks.specs.declared.replay_stop.ReplayStop.TheVariants.{ReadFailed, SinkFailed, Bad, Short, TooManyTurns, JournalFull, NoMemory}
+use Rattle.text_out.specs.Devices.{Reading, Writing}
+use Rattle.capture_records.specs.Formats.{Parsing}
 use Rattle.nbbo_runs.specs.Printing.{LeavesMissing, PrintsText}
 use Rattle.nbbo_runs.specs.declared.watched_sink.Missing.{Missing}
 

@@ -1,9 +1,9 @@
 -- What is told of what is missing, of lists that are seen as slices.
 use Rattle.std.proofs.Common.{◌≡◌, ℕ, List, subst}
 use Rattle.std.specs.Prelude.{Bool, Result}
-use Rattle.feed_text.specs.Devices.{Writing}
-use Rattle.feed_text.specs.StandardError.{SaysEach}
-use Rattle.feed_text.specs.declared.lack.Lack.{Lack}
+use Rattle.text_out.specs.Devices.{Writing}
+use Rattle.text_out.specs.StandardError.{SaysEach}
+use Rattle.event_sinks.specs.declared.lack.Lack.{Lack}
 use Rattle.nbbo_runs.specs.AbsentSymbols.{told_absent}
 use Rattle.run_notes.specs.AbsentSymbols.{symbols_with}
 use Rattle.nbbo_runs.specs.Lacks.{told_lacks}

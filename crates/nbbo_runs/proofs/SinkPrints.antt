@@ -2,14 +2,14 @@
 use Rattle.std.proofs.Common.{◌≡◌, ℕ, ◌+◌, List, [], ◌++◌, Ok, Err, ap, subst, ◌∙◌}
 use Rattle.std.specs.Prelude.{⊤, IfOk, Result}
 use Rattle.feed_text.specs.declared.replay.ReplayConfig.{ReplayConfig}
-use Rattle.feed_text.specs.declared.replay_stop.ReplayStop.{ReplayStop}
-use Rattle.feed_text.specs.declared.text_page.TextPage.{TextPage}
-use Rattle.feed_text.specs.Devices.{Reading, Writing, Wrote}
+use Rattle.event_sinks.specs.declared.replay_stop.ReplayStop.{ReplayStop}
+use Rattle.event_sinks.specs.declared.text_page.TextPage.{TextPage}
+use Rattle.text_out.specs.Devices.{Reading, Writing, Wrote}
 use Rattle.feed_text.specs.EventReplays.{AnswersRun}
-use Rattle.feed_text.specs.Formats.{Parsing}
+use Rattle.capture_records.specs.Formats.{Parsing}
 use Rattle.feed_text.specs.ReplayStates.{SinkTaking}
-use Rattle.feed_text.specs.SinkEvents.{TimedEvent}
-use Rattle.feed_text.specs.TextPages.{FailsPage}
+use Rattle.event_sinks.specs.SinkEvents.{TimedEvent}
+use Rattle.event_sinks.specs.TextPages.{FailsPage}
 use Rattle.feed_text.specs.Told.{ToldFacts}
 use Rattle.best_rows.specs.declared.style.RowStyle.{RowStyle}
 use Rattle.replay_reports.specs.declared.row_sink.BestRows.{BestRows}

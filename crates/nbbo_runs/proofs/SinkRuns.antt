@@ -2,13 +2,13 @@
 use Rattle.std.proofs.Common.{◌≡◌, ℕ, List, Ok, Err}
 use Rattle.std.specs.Prelude.{Result}
 use Rattle.feed_text.specs.declared.replay.ReplayConfig.{ReplayConfig}
-use Rattle.feed_text.specs.declared.replay_stop.ReplayStop.{ReplayStop}
-use Rattle.feed_text.specs.declared.replay_stop.ReplayStop.TheVariants.{ReadFailed, SinkFailed, Bad, Short, TooManyTurns, JournalFull, NoMemory}
-use Rattle.feed_text.specs.Devices.{Reading}
+use Rattle.event_sinks.specs.declared.replay_stop.ReplayStop.{ReplayStop}
+use Rattle.event_sinks.specs.declared.replay_stop.ReplayStop.TheVariants.{ReadFailed, SinkFailed, Bad, Short, TooManyTurns, JournalFull, NoMemory}
+use Rattle.text_out.specs.Devices.{Reading}
 use Rattle.feed_text.specs.EventReplays.{AnswersRun, ReadAndTold, TookAll}
-use Rattle.feed_text.specs.Formats.{Parsing, TimedRecord}
+use Rattle.capture_records.specs.Formats.{Parsing, TimedRecord}
 use Rattle.feed_text.specs.ReplayStates.{SinkTaking}
-use Rattle.feed_text.specs.SinkEvents.{TimedEvent}
+use Rattle.event_sinks.specs.SinkEvents.{TimedEvent}
 use Rattle.feed_text.specs.Told.{ToldFacts}
 
 -- What the one took from its old state to its new one, the other took, too; it failed where the one

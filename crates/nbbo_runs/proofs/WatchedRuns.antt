@@ -3,10 +3,10 @@
 use Rattle.std.proofs.Common.{◌≡◌, ℕ, List, Ok, Err, true, refl, ap, ◌∙◌}
 use Rattle.std.specs.Prelude.{Bool, OnOk, Result}
 use Rattle.feed_text.specs.declared.replay.ReplayConfig.{ReplayConfig}
-use Rattle.feed_text.specs.declared.replay_stop.ReplayStop.{ReplayStop}
-use Rattle.feed_text.specs.Devices.{Reading}
+use Rattle.event_sinks.specs.declared.replay_stop.ReplayStop.{ReplayStop}
+use Rattle.text_out.specs.Devices.{Reading}
 use Rattle.feed_text.specs.EventReplays.{AnswersRun}
-use Rattle.feed_text.specs.Formats.{Parsing}
+use Rattle.capture_records.specs.Formats.{Parsing}
 use Rattle.feed_text.specs.ReplayStates.{SinkTaking}
 use Rattle.replay_run.specs.Printed.{facts_of_run}
 use Rattle.nbbo_runs.specs.declared.watched_sink.WatchedSink.{WatchedSink}

@@ -2,7 +2,7 @@
 use Rattle.std.proofs.Common.{◌≡◌, ℕ, List, [], ◌∷◌, ◌++◌, refl, sym, ap, ◌∙◌}
 use Rattle.std.specs.Prelude.{Bool, ◌&&◌, not}
 use Rattle.std.proofs.lemmas.List.Folds.{list_any-append}
-use Rattle.feed_text.specs.SinkEvents.{TimedEvent}
+use Rattle.event_sinks.specs.SinkEvents.{TimedEvent}
 use Rattle.nbbo_runs.specs.declared.watched_sink.WatchedSink.{WatchedSink}
 use Rattle.nbbo_runs.specs.AbsentSymbols.{IsAfterItems, TakesWatched, brings_item, comes_in}
 use Rattle.nbbo_runs.specs.NamedSessions.{ordinals_after, ordinals_with}

@@ -4,11 +4,11 @@ use Rattle.std.specs.Prelude.{◌≡◌, ⊤, ℕ, Bool, true, false, ◌&&◌, 
 use Rattle.std.specs.List.{list_any}
 use Rattle.feed_types.specs.Symbols.{key_of}
 use Rattle.feed_text.specs.declared.replay.ReplayConfig.{ReplayConfig}
-use Rattle.feed_text.specs.declared.replay_stop.ReplayStop.{ReplayStop}
-use Rattle.feed_text.specs.Devices.{Reading}
+use Rattle.event_sinks.specs.declared.replay_stop.ReplayStop.{ReplayStop}
+use Rattle.text_out.specs.Devices.{Reading}
 use Rattle.feed_text.specs.EventReplays.{AnswersRun}
-use Rattle.feed_text.specs.Formats.{Parsing}
-use Rattle.feed_text.specs.SinkEvents.{SinkEvent, TimedEvent, told_item}
+use Rattle.capture_records.specs.Formats.{Parsing}
+use Rattle.event_sinks.specs.SinkEvents.{SinkEvent, TimedEvent, told_item}
 use Rattle.replay_run.specs.Printed.{facts_of_run}
 use Rattle.run_notes.specs.AbsentSymbols.{absent_texts, has_key, is_item_of}
 use Rattle.nbbo_runs.specs.declared.watched_sink.Missing.{Missing}

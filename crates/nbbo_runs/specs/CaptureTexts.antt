@@ -2,8 +2,8 @@
 use Rattle.std.specs.Prelude.{ℕ, zero, suc, ◌==◌, Bool, ◌&&◌, not, List, [], ◌∷◌, ◌++◌, codes, decimal, Option, Some, None, Result, Ok, Err, if◌then◌else◌}
 use Rattle.packet_capture.specs.declared.fault.CaptureFault.{CaptureFault}
 use Rattle.packet_capture.specs.declared.fault.CaptureFault.TheVariants.{NotCapture, UnknownVersion, TooLong, BadByteOrder, BadBlockLength, LengthsDiffer, ShortBlock, UnknownInterface, FramePastBlock, OptionPastBlock, TooManyInterfaces}
-use Rattle.feed_text.specs.declared.replay_stop.ReplayStop.{ReplayStop}
-use Rattle.feed_text.specs.declared.replay_stop.ReplayStop.TheVariants.{Bad, Short}
+use Rattle.event_sinks.specs.declared.replay_stop.ReplayStop.{ReplayStop}
+use Rattle.event_sinks.specs.declared.replay_stop.ReplayStop.TheVariants.{Bad, Short}
 use Rattle.line_captures.specs.declared.bad_piece.BadPiece.{BadPiece}
 use Rattle.line_captures.specs.declared.drop_counts.DroppedFrames.{DroppedFrames}
 use Rattle.line_captures.specs.declared.frame_counts.FrameCounts.{FrameCounts}

@@ -2,9 +2,9 @@
 use Rattle.std.specs.Prelude.{◌≡◌, ◌⊎◌, ℕ, zero, suc, List, [], ◌∷◌, ◌++◌, codes, length, Result, Ok, Err}
 use Rattle.std.specs.Result.{result_and}
 use Rattle.clap.specs.Walk.{Text}
-use Rattle.feed_text.specs.declared.replay_stop.ReplayStop.{ReplayStop}
-use Rattle.feed_text.specs.Devices.{Reading, Writing}
-use Rattle.feed_text.specs.StandardError.{SaysEach}
+use Rattle.event_sinks.specs.declared.replay_stop.ReplayStop.{ReplayStop}
+use Rattle.text_out.specs.Devices.{Reading, Writing}
+use Rattle.text_out.specs.StandardError.{SaysEach}
 use Rattle.line_captures.specs.declared.bad_piece.BadPiece.{BadPiece}
 use Rattle.line_captures.specs.Conversions.{AnswersConversion}
 use Rattle.line_captures.specs.DropCounts.{dropped_of}

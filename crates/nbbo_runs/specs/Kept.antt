@@ -1,7 +1,7 @@
 -- The events of a replay, kept in a list.
 use Rattle.std.specs.Prelude.{◌≡◌, List, ◌++◌}
 use Rattle.feed_text.specs.ReplayStates.{SinkTaking}
-use Rattle.feed_text.specs.SinkEvents.{TimedEvent}
+use Rattle.event_sinks.specs.SinkEvents.{TimedEvent}
 
 -- events are kept
 abbrev pub keeping : SinkTaking (List TimedEvent)

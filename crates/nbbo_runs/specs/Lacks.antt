@@ -1,7 +1,7 @@
 -- What is told of the messages that venues lack at the end of a replay.
 use Rattle.std.specs.Prelude.{ℕ, Bool, true, false, ◌||◌, List, [], flat_map, Result, Ok}
-use Rattle.feed_text.specs.LackTexts.{lack_texts}
-use Rattle.feed_text.specs.declared.lack.Lack.{Lack}
+use Rattle.event_sinks.specs.LackTexts.{lack_texts}
+use Rattle.event_sinks.specs.declared.lack.Lack.{Lack}
 use Rattle.run_settings.specs.declared.skip_rule.SkipRule.{SkipRule}
 use Rattle.run_settings.specs.declared.skip_rule.SkipRule.TheVariants as skips
 use Rattle.run_settings.specs.declared.run_input.RunInput.{RunInput}

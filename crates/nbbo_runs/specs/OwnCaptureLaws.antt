@@ -1,7 +1,7 @@
 -- The laws of captures of the project's own format, as a format of records.
 use Rattle.std.proofs.Common.{◌≡◌, ℕ, Bool, List, [], ◌∷◌, ◌++◌, refl, ap, ◌∙◌}
-use Rattle.feed_text.specs.Formats.{TimedRecord}
-use Rattle.feed_text.specs.OwnFormatLaws.{reads_none_own, reads_more_own, reads_longer_own, reads_venues_own}
+use Rattle.capture_records.specs.Formats.{TimedRecord}
+use Rattle.capture_records.specs.OwnFormatLaws.{reads_none_own, reads_more_own, reads_longer_own, reads_venues_own}
 use Rattle.nbbo_runs.specs.declared.own_capture.OwnCapture.{OwnCapture}
 use Rattle.nbbo_runs.specs.OwnCaptures.{OwnReads, has_begun_by}
 

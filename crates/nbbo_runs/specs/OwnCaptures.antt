@@ -1,8 +1,8 @@
 -- Captures of the project's own format, whose bad records say what stands in their place.
 use Rattle.std.specs.Prelude.{◌≡◌, ℕ, Bool, true, false, not, List, [], ◌∷◌}
-use Rattle.feed_text.specs.Capture.{IsBadRecord, WantsMore}
-use Rattle.feed_text.specs.Formats.{Parsing, TimedRecord}
-use Rattle.feed_text.specs.OwnFormats.{ReadsOwn}
+use Rattle.capture_records.specs.Capture.{IsBadRecord, WantsMore}
+use Rattle.capture_records.specs.Formats.{Parsing, TimedRecord}
+use Rattle.capture_records.specs.OwnFormats.{ReadsOwn}
 use Rattle.line_captures.specs.Starts.{start_of}
 use Rattle.nbbo_runs.specs.declared.own_capture.BadRecord.{BadRecord}
 use Rattle.nbbo_runs.specs.declared.own_capture.OwnCapture.{OwnCapture}

@@ -4,16 +4,16 @@ use Rattle.std.specs.Result.{result_and}
 use Rattle.run_settings.specs.declared.formats.RowFormat.{RowFormat}
 use Rattle.best_rows.specs.declared.style.RowStyle.{RowStyle}
 use Rattle.feed_text.specs.declared.replay.ReplayConfig.{ReplayConfig}
-use Rattle.feed_text.specs.declared.replay_stop.ReplayStop.{ReplayStop}
-use Rattle.feed_text.specs.declared.replay_stop.ReplayStop.TheVariants.{SinkFailed, NoMemory}
-use Rattle.feed_text.specs.Devices.{Reading, Writing, Wrote}
+use Rattle.event_sinks.specs.declared.replay_stop.ReplayStop.{ReplayStop}
+use Rattle.event_sinks.specs.declared.replay_stop.ReplayStop.TheVariants.{SinkFailed, NoMemory}
+use Rattle.text_out.specs.Devices.{Reading, Writing, Wrote}
 use Rattle.feed_text.specs.EventReplays.{AnswersRun, venues_in}
-use Rattle.feed_text.specs.Formats.{Parsing}
+use Rattle.capture_records.specs.Formats.{Parsing}
 use Rattle.feed_text.specs.Lacks.{AppendsLacks}
-use Rattle.feed_text.specs.declared.lack.Lack.{Lack}
+use Rattle.event_sinks.specs.declared.lack.Lack.{Lack}
 use Rattle.feed_text.specs.ReplayStates.{SinkTaking}
 use Rattle.feed_text.specs.Replays.{text_told}
-use Rattle.feed_text.specs.SinkEvents.{TimedEvent}
+use Rattle.event_sinks.specs.SinkEvents.{TimedEvent}
 use Rattle.period_rows.specs.BestRows.{text_of_bests}
 use Rattle.period_rows.specs.CountRows.{text_of_counts}
 use Rattle.period_rows.specs.CountStates.{state_told}

@@ -2,11 +2,11 @@
 -- and the status, the last argument.
 use Rattle.std.specs.Prelude.{◌≡◌, ◌≢◌, ◌⊎◌, ℕ, ◌+◌, Bool, true, false, List, [], ◌∷◌, ◌++◌, length, Result}
 use Rattle.clap.specs.Walk.{Text}
-use Rattle.feed_text.specs.declared.replay_stop.ReplayStop.{ReplayStop}
-use Rattle.feed_text.specs.Devices.{Writing, Wrote}
-use Rattle.feed_text.specs.Formats.{Parsing}
-use Rattle.feed_text.specs.StandardError.{Says, SaysEach}
-use Rattle.feed_text.specs.declared.lack.Lack.{Lack}
+use Rattle.event_sinks.specs.declared.replay_stop.ReplayStop.{ReplayStop}
+use Rattle.text_out.specs.Devices.{Writing, Wrote}
+use Rattle.capture_records.specs.Formats.{Parsing}
+use Rattle.text_out.specs.StandardError.{Says, SaysEach}
+use Rattle.event_sinks.specs.declared.lack.Lack.{Lack}
 use Rattle.run_settings.specs.declared.captured_line.CapturedLine.{CapturedLine}
 use Rattle.line_captures.specs.declared.bad_piece.BadPiece.{BadPiece}
 use Rattle.line_captures.specs.Conversions.{AnswersConversion}

@@ -3,10 +3,10 @@
 use Rattle.std.specs.Prelude.{ℕ, ◌+◌, ◌==◌, Bool, true, false, ◌&&◌, nat_lt, nat_le, List, [], ◌∷◌, ◌++◌, codes, decimal, flat_map, length, map, take, slice_get, Option, None, Some, if◌then◌else◌}
 use Rattle.std.specs.List.{list_any, sum_by}
 use Rattle.std.specs.Str.{bytes_eq}
-use Rattle.feed_text.specs.declared.record_format.Step.{Step}
-use Rattle.feed_text.specs.declared.record_format.Step.TheVariants.{Came}
-use Rattle.feed_text.specs.Capture.{CaptureRecord, datagram_record, record_of, renewal_record}
-use Rattle.feed_text.specs.Formats.{TimedRecord}
+use Rattle.capture_records.specs.declared.record_format.Step.{Step}
+use Rattle.capture_records.specs.declared.record_format.Step.TheVariants.{Came}
+use Rattle.capture_records.specs.Capture.{CaptureRecord, datagram_record, record_of, renewal_record}
+use Rattle.capture_records.specs.Formats.{TimedRecord}
 use Rattle.line_discovery.specs.KeyedRows.{Keying, keyed_rows}
 use Rattle.line_discovery.specs.Tables.{up_to_most}
 use Rattle.run_notes.specs.SessionNames.{name_texts}

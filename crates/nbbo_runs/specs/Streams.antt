@@ -1,5 +1,5 @@
 -- The streams of the program.
-use Rattle.feed_text.specs.Devices.{Reading, Writing}
+use Rattle.text_out.specs.Devices.{Reading, Writing}
 
 -- the states of standard input, output and error
 pub record Streams (R W E : Type 0) : Type 0 where

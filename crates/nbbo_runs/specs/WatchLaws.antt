@@ -1,7 +1,7 @@
 -- The laws of a format that is watched.
 use Rattle.std.proofs.Common.{◌≡◌, ℕ, List, [], ◌∷◌, ◌++◌, refl, sym, ap, ◌∙◌, append-nil, append_assoc, flat_map}
 use Rattle.std.proofs.lemmas.Grind.{flat_map-append}
-use Rattle.feed_text.specs.Formats.{TimedRecord}
+use Rattle.capture_records.specs.Formats.{TimedRecord}
 use Rattle.nbbo_runs.specs.declared.session_row.SessionSighting.{SessionSighting}
 use Rattle.nbbo_runs.specs.declared.venue_watch.VenueWatch.{VenueWatch}
 use Rattle.nbbo_runs.specs.declared.watched_format.WatchedFormat.{WatchedFormat}

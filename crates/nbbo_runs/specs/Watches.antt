@@ -4,10 +4,10 @@ use Rattle.std.specs.List.{list_any}
 use Rattle.feed_types.specs.Text.{line_letter}
 use Rattle.feed_types.specs.declared.line.LineId.{LineId}
 use Rattle.feed_types.specs.declared.line.LineId.TheVariants.{A, B}
-use Rattle.feed_text.specs.declared.record_format.Step.{Step}
-use Rattle.feed_text.specs.declared.record_format.Step.TheVariants.{Came}
-use Rattle.feed_text.specs.Capture.{CaptureRecord, datagram_record, record_of}
-use Rattle.feed_text.specs.Formats.{Parsing, TimedRecord}
+use Rattle.capture_records.specs.declared.record_format.Step.{Step}
+use Rattle.capture_records.specs.declared.record_format.Step.TheVariants.{Came}
+use Rattle.capture_records.specs.Capture.{CaptureRecord, datagram_record, record_of}
+use Rattle.capture_records.specs.Formats.{Parsing, TimedRecord}
 use Rattle.run_settings.specs.declared.captured_line.CapturedLine.{CapturedLine}
 use Rattle.run_settings.specs.declared.next_session.NextSession.{NextSession}
 use Rattle.run_settings.specs.declared.run_input.RunInput.{RunInput}

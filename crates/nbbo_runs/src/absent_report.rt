@@ -1,11 +1,11 @@
 //! What is said of symbols of which no item came, after a run of the program.
-ghost use Rattle.feed_text.specs.StandardError.{SaysEach};
+ghost use Rattle.text_out.specs.StandardError.{SaysEach};
 ghost use Rattle.nbbo_runs.specs.AbsentSymbols.{told_absent};
 ghost use Rattle.run_notes.specs.AbsentSymbols.{symbols_with};
 
-use feed_text::TextOut;
 use feed_types::SymbolName;
 use run_notes::{AbsentSymbols, write_absent};
+use text_out::TextOut;
 
 /// Writes which of the symbols are absent after a run with this outcome, if that is told.
 pub(crate) fn tell_absent<F, E: TextOut>(

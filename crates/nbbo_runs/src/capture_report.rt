@@ -1,13 +1,14 @@
 //! What is said of a packet capture on standard error.
 ghost use Rattle.std.specs.Prelude.{◌≡◌, ◌∷◌, [], codes, decimal};
-ghost use Rattle.feed_text.specs.StandardError.{SaysEach};
+ghost use Rattle.text_out.specs.StandardError.{SaysEach};
 ghost use Rattle.nbbo_runs.specs.CaptureTexts.{bad_capture_texts, capture_fault_text, capture_outcome_texts, count_texts, datagrams_texts, dropped_texts, frame_texts, frames_texts, is_second, late_texts, lost_texts, no_line_texts, order_texts, other_texts, packed_at, protocols_texts, second_at, second_now, second_texts, start_texts};
 
 use crate::ending::stop_line;
 use crate::hints::{is_packets, packed_hint};
-use feed_text::{ReplayStop, TextOut, write_number, write_stderr};
+use event_sinks::ReplayStop;
 use line_captures::{BadPiece, DroppedFrames, FrameCounts};
 use packet_capture::CaptureFault;
+use text_out::{TextOut, write_number, write_stderr};
 
 /// The line beside the number of frames that are out of time order.
 const IN_ORDER: &str =

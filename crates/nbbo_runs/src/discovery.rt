@@ -1,6 +1,6 @@
 //! Runs that list the lines of a packet capture.
 ghost use Rattle.std.specs.Prelude.{codes};
-ghost use Rattle.feed_text.specs.StandardError.{SaysEach};
+ghost use Rattle.text_out.specs.StandardError.{SaysEach};
 ghost use Rattle.nbbo_runs.specs.Discovery.{Discovers, PrintsSurvey, RunsDiscovery, no_packet_texts, survey_outcome_texts, survey_texts};
 
 use crate::capture_report::{
@@ -12,10 +12,12 @@ use crate::hints::input_hint;
 use crate::printing::write_text;
 use crate::survey_form::SurveyForm;
 use crate::terminals::Terminals;
-use feed_text::{CaptureIn, RecordFormat, ReplayStop, TextOut, write_stderr};
+use capture_records::RecordFormat;
+use event_sinks::ReplayStop;
 use line_captures::{BadPiece, convert};
 use line_discovery::LineSurvey;
 use std::alloc::Global;
+use text_out::{CaptureIn, TextOut, write_stderr};
 
 /// The outcome of a run.
 type Outcome = Result<(), ReplayStop<BadPiece>>;

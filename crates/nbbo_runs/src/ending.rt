@@ -4,7 +4,7 @@ ghost use Rattle.nbbo_runs.specs.Ending.{ending_status, first_hint, own_hint, st
 
 use crate::hints::format_hint;
 use crate::own_capture::BadRecord;
-use feed_text::ReplayStop;
+use event_sinks::ReplayStop;
 
 /// The line for a call of a writer that failed.
 pub const WRITE_FAILED: &str = "nbbo: write failed\n";

@@ -1,6 +1,6 @@
 //! A sink that is asked whether anything came to it.
 
-use feed_text::{Event, EventSink, SinkStop};
+use event_sinks::{Event, EventSink, SinkStop};
 use report_rows::SpannedSink;
 
 /// A sink, and whether an event came to it.

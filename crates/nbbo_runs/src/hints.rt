@@ -3,8 +3,8 @@
 ghost use Rattle.std.specs.Prelude.{◌≡◌};
 ghost use Rattle.nbbo_runs.specs.Hints.{format_hint, hint_text, is_packets, journal_hint, packed_hint};
 
-use feed_text::{TextOut, write_stderr};
 use std::fs::{self, File, Files};
+use text_out::{TextOut, write_stderr};
 
 /// The line before a terminal is read.
 const AT_TERMINAL: &str =

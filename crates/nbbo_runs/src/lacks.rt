@@ -1,11 +1,12 @@
 //! What is told of the messages that venues lack at the end of a replay.
 ghost use Rattle.std.specs.Prelude.{◌≡◌};
-ghost use Rattle.feed_text.specs.StandardError.{SaysEach};
+ghost use Rattle.text_out.specs.StandardError.{SaysEach};
 ghost use Rattle.nbbo_runs.specs.Lacks.{has_rule, is_packet_input, is_part, tells_lacks, told_lacks};
 
 use crate::terminals::Terminals;
-use feed_text::{Lack, TextOut, write_lacks};
+use event_sinks::{Lack, write_lacks};
 use run_settings::{RunInput, RunOutput, RunSettings, SkipRule};
+use text_out::TextOut;
 
 /// Whether any gaps are given up.
 fn has_rule(skips: SkipRule) -> bool

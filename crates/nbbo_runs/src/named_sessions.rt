@@ -3,11 +3,11 @@ ghost use Rattle.std.specs.Prelude.{◌≡◌, ◌-◌, drop, replicate, slice_i
 ghost use Rattle.std.specs.List.{list_any};
 ghost use Rattle.std.specs.Str.{bytes_eq};
 ghost use Rattle.feed_text.specs.Rules.{names_after};
-ghost use Rattle.feed_text.specs.SinkEvents.{told_by};
+ghost use Rattle.event_sinks.specs.SinkEvents.{told_by};
 ghost use Rattle.nbbo_runs.specs.NamedSessions.{first_ordinals, never_begins, ordinals_with};
 
 use crate::session_row::VenueSession;
-use feed_text::Event;
+use event_sinks::Event;
 use run_settings::NextSession;
 
 /// The most venues of a capture.

@@ -6,16 +6,17 @@ use crate::own_capture::OwnCapture;
 use crate::terminals::Terminals;
 use crate::told_format::ToldFormat;
 use capture_writing::Destination;
-use feed_text::{CaptureIn, Lack, TextOut, write_lacks, write_number, write_stderr};
+use event_sinks::{Lack, write_lacks};
 use feed_types::{LineId, VenueId};
 use itch_book::BookFault;
 use line_captures::PacketFormat;
 use normalising::{
-    GivenUp, NormalisedFeed, NormaliseStop, Normalised, OutputForm, VenueReport, normalise,
+    GivenUp, NormaliseStop, Normalised, NormalisedFeed, OutputForm, VenueReport, normalise,
 };
 use packet_capture::Address;
 use run_settings::{CapturedLine, EndNumberRule, NormaliseSettings, RunInput};
 use std::alloc::{AllocError, Global};
+use text_out::{CaptureIn, TextOut, write_number, write_stderr};
 use venue_normaliser::{EndNumber, NormaliserFault, NormaliserSettings};
 
 /// Returns where the frames of each venue go: to its line A.
@@ -81,12 +82,20 @@ fn write_report<E: TextOut>(report: &VenueReport, errors: &mut E) {
         };
         write_lacks(&[lack], errors);
     }
-    write_venue_count(venue, ": datagrams that are no packet: ", report.counts.bad, errors);
+    write_venue_count(
+        venue,
+        ": datagrams that are no packet: ",
+        report.counts.bad,
+        errors,
+    );
     write_venue_count(venue, ": packets refused: ", report.counts.refused, errors);
     if report.counts.itch == 0 && report.counts.own != 0 {
         write_stderr("nbbo: venue ", errors);
         write_number(venue.index() as u64, errors);
-        write_stderr(" looks like own messages, which nbbo replay reads as they are\n", errors);
+        write_stderr(
+            " looks like own messages, which nbbo replay reads as they are\n",
+            errors,
+        );
     }
 }
 
@@ -116,11 +125,7 @@ fn write_fault<E: TextOut>(fault: NormaliserFault, errors: &mut E) {
 }
 
 /// Writes what a run came to, and returns the status of the program.
-fn tell<F: ToldFormat, E: TextOut>(
-    format: &F,
-    run: &Normalised<F::Fault>,
-    errors: &mut E,
-) -> u8 {
+fn tell<F: ToldFormat, E: TextOut>(format: &F, run: &Normalised<F::Fault>, errors: &mut E) -> u8 {
     for given_up in &run.given_up {
         write_given_up(given_up, errors);
     }
@@ -191,7 +196,15 @@ pub fn run_normalisation<R: CaptureIn, W: TextOut, E: TextOut>(
     match &settings.input {
         RunInput::Own => {
             let mut format = OwnCapture::new(venues);
-            run_over(alloc, settings, OutputForm::Own, &mut format, input, output, errors)
+            run_over(
+                alloc,
+                settings,
+                OutputForm::Own,
+                &mut format,
+                input,
+                output,
+                errors,
+            )
         }
         RunInput::Packets(lines) => {
             let Ok(destinations) = destinations_of(alloc, lines.as_slice(), venues) else {

@@ -3,7 +3,7 @@ ghost use Rattle.std.specs.Prelude.{◌≡◌, ◌≤◌, false};
 ghost use Rattle.nbbo_runs.specs.OwnCaptures.{IsNoRecord, OwnReads, WantsRecord, new_own_capture};
 ghost use Rattle.nbbo_runs.specs.OwnCaptureLaws.{own_longer, own_more, own_none, own_venues};
 
-use feed_text::{OwnFormat, RecordFormat, Step};
+use capture_records::{OwnFormat, RecordFormat, Step};
 use line_captures::start_of;
 
 /// What stands where a record of the project's own format is bad.

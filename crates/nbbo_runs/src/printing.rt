@@ -1,9 +1,9 @@
 //! What is printed of a replay.
 ghost use Rattle.std.specs.Prelude.{◌≡◌, ◌≤◌, ◌*◌, ⊤, ℕ, List, [], Err, IfErr, IfOk, IsOkAnd, vec_len};
-ghost use Rattle.feed_text.specs.declared.replay_stop.ReplayStop.TheVariants.{NoMemory};
+ghost use Rattle.event_sinks.specs.declared.replay_stop.ReplayStop.TheVariants.{NoMemory};
 ghost use Rattle.feed_text.specs.EventReplays.{AnswersRun, venues_in};
 ghost use Rattle.feed_text.specs.Replays.{CanReplay};
-ghost use Rattle.feed_text.specs.SinkEvents.{TimedEvent};
+ghost use Rattle.event_sinks.specs.SinkEvents.{TimedEvent};
 ghost use Rattle.period_rows.specs.BestMakers.{AreBests};
 ghost use Rattle.period_rows.specs.BestRows.{best_names};
 ghost use Rattle.period_rows.specs.CountRows.{ArePeriodCounts, count_names};
@@ -19,10 +19,8 @@ use crate::lacks::is_packet_input;
 use crate::span_replay::replay_in_span;
 use crate::watched_sink::{Missing, replay_watched};
 use best_rows::RowStyle;
-use feed_text::{
-    CaptureIn, LineBuffer, RecordFormat, ReplayStop, Replayed, TextOut, TextPage, TextSink,
-    write_all,
-};
+use capture_records::RecordFormat;
+use event_sinks::{ReplayStop, Replayed, TextPage, TextSink};
 use gap_rows::{GapMaker, new_gap_rows};
 use line_gaps::new_gaps;
 use period_rows::{BestMaker, PeriodCounter, new_best_rows, new_count_rows};
@@ -30,6 +28,7 @@ use replay_reports::{BestRows, ReplayStats};
 use report_rows::{RowMaker, RowSink};
 use run_settings::{PeriodStyle, ReportFormat, RowFormat, RunOutput, RunSettings};
 use std::alloc::{AllocError, Global};
+use text_out::{CaptureIn, LineBuffer, TextOut, write_all};
 
 /// What a run printed: the output, the outcome, and how many datagrams were too late for the
 /// periods that were kept.

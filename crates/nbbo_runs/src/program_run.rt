@@ -8,9 +8,9 @@ use crate::runs::{RunEnd, run_conversion, run_settings};
 use crate::survey_form::SurveyForm;
 use crate::terminals::Terminals;
 use command_words::{Refusal, Task, settings};
-use feed_text::{CaptureIn, TextOut, write_all, write_stderr};
 use run_settings::{ListenSettings, NormaliseSettings};
 use std::alloc::Global;
+use text_out::{CaptureIn, TextOut, write_all, write_stderr};
 
 /// The result of a run.
 #[derive(Debug, Drop)]

@@ -19,10 +19,11 @@ use crate::timeless::tell_timeless;
 use crate::told_format::ToldFormat;
 use crate::watched_format::WatchedFormat;
 use crate::watched_sink::Missing;
-use feed_text::{CaptureIn, ReplayStop, TextOut, write_stderr};
+use event_sinks::ReplayStop;
 use line_captures::{PacketFormat, convert};
 use run_settings::{CapturedLine, RunInput, RunSettings};
 use std::alloc::Global;
+use text_out::{CaptureIn, TextOut, write_stderr};
 
 /// The most venues of a capture.
 const VENUES: usize = 16;

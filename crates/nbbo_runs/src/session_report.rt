@@ -1,15 +1,15 @@
 //! What is said of sessions that nothing names, and of named ones that never began, on standard
 //! error.
 ghost use Rattle.std.specs.Prelude.{◌≡◌, false, flat_map};
-ghost use Rattle.feed_text.specs.StandardError.{SaysEach};
+ghost use Rattle.text_out.specs.StandardError.{SaysEach};
 ghost use Rattle.nbbo_runs.specs.NamedSessions.{never_begins};
 ghost use Rattle.nbbo_runs.specs.Sessions.{datagrams_text, full_texts, named_texts, refused_texts, row_texts, session_texts, sessions_texts};
 
 use crate::named_sessions::NamedSessions;
 use crate::session_row::SessionRow;
-use feed_text::{TextOut, write_number, write_stderr};
 use feed_types::VenueId;
 use run_notes::write_session_name;
+use text_out::{TextOut, write_number, write_stderr};
 
 /// The most rows of sessions.
 const MOST: usize = 64;

@@ -7,9 +7,11 @@ ghost use Rattle.nbbo_runs.specs.Printing.{LeavesMissing, taking_in};
 
 use crate::config::RunConfig;
 use crate::watched_sink::{Missing, replay_watched};
-use feed_text::{CaptureIn, RecordFormat, Replayed};
+use capture_records::RecordFormat;
+use event_sinks::Replayed;
 use report_rows::{SpanSink, SpannedSink};
 use std::alloc::Global;
+use text_out::CaptureIn;
 
 /// Reads a capture of a format to its end, and gives a sink the events in the span, those before it
 /// as such ([`replay_watched`]).

@@ -1,10 +1,10 @@
 //! What has no effect, since nothing that was read had a time.
-ghost use Rattle.feed_text.specs.StandardError.{SaysEach};
+ghost use Rattle.text_out.specs.StandardError.{SaysEach};
 ghost use Rattle.std.specs.Prelude.{◌≡◌};
 ghost use Rattle.nbbo_runs.specs.Timeless.{output_hint, skips_hint, span_hint, timeless_texts, untimed_texts};
 
-use feed_text::{TextOut, write_stderr};
 use run_settings::{RunOutput, RunSettings, SkipRule, TimeSpan};
+use text_out::{TextOut, write_stderr};
 
 /// The lines for what goes by time, where nothing has one.
 const NO_PERIODS: &str = "nbbo: no frame has a time, so that --every has no rows\n";

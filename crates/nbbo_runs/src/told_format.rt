@@ -1,15 +1,17 @@
 //! What formats of captures have to say on standard error after a run.
 ghost use Rattle.std.specs.Prelude.{◌≡◌, ℕ, Bool, false, List, Result};
-ghost use Rattle.feed_text.specs.declared.replay_stop.ReplayStop.{ReplayStop};
-ghost use Rattle.feed_text.specs.StandardError.{SaysEach};
+ghost use Rattle.event_sinks.specs.declared.replay_stop.ReplayStop.{ReplayStop};
+ghost use Rattle.text_out.specs.StandardError.{SaysEach};
 ghost use Rattle.nbbo_runs.specs.CaptureTexts.{capture_texts, is_timed_capture};
 ghost use Rattle.nbbo_runs.specs.Ending.{of_any_sessions, own_end_texts};
 
 use crate::capture_report::{write_counts, write_dropped, write_outcome, write_second};
 use crate::ending::{own_hint, stop_line};
 use crate::own_capture::{BadRecord, OwnCapture};
-use feed_text::{RecordFormat, ReplayStop, TextOut, write_stderr};
+use capture_records::RecordFormat;
+use event_sinks::ReplayStop;
 use line_captures::{BadPiece, PacketFormat};
+use text_out::{TextOut, write_stderr};
 
 /// A format of captures that has something to say after a run.
 pub trait ToldFormat: RecordFormat {

@@ -1,6 +1,6 @@
 //! A format of captures whose datagrams are watched.
 ghost use Rattle.std.specs.Prelude.{◌≡◌, [], ◌∷◌, ◌++◌, IfNone, IfSome, None, Some, length, slice_get, slice_index_or};
-ghost use Rattle.feed_text.specs.StandardError.{SaysEach};
+ghost use Rattle.text_out.specs.StandardError.{SaysEach};
 ghost use Rattle.nbbo_runs.specs.Sessions.{datagram_sightings, is_first, name_in, named_sightings, sighted_by, sighting_of};
 ghost use Rattle.nbbo_runs.specs.Watches.{IsWatched, WatchedReads, first_venues_texts, seen_texts, silent_texts, unwatched, venue_texts, watch_texts, watched_by, watched_texts};
 ghost use Rattle.nbbo_runs.specs.WatchLaws.{watched_longer, watched_more, watched_none};
@@ -13,9 +13,11 @@ use crate::session_row::{SessionSighting, VenueSession};
 use crate::session_table::SessionTable;
 use crate::told_format::ToldFormat;
 use crate::venue_watch::VenueWatch;
-use feed_text::{Record, RecordFormat, ReplayStop, Step, TextOut, write_number, write_stderr};
+use capture_records::{Record, RecordFormat, Step};
+use event_sinks::ReplayStop;
 use feed_types::{LineId, VenueId};
 use run_settings::{NextSession, RunInput, RunSettings};
+use text_out::{TextOut, write_number, write_stderr};
 
 /// The most venues of a capture.
 const VENUES: usize = 16;

@@ -4,17 +4,19 @@ ghost use Rattle.feed_text.specs.EventReplays.{AnswersRun, venues_in};
 ghost use Rattle.feed_text.specs.Lacks.{AppendsLacks};
 ghost use Rattle.feed_text.specs.Replays.{CanReplay};
 ghost use Rattle.replay_run.specs.Printed.{facts_of_run};
-ghost use Rattle.feed_text.specs.SinkEvents.{told_by};
+ghost use Rattle.event_sinks.specs.SinkEvents.{told_by};
 ghost use Rattle.nbbo_runs.specs.AbsentSymbols.{IsNewMissing, LeavesAbsent, brings_item};
 ghost use Rattle.run_notes.specs.AbsentSymbols.{AreKeysOf, has_key, symbols_with};
 
 use crate::named_sessions::{Ordinals, first_ordinals, note_renewal};
+use capture_records::RecordFormat;
+use event_sinks::{Event, EventSink, Lack, ReplayStop, Replayed, SinkStop};
 use feed_text::replay::ReplayConfig;
-use feed_text::{CaptureIn, Event, EventSink, Lack, RecordFormat, ReplayStop, Replayed, SinkStop};
 use feed_types::SymbolName;
 use replay_run::replay;
 use run_notes::AbsentSymbols;
 use std::alloc::{AllocError, Global};
+use text_out::CaptureIn;
 
 /// A sink, the symbols of which no item came to it yet, and the ordinals of the venues' sessions
 /// that began last.

@@ -1,6 +1,6 @@
 -- What the writer took, and what waits, call after call.
 use Rattle.std.proofs.Common.{◌≡◌, ℕ, List, [], ◌++◌, sym, ap, ◌∙◌, append_assoc, append-nil, Result, Ok, Err, OnErr}
-use Rattle.feed_text.specs.Devices.{Writing}
+use Rattle.text_out.specs.Devices.{Writing}
 use Rattle.normalising.specs.Writes.{PutsText}
 
 -- a text is appended to what waits

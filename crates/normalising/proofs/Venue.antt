@@ -1,7 +1,7 @@
 -- What a call writes of a venue.
 use Rattle.std.proofs.Common.{◌≡◌, ℕ, ◌+◌, ◌≤◌, List, [], ◌++◌, length, sym, ap, ap₂, subst, ◌∙◌, arith}
 use Rattle.feed_types.specs.declared.item.Numbered.{Numbered}
-use Rattle.feed_text.specs.Devices.{Writing}
+use Rattle.text_out.specs.Devices.{Writing}
 use Rattle.line_arbiter.specs.Packets.{Input, known_of}
 use Rattle.line_arbiter.specs.States.{KeepsItsSession}
 use Rattle.venue_normaliser.specs.Outputs.{IsPutOut}

@@ -3,7 +3,7 @@ use Rattle.std.specs.Prelude.{ℕ, List, [], ◌∷◌, slice_index_or}
 use Rattle.feed_types.specs.declared.line.LineId.TheVariants as lines
 use Rattle.capture_writing.specs.declared.destination.Destination.{Destination}
 use Rattle.capture_writing.specs.Frames.{datagram_record_bytes}
-use Rattle.feed_text.specs.Capture.{CaptureRecord, datagram_record, bytes_of_record}
+use Rattle.capture_records.specs.Capture.{CaptureRecord, datagram_record, bytes_of_record}
 use Rattle.normalising.specs.declared.output_form.OutputForm.{OutputForm}
 use Rattle.normalising.specs.declared.output_form.OutputForm.TheVariants.{Own, Capture}
 

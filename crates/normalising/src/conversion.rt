@@ -6,12 +6,11 @@ use crate::normalised_feed::NormalisedFeed;
 use crate::normalised_venues::NormalisedVenues;
 use crate::venue_report::{GivenUp, VenueReport};
 use crate::venue_stop::VenueStop;
-use feed_text::{
-    CAPTURE_ROOM, CaptureIn, ReadBuffer, ReadStep, RecordFormat, ReplayStop, Step, TextOut,
-    is_complete,
-};
+use capture_records::{CAPTURE_ROOM, ReadBuffer, ReadStep, RecordFormat, Step, is_complete};
+use event_sinks::ReplayStop;
 use feed_types::VenueId;
 use std::alloc::Global;
+use text_out::{CaptureIn, TextOut};
 
 /// What a run came to.
 #[derive(Drop)]

@@ -1,6 +1,6 @@
 //! The reasons why a run ends early.
 
-use feed_text::{ReplayStop, SinkStop};
+use event_sinks::{ReplayStop, SinkStop};
 use feed_types::VenueId;
 use itch_book::BookFault;
 use venue_normaliser::NormaliserFault;

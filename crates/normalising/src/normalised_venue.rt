@@ -14,12 +14,12 @@ use crate::standing_since::StandingSince;
 use crate::venue_report::{GivenUp, MissingRun, VenueReport};
 use crate::venue_stop::VenueStop;
 use capture_writing::CaptureTime;
-use feed_text::TextOut;
 use feed_types::{LineId, Numbered};
 use itch_book::BookFault;
 use line_arbiter::{LineFault, Outcome};
 use mold_packet::{Body, Kind, Packet};
 use std::alloc::Global;
+use text_out::TextOut;
 use venue_normaliser::VenueNormaliser;
 
 /// A venue whose lines are normalised.

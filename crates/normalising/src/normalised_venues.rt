@@ -6,13 +6,15 @@ use crate::normalised_venue::NormalisedVenue;
 use crate::output_packets::OutputPackets;
 use crate::venue_report::{GivenUp, VenueReport};
 use crate::venue_stop::VenueStop;
+use capture_records::Record;
 use capture_writing::CaptureTime;
-use feed_text::{Record, SinkStop, TextOut};
+use event_sinks::SinkStop;
 use feed_types::{LineId, VenueId};
 use itch_book::BookFault;
 use mold_packet::{Packet, read_packet};
 use run_settings::SkipRule;
 use std::alloc::{AllocError, Global};
+use text_out::TextOut;
 use venue_normaliser::{NormaliserFault, VenueNormaliser};
 
 /// The nanoseconds of a millisecond.

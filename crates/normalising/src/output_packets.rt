@@ -8,8 +8,8 @@ ghost use Rattle.mold_packet.specs.declared.packet.Kind.TheVariants as kinds;
 ghost use Rattle.quote_payload.specs.Payload.{item_of};
 ghost use Rattle.venue_normaliser.specs.Forms.{form_bytes};
 ghost use Rattle.normalising.specs.Carried.{IsMessageItem, IsShortMessage, RunsFrom, end_of_kind};
-ghost use Rattle.feed_text.specs.Capture.{renewal_record, self_help_record};
-ghost use Rattle.feed_text.specs.Devices.{Wrote};
+ghost use Rattle.capture_records.specs.Capture.{renewal_record, self_help_record};
+ghost use Rattle.text_out.specs.Devices.{Wrote};
 ghost use Rattle.normalising.specs.Texts.{record_text};
 ghost use Rattle.normalising.specs.Writes.{PutsPackets, PutsText};
 
@@ -19,12 +19,13 @@ use crate::output_page::OutputPage;
 use crate::packet_origin::PacketOrigin;
 use crate::venue_stop::VenueStop;
 use capture_writing::MOST_BYTES;
-use feed_text::{SinkStop, TextOut};
+use event_sinks::SinkStop;
 use feed_types::{Numbered, VenueId};
 use itch_book::BookFault;
 use mold_packet::{Body, write_packet};
 use packet_building::build_packet;
 use std::alloc::{AllocError, Global};
+use text_out::TextOut;
 use venue_normaliser::MessageForm;
 
 /// The output that waits, and the room in which its packets are made.

@@ -1,17 +1,19 @@
 //! The output that waits for the writer.
 ghost use Rattle.std.specs.Prelude.{◌≡◌, ◌+◌, ◌≤◌, ◌++◌, ◌∷◌, ◌/◌, ◌%◌, [], IfOk, OnErr, OnOk, length, slice_index_or};
 ghost use Rattle.capture_writing.specs.Frames.{file_header};
-ghost use Rattle.feed_text.specs.Capture.{bytes_of_record, datagram_record, renewal_record, self_help_record};
-ghost use Rattle.feed_text.specs.Devices.{Wrote};
+ghost use Rattle.capture_records.specs.Capture.{bytes_of_record, datagram_record, renewal_record, self_help_record};
+ghost use Rattle.text_out.specs.Devices.{Wrote};
 ghost use Rattle.normalising.specs.Texts.{datagram_text, nowhere, record_text};
 ghost use Rattle.normalising.specs.Writes.{PutsText};
 
 use crate::output_form::OutputForm;
 use crate::packet_origin::PacketOrigin;
+use capture_records::ReadBuffer;
 use capture_writing::{Destination, file_header, frame_head};
-use feed_text::{ReadBuffer, SinkStop, TextOut, WriteStop, write_all};
+use event_sinks::SinkStop;
 use feed_types::VenueId;
 use std::alloc::{AllocError, Global};
+use text_out::{TextOut, WriteStop, write_all};
 
 /// How many bytes wait at most.
 const PAGE: usize = 262_144;

@@ -1,6 +1,6 @@
 //! The reasons why a venue takes no more.
 
-use feed_text::SinkStop;
+use event_sinks::SinkStop;
 use itch_book::BookFault;
 
 /// Why a venue takes no more.

@@ -7,9 +7,9 @@ use Rattle.std.proofs.lemmas.Bool.Decides.{nat_tests}
 use Rattle.std.proofs.lemmas.Option.{none-some}
 use Rattle.feed_types.specs.Symbols.{key_of}
 use Rattle.feed_types.specs.declared.national.National.{National}
-use Rattle.feed_text.specs.SinkEvents.{SinkEvent, TimedEvent, timed_event, told_before, told_best, told_declaration, told_gap, told_item, told_last, told_packet, told_refusal, told_renewal, told_skip}
-use Rattle.feed_text.specs.TextPages.{FailsPage, TakesPage}
-use Rattle.feed_text.specs.declared.text_page.TextPage.{TextPage}
+use Rattle.event_sinks.specs.SinkEvents.{SinkEvent, TimedEvent, timed_event, told_before, told_best, told_declaration, told_gap, told_item, told_last, told_packet, told_refusal, told_renewal, told_skip}
+use Rattle.event_sinks.specs.TextPages.{FailsPage, TakesPage}
+use Rattle.event_sinks.specs.declared.text_page.TextPage.{TextPage}
 use Rattle.run_settings.specs.declared.period_style.PeriodStyle.{PeriodStyle}
 use Rattle.report_rows.specs.FirstTexts.{first_texts}
 use Rattle.report_rows.specs.RowSinks.{FailsMaking, Makes}

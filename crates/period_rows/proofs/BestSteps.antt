@@ -6,7 +6,7 @@ use Rattle.std.proofs.lemmas.Option.{same_Some, none-some}
 use Rattle.std.proofs.lemmas.Bool.{cases_lt}
 use Rattle.feed_types.specs.Symbols.{key_of}
 use Rattle.feed_types.specs.declared.national.National.{National}
-use Rattle.feed_text.specs.SinkEvents.{TimedEvent}
+use Rattle.event_sinks.specs.SinkEvents.{TimedEvent}
 use Rattle.period_rows.specs.BestHolding.{AreBestsHeld, IsChanged, IsNewSymbol, IsRestarted, IsSymbolHeld}
 use Rattle.period_rows.specs.Bests.{begin_after, begin_told, best_in, best_told, clock_after, clock_told, overlap, stood, time_of_event}
 use Rattle.period_rows.specs.Periods.{period_begin}

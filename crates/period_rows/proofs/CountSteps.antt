@@ -4,9 +4,9 @@ use Rattle.std.proofs.Math.ListN.{drop_of_length-le}
 use Rattle.std.proofs.lemmas.List.{length-set, take_all}
 use Rattle.std.specs.List.{refill}
 use Rattle.std.specs.Prelude.{OnErr, OnOk}
-use Rattle.feed_text.specs.SinkEvents.{SinkEvent, TimedEvent}
-use Rattle.feed_text.specs.TextPages.{FailsPage, TakesPage}
-use Rattle.feed_text.specs.declared.text_page.TextPage.{TextPage}
+use Rattle.event_sinks.specs.SinkEvents.{SinkEvent, TimedEvent}
+use Rattle.event_sinks.specs.TextPages.{FailsPage, TakesPage}
+use Rattle.event_sinks.specs.declared.text_page.TextPage.{TextPage}
 use Rattle.run_settings.specs.declared.period_style.PeriodStyle.{PeriodStyle}
 use Rattle.report_rows.specs.PeriodLists.{entered, entered_place}
 use Rattle.report_rows.specs.RowSinks.{FailsMaking, Makes}

@@ -8,7 +8,7 @@ use Rattle.std.proofs.lemmas.List.{get_or-replicate, get_or-set_other, get_or-se
 use Rattle.std.proofs.lemmas.List.Edits.{length-insert}
 use Rattle.std.proofs.lemmas.List.Sums.{prefix_len-le-length}
 use Rattle.feed_types.specs.FullCounts.{count_after}
-use Rattle.feed_text.specs.SinkEvents.{SinkEvent, TimedEvent}
+use Rattle.event_sinks.specs.SinkEvents.{SinkEvent, TimedEvent}
 use Rattle.report_rows.specs.EventFigures.{bytes_in, first_in, repeated_in}
 use Rattle.report_rows.specs.PeriodLists.{begun, entered_place, is_kept, is_late, over_with, period_place_of, with_period}
 use Rattle.report_rows.specs.SpanEvents.{ends_all}

@@ -5,7 +5,7 @@ use Rattle.std.proofs.lemmas.Bool.Decides.{nat_tests}
 use Rattle.feed_types.specs.declared.line.LineId.{LineId}
 use Rattle.feed_types.specs.declared.line.LineId.TheVariants as on
 use Rattle.feed_types.specs.FullCounts.{count_after}
-use Rattle.feed_text.specs.SinkEvents.{SinkEvent, TimedEvent, timed_event, told_before, told_best, told_declaration, told_gap, told_item, told_last, told_packet, told_refusal, told_renewal, told_skip}
+use Rattle.event_sinks.specs.SinkEvents.{SinkEvent, TimedEvent, timed_event, told_before, told_best, told_declaration, told_gap, told_item, told_last, told_packet, told_refusal, told_renewal, told_skip}
 use Rattle.line_arbiter.specs.Streams.{is_same_line}
 use Rattle.line_arbiter.specs.declared.outcome.LineFault.{LineFault}
 use Rattle.line_arbiter.specs.declared.outcome.Outcome.{Outcome}

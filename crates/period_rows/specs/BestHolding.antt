@@ -4,7 +4,7 @@ use Rattle.std.specs.Prelude.{◌≡◌, ℕ, ◌+◌, ◌-◌, ◌*◌, ◌==�
 use Rattle.feed_types.specs.FullCounts.{count_after}
 use Rattle.feed_types.specs.Symbols.{key_of}
 use Rattle.feed_types.specs.declared.national.National.{National}
-use Rattle.feed_text.specs.SinkEvents.{SinkEvent, TimedEvent, told_before, told_best}
+use Rattle.event_sinks.specs.SinkEvents.{SinkEvent, TimedEvent, told_before, told_best}
 use Rattle.period_rows.specs.BestRows.{most_spread, most_time}
 use Rattle.report_rows.specs.EventFigures.{is_crossed, is_locked, is_normal}
 use Rattle.period_rows.specs.Bests.{begin_told, best_told, bids, clock_told, in_state, no_best, offers, spread_of, stood}

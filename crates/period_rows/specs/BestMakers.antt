@@ -1,7 +1,7 @@
 -- What makes the rows of how long national bests stood.
 use Rattle.std.specs.Prelude.{◌≡◌, ℕ, ◌+◌, ◌<◌, Bool, true, false, List, [], min, Option, None, Some, option_map, if◌then◌else◌}
 use Rattle.std.specs.List.{list_any}
-use Rattle.feed_text.specs.SinkEvents.{SinkEvent, TimedEvent}
+use Rattle.event_sinks.specs.SinkEvents.{SinkEvent, TimedEvent}
 use Rattle.report_rows.specs.RowHistories.{MakesHistory, TellsHistory}
 use Rattle.report_rows.specs.SpanEvents.{ends_all}
 use Rattle.period_rows.specs.BestHolding.{AreAllHeld, AreBegun, AreBestsTaken, IsBestTable}

@@ -3,7 +3,7 @@ use Rattle.std.specs.Prelude.{ℕ, ◌*◌, ◌/◌, ◌==◌, Bool, List, [], �
 use Rattle.std.specs.List.{list_any}
 use Rattle.feed_types.specs.Symbols.{key_of}
 use Rattle.feed_types.specs.declared.national.National.{National}
-use Rattle.feed_text.specs.SinkEvents.{TimedEvent}
+use Rattle.event_sinks.specs.SinkEvents.{TimedEvent}
 use Rattle.run_settings.specs.declared.formats.RowFormat.{RowFormat}
 use Rattle.run_settings.specs.declared.formats.RowFormat.TheVariants.{Csv, Json}
 use Rattle.run_settings.specs.declared.period_style.PeriodStyle.{PeriodStyle}

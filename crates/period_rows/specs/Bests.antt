@@ -6,7 +6,7 @@ use Rattle.feed_types.specs.Symbols.{key_of}
 use Rattle.feed_types.specs.declared.national.Best.{Best}
 use Rattle.feed_types.specs.declared.national.National.{National}
 use Rattle.feed_types.specs.declared.national.NationalState.{NationalState}
-use Rattle.feed_text.specs.SinkEvents.{SinkEvent, TimedEvent, told_before, told_best, told_last}
+use Rattle.event_sinks.specs.SinkEvents.{SinkEvent, TimedEvent, told_before, told_best, told_last}
 use Rattle.report_rows.specs.EventFigures.{is_best_of}
 use Rattle.period_rows.specs.Periods.{period_begin}
 

@@ -1,6 +1,6 @@
 -- The rows of what lines brought in periods of the clock.
 use Rattle.std.specs.Prelude.{◌≡◌, ℕ, ◌-◌, ◌/◌, ◌%◌, ◌==◌, List, [], ◌∷◌, ◌++◌, codes, length, Option, None, Some, slice_index_or, if◌then◌else◌}
-use Rattle.feed_text.specs.SinkEvents.{TimedEvent}
+use Rattle.event_sinks.specs.SinkEvents.{TimedEvent}
 use Rattle.run_settings.specs.declared.formats.RowFormat.{RowFormat}
 use Rattle.run_settings.specs.declared.formats.RowFormat.TheVariants.{Csv, Json}
 use Rattle.run_settings.specs.declared.period_style.PeriodStyle.{PeriodStyle}

@@ -2,7 +2,7 @@
 -- first.
 use Rattle.std.specs.Prelude.{ℕ, Bool, true, false, List, [], ◌∷◌, Option, None, Some, option_map, replicate, slice_index_or, slice_set, if◌then◌else◌}
 use Rattle.feed_types.specs.FullCounts.{count_after}
-use Rattle.feed_text.specs.SinkEvents.{SinkEvent, TimedEvent, told_packet, told_refusal}
+use Rattle.event_sinks.specs.SinkEvents.{SinkEvent, TimedEvent, told_packet, told_refusal}
 use Rattle.report_rows.specs.PeriodLists.{begun, entered, entered_place, is_late}
 use Rattle.report_rows.specs.SpanEvents.{ends_all}
 use Rattle.report_rows.specs.declared.kept_periods.KeptPeriod.{KeptPeriod}

@@ -1,7 +1,7 @@
 -- What a line brought in a period.
 use Rattle.std.specs.Prelude.{ℕ}
 use Rattle.feed_types.specs.FullCounts.{count_after}
-use Rattle.feed_text.specs.SinkEvents.{SinkEvent}
+use Rattle.event_sinks.specs.SinkEvents.{SinkEvent}
 use Rattle.report_rows.specs.EventFigures.{bytes_in, first_in, repeated_in}
 use Rattle.period_rows.specs.declared.line_figures.LineFigures.{LineFigures}
 

@@ -2,7 +2,7 @@
 -- one stands first.
 use Rattle.std.specs.Prelude.{◌≡◌, ℕ, ◌+◌, ◌<◌, ◌==◌, ◌&&◌, Bool, false, List, [], ◌∷◌, ◌++◌, min, slice_index_or, Option, None, Some, if◌then◌else◌}
 use Rattle.std.specs.List.{AllByRecursion, list_any}
-use Rattle.feed_text.specs.SinkEvents.{SinkEvent, TimedEvent}
+use Rattle.event_sinks.specs.SinkEvents.{SinkEvent, TimedEvent}
 use Rattle.report_rows.specs.EventFigures.{bytes_in, first_in, repeated_in}
 use Rattle.report_rows.specs.SpanEvents.{ends_all}
 use Rattle.period_rows.specs.CountStates.{CountPeriod, datagram_line, own_begin, state_told}

@@ -1,6 +1,6 @@
 -- The periods whose rows events print.
 use Rattle.std.specs.Prelude.{ℕ, ◌<◌, List, [], ◌∷◌, ◌++◌, map, option_to_list, Option, None, Some, if◌then◌else◌}
-use Rattle.feed_text.specs.SinkEvents.{TimedEvent}
+use Rattle.event_sinks.specs.SinkEvents.{TimedEvent}
 use Rattle.report_rows.specs.PeriodLists.{over_with}
 use Rattle.report_rows.specs.SpanEvents.{ends_all}
 use Rattle.report_rows.specs.declared.kept_periods.KeptPeriod.{KeptPeriod}

@@ -4,7 +4,7 @@ use Rattle.std.specs.Prelude.{flat_map, option_to_list, slice_index_or}
 use Rattle.std.proofs.lemmas.Bool.{cases_Bool}
 use Rattle.std.proofs.lemmas.Grind.{flat_map-append}
 use Rattle.std.proofs.lemmas.List.{reverse-append, reverse-reverse}
-use Rattle.feed_text.specs.SinkEvents.{TimedEvent}
+use Rattle.event_sinks.specs.SinkEvents.{TimedEvent}
 use Rattle.run_settings.specs.declared.formats.RowFormat.{RowFormat}
 use Rattle.report_rows.specs.FirstTexts.{first_texts}
 use Rattle.report_rows.specs.PeriodLists.{begun, over_with}

@@ -3,7 +3,7 @@
 use Rattle.std.specs.Prelude.{◌≡◌, ℕ, ◌+◌, Bool, false, not, List, [], ◌∷◌, if◌then◌else◌}
 use Rattle.feed_types.specs.declared.line.LineId.{LineId}
 use Rattle.feed_types.specs.FullCounts.{count_after}
-use Rattle.feed_text.specs.SinkEvents.{SinkEvent, TimedEvent, told_packet}
+use Rattle.event_sinks.specs.SinkEvents.{SinkEvent, TimedEvent, told_packet}
 use Rattle.line_arbiter.specs.Streams.{is_same_line}
 use Rattle.line_gaps.specs.declared.gap_line.GapLine.{GapLine}
 use Rattle.line_gaps.specs.declared.open_gap.OpenGap.{OpenGap}

@@ -3,7 +3,7 @@ use Rattle.std.specs.Prelude.{ℕ, ◌+◌, ◌-◌, ◌*◌, ◌||◌, false, i
 use Rattle.feed_types.specs.declared.line.LineId.{LineId}
 use Rattle.feed_types.specs.declared.line.LineId.TheVariants.{A, B, Recovery}
 use Rattle.line_arbiter.specs.declared.outcome.Outcome.TheVariants.{Ahead}
-use Rattle.feed_text.specs.SinkEvents.{SinkEvent, told_before, told_packet, told_renewal, told_skip}
+use Rattle.event_sinks.specs.SinkEvents.{SinkEvent, told_before, told_packet, told_renewal, told_skip}
 use Rattle.line_gaps.specs.Gaps.{brings_messages, far_that, packet_heard, highest_with}
 use Rattle.line_gaps.specs.LineSteps.{highest_joined, joined_at}
 use Rattle.line_gaps.specs.declared.heard_packet.HeardPacket.{HeardPacket}

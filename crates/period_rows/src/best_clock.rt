@@ -1,11 +1,11 @@
 //! A clock that never goes back, and the period at hand.
 ghost use Rattle.std.specs.Prelude.{◌≡◌, unwrap_or};
-ghost use Rattle.feed_text.specs.SinkEvents.{told_by};
+ghost use Rattle.event_sinks.specs.SinkEvents.{told_by};
 ghost use Rattle.period_rows.specs.BestRows.{period_ended_by};
 ghost use Rattle.period_rows.specs.Bests.{begin_after, clock_after, time_of_event};
 
 use crate::times::period_begin;
-use feed_text::Event;
+use event_sinks::Event;
 use report_rows::ends_all;
 use run_settings::PeriodLength;
 

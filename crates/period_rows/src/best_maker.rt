@@ -1,7 +1,7 @@
 //! What makes the rows of how long national bests stood in each period.
 ghost use Rattle.std.specs.Prelude.{◌≡◌, ◌++◌, ℕ, List, [], IfOk, OnErr, OnOk, false, true, unwrap_or};
-ghost use Rattle.feed_text.specs.SinkEvents.{timed_event, told_by};
-ghost use Rattle.feed_text.specs.TextPages.{FailsPage, TakesPage};
+ghost use Rattle.event_sinks.specs.SinkEvents.{timed_event, told_by};
+ghost use Rattle.event_sinks.specs.TextPages.{FailsPage, TakesPage};
 ghost use Rattle.report_rows.specs.RowSinks.{IsNewRowSink};
 ghost use Rattle.report_rows.specs.RowTexts.{header_text};
 ghost use Rattle.period_rows.specs.BestHolding.{IsNewTable};
@@ -13,11 +13,12 @@ use crate::best_clock::{begin_after, clock_after, ended_by, first_clock, time_in
 use crate::best_table::BestTable;
 use crate::best_times::{PeriodOver, best_names, write_best_period};
 use crate::times::period_begin;
-use feed_text::{Event, SinkStop, TextOut, TextPage};
+use event_sinks::{Event, SinkStop, TextPage};
 use feed_types::SymbolName;
 use report_rows::{RowMaker, RowSink, ends_all};
 use run_settings::PeriodStyle;
 use std::alloc::{AllocError, Global};
+use text_out::TextOut;
 
 /// What makes the rows of how long the national bests of symbols stood in each period.
 ///

@@ -1,11 +1,11 @@
 //! What is kept of the national bests of all symbols.
 ghost use Rattle.std.specs.Prelude.{◌≡◌, ◌<◌, ℕ, [], IfOk, length, nat_eq, position, slice_index_or, true};
 ghost use Rattle.feed_types.specs.Symbols.{key_of};
-ghost use Rattle.feed_text.specs.SinkEvents.{told_by};
+ghost use Rattle.event_sinks.specs.SinkEvents.{told_by};
 ghost use Rattle.period_rows.specs.BestHolding.{AreBegun, AreBegunIf, AreChanged, AreNewTimes, AreRestarted, AreBestsTaken, IsNewTable, IsTakenAt, is_another};
 
 use crate::symbol_times::SymbolTimes;
-use feed_text::Event;
+use event_sinks::Event;
 use feed_types::{National, SymbolName};
 use indexmap::IndexSet;
 use std::alloc::{AllocError, Global};

@@ -1,8 +1,8 @@
 //! The rows of how long national bests stood in a period.
 ghost use Rattle.std.specs.Prelude.{◌≡◌, ◌<◌, ◌≤◌, ◌++◌, OnErr, OnOk, length, slice_index_or};
 ghost use Rattle.std.specs.List.{AllByRecursion};
-ghost use Rattle.feed_text.specs.Pages.{memory_of};
-ghost use Rattle.feed_text.specs.TextPages.{FailsPage, TakesPage};
+ghost use Rattle.text_out.specs.Pages.{memory_of};
+ghost use Rattle.event_sinks.specs.TextPages.{FailsPage, TakesPage};
 ghost use Rattle.report_rows.specs.RowTexts.{IsShortCell, all_shown, row_room, cells_shown, texts_of};
 ghost use Rattle.period_rows.specs.BestRows.{best_names, best_row, best_values, spread_cell};
 ghost use Rattle.period_rows.specs.BestTimes.{figures_text, over_rows, settled_text, times_text};
@@ -10,10 +10,11 @@ ghost use Rattle.period_rows.specs.BestTimes.{figures_text, over_rows, settled_t
 use crate::best_figures::BestFigures;
 use crate::best_shares::BestShares;
 use crate::symbol_times::SymbolTimes;
-use feed_text::{LineBuffer, SinkStop, TextOut, TextPage};
+use event_sinks::{SinkStop, TextPage};
 use feed_types::SymbolName;
 use report_rows::{Cell, put_row};
 use run_settings::{PeriodStyle, RowFormat};
+use text_out::{LineBuffer, TextOut};
 
 /// A period that is over, and how its rows are written.
 #[derive(Clone, Copy, Debug, PartialEq, Eq)]

@@ -1,11 +1,11 @@
 //! The figures of all lines in a period.
 ghost use Rattle.std.specs.Prelude.{◌≡◌, ◌<◌, IfSome, length};
-ghost use Rattle.feed_text.specs.SinkEvents.{told_by};
+ghost use Rattle.event_sinks.specs.SinkEvents.{told_by};
 ghost use Rattle.period_rows.specs.CountStates.{counted_at, counted_in, counted_period, datagram_line};
 
 use crate::line_figures::{LineFigures, NO_FIGURES};
 use crate::line_sequence::{LineSequence, line_place};
-use feed_text::Event;
+use event_sinks::Event;
 use report_rows::KeptPeriod;
 
 /// The figures of the lines of a capture: A and B of venue 0, then those of venue 1, and so on.

@@ -1,7 +1,7 @@
 //! What counts the datagrams of each line in each period.
 ghost use Rattle.std.specs.Prelude.{◌≡◌, ◌*◌, ◌≤◌, ◌++◌, [], OnErr, OnOk, Some};
-ghost use Rattle.feed_text.specs.SinkEvents.{timed_event, told_by};
-ghost use Rattle.feed_text.specs.TextPages.{FailsPage, TakesPage};
+ghost use Rattle.event_sinks.specs.SinkEvents.{timed_event, told_by};
+ghost use Rattle.event_sinks.specs.TextPages.{FailsPage, TakesPage};
 ghost use Rattle.report_rows.specs.PeriodLists.{over_with};
 ghost use Rattle.report_rows.specs.RowSinks.{IsNewRowSink};
 ghost use Rattle.report_rows.specs.RowTexts.{header_text};
@@ -12,9 +12,10 @@ use crate::count_figures::{CountFigures, NO_LINES, count_in_period};
 use crate::count_rows::{count_names, write_over, write_periods};
 use crate::line_sequence::{LineSequence, take_sequences};
 use crate::times::period_begin;
-use feed_text::{Event, SinkStop, TextOut, TextPage};
+use event_sinks::{Event, SinkStop, TextPage};
 use report_rows::{KeptPeriods, RowMaker, RowSink, ends_all};
 use run_settings::{PeriodLength, PeriodStyle};
+use text_out::TextOut;
 
 /// What makes the rows of what lines brought in each period.
 ///

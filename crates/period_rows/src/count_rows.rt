@@ -1,17 +1,18 @@
 //! The rows of what lines brought in a period.
 ghost use Rattle.std.specs.Prelude.{◌≡◌, ◌<◌, ◌≤◌, ◌++◌, OnErr, OnOk, length, slice_index_or};
 ghost use Rattle.std.specs.List.{AllByRecursion};
-ghost use Rattle.feed_text.specs.Pages.{memory_of};
-ghost use Rattle.feed_text.specs.TextPages.{FailsPage, TakesPage};
+ghost use Rattle.text_out.specs.Pages.{memory_of};
+ghost use Rattle.event_sinks.specs.TextPages.{FailsPage, TakesPage};
 ghost use Rattle.report_rows.specs.RowTexts.{IsShortCell, all_shown, row_room, texts_of};
 ghost use Rattle.period_rows.specs.CountRows.{count_names, count_values, count_line_row, line_word, over_text, period_text, periods_text, text_at};
 ghost use Rattle.period_rows.specs.LineFigures.{no_figures};
 
 use crate::count_figures::CountFigures;
 use crate::line_figures::LineFigures;
-use feed_text::{LineBuffer, SinkStop, TextOut, TextPage};
+use event_sinks::{SinkStop, TextPage};
 use report_rows::{Cell, KeptPeriod, put_row};
 use run_settings::RowFormat;
+use text_out::{LineBuffer, TextOut};
 
 /// Returns the names of the columns. Of an object the time stands last.
 pub(crate) fn count_names(format: RowFormat) -> [&'static str; 8]

@@ -1,11 +1,11 @@
 //! What a line brought in a period.
 ghost use Rattle.std.specs.Prelude.{◌≡◌};
 ghost use Rattle.feed_types.specs.FullCounts.{count_after};
-ghost use Rattle.feed_text.specs.SinkEvents.{told_by};
+ghost use Rattle.event_sinks.specs.SinkEvents.{told_by};
 ghost use Rattle.report_rows.specs.EventFigures.{bytes_in, first_in, repeated_in};
 ghost use Rattle.period_rows.specs.LineFigures.{figures_after};
 
-use feed_text::Event;
+use event_sinks::Event;
 use line_arbiter::Outcome;
 
 /// What a line brought in a period. A figure stays at 2^64 - 1 once it is there.

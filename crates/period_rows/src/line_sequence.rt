@@ -1,11 +1,11 @@
 //! The numbers of a line's packets.
 ghost use Rattle.std.specs.Prelude.{◌≡◌, ◌<◌, IfSome, None, length};
-ghost use Rattle.feed_text.specs.SinkEvents.{told_by};
+ghost use Rattle.event_sinks.specs.SinkEvents.{told_by};
 ghost use Rattle.line_gaps.specs.Gaps.{brings_messages, packet_heard};
 ghost use Rattle.line_gaps.specs.LineSteps.{highest_joined, joined_at};
 ghost use Rattle.period_rows.specs.Sequences.{both_come, both_sequences, come_after, come_at, counts_now, line_place, packet_sequences, passed_over, sequence_after, sequence_at, sequence_counted, sequences_after};
 
-use feed_text::Event;
+use event_sinks::Event;
 use feed_types::{LineId, VenueId};
 use line_arbiter::Outcome;
 use line_gaps::HeardPacket;

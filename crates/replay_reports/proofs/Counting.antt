@@ -16,7 +16,7 @@ use Rattle.line_arbiter.specs.Codes.{line_fault_code}
 use Rattle.line_arbiter.specs.declared.outcome.LineFault.{LineFault}
 use Rattle.line_arbiter.specs.declared.outcome.LineFault.TheVariants.{OtherSession, PastEnd, EndMoved, EndTooEarly, Conflict}
 use Rattle.line_arbiter.specs.declared.outcome.Outcome.{Outcome}
-use Rattle.feed_text.specs.SinkEvents.{SinkEvent, told_best, told_item, told_packet, told_refusal}
+use Rattle.event_sinks.specs.SinkEvents.{SinkEvent, told_best, told_item, told_packet, told_refusal}
 use Rattle.replay_reports.specs.declared.counts.best_counts.BestCounts.{BestCounts}
 use Rattle.replay_reports.specs.declared.counts.best_counts.StateCounts.{StateCounts}
 use Rattle.replay_reports.specs.declared.counts.item_counts.ItemCounts.{ItemCounts}

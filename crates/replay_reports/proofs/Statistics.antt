@@ -4,7 +4,7 @@ use Rattle.std.specs.Prelude.{slice_get, slice_index, slice_set}
 use Rattle.std.specs.List.{count_by}
 use Rattle.std.proofs.lemmas.Bool.{cases_eq}
 use Rattle.std.proofs.lemmas.Option.{slice_get_within}
-use Rattle.feed_text.specs.SinkEvents.{TimedEvent}
+use Rattle.event_sinks.specs.SinkEvents.{TimedEvent}
 use Rattle.replay_reports.specs.declared.counts.best_counts.BestCounts.{BestCounts}
 use Rattle.replay_reports.specs.declared.stats.venue_stats.VenueStats.{VenueStats}
 use Rattle.replay_reports.specs.counts.Counts.{best_counts, leads_bid, leads_offer}

@@ -5,7 +5,7 @@ use Rattle.feed_types.specs.declared.line.LineId.{LineId}
 use Rattle.feed_types.specs.declared.line.LineId.TheVariants.{A, B, Recovery}
 use Rattle.feed_types.specs.declared.per_line.PerLine.{PerLine}
 use Rattle.line_arbiter.specs.declared.outcome.Outcome.{Outcome}
-use Rattle.feed_text.specs.SinkEvents.{TimedEvent, timed_event, told_packet}
+use Rattle.event_sinks.specs.SinkEvents.{TimedEvent, timed_event, told_packet}
 use Rattle.replay_reports.specs.declared.times.venue_times.VenueTimes.{VenueTimes}
 use Rattle.replay_reports.specs.times.Leads.{AreLeadsOf, MessageOn}
 use Rattle.replay_reports.specs.times.Timing.{came_after, came_of, last_packets, leads_before}

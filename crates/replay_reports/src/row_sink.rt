@@ -3,8 +3,9 @@ ghost use Rattle.std.specs.Prelude.{◌≡◌, []};
 ghost use Rattle.replay_reports.specs.rows.RowSinks.{IsNewRows};
 
 use best_rows::{RowStyle, put_header, put_row};
-use feed_text::{Event, EventSink, SinkStop, TextOut, TextPage};
+use event_sinks::{Event, EventSink, SinkStop, TextPage};
 use report_rows::SpannedSink;
+use text_out::TextOut;
 
 /// The rows of the national bests that change, written to a writer by the page.
 ///

@@ -35,7 +35,7 @@ use Rattle.feed_core.specs.Worlds.{Setting}
 use Rattle.feed_core.specs.laws.WholeSessionsLaw.{whole}
 use Rattle.feed_text.specs.declared.replay.ReplayConfig.{ReplayConfig}
 use Rattle.run_settings.specs.declared.skip_rule.SkipRule.TheVariants.{Never}
-use Rattle.feed_text.specs.Capture.{CaptureRecord, datagram_record}
+use Rattle.capture_records.specs.Capture.{CaptureRecord, datagram_record}
 use Rattle.feed_text.specs.ReplayEvents.{ReplayEvent, packet_answered, item_taken, entries_of}
 use Rattle.line_arbiter.specs.LastSent.{last_sent}
 use Rattle.feed_text.specs.Emitted.{items_emitted, EmitsRecord, Emits}

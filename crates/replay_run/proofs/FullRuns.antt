@@ -27,12 +27,12 @@ use Rattle.feed_steps.specs.Steps as parts
 use Rattle.feed_core.specs.VenueHalf.{BringsOnly, BringOnly}
 use Rattle.feed_core.specs.laws.HeadlineLaw.{headline}
 use Rattle.feed_text.specs.declared.replay.ReplayConfig.{ReplayConfig}
-use Rattle.feed_text.specs.Capture.{CaptureRecord, datagram_record, renewal_record, skip_record, self_help_record, record_venue}
+use Rattle.capture_records.specs.Capture.{CaptureRecord, datagram_record, renewal_record, skip_record, self_help_record, record_venue}
 use Rattle.feed_text.specs.ReplayEvents.{ReplayEvent, packet_answered, packet_refused, item_taken, gap_left, renewal_answered, skip_answered, self_help_declared, entries_after, entries_of}
 use Rattle.line_arbiter.specs.LastSent.{last_sent, stream_length}
 use Rattle.feed_text.specs.Emitted.{gap_event, gap_emitted, EmitsFault, EmitsPacket, EmitsSkip, EmitsAt, EmitsRecord}
-use Rattle.feed_text.specs.Formats.{TimedRecord, what_of}
-use Rattle.feed_text.specs.SinkEvents.{TimedEvent}
+use Rattle.capture_records.specs.Formats.{TimedRecord, what_of}
+use Rattle.event_sinks.specs.SinkEvents.{TimedEvent}
 use Rattle.feed_text.specs.Told.{IsToldToFull}
 use Rattle.feed_text.specs.VenueItems.{taken_by, items_taken}
 use Rattle.feed_text.specs.laws.Lists.{get_set_same, get_set_other, same_or_not}

@@ -1,13 +1,13 @@
 -- Where what is told has a headline, so has a replay.
 use Rattle.std.proofs.Common.{ℕ, List, [], Result, Ok, Err, inl, inr}
 use Rattle.feed_text.specs.declared.replay.ReplayConfig.{ReplayConfig}
-use Rattle.feed_text.specs.declared.replay_stop.ReplayStop.{ReplayStop}
-use Rattle.feed_text.specs.declared.replay_stop.ReplayStop.TheVariants.{ReadFailed, SinkFailed, Bad, Short, TooManyTurns, JournalFull, NoMemory}
-use Rattle.feed_text.specs.Devices.{Reading}
+use Rattle.event_sinks.specs.declared.replay_stop.ReplayStop.{ReplayStop}
+use Rattle.event_sinks.specs.declared.replay_stop.ReplayStop.TheVariants.{ReadFailed, SinkFailed, Bad, Short, TooManyTurns, JournalFull, NoMemory}
+use Rattle.text_out.specs.Devices.{Reading}
 use Rattle.feed_text.specs.EventReplays.{AnswersRun, IsToldPart, ReadAndTold}
-use Rattle.feed_text.specs.Formats.{Parsing, TimedRecord}
+use Rattle.capture_records.specs.Formats.{Parsing, TimedRecord}
 use Rattle.feed_text.specs.ReplayStates.{SinkTaking}
-use Rattle.feed_text.specs.SinkEvents.{TimedEvent}
+use Rattle.event_sinks.specs.SinkEvents.{TimedEvent}
 use Rattle.feed_text.specs.Told.{ToldFacts, told_facts}
 use Rattle.replay_run.specs.Printed.{facts_of_run}
 use Rattle.replay_run.proofs.Tells.{told_of_run, told_of_run_to_full, told_of_whole_run}

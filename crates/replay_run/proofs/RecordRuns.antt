@@ -27,7 +27,7 @@ use Rattle.feed_core.specs.Runs.{IsRun}
 use Rattle.feed_steps.specs.Steps as parts
 use Rattle.feed_core.specs.Steps as steps
 use Rattle.line_arbiter.specs.laws.Histories.{items_push}
-use Rattle.feed_text.specs.Capture.{CaptureRecord, datagram_record, renewal_record, skip_record, self_help_record, record_venue}
+use Rattle.capture_records.specs.Capture.{CaptureRecord, datagram_record, renewal_record, skip_record, self_help_record, record_venue}
 use Rattle.feed_text.specs.ReplayEvents.{ReplayEvent, item_taken, entries_of}
 use Rattle.line_arbiter.specs.LastSent.{last_sent, stream_length}
 use Rattle.feed_text.specs.Emitted.{gap_emitted, EmitsFault, EmitsPacket, EmitsRenewal, EmitsSkip, EmitsSelfHelp, EmitsAt, EmitsRecord}

@@ -11,7 +11,7 @@ use Rattle.line_arbiter.specs.Histories.{History, all_begun, streams_of}
 use Rattle.line_arbiter.specs.laws.Arrivals.{all_map}
 use Rattle.feed_steps.specs.declared.event.Event.{Event}
 use Rattle.feed_core.specs.VenueHalf.{AreItemsOf, VenueHalf}
-use Rattle.feed_text.specs.Capture.{CaptureRecord}
+use Rattle.capture_records.specs.Capture.{CaptureRecord}
 use Rattle.feed_text.specs.ReplayEvents.{ReplayEvent, packet_answered, packet_refused, item_taken, gap_left, renewal_answered, skip_answered, self_help_declared, entries_after, entries_of}
 use Rattle.feed_text.specs.VenueItems.{taken_by, items_taken}
 use Rattle.replay_run.specs.Events.{AreEvents, consumed_all}

@@ -4,7 +4,7 @@ use Rattle.std.specs.List.{AllByRecursion}
 use Rattle.feed_types.specs.Sessions.{Session}
 use Rattle.feed_steps.specs.declared.event.Event.{Event}
 use Rattle.feed_core.specs.VenueHalf.{BringsOnly, BringOnly}
-use Rattle.feed_text.specs.Capture.{CaptureRecord, datagram_record, renewal_record, skip_record, self_help_record, record_venue}
+use Rattle.capture_records.specs.Capture.{CaptureRecord, datagram_record, renewal_record, skip_record, self_help_record, record_venue}
 use Rattle.replay_run.specs.Events.{event_of, drains, AreEvents}
 use Rattle.replay_run.specs.ToldHeadline.{HoldsOnly, HoldOnly}
 

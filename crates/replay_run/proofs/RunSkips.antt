@@ -7,7 +7,7 @@ use Rattle.line_arbiter.specs.Packets.{Input, Arrived}
 use Rattle.feed_steps.specs.declared.event.Event.{Event}
 use Rattle.feed_steps.specs.declared.event.Event.TheVariants.{Skip}
 use Rattle.feed_core.specs.VenueHalf.{IsAmong}
-use Rattle.feed_text.specs.Capture.{CaptureRecord, datagram_record, renewal_record, skip_record, self_help_record, record_venue}
+use Rattle.capture_records.specs.Capture.{CaptureRecord, datagram_record, renewal_record, skip_record, self_help_record, record_venue}
 use Rattle.replay_run.specs.Events.{event_of, drains, AreEvents}
 use Rattle.replay_run.specs.ToldHeadline.{IsRecorded}
 

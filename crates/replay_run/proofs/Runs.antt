@@ -9,7 +9,7 @@ use Rattle.feed_core.specs.Runs.{IsRun}
 use Rattle.feed_core.specs.Headline.{Headline}
 use Rattle.feed_core.specs.laws.HeadlineLaw.{headline}
 use Rattle.feed_text.specs.declared.replay.ReplayConfig.{ReplayConfig}
-use Rattle.feed_text.specs.Capture.{CaptureRecord, record_venue}
+use Rattle.capture_records.specs.Capture.{CaptureRecord, record_venue}
 use Rattle.feed_text.specs.ReplayEvents.{ReplayEvent, entries_of}
 use Rattle.feed_text.specs.Emitted.{Emits}
 use Rattle.feed_text.specs.Texts.{EmitsAll, HasJournalRoom}

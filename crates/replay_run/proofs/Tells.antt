@@ -11,11 +11,11 @@ use Rattle.journal_book.specs.Changes.{changes_of}
 use Rattle.journal_book.specs.ItemsIn.{items_in}
 use Rattle.feed_core.specs.VenueHalf.{AreItemsOf}
 use Rattle.feed_text.specs.declared.replay.ReplayConfig.{ReplayConfig}
-use Rattle.feed_text.specs.Capture.{CaptureRecord}
+use Rattle.capture_records.specs.Capture.{CaptureRecord}
 use Rattle.feed_text.specs.Emitted.{EmitsRecord, Emits}
-use Rattle.feed_text.specs.Formats.{TimedRecord, what_of}
+use Rattle.capture_records.specs.Formats.{TimedRecord, what_of}
 use Rattle.feed_text.specs.ReplayEvents.{ReplayEvent, entries_of}
-use Rattle.feed_text.specs.SinkEvents.{SinkEvent, TimedEvent, at_time}
+use Rattle.event_sinks.specs.SinkEvents.{SinkEvent, TimedEvent, at_time}
 use Rattle.feed_text.specs.Tellings.{lasts_told, told_of}
 use Rattle.feed_text.specs.Texts.{EmitsAll, new_histories}
 use Rattle.feed_text.specs.Told.{IsToldOfAll, IsToldToFull, IsToldUpTo}

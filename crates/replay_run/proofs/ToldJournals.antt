@@ -13,9 +13,9 @@ use Rattle.line_arbiter.specs.Histories.{History}
 use Rattle.feed_steps.specs.laws.Lists.{begins_drop}
 use Rattle.feed_text.specs.declared.replay.ReplayConfig.{ReplayConfig}
 use Rattle.feed_text.specs.Emitted.{Emits}
-use Rattle.feed_text.specs.Formats.{TimedRecord, what_of}
+use Rattle.capture_records.specs.Formats.{TimedRecord, what_of}
 use Rattle.feed_text.specs.ReplayEvents.{ReplayEvent, packet_answered, packet_refused, item_taken, gap_left, renewal_answered, skip_answered, self_help_declared, entries_after, entries_of}
-use Rattle.feed_text.specs.SinkEvents.{SinkEvent, TimedEvent, at_time, told_best, told_declaration}
+use Rattle.event_sinks.specs.SinkEvents.{SinkEvent, TimedEvent, at_time, told_best, told_declaration}
 use Rattle.feed_text.specs.Tellings.{last_told, lasts_told, own_told, told_of, told_since}
 use Rattle.feed_text.specs.Texts.{event_notices}
 use Rattle.feed_text.specs.Told.{told_by_records}

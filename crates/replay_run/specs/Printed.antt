@@ -2,9 +2,9 @@
 use Rattle.std.specs.Prelude.{ℕ, List, [], ◌∷◌, ◌++◌, map}
 use Rattle.feed_types.specs.declared.item.Numbered.{Numbered}
 use Rattle.feed_text.specs.declared.replay.ReplayConfig.{ReplayConfig}
-use Rattle.feed_text.specs.Formats.{TimedRecord, what_of}
+use Rattle.capture_records.specs.Formats.{TimedRecord, what_of}
 use Rattle.feed_text.specs.ReplayEvents.{entries_of}
-use Rattle.feed_text.specs.SinkEvents.{TimedEvent}
+use Rattle.event_sinks.specs.SinkEvents.{TimedEvent}
 use Rattle.feed_text.specs.Told.{IsToldOfAll, IsToldToFull, IsToldUpTo, ToldFacts}
 use Rattle.feed_text.specs.ToldJournal.{items_of_venue}
 use Rattle.replay_run.specs.ToldHeadline.{TellsHeadline}

@@ -8,8 +8,8 @@ use Rattle.line_arbiter.specs.Histories.{History}
 use Rattle.line_arbiter.specs.Packets.{Input, Arrived, Skip}
 use Rattle.journal_book.specs.Changes.{changes_of}
 use Rattle.feed_core.specs.VenueHalf.{AreItemsOf, SpellOnly}
-use Rattle.feed_text.specs.Capture.{CaptureRecord, datagram_record, skip_record}
-use Rattle.feed_text.specs.SinkEvents.{TimedEvent}
+use Rattle.capture_records.specs.Capture.{CaptureRecord, datagram_record, skip_record}
+use Rattle.event_sinks.specs.SinkEvents.{TimedEvent}
 use Rattle.feed_text.specs.ToldJournal.{bests_in, entries_in}
 
 -- the premise: a packet of the session's name that the record holds for the venue is of the session

@@ -16,13 +16,13 @@ ghost use Rattle.line_arbiter.specs.OfSession.{session_of_messages};
 ghost use Rattle.filter_terms.specs.declared.terms.Terms.{Terms};
 ghost use Rattle.feed_core.specs.Worlds.{Setting};
 ghost use Rattle.feed_text.specs.declared.replay.ReplayConfig.{ReplayConfig};
-ghost use Rattle.feed_text.specs.Capture.{CaptureRecord};
+ghost use Rattle.capture_records.specs.Capture.{CaptureRecord};
 ghost use Rattle.feed_text.specs.EventReplays.{AnswersRun, venues_in};
-ghost use Rattle.feed_text.specs.Formats.{TimedRecord, what_of};
+ghost use Rattle.capture_records.specs.Formats.{TimedRecord, what_of};
 ghost use Rattle.feed_text.specs.Lacks.{AppendsLacks};
 ghost use Rattle.feed_text.specs.ReplayEvents.{ReplayEvent};
 ghost use Rattle.feed_text.specs.Replays.{CanReplay};
-ghost use Rattle.feed_text.specs.SinkEvents.{TimedEvent};
+ghost use Rattle.event_sinks.specs.SinkEvents.{TimedEvent};
 ghost use Rattle.feed_text.specs.Texts.{EmitsAll, HasJournalRoom};
 ghost use Rattle.feed_text.specs.Told.{IsToldToFull, IsToldUpTo};
 ghost use Rattle.replay_run.specs.Events.{InAnySetting, IsReplayRun, replay_setting};
@@ -30,9 +30,11 @@ ghost use Rattle.replay_run.specs.Full.{IsRunToFull};
 ghost use Rattle.replay_run.specs.Moving.{ComesThrough};
 ghost use Rattle.replay_run.specs.Printed.{facts_of_run};
 
+use capture_records::RecordFormat;
+use event_sinks::{EventSink, Lack, Replayed};
 use feed_text::replay::{ReplayConfig, replay_events};
-use feed_text::{CaptureIn, EventSink, Lack, RecordFormat, Replayed};
 use std::alloc::Global;
+use text_out::CaptureIn;
 
 /// The events that records emit are a run of the machine over the records as events, and the
 /// headline holds of it, whatever the lanes hold.

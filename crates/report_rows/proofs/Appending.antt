@@ -2,7 +2,7 @@
 use Rattle.std.proofs.Common.{◌≡◌, ℕ, zero, suc, ◌+◌, ◌*◌, ◌<◌, ◌≤◌, inl, inr, List, [], ◌∷◌, ◌++◌, length, slice_index_or, ap, arith, length-append, ◌∙◌}
 use Rattle.std.specs.List.{AllByRecursion}
 use Rattle.std.proofs.lemmas.Bool.{cases_eq}
-use Rattle.feed_text.specs.Pages.{Appends, BufferedText, memory_of}
+use Rattle.text_out.specs.Pages.{Appends, BufferedText, memory_of}
 use Rattle.report_rows.specs.RowTexts.{IsShortCell, room_of}
 use Rattle.report_rows.specs.declared.cell.Cell.{Cell}
 use Rattle.report_rows.specs.declared.cell.Cell.TheVariants.{Nothing}

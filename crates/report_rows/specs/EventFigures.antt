@@ -4,7 +4,7 @@ use Rattle.feed_types.specs.declared.national.Best.{Best}
 use Rattle.feed_types.specs.declared.national.NationalState.{NationalState}
 use Rattle.feed_types.specs.declared.national.NationalState.TheVariants.{Normal, Locked, Crossed}
 use Rattle.line_arbiter.specs.declared.outcome.Outcome.TheVariants.{Taken}
-use Rattle.feed_text.specs.SinkEvents.{SinkEvent, told_packet}
+use Rattle.event_sinks.specs.SinkEvents.{SinkEvent, told_packet}
 
 -- ---- a packet
 

@@ -1,10 +1,10 @@
 -- Laws of texts that are written to a page one after the other.
 use Rattle.std.proofs.Common.{◌≡◌, ℕ, zero, suc, ◌+◌, ◌<◌, ◌≤◌, inl, inr, List, [], ◌++◌, add-one, append_assoc, append-nil, sym, ap, subst, ◌∙◌, arith}
 use Rattle.std.proofs.lemmas.Bool.{cases_eq}
-use Rattle.feed_text.specs.Devices.{Moved}
-use Rattle.feed_text.specs.TextPages.{FailsPage, TakesPage}
-use Rattle.feed_text.specs.TextPageLaws.{fails_after_page, fails_before_page, fails_longer_page, takes_more_page}
-use Rattle.feed_text.specs.declared.text_page.TextPage.{TextPage}
+use Rattle.text_out.specs.Devices.{Moved}
+use Rattle.event_sinks.specs.TextPages.{FailsPage, TakesPage}
+use Rattle.event_sinks.specs.TextPageLaws.{fails_after_page, fails_before_page, fails_longer_page, takes_more_page}
+use Rattle.event_sinks.specs.declared.text_page.TextPage.{TextPage}
 use Rattle.report_rows.specs.FirstTexts.{first_texts}
 
 -- the first texts are a front of more of them

@@ -1,7 +1,7 @@
 -- What a maker makes of events whose rows go by the events before them. Of a list of events that
 -- came before the last one stands first.
 use Rattle.std.specs.Prelude.{◌≡◌, ℕ, List, [], ◌∷◌, ◌++◌, reverse}
-use Rattle.feed_text.specs.SinkEvents.{TimedEvent}
+use Rattle.event_sinks.specs.SinkEvents.{TimedEvent}
 
 -- the rows of events in order, after these
 abbrev pub rows_told : (TimedEvent → List TimedEvent → List ℕ) → List TimedEvent → List TimedEvent

@@ -2,9 +2,9 @@
 -- written.
 use Rattle.std.proofs.Common.{◌≡◌, ℕ, List, [], ◌∷◌, ◌++◌, append_assoc, append-nil, refl, reverse, sym, ap, subst, ◌∙◌}
 use Rattle.std.proofs.lemmas.List.{reverse-append}
-use Rattle.feed_text.specs.SinkEvents.{TimedEvent}
-use Rattle.feed_text.specs.TextPages.{FailsPage}
-use Rattle.feed_text.specs.TextPageLaws.{fails_longer_page}
+use Rattle.event_sinks.specs.SinkEvents.{TimedEvent}
+use Rattle.event_sinks.specs.TextPages.{FailsPage}
+use Rattle.event_sinks.specs.TextPageLaws.{fails_longer_page}
 use Rattle.report_rows.specs.RowHistories.{MakesHistory, TellsHistory, rows_told}
 use Rattle.report_rows.specs.RowSinks.{FailsRows, IsNewRowSink, TakesRows}
 use Rattle.report_rows.specs.declared.row_sink.RowSink.{RowSink}

@@ -1,9 +1,9 @@
 -- The laws of a sink of rows.
 use Rattle.std.proofs.Common.{ℕ, List, [], ◌++◌, append_assoc, refl, sym, ap, ◌∙◌, Result, Ok, Err}
 use Rattle.std.specs.Prelude.{OnErr}
-use Rattle.feed_text.specs.SinkEvents.{TimedEvent}
-use Rattle.feed_text.specs.TextPageLaws.{fails_after_page, fails_before_page, takes_more_page, takes_no_page}
-use Rattle.feed_text.specs.TextPages.{FailsPage}
+use Rattle.event_sinks.specs.SinkEvents.{TimedEvent}
+use Rattle.event_sinks.specs.TextPageLaws.{fails_after_page, fails_before_page, takes_more_page, takes_no_page}
+use Rattle.event_sinks.specs.TextPages.{FailsPage}
 use Rattle.report_rows.specs.RowSinks.{FailsRows, TakesRows}
 use Rattle.report_rows.specs.declared.row_sink.RowSink.{RowSink}
 

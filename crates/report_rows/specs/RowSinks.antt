@@ -1,8 +1,8 @@
 -- What a maker makes of events on a page, and what a sink of rows takes.
 use Rattle.std.specs.Prelude.{◌≡◌, ℕ, List, ◌++◌}
-use Rattle.feed_text.specs.SinkEvents.{TimedEvent}
-use Rattle.feed_text.specs.TextPages.{FailsPage, TakesPage}
-use Rattle.feed_text.specs.declared.text_page.TextPage.{TextPage}
+use Rattle.event_sinks.specs.SinkEvents.{TimedEvent}
+use Rattle.event_sinks.specs.TextPages.{FailsPage, TakesPage}
+use Rattle.event_sinks.specs.declared.text_page.TextPage.{TextPage}
 use Rattle.report_rows.specs.declared.row_sink.RowSink.{RowSink}
 
 -- The maker made a text of the events, and what the writer took, then what waits, is what waited,

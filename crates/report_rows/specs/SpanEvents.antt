@@ -1,7 +1,7 @@
 -- The events of a span of time, and what a sink takes that is given these, and those before the
 -- span as such.
 use Rattle.std.specs.Prelude.{◌≡◌, ℕ, Bool, true, false, not, nat_lt, ◌||◌, List, [], ◌∷◌, ◌++◌, Option, None, Some, if◌then◌else◌}
-use Rattle.feed_text.specs.SinkEvents.{SinkEvent, TimedEvent, timed_event, told_before, told_last}
+use Rattle.event_sinks.specs.SinkEvents.{SinkEvent, TimedEvent, timed_event, told_before, told_last}
 use Rattle.run_settings.specs.declared.time_span.TimeSpan.{TimeSpan}
 use Rattle.report_rows.specs.declared.span_sink.SpanSink.{SpanSink}
 

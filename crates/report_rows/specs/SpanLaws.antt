@@ -1,6 +1,6 @@
 -- The laws of a sink that is given the events of a span.
 use Rattle.std.proofs.Common.{◌≡◌, Bool, List, [], ◌∷◌, ◌++◌, append_assoc, ap, refl, sym, subst, ◌∙◌}
-use Rattle.feed_text.specs.SinkEvents.{TimedEvent}
+use Rattle.event_sinks.specs.SinkEvents.{TimedEvent}
 use Rattle.run_settings.specs.declared.time_span.TimeSpan.{TimeSpan}
 use Rattle.report_rows.specs.declared.span_sink.SpanSink.{SpanSink}
 use Rattle.report_rows.specs.SpanEvents.{FailsSpan, TakesSpan, begun_after, begun_by, events_in, told_in}

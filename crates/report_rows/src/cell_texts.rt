@@ -1,12 +1,12 @@
 //! The text of a cell, in each format.
 ghost use Rattle.std.specs.Prelude.{◌≤◌, ◌+◌, ◌*◌, length};
-ghost use Rattle.feed_text.specs.Pages.{Appends};
+ghost use Rattle.text_out.specs.Pages.{Appends};
 ghost use Rattle.report_rows.specs.RowTexts.{IsShortCell, row_cell_text, csv_cell, json_count, json_label, json_member, json_styled, json_time_cell, json_value, json_word, nanoseconds_member, cells_shown};
 
 use crate::cell::Cell;
 use best_rows::{put_csv_name, put_quoted, put_seconds, put_time, put_time_value};
-use feed_text::{LineBuffer, put_bytes, put_number};
 use run_settings::{RowFormat, TimeStyle};
+use text_out::{LineBuffer, put_bytes, put_number};
 
 /// Appends bytes, one after the other.
 fn put_slice(text: &mut LineBuffer, bytes: &[u8])

@@ -1,14 +1,14 @@
 //! Rows of cells, and what stands before the first row.
 ghost use Rattle.std.specs.Prelude.{◌≡◌, ◌+◌, ◌*◌, ◌++◌, ◌<◌, ◌≤◌, [], length, slice_index_or};
 ghost use Rattle.std.specs.List.{AllByRecursion};
-ghost use Rattle.feed_text.specs.Pages.{Appends};
+ghost use Rattle.text_out.specs.Pages.{Appends};
 ghost use Rattle.report_rows.specs.RowTexts.{IsShortCell, all_shown, comma_at, row_cell_text, first_cells, first_names, header_text, nothing, room_of, row_begin, row_end, row_room, row_text, texts_of};
 ghost use Rattle.report_rows.specs.declared.cell.Cell.TheVariants.{Nothing};
 
 use crate::cell::Cell;
 use crate::cell_texts::{put_cell, put_text};
-use feed_text::{LineBuffer, put_bytes};
 use run_settings::RowFormat;
+use text_out::{LineBuffer, put_bytes};
 
 /// Appends a comma, unless the place is the first one.
 fn put_comma(text: &mut LineBuffer, place: usize)

@@ -1,9 +1,10 @@
 //! The trait of what makes the rows of events.
 ghost use Rattle.std.specs.Prelude.{◌++◌, [], ◌∷◌, ℕ, List, OnErr, OnOk};
-ghost use Rattle.feed_text.specs.SinkEvents.{TimedEvent, timed_event, told_before, told_by};
+ghost use Rattle.event_sinks.specs.SinkEvents.{TimedEvent, timed_event, told_before, told_by};
 ghost use Rattle.report_rows.specs.RowSinks.{FailsMaking, Makes};
 
-use feed_text::{Event, SinkStop, TextOut, TextPage};
+use event_sinks::{Event, SinkStop, TextPage};
+use text_out::TextOut;
 
 /// What makes the rows of events. What it makes is said by a relation between its states, with
 /// laws.

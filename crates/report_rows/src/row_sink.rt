@@ -6,8 +6,9 @@ ghost use Rattle.report_rows.specs.RowTexts.{header_text, row_room, texts_of};
 use crate::row::put_header;
 use crate::row_maker::RowMaker;
 use crate::spanned_sink::SpannedSink;
-use feed_text::{Event, EventSink, SinkStop, TextOut, TextPage};
+use event_sinks::{Event, EventSink, SinkStop, TextPage};
 use run_settings::RowFormat;
+use text_out::TextOut;
 
 /// The rows that a maker makes of events, written to a writer by the page.
 ///

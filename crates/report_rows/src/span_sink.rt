@@ -1,10 +1,10 @@
 //! A sink of the events in a span of time.
 ghost use Rattle.std.specs.Prelude.{◌≡◌, ◌∷◌, [], false};
-ghost use Rattle.feed_text.specs.SinkEvents.{timed_event, told_by};
+ghost use Rattle.event_sinks.specs.SinkEvents.{timed_event, told_by};
 ghost use Rattle.report_rows.specs.SpanEvents.{IsNewSpan, begins_span, ends_all, is_told_in};
 
 use crate::spanned_sink::SpannedSink;
-use feed_text::{Event, EventSink, SinkStop};
+use event_sinks::{Event, EventSink, SinkStop};
 use run_settings::TimeSpan;
 
 /// A sink that takes the events of a span of time, those before it as such, and that the capture is

@@ -1,8 +1,8 @@
 //! Sinks that take what came before the events of a span.
 ghost use Rattle.std.specs.Prelude.{◌∷◌, []};
-ghost use Rattle.feed_text.specs.SinkEvents.{timed_event, told_before, told_by};
+ghost use Rattle.event_sinks.specs.SinkEvents.{timed_event, told_before, told_by};
 
-use feed_text::{Event, EventSink};
+use event_sinks::{Event, EventSink};
 
 /// A sink of events that can take an event before all that it reports. It shows nothing of it.
 pub trait SpannedSink: EventSink {

@@ -1,15 +1,15 @@
 //! The symbols of which no item came, or no change of the national best, by their names.
 ghost use Rattle.std.specs.Prelude.{◌≡◌, [], ◌∷◌, IfOk};
-ghost use Rattle.feed_text.specs.Devices.{Writing};
-ghost use Rattle.feed_text.specs.StandardError.{SaysEach};
+ghost use Rattle.text_out.specs.Devices.{Writing};
+ghost use Rattle.text_out.specs.StandardError.{SaysEach};
 ghost use Rattle.run_notes.specs.AbsentSymbols.{absent_among, absent_texts, symbols_with, unchanged_among, unchanged_texts};
 
 use crate::absent_report::{write_absent, write_unchanged};
 use crate::absent_symbols::AbsentSymbols;
-use feed_text::TextOut;
 use feed_types::{Entry, Notice, SymbolName};
 use std::alloc::{AllocError, Global};
 use std::marker::Model;
+use text_out::TextOut;
 
 /// The symbols, of some, of which nothing came: no item, or no change of the national best.
 /// Contracts see these, in the order of all.

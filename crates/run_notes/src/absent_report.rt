@@ -1,13 +1,13 @@
 //! What is said on standard error of symbols of which no item came, or no change of the national
 //! best.
 ghost use Rattle.std.specs.Prelude.{◌≡◌, ◌&&◌, flat_map, if◌then◌else◌, length, nat_lt, take};
-ghost use Rattle.feed_text.specs.StandardError.{Says, SaysEach};
+ghost use Rattle.text_out.specs.StandardError.{Says, SaysEach};
 ghost use Rattle.feed_types.specs.Symbols.{key_of, name_of};
 ghost use Rattle.run_notes.specs.AbsentSymbols.{absent_texts, has_key, listed_texts, more_symbols_text, more_symbols_texts, symbol_texts, symbols_with, texts_if, unchanged_texts};
 
 use crate::absent_symbols::AbsentSymbols;
-use feed_text::{TextOut, write_all, write_number, write_stderr};
 use feed_types::SymbolName;
+use text_out::{TextOut, write_all, write_number, write_stderr};
 
 /// The most symbols that are named.
 const MOST: usize = 8;

@@ -1,11 +1,11 @@
 //! The name of a session on standard error.
 ghost use Rattle.std.specs.Prelude.{◌≡◌};
 ghost use Rattle.std.specs.List.{list_all};
-ghost use Rattle.feed_text.specs.Devices.{Writing};
-ghost use Rattle.feed_text.specs.StandardError.{Says, SaysEach};
+ghost use Rattle.text_out.specs.Devices.{Writing};
+ghost use Rattle.text_out.specs.StandardError.{Says, SaysEach};
 ghost use Rattle.run_notes.specs.SessionNames.{is_shown, name_texts};
 
-use feed_text::{TextOut, write_all, write_stderr};
+use text_out::{TextOut, write_all, write_stderr};
 
 /// Returns whether a terminal can show all of a name.
 fn is_shown(name: &[u8]) -> bool

@@ -1,8 +1,8 @@
 -- Texts of counts, one after the other.
 use Rattle.std.proofs.Common.{List, [], ◌∷◌, ◌++◌, ℕ, refl}
-use Rattle.feed_text.specs.Devices.{Writing}
-use Rattle.feed_text.specs.StandardError.{Says}
-use Rattle.feed_text.specs.laws.SaidTexts.{says_each}
+use Rattle.text_out.specs.Devices.{Writing}
+use Rattle.text_out.specs.StandardError.{Says}
+use Rattle.text_out.specs.laws.SaidTexts.{says_each}
 use Rattle.run_watches.specs.RunNews.{SaysCounts}
 
 pub one_count : {E : Type 0} (w : Writing E) (text : List ℕ) (s t : E) → Says w text s t

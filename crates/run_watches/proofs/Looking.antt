@@ -1,7 +1,7 @@
 -- What is said at a look, step by step.
 use Rattle.std.proofs.Common.{◌≡◌, ◌∙◌, ◌/◌, ℕ, Bool, ap, subst}
-use Rattle.feed_text.specs.Devices.{Writing}
-use Rattle.feed_text.specs.StandardError.{SaysEach}
+use Rattle.text_out.specs.Devices.{Writing}
+use Rattle.text_out.specs.StandardError.{SaysEach}
 use Rattle.run_watches.specs.GapNews.{gap_texts_if}
 use Rattle.run_watches.specs.Gaps.{GivesUpDue, SaysOfSession, SaysOfVenue, TellsStanding, after_joins, joined_run, stands, watch_begun}
 use Rattle.run_watches.specs.declared.gap_news.GapChange.TheVariants.{GivenUp}

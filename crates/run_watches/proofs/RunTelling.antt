@@ -4,8 +4,8 @@ use Rattle.std.specs.Prelude.{◌/◌, Bool, true, false, ◌&&◌, ◌||◌, Ma
 use Rattle.std.specs.List.{range_with_len}
 use Rattle.std.proofs.lemmas.Bool.{cases_Bool}
 use Rattle.std.proofs.lemmas.List.{get_or-map, length-map, map-append}
-use Rattle.feed_text.specs.Devices.{Writing}
-use Rattle.feed_text.specs.StandardError.{SaysEach}
+use Rattle.text_out.specs.Devices.{Writing}
+use Rattle.text_out.specs.StandardError.{SaysEach}
 use Rattle.line_arbiter.specs.declared.arbiter.ArbiterStatus.{ArbiterStatus}
 use Rattle.mold_packet.specs.declared.request.Request.{Request}
 use Rattle.run_watches.specs.GapNews.{gap_texts_if}

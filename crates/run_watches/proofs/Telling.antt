@@ -4,9 +4,9 @@ use Rattle.std.specs.Prelude.{Bool, true, false, IfSome, Option, Some, ◌==◌,
 use Rattle.std.proofs.lemmas.Bool.Decides.{nat_tests}
 use Rattle.std.proofs.lemmas.List.{append-nil, get_or-map, length-map, map-append}
 use Rattle.feed_types.specs.declared.line.LineId.{LineId}
-use Rattle.feed_text.specs.Devices.{Writing}
-use Rattle.feed_text.specs.StandardError.{SaysEach}
-use Rattle.feed_text.specs.laws.SaidTexts.{says_each}
+use Rattle.text_out.specs.Devices.{Writing}
+use Rattle.text_out.specs.StandardError.{SaysEach}
+use Rattle.text_out.specs.laws.SaidTexts.{says_each}
 use Rattle.run_watches.specs.News.{LineTally, SaysNotes, SaysTotals, line_end_texts, notes_of, stranger_note, tally_texts, told_if, total_if, total_texts, totals_of, unheard_note}
 use Rattle.run_watches.specs.RunLines.{WatchedGaps, WatchedLines, WatchedRun}
 use Rattle.run_watches.specs.RunNews.{IsNewsOf, IsNewsOfGap, IsNewsOfGaps, IsNewsOfLine, IsNewsOfLines, IsNewsOfOutput, RunNews, SaysNews, of_counts, of_gap, of_line, of_output, of_session, run_news_texts}

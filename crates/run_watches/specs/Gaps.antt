@@ -1,8 +1,8 @@
 -- Gaps of venues while a run goes on: what is told of them, and which are given up.
 use Rattle.std.specs.Prelude.{◌≡◌, ℕ, ◌+◌, ◌-◌, ◌/◌, ◌^◌, ◌==◌, min, nat_le, nat_lt, Bool, true, false, not, ◌&&◌, ◌||◌, [], Option, Some, None, MatchOption, is_some, if◌then◌else◌}
 use Rattle.run_settings.specs.declared.listen_settings.ListenSettings.{ListenSettings}
-use Rattle.feed_text.specs.Devices.{Writing}
-use Rattle.feed_text.specs.StandardError.{SaysEach}
+use Rattle.text_out.specs.Devices.{Writing}
+use Rattle.text_out.specs.StandardError.{SaysEach}
 use Rattle.line_arbiter.specs.Counts.{shown}
 use Rattle.line_arbiter.specs.declared.arbiter.ArbiterStatus.{ArbiterStatus}
 use Rattle.mold_packet.specs.declared.request.Request.{Request}

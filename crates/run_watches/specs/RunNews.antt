@@ -2,8 +2,8 @@
 -- counts.
 use Rattle.std.specs.Prelude.{◌≡◌, ℕ, Bool, true, false, List, [], ◌∷◌, All, Contains, flat_map}
 use Rattle.feed_types.specs.declared.line.LineId.{LineId}
-use Rattle.feed_text.specs.Devices.{Writing}
-use Rattle.feed_text.specs.StandardError.{SaysEach}
+use Rattle.text_out.specs.Devices.{Writing}
+use Rattle.text_out.specs.StandardError.{SaysEach}
 use Rattle.run_watches.specs.GapNews.{gap_news_texts}
 use Rattle.run_watches.specs.Gaps.{gives_up}
 use Rattle.run_watches.specs.News.{SaysTotals, news_texts}

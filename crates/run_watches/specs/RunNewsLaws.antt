@@ -4,9 +4,9 @@ use Rattle.std.specs.Prelude.{Bool, true, false, None}
 use Rattle.std.proofs.lemmas.Grind.{flat_map-append}
 use Rattle.std.proofs.lemmas.List.Elements.{All-append}
 use Rattle.feed_types.specs.declared.line.LineId.{LineId}
-use Rattle.feed_text.specs.Devices.{Writing}
-use Rattle.feed_text.specs.StandardError.{SaysEach}
-use Rattle.feed_text.specs.laws.SaidTexts.{says_each}
+use Rattle.text_out.specs.Devices.{Writing}
+use Rattle.text_out.specs.StandardError.{SaysEach}
+use Rattle.text_out.specs.laws.SaidTexts.{says_each}
 use Rattle.run_watches.specs.News.{LineTally, SaysTotals, tally_texts}
 use Rattle.run_watches.specs.RunLines.{WatchedRun}
 use Rattle.run_watches.specs.RunNews.{IsNewsOf, RunNews, SaysCounts, SaysNews, SaysOfRun, SaysRunNews, SaysTable, run_news_texts}

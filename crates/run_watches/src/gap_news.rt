@@ -1,11 +1,11 @@
 //! What is said of a venue's gap while a run goes on.
 ghost use Rattle.std.specs.Prelude.{◌≡◌, decimal};
-ghost use Rattle.feed_text.specs.Devices.{Writing};
-ghost use Rattle.feed_text.specs.StandardError.{Says, SaysEach};
+ghost use Rattle.text_out.specs.Devices.{Writing};
+ghost use Rattle.text_out.specs.StandardError.{Says, SaysEach};
 ghost use Rattle.run_watches.specs.GapNews.{gap_change_text, gap_news_texts, messages_from_text, missing_run_texts, venue_time_texts};
 
-use feed_text::{TextOut, write_number, write_stderr};
 use feed_types::VenueId;
+use text_out::{TextOut, write_number, write_stderr};
 
 /// Messages in a row that are missing.
 #[derive(Clone, Copy, Debug, PartialEq, Eq)]

@@ -2,18 +2,18 @@
 //! it, and when it is given up.
 ghost use Rattle.std.specs.Prelude.{◌≡◌, ◌+◌, ◌/◌, None, false};
 ghost use Rattle.line_arbiter.specs.Counts.{shown};
-ghost use Rattle.feed_text.specs.Devices.{Writing};
-ghost use Rattle.feed_text.specs.StandardError.{SaysEach};
+ghost use Rattle.text_out.specs.Devices.{Writing};
+ghost use Rattle.text_out.specs.StandardError.{SaysEach};
 ghost use Rattle.run_watches.specs.GapNews.{gap_texts_if};
 ghost use Rattle.run_watches.specs.Gaps.{GivesUpDue, LooksAt, SaysOfSession, TellsIfDone, TellsStanding, after_joins, closed_run, due_count, due_of, gap_next, has_come, watch_begun, is_unanswered, joined_run, lacking_of, news_of, run_count, run_of, said_then, standing_at, stands, stood_of, told_still, told_then, unanswered_of};
 
 use crate::gap_news::{GapChange, GapNews, MissingRun, write_gap_news};
 use crate::gap_rule::GapRule;
 use crate::session_news::{SessionNews, write_session_news};
-use feed_text::TextOut;
 use feed_types::VenueId;
 use line_arbiter::ArbiterStatus;
 use mold_packet::Request;
+use text_out::TextOut;
 use venue_lines::VenueStatus;
 
 /// How long a gap stands before it is told, in milliseconds.

@@ -1,16 +1,16 @@
 //! The gaps of a run's venues as the thread beside the run sees them.
 ghost use Rattle.std.specs.List.{range_with_len};
 ghost use Rattle.std.specs.Prelude.{◌≡◌, ◌≤◌, IfOk, map};
-ghost use Rattle.feed_text.specs.Devices.{Writing};
+ghost use Rattle.text_out.specs.Devices.{Writing};
 ghost use Rattle.run_watches.specs.RunLines.{told_gaps, watched_gaps, watched_venue};
 ghost use Rattle.run_watches.specs.RunNews.{IsNewsOfGaps, SaysNews};
 
 use crate::gap_rule::GapRule;
 use crate::gap_watch::GapWatch;
-use feed_text::TextOut;
 use feed_types::VenueId;
 use run_settings::ListenSettings;
 use std::alloc::{AllocError, Global};
+use text_out::TextOut;
 use venue_lines::VenueStatus;
 
 /// How many milliseconds are between two looks at least: so long two lines may bring the same

@@ -1,12 +1,12 @@
 //! What is said of lines while a run goes on, and what was counted of them at its end.
 ghost use Rattle.std.specs.Prelude.{◌≡◌, decimal};
-ghost use Rattle.feed_text.specs.Devices.{Writing};
-ghost use Rattle.feed_text.specs.StandardError.{Says, SaysEach};
+ghost use Rattle.text_out.specs.Devices.{Writing};
+ghost use Rattle.text_out.specs.StandardError.{Says, SaysEach};
 ghost use Rattle.run_watches.specs.News.{change_text, change_texts, counted_text, counted_texts, letter_text, line_end_texts, line_name_texts, ms_texts, news_texts, rest_texts, named_session_texts, time_texts, total_texts, verb_text};
 
-use feed_text::{TextOut, write_number, write_stderr};
 use feed_types::{LineId, VenueId};
 use run_notes::write_session_name;
+use text_out::{TextOut, write_number, write_stderr};
 
 /// What has happened to a line.
 #[derive(Clone, Copy, Debug, PartialEq, Eq)]

@@ -1,8 +1,8 @@
 //! The lines of a run as the thread beside it sees them: what is news of them, and what was
 //! counted.
 ghost use Rattle.std.specs.Prelude.{◌≡◌, ◌∷◌, [], Bool, IfSome, false, flat_map, is_some, map, true};
-ghost use Rattle.feed_text.specs.Devices.{Writing};
-ghost use Rattle.feed_text.specs.StandardError.{SaysEach};
+ghost use Rattle.text_out.specs.Devices.{Writing};
+ghost use Rattle.text_out.specs.StandardError.{SaysEach};
 ghost use Rattle.run_watches.specs.News.{SaysNotes, SaysTotals, line_end_texts, stranger_note, told_if, total_if, total_texts, unheard_note};
 ghost use Rattle.run_watches.specs.RunLines.{watched, watched_lines};
 ghost use Rattle.run_watches.specs.RunNews.{IsNewsOfLine, IsNewsOfLines, IsTold, SaysNews};
@@ -14,10 +14,10 @@ use crate::line_news::{
 use crate::line_silence::{LineSilence, Silence};
 use crate::moment::Moment;
 use crate::socket_tables::SocketTables;
-use feed_text::TextOut;
 use feed_types::{LineId, VenueId};
 use run_metrics::{LineEnd, LineState, UNKNOWN_STATE, VenueFigures};
 use std::net::SocketAddr;
+use text_out::TextOut;
 use udp_lines::LineProgress;
 use venue_lines::VenueStatus;
 

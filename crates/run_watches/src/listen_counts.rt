@@ -1,6 +1,6 @@
 //! The counts that are printed while a run goes on, and at its end.
 ghost use Rattle.std.specs.Prelude.{◌≡◌, is_some};
-ghost use Rattle.feed_text.specs.Devices.{Writing};
+ghost use Rattle.text_out.specs.Devices.{Writing};
 ghost use Rattle.run_watches.specs.RunNews.{SaysCounts};
 
 use crate::counts_json::{period_json, totals_json};
@@ -8,11 +8,11 @@ use crate::counts_text::{period_text, table_text};
 use crate::line_figures::figures_since;
 use crate::moment::Moment;
 use crate::venue_statuses::{AllFigures, NO_FIGURES};
-use feed_text::{TextOut, write_stderr};
 use feed_types::{MAX_VENUES, VenueId};
 use run_metrics::VenueFigures;
 use run_settings::{ListenSettings, ListenStats, StatsFormat};
 use std::alloc::{AllocError, Global};
+use text_out::{TextOut, write_stderr};
 
 /// When counts are printed, and what each venue had come to when its last line was.
 #[derive(Drop)]

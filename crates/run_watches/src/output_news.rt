@@ -1,11 +1,11 @@
 //! What is said of standard output and standard error while a run goes on.
 ghost use Rattle.std.specs.Prelude.{◌≡◌, ◌∷◌, [], decimal};
-ghost use Rattle.feed_text.specs.Devices.{Writing};
-ghost use Rattle.feed_text.specs.StandardError.{Says, SaysEach};
+ghost use Rattle.text_out.specs.Devices.{Writing};
+ghost use Rattle.text_out.specs.StandardError.{Says, SaysEach};
 ghost use Rattle.run_watches.specs.OutputNews.{output_change_texts, output_news_texts, row_start_text, output_time_texts, untaken_end_text, waiting_end_text};
 
 use crate::errors_progress::UntakenTexts;
-use feed_text::{TextOut, write_number, write_stderr};
+use text_out::{TextOut, write_number, write_stderr};
 
 /// What has happened to what is printed.
 #[derive(Clone, Copy, Debug, PartialEq, Eq)]

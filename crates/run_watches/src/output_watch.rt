@@ -1,13 +1,13 @@
 //! What is printed of a run, as the thread beside it sees it: whether standard output and standard
 //! error are read.
 ghost use Rattle.std.specs.Prelude.{◌≡◌, Bool, IfSome};
-ghost use Rattle.feed_text.specs.Devices.{Writing};
+ghost use Rattle.text_out.specs.Devices.{Writing};
 ghost use Rattle.run_watches.specs.RunNews.{IsNewsOfOutput, IsToldOfOutput, SaysNews};
 
 use crate::errors_progress::ErrorsProgress;
 use crate::output_news::{OutputChange, OutputNews, write_output_news};
 use crate::row_progress::RowProgress;
-use feed_text::TextOut;
+use text_out::TextOut;
 
 /// How long a write goes on before it is told, in milliseconds.
 const TOLD_MS: u64 = 1_000;

@@ -1,6 +1,6 @@
 //! What the thread beside a run watches of it.
 ghost use Rattle.std.specs.Prelude.{◌≡◌, is_some};
-ghost use Rattle.feed_text.specs.Devices.{Writing};
+ghost use Rattle.text_out.specs.Devices.{Writing};
 ghost use Rattle.run_watches.specs.RunLines.{watched_gaps, watched_lines, watched_run};
 ghost use Rattle.run_watches.specs.RunNews.{SaysRunEnd, SaysRunNews};
 
@@ -12,8 +12,8 @@ use crate::metrics_server::{MetricsServer, RunSeen};
 use crate::moment::Moment;
 use crate::output_watch::OutputWatch;
 use crate::venue_statuses::{AllFigures, NO_FIGURES, VenueStatuses, statuses_by};
-use feed_text::TextOut;
 use feed_types::{MAX_VENUES, VenueId};
+use text_out::TextOut;
 use venue_lines::VenueStatus;
 
 /// The lines of a run, the gaps of its venues, what is printed of it, what is counted, if anything

@@ -1,13 +1,13 @@
 //! What is said of a venue's session that begins while a run goes on.
 ghost use Rattle.std.specs.Prelude.{◌≡◌};
-ghost use Rattle.feed_text.specs.Devices.{Writing};
-ghost use Rattle.feed_text.specs.StandardError.{SaysEach};
+ghost use Rattle.text_out.specs.Devices.{Writing};
+ghost use Rattle.text_out.specs.StandardError.{SaysEach};
 ghost use Rattle.run_watches.specs.SessionNews.{missed_texts, session_news_texts};
 
 use crate::gap_news::write_venue;
-use feed_text::{TextOut, write_number, write_stderr};
 use feed_types::VenueId;
 use run_notes::write_session_name;
+use text_out::{TextOut, write_number, write_stderr};
 
 /// A session of a venue that has begun, and when.
 #[derive(Clone, Copy, Debug, PartialEq, Eq)]

@@ -2,8 +2,8 @@
 ghost use Rattle.std.specs.Prelude.{◌+◌};
 
 use crate::errors_progress::ErrorsProgress;
-use feed_text::{Count, TextOut, WriteStop};
 use std::sync::ledger::Ledger;
+use text_out::{Count, TextOut, WriteStop};
 
 /// The most bytes that a pipe takes at once where it takes any.
 const MOST: usize = 4_096;

@@ -3,7 +3,7 @@ use Rattle.std.proofs.Common.{◌≡◌, ◌∙◌, ℕ, suc, ◌+◌, ◌≤◌
 use Rattle.std.specs.Prelude.{Bool, Option, slice_get}
 use Rattle.std.specs.declared.net.socket_addr.SocketAddr.{SocketAddr}
 use Rattle.feed_types.specs.declared.line.LineId.{LineId}
-use Rattle.feed_text.specs.laws.SaidTexts.{no_rest, rest_at}
+use Rattle.text_out.specs.laws.SaidTexts.{no_rest, rest_at}
 use Rattle.udp_listening.specs.Bound.{AddsReplies, asked_line, asked_lines, bound_line, reply_line, reply_lines}
 use Rattle.udp_listening.specs.declared.listen_sockets.BoundLine.{BoundLine}
 

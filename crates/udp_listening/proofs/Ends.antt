@@ -4,7 +4,7 @@ use Rattle.std.specs.Prelude.{slice_get, IfSome, Option}
 use Rattle.feed_types.specs.declared.journal.Entry.{Entry}
 use Rattle.live_feed.specs.settle.Settlements.{VenueEndState}
 use Rattle.udp_listening.specs.Listening.{end_line, end_lines}
-use Rattle.feed_text.specs.laws.SaidTexts.{no_rest, rest_at}
+use Rattle.text_out.specs.laws.SaidTexts.{no_rest, rest_at}
 
 -- the element at a place of a list that is long enough
 pub there : {X : Type 0} (xs : List X) (n : ℕ) → n < length xs → (x : X) × (slice_get xs n ≡ Some x)

@@ -5,7 +5,7 @@ use Rattle.std.proofs.Math.Seq.{take-append-add}
 use Rattle.std.specs.Prelude.{Result, Ok, Err, Option, Some, None, flat_map}
 use Rattle.feed_types.specs.Prefix.{IsPrefix}
 use Rattle.feed_types.specs.declared.journal.Notice.{Notice}
-use Rattle.feed_text.specs.Devices.{Writing, Wrote}
+use Rattle.text_out.specs.Devices.{Writing, Wrote}
 use Rattle.best_rows.specs.NoticeRowLaws.{rows_at_one_time, text_of_more}
 use Rattle.best_rows.specs.NoticeRows.{AreRowsOf, IsTextOf, notice_row}
 use Rattle.best_rows.specs.declared.style.RowStyle.{RowStyle}

@@ -1,7 +1,7 @@
 -- What one more venue lacks.
 use Rattle.std.proofs.Common.{◌≡◌, ℕ, zero, suc, ◌+◌, List, [], ◌∷◌, ◌++◌, take, Some, ap, sym, ◌∙◌, arith, append-nil, append_assoc}
 use Rattle.std.specs.Prelude.{slice_get}
-use Rattle.feed_text.specs.Lacks.{lack_by}
+use Rattle.event_sinks.specs.VenueLacks.{lack_by}
 use Rattle.live_feed.specs.settle.Settlements.{VenueEndState}
 use Rattle.udp_listening.specs.SettledLacks.{lacks_from}
 

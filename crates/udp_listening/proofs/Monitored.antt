@@ -2,7 +2,7 @@
 use Rattle.std.proofs.Common.{◌≡◌, inl, inr, ◌∙◌, ℕ, List, [], ◌∷◌, Option, Some, None, ap, length, map, refl, subst, sym, arith}
 use Rattle.std.specs.Prelude.{true, IfOk, Result, Ok, Err, vec_len}
 use Rattle.feed_types.specs.declared.line.LineId.{LineId}
-use Rattle.feed_text.specs.Devices.{Writing}
+use Rattle.text_out.specs.Devices.{Writing}
 use Rattle.best_rows.specs.declared.style.RowStyle.{RowStyle}
 use Rattle.live_feed.specs.Lanes.{FeedLanes}
 use Rattle.live_feed.specs.declared.run.line.LineEnd.{LineEnd}

@@ -3,7 +3,7 @@ use Rattle.std.proofs.Common.{◌≡◌, inl, inr, ℕ, ◌+◌, List, [], ◌�
 use Rattle.std.specs.Prelude.{None, Result, Ok, Err, Some, flat_map, slice_get}
 use Rattle.std.proofs.lemmas.Grind.{flat_map-append}
 use Rattle.std.proofs.lemmas.List.{take-append-le, take_all}
-use Rattle.feed_text.specs.Devices.{Writing, Wrote}
+use Rattle.text_out.specs.Devices.{Writing, Wrote}
 use Rattle.feed_types.specs.declared.genuine.Genuine.{Ghosts as Genuine}
 use Rattle.feed_types.specs.declared.journal.Notice.{Notice}
 use Rattle.best_rows.specs.NoticeRowLaws.{rows_at_one_time, text_of_more, text_of_none}

@@ -3,10 +3,10 @@ use Rattle.std.specs.Prelude.{◌≡◌, ◌⊎◌, ℕ, ◌+◌, ◌≤◌, ◌
 use Rattle.feed_types.specs.declared.journal.Entry.{Entry}
 use Rattle.feed_types.specs.declared.line.LineId.{LineId}
 use Rattle.feed_types.specs.PerLines.{on_line}
-use Rattle.feed_text.specs.Devices.{Writing, Wrote}
-use Rattle.feed_text.specs.LackTexts.{lack_texts}
-use Rattle.feed_text.specs.declared.lack.Lack.{Lack}
-use Rattle.feed_text.specs.Lines.{venue_line}
+use Rattle.text_out.specs.Devices.{Writing, Wrote}
+use Rattle.event_sinks.specs.LackTexts.{lack_texts}
+use Rattle.event_sinks.specs.declared.lack.Lack.{Lack}
+use Rattle.event_sinks.specs.Lines.{venue_line}
 use Rattle.best_rows.specs.NoticeRows.{IsTextOf, notice_row}
 use Rattle.best_rows.specs.declared.style.RowStyle.{RowStyle}
 use Rattle.live_feed.specs.declared.run.report.Stop.{Stop}
@@ -15,7 +15,7 @@ use Rattle.live_feed.specs.declared.subscriber.logged.Logged.{Logged}
 use Rattle.journal_book.specs.ItemsIn.{items_in}
 use Rattle.live_feed.specs.subscriber.Logs.{SubscriberLogState}
 use Rattle.live_feed.specs.settle.Settlements.{SettlementState, VenueEndState, SubscriberEndState}
-use Rattle.feed_text.specs.StandardError.{Says, SaysEach}
+use Rattle.text_out.specs.StandardError.{Says, SaysEach}
 use Rattle.run_notes.specs.AbsentSymbols.{absent_texts, unchanged_texts}
 use Rattle.run_watches.specs.News.{line_end_texts}
 use Rattle.run_watches.specs.RunLines.{listened_run}

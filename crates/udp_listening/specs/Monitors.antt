@@ -1,6 +1,6 @@
 -- Who stands beside a run, before and after it.
 use Rattle.std.specs.Prelude.{◌≡◌, Option, Some, None}
-use Rattle.feed_text.specs.Devices.{Writing}
+use Rattle.text_out.specs.Devices.{Writing}
 use Rattle.live_feed.specs.subscriber.Logs.{SubscriberLogState}
 use Rattle.udp_listening.specs.Listening.{KeepsFollowing, KeepsNoting}
 use Rattle.run_watches.specs.RunLines.{watched_run}

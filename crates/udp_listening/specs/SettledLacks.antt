@@ -1,7 +1,7 @@
 -- What the venues of a settled feed lack.
 use Rattle.std.specs.Prelude.{ℕ, ◌+◌, List, [], ◌∷◌, ◌++◌, take}
-use Rattle.feed_text.specs.Lacks.{lack_by}
-use Rattle.feed_text.specs.declared.lack.Lack.{Lack}
+use Rattle.event_sinks.specs.VenueLacks.{lack_by}
+use Rattle.event_sinks.specs.declared.lack.Lack.{Lack}
 use Rattle.live_feed.specs.settle.Settlements.{SettlementState, VenueEndState}
 
 -- what these venues lack, from this one on, each its run of missing messages, if it has one

@@ -9,12 +9,12 @@ use crate::row_marks::RowMarks;
 use crate::timed_rows::put_timed;
 use crate::unchanged::note_log;
 use best_rows::{RowStyle, header_line};
-use feed_text::{LineBuffer, TextOut, write_all};
 use live_feed::{FeedName, SubscriberLog};
 use run_notes::AbsentList;
 use std::alloc::Global;
 use std::sync::Wait;
 use std::time::Clock;
+use text_out::{LineBuffer, TextOut, write_all};
 
 /// The most notices that are taken before their lines are written.
 pub const MOST: usize = 1_024;

@@ -1,7 +1,7 @@
 //! `nbbo listen`.
 ghost use Rattle.std.specs.Prelude.{◌≡◌, ◌≢◌};
-ghost use Rattle.feed_text.specs.Devices.{Writing};
-ghost use Rattle.feed_text.specs.StandardError.{Says};
+ghost use Rattle.text_out.specs.Devices.{Writing};
+ghost use Rattle.text_out.specs.StandardError.{Says};
 ghost use Rattle.udp_listening.specs.Settings.{row_style};
 ghost use Rattle.udp_listening.specs.Listening.{Listens, PrintsEnd, PrintsFailedReport, PrintsReport, complete_status, lacks_any, listen_fault_text, report_status};
 
@@ -20,7 +20,7 @@ use crate::sources::lines_over;
 use crate::summary::summary_of;
 use crate::unchanged::noted_symbols;
 use best_rows::RowStyle;
-use feed_text::{Lack, TextOut, write_all, write_stderr};
+use event_sinks::Lack;
 use feed_types::{LineId, VenueId};
 use live_feed::Stop;
 use run_settings::ListenSettings;
@@ -30,6 +30,7 @@ use std::marker::Brand;
 use std::rt::Clock;
 use std::sync::Wait;
 use std::thread::Threads;
+use text_out::{TextOut, write_all, write_stderr};
 
 /// The line on standard error where memory was refused.
 pub const NO_MEMORY: &str = "nbbo: no memory\n";

@@ -1,16 +1,17 @@
 //! What `nbbo listen` says on standard error.
 ghost use Rattle.std.specs.Prelude.{◌≡◌, ◌++◌, flat_map};
-ghost use Rattle.feed_text.specs.Devices.{Writing};
-ghost use Rattle.feed_text.specs.LackTexts.{lack_texts};
-ghost use Rattle.feed_text.specs.StandardError.{SaysEach};
+ghost use Rattle.text_out.specs.Devices.{Writing};
+ghost use Rattle.event_sinks.specs.LackTexts.{lack_texts};
+ghost use Rattle.text_out.specs.StandardError.{SaysEach};
 ghost use Rattle.run_notes.specs.AbsentSymbols.{absent_texts, unchanged_texts};
 ghost use Rattle.udp_listening.specs.Listening.{ended_texts, failed_texts, read_out_texts, report_texts, stop_text, stop_texts};
 
 use crate::listen_report::{EndedLine, ListenReport};
-use feed_text::{TextOut, write_lacks, write_number, write_stderr};
+use event_sinks::write_lacks;
 use feed_types::{LineId, VenueId};
 use live_feed::Stop;
 use run_watches::{LineChange, write_line_end};
+use text_out::{TextOut, write_number, write_stderr};
 
 /// Writes which lines failed.
 fn write_each_failed<E: TextOut>(failed: &[(VenueId, LineId)], errors: &mut E)

@@ -9,7 +9,7 @@ use crate::listening::ListenFault;
 use crate::settled_lacks::settled_lacks;
 use crate::sources::UdpSource;
 use crate::unchanged::settled_unchanged;
-use feed_text::Lack;
+use event_sinks::Lack;
 use feed_types::{LineId, VenueId};
 use live_feed::{FeedReport, LineReport, Settlement, Stop};
 use run_notes::AbsentList;

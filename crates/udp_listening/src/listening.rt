@@ -1,6 +1,6 @@
 //! Listening on live lines, until all have ended.
 ghost use Rattle.std.specs.Prelude.{◌≡◌, IfOk, length, map, vec_len};
-ghost use Rattle.feed_text.specs.Devices.{Writing};
+ghost use Rattle.text_out.specs.Devices.{Writing};
 ghost use Rattle.udp_listening.specs.Listening.{HasListenedOn};
 ghost use Rattle.udp_listening.specs.Reports.{IsReportOfRun, noted_symbols, task_line};
 ghost use Rattle.run_watches.specs.RunLines.{watched_run};
@@ -14,7 +14,6 @@ use crate::row_follower::RowFollower;
 use crate::run_monitor::RunMonitor;
 use crate::sources::UdpSource;
 use best_rows::has_times;
-use feed_text::TextOut;
 use feed_types::{Anything, FeedConfig};
 use filter_terms::{Filter, Strategy, Terms};
 use live_feed::{
@@ -28,6 +27,7 @@ use std::mem;
 use std::rt::Clock;
 use std::sync::Wait;
 use std::thread::Threads;
+use text_out::TextOut;
 
 /// The number of items that a venue's lane, and a subscriber's, holds.
 const LANE: u32 = 1_024;

@@ -1,18 +1,18 @@
 //! The thread of a run that prints rows as they come.
 ghost use Rattle.std.specs.Prelude.{◌≡◌};
 ghost use Rattle.feed_types.specs.Prefix.{IsPrefix};
-ghost use Rattle.feed_text.specs.Devices.{Writing};
+ghost use Rattle.text_out.specs.Devices.{Writing};
 ghost use Rattle.udp_listening.specs.Listening.{KeepsFollowing, KeepsNoting};
 
 use crate::console::{Console, LiveOutput};
 use crate::output_state::OutputState;
-use feed_text::{LineBuffer, TextOut};
 use feed_types::Anything;
 use live_feed::{Attendant, FeedName, OwnLog, RunView, SubscriberLog};
 use std::alloc::Global;
 use std::sync::Wait;
 use std::thread::Threads;
 use std::time::Clock;
+use text_out::{LineBuffer, TextOut};
 
 /// Who takes the notices of a run's subscriber as they come, and prints them where that is asked
 /// for. It sleeps while there are none, and may wait in a write for as long as nobody reads.

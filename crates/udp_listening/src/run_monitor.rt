@@ -2,13 +2,12 @@
 //! and what was counted, gives up the gaps that are to be given up, serves metrics, and stops the
 //! run where it is to end. It never waits for who reads the rows.
 ghost use Rattle.std.specs.Prelude.{◌≡◌};
-ghost use Rattle.feed_text.specs.Devices.{Writing};
+ghost use Rattle.text_out.specs.Devices.{Writing};
 ghost use Rattle.run_watches.specs.RunLines.{watched_run};
 ghost use Rattle.run_watches.specs.RunNews.{SaysOfRun, SaysRunEnd, SaysRunNews};
 
 use crate::output_state::OutputState;
 use crate::run_time::RunTime;
-use feed_text::TextOut;
 use feed_types::Anything;
 use line_recordings::SkipRecords;
 use live_feed::{FeedName, RunView, Watcher};
@@ -16,6 +15,7 @@ use run_watches::RunWatches;
 use std::sync::Wait;
 use std::thread::Threads;
 use std::time::Clock;
+use text_out::TextOut;
 
 /// How long the monitor waits between two looks at a run, in milliseconds.
 const WAIT_MS: u64 = 10;

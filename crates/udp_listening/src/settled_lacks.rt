@@ -1,9 +1,9 @@
 //! What the venues of a settled feed lack.
 ghost use Rattle.std.specs.Prelude.{◌≡◌, ◌<◌, ◌++◌, IfOk, IfSome, OnOk, length, slice_get};
-ghost use Rattle.feed_text.specs.Lacks.{lack_by};
+ghost use Rattle.event_sinks.specs.VenueLacks.{lack_by};
 ghost use Rattle.udp_listening.specs.SettledLacks.{settled_lacks};
 
-use feed_text::Lack;
+use event_sinks::Lack;
 use feed_types::{MAX_VENUES, VenueId};
 use live_feed::Settlement;
 use std::alloc::{AllocError, Global};

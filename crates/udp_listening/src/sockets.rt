@@ -1,7 +1,7 @@
 //! The sockets of live lines.
 ghost use Rattle.std.specs.Prelude.{◌≡◌, ◌<◌, ◌∷◌, [], ◌++◌, IfOk, OnOk, Some, false, map, slice_get, vec_len};
-ghost use Rattle.feed_text.specs.Devices.{Writing};
-ghost use Rattle.feed_text.specs.StandardError.{Says};
+ghost use Rattle.text_out.specs.Devices.{Writing};
+ghost use Rattle.text_out.specs.StandardError.{Says};
 ghost use Rattle.udp_listening.specs.Bound.{AddsReplies, AreBoundFor, asked_line, asked_lines, bound_line, reply_line};
 ghost use Rattle.udp_listening.specs.Sockets.{bind_fault_text};
 
@@ -9,7 +9,6 @@ use crate::group_socket::open_shared;
 use crate::listen::NO_MEMORY;
 use crate::listen_sockets::BoundLine;
 use crate::sources::line_at;
-use feed_text::{TextOut, write_stderr};
 use feed_types::{LineId, VenueId};
 use run_settings::ListenSettings;
 use std::alloc::{AllocError, Global};
@@ -17,6 +16,7 @@ use std::fmt;
 use std::fmt::{Display, Formatter};
 use std::io::ErrorKind;
 use std::net::{Ipv4Addr, Ipv6Addr, Net, SocketAddr, UdpSocket};
+use text_out::{TextOut, write_stderr};
 
 /// Why the system refuses an address.
 #[derive(Clone, Copy, Debug, PartialEq, Eq)]

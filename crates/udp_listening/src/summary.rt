@@ -4,11 +4,12 @@ ghost use Rattle.best_rows.specs.NoticeRows.{notice_row};
 ghost use Rattle.udp_listening.specs.Listening.{end_line, end_lines, ending_text, log_rows, rest_text, subscriber_rows};
 
 use best_rows::{RowStyle, put_notice};
-use feed_text::{LineBuffer, put_venue};
+use event_sinks::put_venue;
 use feed_types::{LineId, Notice, SubscriberId, VenueId};
 use live_feed::{Logged, Settlement};
 use run_settings::BestFormat;
 use std::alloc::{AllocError, Global};
+use text_out::LineBuffer;
 
 /// Appends the rows of the notices, without times.
 fn put_notices(text: &mut LineBuffer, style: RowStyle, notices: &[Notice]) -> Result<(), AllocError>

@@ -4,9 +4,9 @@ ghost use Rattle.best_rows.specs.NoticeRows.{AreRowsOf};
 ghost use Rattle.udp_listening.specs.SettledNotices.{notices_of};
 
 use best_rows::{RowStyle, put_notice};
-use feed_text::LineBuffer;
 use live_feed::{FeedName, Logged, SubscriberLog};
 use std::alloc::AllocError;
+use text_out::LineBuffer;
 
 /// Puts the rows of these notices into the text, in place of what it has, each with the time that
 /// the subscriber's log has of it.

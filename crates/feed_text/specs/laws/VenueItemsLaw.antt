@@ -24,7 +24,7 @@ use Rattle.line_arbiter.specs.laws.Histories.{items_push}
 use Rattle.line_arbiter.specs.laws.Below.{answered_grows}
 use Rattle.line_arbiter.specs.laws.AnsweredHistories.{IsAnsweredThroughout, new_answered, answered_arrival, answered_renewal}
 use Rattle.feed_text.specs.declared.replay.ReplayConfig.{ReplayConfig}
-use Rattle.feed_text.specs.Capture.{CaptureRecord, datagram_record, renewal_record, skip_record, self_help_record, record_venue}
+use Rattle.capture_records.specs.Capture.{CaptureRecord, datagram_record, renewal_record, skip_record, self_help_record, record_venue}
 use Rattle.feed_text.specs.ReplayEvents.{ReplayEvent, item_taken, packet_answered, renewal_answered}
 use Rattle.line_arbiter.specs.LastSent.{last_sent, stream_length}
 use Rattle.feed_text.specs.Emitted.{gap_event, gap_emitted, EmitsPacket, EmitsSkip, EmitsAt, EmitsRecord, Emits}

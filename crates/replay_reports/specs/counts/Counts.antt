@@ -14,7 +14,7 @@ use Rattle.line_arbiter.specs.Codes.{line_fault_code}
 use Rattle.line_arbiter.specs.declared.outcome.Outcome.{Outcome}
 use Rattle.line_arbiter.specs.declared.outcome.Outcome.TheVariants.{Taken, Heartbeat, Ended, Ahead}
 use Rattle.line_arbiter.specs.Streams.{is_same_line}
-use Rattle.feed_text.specs.SinkEvents.{SinkEvent, told_packet, told_refusal, told_item, told_best, told_renewal, told_skip, told_declaration}
+use Rattle.event_sinks.specs.SinkEvents.{SinkEvent, told_packet, told_refusal, told_item, told_best, told_renewal, told_skip, told_declaration}
 use Rattle.report_rows.specs.EventFigures.{bytes_in, first_in, is_best_of, is_crossed, is_locked, is_normal, repeated_in}
 use Rattle.replay_reports.specs.declared.counts.line_counts.LineCounts.{LineCounts}
 use Rattle.replay_reports.specs.declared.counts.item_counts.ItemCounts.{ItemCounts}

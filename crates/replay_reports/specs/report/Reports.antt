@@ -2,7 +2,7 @@
 use Rattle.std.specs.Prelude.{◌≡◌, ℕ, List, length, slice_get, Some}
 use Rattle.std.specs.List.{count_by}
 use Rattle.feed_types.specs.declared.line.LineId.TheVariants.{A, B}
-use Rattle.feed_text.specs.SinkEvents.{TimedEvent}
+use Rattle.event_sinks.specs.SinkEvents.{TimedEvent}
 use Rattle.replay_reports.specs.counts.Counts.{leads_bid, leads_offer, state_counts, venue_counts}
 use Rattle.replay_reports.specs.declared.report.statistics_report.Report.{Report}
 use Rattle.replay_reports.specs.declared.report.venue_report.VenueReport.{VenueReport}

@@ -1,9 +1,9 @@
 -- The laws of a sink of rows.
 use Rattle.std.proofs.Common.{◌≡◌, ℕ, List, [], ◌++◌, append-nil, refl, sym, ap, subst, ◌∙◌}
 use Rattle.std.specs.Prelude.{flat_map}
-use Rattle.feed_text.specs.TextPageLaws.{takes_no_text, takes_more_text, fails_after_text, fails_longer_text}
-use Rattle.feed_text.specs.TextPages.{FailsPage, FailsText, TakesText}
-use Rattle.feed_text.specs.SinkEvents.{TimedEvent}
+use Rattle.event_sinks.specs.TextPageLaws.{takes_no_text, takes_more_text, fails_after_text, fails_longer_text}
+use Rattle.event_sinks.specs.TextPages.{FailsPage, FailsText, TakesText}
+use Rattle.event_sinks.specs.SinkEvents.{TimedEvent}
 use Rattle.replay_reports.specs.declared.row_sink.BestRows.{BestRows}
 use Rattle.best_rows.specs.declared.style.RowStyle.{RowStyle}
 use Rattle.replay_reports.specs.rows.RowSinks.{FailsBestRows, IsNewRows, TakesBestRows, text_of_rows}

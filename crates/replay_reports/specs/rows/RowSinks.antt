@@ -1,7 +1,7 @@
 -- What a sink of rows makes of events.
 use Rattle.std.specs.Prelude.{◌≡◌, ℕ, List, ◌++◌, flat_map}
-use Rattle.feed_text.specs.TextPages.{TakesText, FailsText}
-use Rattle.feed_text.specs.SinkEvents.{TimedEvent}
+use Rattle.event_sinks.specs.TextPages.{TakesText, FailsText}
+use Rattle.event_sinks.specs.SinkEvents.{TimedEvent}
 use Rattle.replay_reports.specs.declared.row_sink.BestRows.{BestRows}
 use Rattle.best_rows.specs.declared.style.RowStyle.{RowStyle}
 use Rattle.best_rows.specs.RowTexts.{event_row, header_of}

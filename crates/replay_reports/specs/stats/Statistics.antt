@@ -1,6 +1,6 @@
 -- What is held of a replay's events. Of a list of events the last one stands first.
 use Rattle.std.specs.Prelude.{◌≡◌, ℕ, ◌==◌, Bool, false, List, map, filter, slice_get, Some}
-use Rattle.feed_text.specs.SinkEvents.{SinkEvent, TimedEvent, told_packet, told_refusal, told_item, told_renewal, told_skip, told_declaration, told_last}
+use Rattle.event_sinks.specs.SinkEvents.{SinkEvent, TimedEvent, told_packet, told_refusal, told_item, told_renewal, told_skip, told_declaration, told_last}
 use Rattle.replay_reports.specs.declared.stats.venue_stats.VenueStats.{VenueStats}
 use Rattle.replay_reports.specs.declared.stats.replay_stats.ReplayStats.{ReplayStats}
 use Rattle.replay_reports.specs.counts.Counts.{best_counts, venue_counts}

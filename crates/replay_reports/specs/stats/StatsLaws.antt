@@ -1,7 +1,7 @@
 -- The laws of a sink of statistics.
 use Rattle.std.proofs.Common.{List, [], ◌++◌, append_assoc, refl, reverse, sym, ap, subst, ◌∙◌}
 use Rattle.std.proofs.lemmas.List.{reverse-append}
-use Rattle.feed_text.specs.SinkEvents.{TimedEvent}
+use Rattle.event_sinks.specs.SinkEvents.{TimedEvent}
 use Rattle.replay_reports.specs.declared.stats.replay_stats.ReplayStats.{ReplayStats}
 use Rattle.replay_reports.specs.stats.Statistics.{AreStatsOf}
 use Rattle.replay_reports.specs.stats.StatsSinks.{TakesStats}

@@ -1,6 +1,6 @@
 -- What a sink of statistics makes of events.
 use Rattle.std.specs.Prelude.{◌≡◌, ℕ, List, ◌++◌, length, reverse}
-use Rattle.feed_text.specs.SinkEvents.{TimedEvent}
+use Rattle.event_sinks.specs.SinkEvents.{TimedEvent}
 use Rattle.replay_reports.specs.declared.stats.replay_stats.ReplayStats.{ReplayStats}
 use Rattle.replay_reports.specs.stats.Statistics.{AreStatsOf}
 

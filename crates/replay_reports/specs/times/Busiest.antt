@@ -2,7 +2,7 @@
 -- stands first.
 use Rattle.std.specs.Prelude.{◌≡◌, ℕ, ◌+◌, ◌-◌, ◌%◌, nat_lt, List, [], ◌∷◌, ◌++◌, max, min, flat_map, slice_index_or, slice_set, Option, None, Some, Ok, if◌then◌else◌}
 use Rattle.line_arbiter.specs.declared.outcome.Outcome.TheVariants.{Taken}
-use Rattle.feed_text.specs.SinkEvents.{SinkEvent, TimedEvent, told_packet, told_refusal}
+use Rattle.event_sinks.specs.SinkEvents.{SinkEvent, TimedEvent, told_packet, told_refusal}
 use Rattle.feed_types.specs.FullCounts.{count_after}
 use Rattle.report_rows.specs.PeriodLists.{begun, entered, entered_place, is_late}
 use Rattle.report_rows.specs.declared.kept_periods.KeptPeriod.{KeptPeriod}

@@ -6,7 +6,7 @@ use Rattle.feed_types.specs.declared.line.LineId.TheVariants.{A, B, Recovery}
 use Rattle.feed_types.specs.declared.per_line.PerLine.{PerLine}
 use Rattle.line_arbiter.specs.declared.outcome.Outcome.TheVariants.{Taken, Ahead}
 use Rattle.line_arbiter.specs.Streams.{is_same_line}
-use Rattle.feed_text.specs.SinkEvents.{SinkEvent, TimedEvent, told_packet, told_renewal}
+use Rattle.event_sinks.specs.SinkEvents.{SinkEvent, TimedEvent, told_packet, told_renewal}
 use Rattle.replay_reports.specs.times.Leads.{MessageOn, come_on, first_of_two, has_numbers, leads_of}
 
 -- ---- which line is first

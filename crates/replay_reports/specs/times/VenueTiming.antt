@@ -1,7 +1,7 @@
 -- What is held of how a venue's packets run in time.
 use Rattle.std.specs.Prelude.{◌≡◌, ℕ, List}
 use Rattle.feed_types.specs.declared.line.LineId.TheVariants.{A, B}
-use Rattle.feed_text.specs.SinkEvents.{TimedEvent}
+use Rattle.event_sinks.specs.SinkEvents.{TimedEvent}
 use Rattle.replay_reports.specs.declared.times.venue_times.VenueTimes.{VenueTimes}
 use Rattle.replay_reports.specs.times.Leads.{AreLeadsOf}
 use Rattle.replay_reports.specs.times.Timing.{came_of, last_packets, leads_before}

@@ -1,6 +1,6 @@
 //! The counts of the changes of national bests.
 ghost use Rattle.std.specs.Prelude.{◌≡◌, ◌+◌, ℕ, ◌∷◌, [], List, if◌then◌else◌};
-ghost use Rattle.feed_text.specs.SinkEvents.{SinkEvent, told_best};
+ghost use Rattle.event_sinks.specs.SinkEvents.{SinkEvent, told_best};
 ghost use Rattle.journal_book.specs.Changes.{notice_of};
 ghost use Rattle.report_rows.specs.EventFigures.{is_best_of};
 ghost use Rattle.replay_reports.specs.counts.Counts.{best_counts, each_place, state_counts};

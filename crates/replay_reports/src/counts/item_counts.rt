@@ -1,6 +1,6 @@
 //! The counts of a venue's items.
 ghost use Rattle.std.specs.Prelude.{◌≡◌, ℕ, ◌∷◌, List};
-ghost use Rattle.feed_text.specs.SinkEvents.{SinkEvent, told_item};
+ghost use Rattle.event_sinks.specs.SinkEvents.{SinkEvent, told_item};
 ghost use Rattle.replay_reports.specs.counts.Counts.{item_counts};
 
 use feed_types::{Item, Numbered};

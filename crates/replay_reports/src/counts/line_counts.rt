@@ -1,7 +1,7 @@
 //! The counts of a line.
 ghost use Rattle.std.specs.Prelude.{◌≡◌, ℕ, ◌∷◌, List};
 ghost use Rattle.feed_types.specs.declared.line.LineId.{LineId};
-ghost use Rattle.feed_text.specs.SinkEvents.{SinkEvent, told_packet, told_refusal};
+ghost use Rattle.event_sinks.specs.SinkEvents.{SinkEvent, told_packet, told_refusal};
 ghost use Rattle.replay_reports.specs.counts.Counts.{line_counts};
 
 use line_arbiter::{LineFault, Outcome};

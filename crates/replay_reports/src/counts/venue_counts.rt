@@ -1,11 +1,11 @@
 //! The counts of a venue.
 ghost use Rattle.std.specs.Prelude.{◌≡◌, ℕ, ◌∷◌, [], List};
-ghost use Rattle.feed_text.specs.SinkEvents.{SinkEvent, told_by, told_packet, told_refusal};
+ghost use Rattle.event_sinks.specs.SinkEvents.{SinkEvent, told_by, told_packet, told_refusal};
 ghost use Rattle.replay_reports.specs.counts.Counts.{venue_counts};
 
 use crate::counts::item_counts::ItemCounts;
 use crate::counts::line_counts::LineCounts;
-use feed_text::Event;
+use event_sinks::Event;
 use feed_types::{LineId, PerLine};
 use line_arbiter::{LineFault, Outcome};
 use mold_packet::PacketFault;

@@ -5,10 +5,10 @@ ghost use Rattle.replay_reports.specs.report.ReportTexts.{json_of_value, json_ti
 
 use crate::report::figure::FigureValue;
 use best_rows::put_time;
-use feed_text::LineBuffer;
 use itoa::Buffer;
 use run_settings::TimeStyle;
 use std::alloc::{AllocError, Global};
+use text_out::LineBuffer;
 
 /// Appends a number in decimal.
 pub(crate) fn put_count(text: &mut Vec<u8>, number: u64) -> Result<(), AllocError>

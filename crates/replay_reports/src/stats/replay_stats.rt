@@ -1,7 +1,7 @@
 //! The statistics of a replay, and the sink of events that keeps them.
 ghost use Rattle.std.specs.Prelude.{◌≡◌, ◌==◌, ◌<◌, ◌≤◌, ℕ, List, [], ◌∷◌, IfOk, Option, false, length, slice_index};
 ghost use Rattle.std.specs.Option.{option_map_or};
-ghost use Rattle.feed_text.specs.SinkEvents.{TimedEvent, timed_event, told_by};
+ghost use Rattle.event_sinks.specs.SinkEvents.{TimedEvent, timed_event, told_by};
 ghost use Rattle.replay_reports.specs.counts.Counts.{best_counts};
 ghost use Rattle.replay_reports.specs.report.Reports.{AreVenueReports, IsReport};
 ghost use Rattle.replay_reports.specs.stats.Statistics.{AreStatsOf, AreVenuesOf, is_at_venue, untimed};
@@ -14,7 +14,7 @@ use crate::report::table::put_table;
 use crate::report::venue_report::VenueReport;
 use crate::stats::venue_stats::VenueStats;
 use crate::times::busiest_period::{BusiestPeriod, datagram_messages};
-use feed_text::{Event, EventSink, SinkStop};
+use event_sinks::{Event, EventSink, SinkStop};
 use feed_types::VenueId;
 use line_gaps::EndedGaps;
 use report_rows::SpannedSink;

@@ -1,13 +1,13 @@
 //! The statistics of a venue.
 ghost use Rattle.std.specs.Prelude.{◌≡◌, ◌<◌, ℕ, List, [], ◌∷◌, IfOk};
-ghost use Rattle.feed_text.specs.SinkEvents.{TimedEvent, timed_event, told_by};
+ghost use Rattle.event_sinks.specs.SinkEvents.{TimedEvent, timed_event, told_by};
 ghost use Rattle.replay_reports.specs.report.Reports.{IsOwnReport};
 ghost use Rattle.replay_reports.specs.stats.Statistics.{IsVenueOf};
 
 use crate::counts::venue_counts::VenueCounts;
 use crate::report::venue_report::{GapReport, VenueReport};
 use crate::times::venue_times::VenueTimes;
-use feed_text::Event;
+use event_sinks::Event;
 use line_gaps::{EndedGaps, GapLine, VenueGaps};
 use std::alloc::{AllocError, Global};
 

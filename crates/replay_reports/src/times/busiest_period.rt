@@ -1,11 +1,11 @@
 //! The busiest period of the clock: the busiest second, say.
 ghost use Rattle.std.specs.Prelude.{◌≡◌, ◌<◌, ℕ, List, [], ◌∷◌, ◌++◌, None, Some, length, slice_index_or, slice_set};
 ghost use Rattle.feed_types.specs.declared.line.LineId.{LineId};
-ghost use Rattle.feed_text.specs.SinkEvents.{told_by, told_packet};
+ghost use Rattle.event_sinks.specs.SinkEvents.{told_by, told_packet};
 ghost use Rattle.report_rows.specs.PeriodLists.{begun};
 ghost use Rattle.replay_reports.specs.times.Busiest.{HoldsBusiest, IsPeak, MessagesAt, began_with, begin_of, datagram_messages, messages_at, messages_by, with_messages};
 
-use feed_text::Event;
+use event_sinks::Event;
 use line_arbiter::{LineFault, Outcome};
 use report_rows::{KeptPeriod, KeptPeriods};
 

@@ -1,13 +1,13 @@
 //! How a venue's lines run in time.
 ghost use Rattle.std.specs.Prelude.{◌≡◌, ◌<◌, ℕ, List, [], ◌∷◌, IfOk, Ok, Option, Some};
 ghost use Rattle.feed_types.specs.PerLines.{with_line};
-ghost use Rattle.feed_text.specs.SinkEvents.{TimedEvent, timed_event, told_by, told_packet, told_renewal};
+ghost use Rattle.event_sinks.specs.SinkEvents.{TimedEvent, timed_event, told_by, told_packet, told_renewal};
 ghost use Rattle.replay_reports.specs.times.Leads.{AreLeadsOf, MessageOn};
 ghost use Rattle.replay_reports.specs.times.Timing.{came_after};
 ghost use Rattle.replay_reports.specs.times.VenueTiming.{IsVenueTimed};
 
 use crate::times::line_leads::LineLeads;
-use feed_text::Event;
+use event_sinks::Event;
 use feed_types::{LineId, PerLine};
 use line_arbiter::{LineFault, Outcome, RenewFault};
 use std::alloc::{AllocError, Global};

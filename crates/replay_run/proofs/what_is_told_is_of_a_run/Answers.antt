@@ -1,5 +1,5 @@
 use Rattle.std.proofs.Common.{map}
-use Rattle.feed_text.specs.Formats.{what_of}
+use Rattle.capture_records.specs.Formats.{what_of}
 use Rattle.replay_run.proofs.FullRuns.{full_run}
 use Rattle.replay_run.proofs.Runs.{replay_run}
 use Rattle.replay_run.proofs.what_is_told_is_of_a_run.Goals as goal

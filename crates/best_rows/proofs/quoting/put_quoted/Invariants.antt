@@ -1,6 +1,6 @@
 use Rattle.std.proofs.Common.{◌≡◌, ◌≤◌, ◌+◌, ◌*◌, ◌++◌, ◌∷◌, [], length, take}
 use Rattle.std.specs.Prelude.{flat_map}
-use Rattle.feed_text.specs.Pages.{memory_of}
+use Rattle.text_out.specs.Pages.{memory_of}
 use Rattle.best_rows.specs.Quoting.{escaped_byte}
 use Rattle.best_rows.proofs.quoting.put_quoted.Given as goal
 

@@ -1,5 +1,5 @@
 use Rattle.std.proofs.Common.{◌≡◌, ◌≤◌, ◌+◌, ◌++◌, length, take}
-use Rattle.feed_text.specs.Pages.{memory_of}
+use Rattle.text_out.specs.Pages.{memory_of}
 use Rattle.best_rows.proofs.utc.put_text.Given as goal
 
 abbrev pub invariant-loop-byte : goal.invariant-loop-byte

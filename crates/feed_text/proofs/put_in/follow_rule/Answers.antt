@@ -1,6 +1,6 @@
 use Rattle.std.proofs.Common.{arith}
-use Rattle.feed_text.specs.Capture.{record_of}
-use Rattle.feed_text.specs.Formats.{timed_record}
+use Rattle.capture_records.specs.Capture.{record_of}
+use Rattle.capture_records.specs.Formats.{timed_record}
 use Rattle.feed_text.proofs.Taking.{plain_taken}
 use Rattle.feed_text.proofs.Tales.{SinkLaws, laws_by}
 use Rattle.feed_text.proofs.put_in.follow_rule.Given.{Over}

@@ -1,4 +1,4 @@
-use Rattle.feed_text.specs.Capture.{skip_record}
+use Rattle.capture_records.specs.Capture.{skip_record}
 use Rattle.feed_text.proofs.PuttingIn.{given_put, no_skip, skip_put}
 use Rattle.feed_text.proofs.put_in.next_skip.Goals as goal
 

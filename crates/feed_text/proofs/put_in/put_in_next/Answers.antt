@@ -2,9 +2,9 @@ use Rattle.std.proofs.Common.{refl, sym, subst, arith, Ok, Err}
 use Rattle.std.proofs.lemmas.Result.{err_from_is_err_and}
 use Rattle.feed_text.specs.declared.replay_sink.PublishStop.{PublishStop}
 use Rattle.feed_text.specs.declared.standing_gaps.StandingGaps.{StandingGaps}
-use Rattle.feed_text.specs.Capture.{CaptureRecord, skip_record}
+use Rattle.capture_records.specs.Capture.{CaptureRecord, skip_record}
 use Rattle.feed_text.specs.Following.{EmitsNext}
-use Rattle.feed_text.specs.Formats.{TimedRecord, timed_record}
+use Rattle.capture_records.specs.Formats.{TimedRecord, timed_record}
 use Rattle.feed_text.specs.ReplayStates.{state_of_replay}
 use Rattle.feed_text.specs.Rules.{point_after}
 use Rattle.feed_text.specs.Standings.{Knows}

@@ -1,6 +1,6 @@
 use Rattle.std.proofs.Common.{List, [], subst, None, append-nil}
 use Rattle.std.proofs.lemmas.Result.{err_from_is_err_and}
-use Rattle.feed_text.specs.SinkEvents.{TimedEvent, at_time}
+use Rattle.event_sinks.specs.SinkEvents.{TimedEvent, at_time}
 use Rattle.feed_text.specs.Tellings.{lasts_told}
 use Rattle.feed_text.proofs.replay.close.Goals as goal
 

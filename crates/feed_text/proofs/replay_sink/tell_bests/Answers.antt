@@ -4,7 +4,7 @@ use Rattle.std.proofs.lemmas.Option.{slice_get_read}
 use Rattle.std.proofs.lemmas.Result.{err_from_is_err_and}
 use Rattle.nbbo_book.specs.declared.change.Change.{Change}
 use Rattle.journal_book.specs.Changes.{notices_from}
-use Rattle.feed_text.specs.SinkEvents.{TimedEvent, at_time, told_best}
+use Rattle.event_sinks.specs.SinkEvents.{TimedEvent, at_time, told_best}
 use Rattle.feed_text.proofs.Tales.{bests_rest}
 use Rattle.feed_text.proofs.replay_sink.tell_bests.Goals as goal
 

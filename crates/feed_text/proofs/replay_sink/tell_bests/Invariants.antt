@@ -1,6 +1,6 @@
 use Rattle.std.proofs.Common.{◌≡◌, ◌+◌, map, drop}
 use Rattle.journal_book.specs.Changes.{notices_from}
-use Rattle.feed_text.specs.SinkEvents.{at_time, told_best}
+use Rattle.event_sinks.specs.SinkEvents.{at_time, told_best}
 use Rattle.feed_text.proofs.replay_sink.tell_bests.Given as goal
 
 abbrev pub invariant-loop-change : goal.invariant-loop-change

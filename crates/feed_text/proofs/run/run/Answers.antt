@@ -1,8 +1,8 @@
 use Rattle.std.proofs.Common.{arith, refl, sym, ap, subst, ℕ, List, ◌+◌, ◌∙◌, length-drop, Ok, Err}
 use Rattle.std.proofs.lemmas.Bool.{false≢true}
 use Rattle.std.proofs.lemmas.Result.{err_from_is_err_and}
-use Rattle.feed_text.specs.Capture.{record_of}
-use Rattle.feed_text.specs.Formats.{TimedRecord, timed_record}
+use Rattle.capture_records.specs.Capture.{record_of}
+use Rattle.capture_records.specs.Formats.{TimedRecord, timed_record}
 use Rattle.feed_text.specs.ReplayStates.{state_of_replay}
 use Rattle.feed_text.proofs.Taking.{next_taken}
 use Rattle.feed_text.proofs.Tales.{SinkLaws, laws_by}

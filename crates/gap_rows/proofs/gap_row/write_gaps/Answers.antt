@@ -1,6 +1,6 @@
 use Rattle.std.proofs.Common.{◌++◌, arith, length, refl, ap, ◌∙◌}
 use Rattle.std.proofs.lemmas.Result.{err_from_is_err_and}
-use Rattle.feed_text.specs.TextPageLaws.{takes_no_page}
+use Rattle.event_sinks.specs.TextPageLaws.{takes_no_page}
 use Rattle.line_gaps.specs.declared.open_gap.EndedGap.{EndedGap}
 use Rattle.report_rows.specs.FirstTextLaws.{fails_after_texts, takes_next_row}
 use Rattle.gap_rows.specs.GapCells.{gap_row, gap_row_at}

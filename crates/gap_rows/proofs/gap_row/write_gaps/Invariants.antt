@@ -1,4 +1,4 @@
-use Rattle.feed_text.specs.TextPages.{TakesPage}
+use Rattle.event_sinks.specs.TextPages.{TakesPage}
 use Rattle.report_rows.specs.FirstTexts.{first_texts}
 use Rattle.gap_rows.specs.GapCells.{gap_row_at}
 use Rattle.gap_rows.proofs.gap_row.write_gaps.Given as goal

@@ -1,7 +1,7 @@
 use Rattle.std.proofs.Common.{arith, refl, ap, subst, ℕ, ◌+◌, ◌∙◌, length-drop}
 use Rattle.std.proofs.lemmas.Result.{err_from_is_err_and}
-use Rattle.feed_text.specs.Capture.{IsRecord, record_of}
-use Rattle.feed_text.specs.Formats.{timed_record}
+use Rattle.capture_records.specs.Capture.{IsRecord, record_of}
+use Rattle.capture_records.specs.Formats.{timed_record}
 use Rattle.line_captures.proofs.Converting.{Laws, copied_none, copied_record, copied_passed, copied_read, copied_written, copied_kept, unwritten}
 use Rattle.line_captures.proofs.conversion.convert.Given.{Over}
 use Rattle.line_captures.proofs.conversion.convert.Goals as goal

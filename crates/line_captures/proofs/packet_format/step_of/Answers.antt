@@ -1,7 +1,7 @@
 use Rattle.std.proofs.Common.{refl, ap}
 use Rattle.packet_capture.specs.Captures.{frame_in_piece, piece_of}
 use Rattle.packet_capture.specs.Frames.{frame_of}
-use Rattle.feed_text.specs.Capture.{record_of}
+use Rattle.capture_records.specs.Capture.{record_of}
 use Rattle.line_captures.specs.declared.progress.Progress.{Progress}
 use Rattle.line_captures.specs.PacketFormats.{record_on_line}
 use Rattle.line_captures.specs.CountLaws.{counts_frame}

@@ -1,7 +1,7 @@
-use Rattle.feed_text.specs.Devices.{Writing}
+use Rattle.text_out.specs.Devices.{Writing}
 use Rattle.std.proofs.Common.{◌++◌}
 use Rattle.nbbo_runs.specs.CaptureTexts.{frames_texts, lost_texts, other_texts, protocols_texts}
-use Rattle.feed_text.specs.laws.SaidTexts.{says_each}
+use Rattle.text_out.specs.laws.SaidTexts.{says_each}
 use Rattle.nbbo_runs.proofs.capture_report.write_counts.Goals as goal
 
 pub returns : goal.returns

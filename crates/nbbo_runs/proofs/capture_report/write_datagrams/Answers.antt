@@ -1,7 +1,7 @@
 use Rattle.std.proofs.Common.{◌++◌, codes}
-use Rattle.feed_text.specs.Devices.{Writing}
+use Rattle.text_out.specs.Devices.{Writing}
 use Rattle.nbbo_runs.specs.CaptureTexts.{count_texts}
-use Rattle.feed_text.specs.laws.SaidTexts.{says_each}
+use Rattle.text_out.specs.laws.SaidTexts.{says_each}
 use Rattle.nbbo_runs.proofs.capture_report.write_datagrams.Goals as goal
 
 pub returns : goal.returns

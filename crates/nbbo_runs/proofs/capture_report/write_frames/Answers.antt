@@ -1,4 +1,4 @@
-use Rattle.feed_text.specs.Devices.{Writing}
+use Rattle.text_out.specs.Devices.{Writing}
 use Rattle.nbbo_runs.proofs.CaptureCounts.{frames_none, frames_some}
 use Rattle.nbbo_runs.proofs.capture_report.write_frames.Goals as goal
 

@@ -1,7 +1,7 @@
 use Rattle.std.proofs.Common.{codes}
-use Rattle.feed_text.specs.Devices.{Writing}
+use Rattle.text_out.specs.Devices.{Writing}
 use Rattle.nbbo_runs.proofs.CaptureCounts.{no_line_none, no_line_some}
-use Rattle.feed_text.specs.laws.SaidTexts.{says_one}
+use Rattle.text_out.specs.laws.SaidTexts.{says_one}
 use Rattle.nbbo_runs.proofs.capture_report.write_no_line.Goals as goal
 
 pub returns-then-to_lines-ne0 : goal.returns-then-to_lines-ne0

@@ -1,7 +1,7 @@
 use Rattle.std.proofs.Common.{codes}
-use Rattle.feed_text.specs.Devices.{Writing}
+use Rattle.text_out.specs.Devices.{Writing}
 use Rattle.nbbo_runs.proofs.CaptureCounts.{in_order, out_of_order}
-use Rattle.feed_text.specs.laws.SaidTexts.{says_one}
+use Rattle.text_out.specs.laws.SaidTexts.{says_one}
 use Rattle.nbbo_runs.proofs.capture_report.write_order.Goals as goal
 
 pub returns-then-disordered-eq0 : goal.returns-then-disordered-eq0

@@ -1,6 +1,6 @@
 use Rattle.std.proofs.Common.{◌≡◌, inl, rules}
 use Rattle.std.specs.Prelude.{IsOkAnd}
-use Rattle.feed_text.specs.Devices.{Writing}
+use Rattle.text_out.specs.Devices.{Writing}
 use Rattle.line_discovery.specs.SurveyTexts.{text_of_survey}
 use Rattle.nbbo_runs.proofs.PrintedTexts.{made_as, text_as}
 use Rattle.nbbo_runs.proofs.discovery.print_survey.Goals as goal

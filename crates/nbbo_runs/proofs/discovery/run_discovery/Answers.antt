@@ -1,7 +1,7 @@
 use Rattle.std.proofs.Common.{List, ℕ, Err, Ok, inr, refl, subst}
-use Rattle.feed_text.specs.declared.replay_stop.ReplayStop.TheVariants.{NoMemory}
-use Rattle.feed_text.specs.Devices.{Reading, Writing}
-use Rattle.feed_text.specs.StandardError.{Says}
+use Rattle.event_sinks.specs.declared.replay_stop.ReplayStop.TheVariants.{NoMemory}
+use Rattle.text_out.specs.Devices.{Reading, Writing}
+use Rattle.text_out.specs.StandardError.{Says}
 use Rattle.line_discovery.specs.declared.survey.LineSurvey.{LineSurvey}
 use Rattle.line_discovery.specs.Surveys.{new_survey}
 use Rattle.nbbo_runs.specs.Discovery.{Discovers}

@@ -1,6 +1,6 @@
 use Rattle.std.proofs.Common.{codes}
-use Rattle.feed_text.specs.Devices.{Writing}
-use Rattle.feed_text.specs.laws.SaidTexts.{says_one}
+use Rattle.text_out.specs.Devices.{Writing}
+use Rattle.text_out.specs.laws.SaidTexts.{says_one}
 use Rattle.nbbo_runs.proofs.NoPacket.{no_packet_none, no_packet_some}
 use Rattle.nbbo_runs.proofs.discovery.write_no_packet.Goals as goal
 

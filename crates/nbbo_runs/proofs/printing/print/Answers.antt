@@ -1,5 +1,5 @@
 use Rattle.std.proofs.Common.{refl}
-use Rattle.feed_text.specs.Devices.{Writing}
+use Rattle.text_out.specs.Devices.{Writing}
 use Rattle.feed_text.specs.EventReplays.{venues_in}
 use Rattle.report_rows.specs.RowTexts.{header_text}
 use Rattle.period_rows.specs.BestMakers.{AreBests}

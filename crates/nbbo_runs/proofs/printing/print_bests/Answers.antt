@@ -1,5 +1,5 @@
-use Rattle.feed_text.specs.Devices.{Reading, Writing}
-use Rattle.feed_text.specs.Formats.{Parsing}
+use Rattle.text_out.specs.Devices.{Reading, Writing}
+use Rattle.capture_records.specs.Formats.{Parsing}
 use Rattle.nbbo_runs.proofs.SinkPrints.{rows_taking, rows_write, span_prints}
 use Rattle.nbbo_runs.proofs.printing.print_bests.Goals as goal
 

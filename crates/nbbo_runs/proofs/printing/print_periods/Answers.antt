@@ -1,8 +1,8 @@
 use Rattle.std.proofs.Common.{◌≡◌, [], refl, ◌∙◌}
 use Rattle.std.specs.Prelude.{◌*◌}
-use Rattle.feed_text.specs.Devices.{Reading, Writing}
+use Rattle.text_out.specs.Devices.{Reading, Writing}
 use Rattle.feed_text.specs.EventReplays.{venues_in}
-use Rattle.feed_text.specs.Formats.{Parsing}
+use Rattle.capture_records.specs.Formats.{Parsing}
 use Rattle.report_rows.specs.RowTexts.{header_text}
 use Rattle.replay_run.specs.Printed.{facts_of_run}
 use Rattle.period_rows.specs.CountRows.{ArePeriodCounts, CountSetting, MakesCounts, TellsCounts, count_names, count_rows_with, text_of_counts}

@@ -1,6 +1,6 @@
 use Rattle.std.proofs.Common.{refl, ◌∙◌}
-use Rattle.feed_text.specs.Devices.{Reading, Writing}
-use Rattle.feed_text.specs.Formats.{Parsing}
+use Rattle.text_out.specs.Devices.{Reading, Writing}
+use Rattle.capture_records.specs.Formats.{Parsing}
 use Rattle.nbbo_runs.proofs.SinkPrints.{sink_taking, sink_writes, span_prints}
 use Rattle.nbbo_runs.proofs.printing.print_rows.Goals as goal
 

@@ -1,8 +1,8 @@
 use Rattle.std.proofs.Common.{rules, ◌≡◌, ◌<◌, List, ℕ, [], Err, refl, arith, ◌∙◌}
 use Rattle.std.specs.Prelude.{IsOkAnd}
-use Rattle.feed_text.specs.declared.replay_stop.ReplayStop.TheVariants.{NoMemory}
-use Rattle.feed_text.specs.Devices.{Reading, Writing}
-use Rattle.feed_text.specs.Formats.{Parsing}
+use Rattle.event_sinks.specs.declared.replay_stop.ReplayStop.TheVariants.{NoMemory}
+use Rattle.text_out.specs.Devices.{Reading, Writing}
+use Rattle.capture_records.specs.Formats.{Parsing}
 use Rattle.feed_text.specs.ReplayStates.{SinkTaking}
 use Rattle.replay_run.specs.Printed.{facts_of_run}
 use Rattle.replay_reports.specs.declared.stats.replay_stats.ReplayStats.{ReplayStats}

@@ -1,10 +1,10 @@
 use Rattle.std.proofs.Common.{ℕ, List, ◌++◌, ◌∙◌, subst}
 use Rattle.std.specs.Prelude.{Bool}
-use Rattle.feed_text.specs.declared.lack.Lack.{Lack}
-use Rattle.feed_text.specs.Devices.{Reading, Writing}
-use Rattle.feed_text.specs.Formats.{Parsing}
-use Rattle.feed_text.specs.StandardError.{Says, SaysEach}
-use Rattle.feed_text.specs.laws.SaidTexts.{says_each}
+use Rattle.event_sinks.specs.declared.lack.Lack.{Lack}
+use Rattle.text_out.specs.Devices.{Reading, Writing}
+use Rattle.capture_records.specs.Formats.{Parsing}
+use Rattle.text_out.specs.StandardError.{Says, SaysEach}
+use Rattle.text_out.specs.laws.SaidTexts.{says_each}
 use Rattle.nbbo_runs.specs.AbsentSymbols.{told_absent}
 use Rattle.run_notes.specs.AbsentSymbols.{symbols_with}
 use Rattle.nbbo_runs.specs.CaptureTexts.{late_texts}

@@ -1,7 +1,7 @@
 use Rattle.std.proofs.Common.{Some, ap, sym, ◌∙◌}
 use Rattle.std.proofs.lemmas.Option.{slice_get-get_or}
-use Rattle.feed_text.specs.Devices.{Writing}
-use Rattle.feed_text.specs.laws.SaidTexts.{texts_more}
+use Rattle.text_out.specs.Devices.{Writing}
+use Rattle.text_out.specs.laws.SaidTexts.{texts_more}
 use Rattle.nbbo_runs.specs.declared.session_row.SessionRow.{SessionRow}
 use Rattle.nbbo_runs.specs.Sessions.{session_texts}
 use Rattle.nbbo_runs.proofs.session_report.write_rows.Goals as goal

@@ -1,4 +1,4 @@
-use Rattle.feed_text.specs.laws.SaidTexts.{SaysRest}
+use Rattle.text_out.specs.laws.SaidTexts.{SaysRest}
 use Rattle.nbbo_runs.specs.Sessions.{session_texts}
 use Rattle.nbbo_runs.proofs.session_report.write_rows.Given as goal
 

@@ -1,6 +1,6 @@
 use Rattle.std.proofs.Common.{flat_map, length}
-use Rattle.feed_text.specs.Devices.{Writing}
-use Rattle.feed_text.specs.laws.SaidTexts.{says_each}
+use Rattle.text_out.specs.Devices.{Writing}
+use Rattle.text_out.specs.laws.SaidTexts.{says_each}
 use Rattle.nbbo_runs.specs.Sessions.{full_texts, session_texts}
 use Rattle.nbbo_runs.proofs.session_report.write_sessions.Goals as goal
 

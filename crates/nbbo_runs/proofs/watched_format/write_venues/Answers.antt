@@ -1,7 +1,7 @@
 use Rattle.std.proofs.Common.{ℕ, add-one, slice_index_or, subst, sym}
-use Rattle.feed_text.specs.Devices.{Writing}
-use Rattle.feed_text.specs.StandardError.{SaysEach}
-use Rattle.feed_text.specs.laws.SaidTexts.{says_each}
+use Rattle.text_out.specs.Devices.{Writing}
+use Rattle.text_out.specs.StandardError.{SaysEach}
+use Rattle.text_out.specs.laws.SaidTexts.{says_each}
 use Rattle.nbbo_runs.specs.declared.venue_watch.VenueWatch.{VenueWatch}
 use Rattle.nbbo_runs.specs.Watches.{first_venues_texts, unwatched, venue_texts}
 use Rattle.nbbo_runs.proofs.watched_format.write_venues.Goals as goal

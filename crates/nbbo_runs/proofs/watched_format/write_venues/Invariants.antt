@@ -1,4 +1,4 @@
-use Rattle.feed_text.specs.StandardError.{SaysEach}
+use Rattle.text_out.specs.StandardError.{SaysEach}
 use Rattle.nbbo_runs.specs.Watches.{first_venues_texts}
 use Rattle.nbbo_runs.proofs.watched_format.write_venues.Given as goal
 

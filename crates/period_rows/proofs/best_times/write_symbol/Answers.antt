@@ -1,6 +1,6 @@
 use Rattle.std.proofs.Common.{List, ℕ, ◌++◌, subst}
 use Rattle.std.specs.Prelude.{OnErr, OnOk}
-use Rattle.feed_text.specs.TextPages.{FailsPage, TakesPage}
+use Rattle.event_sinks.specs.TextPages.{FailsPage, TakesPage}
 use Rattle.period_rows.proofs.HeldFigures.{settled_text_is}
 use Rattle.period_rows.proofs.best_times.write_symbol.Goals as goal
 

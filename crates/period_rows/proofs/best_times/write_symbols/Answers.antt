@@ -1,7 +1,7 @@
 use Rattle.std.proofs.Common.{List, ℕ, ◌++◌, arith, length, ap, subst}
 use Rattle.std.proofs.lemmas.Result.{err_from_is_err_and}
-use Rattle.feed_text.specs.TextPageLaws.{takes_no_page}
-use Rattle.feed_text.specs.TextPages.{FailsPage, TakesPage}
+use Rattle.event_sinks.specs.TextPageLaws.{takes_no_page}
+use Rattle.event_sinks.specs.TextPages.{FailsPage, TakesPage}
 use Rattle.report_rows.specs.FirstTextLaws.{fails_in_text, takes_next_text}
 use Rattle.period_rows.specs.BestTimes.{no_symbol, settled_at, settled_text}
 use Rattle.period_rows.proofs.best_times.write_symbols.Goals as goal

@@ -1,4 +1,4 @@
-use Rattle.feed_text.specs.TextPages.{TakesPage}
+use Rattle.event_sinks.specs.TextPages.{TakesPage}
 use Rattle.report_rows.specs.FirstTexts.{first_texts}
 use Rattle.period_rows.specs.BestTimes.{figures_row}
 use Rattle.period_rows.proofs.best_times.write_venues.Given as goal

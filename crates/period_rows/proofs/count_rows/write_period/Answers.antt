@@ -1,6 +1,6 @@
 use Rattle.std.proofs.Common.{◌++◌, arith, refl, ap, ◌∙◌}
 use Rattle.std.proofs.lemmas.Result.{err_from_is_err_and}
-use Rattle.feed_text.specs.TextPageLaws.{takes_no_page}
+use Rattle.event_sinks.specs.TextPageLaws.{takes_no_page}
 use Rattle.report_rows.specs.FirstTextLaws.{fails_after_texts, takes_next_row}
 use Rattle.period_rows.specs.CountRows.{count_line_row, row_in}
 use Rattle.period_rows.specs.declared.line_figures.LineFigures.{LineFigures}

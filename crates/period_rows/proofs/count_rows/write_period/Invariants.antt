@@ -1,4 +1,4 @@
-use Rattle.feed_text.specs.TextPages.{TakesPage}
+use Rattle.event_sinks.specs.TextPages.{TakesPage}
 use Rattle.report_rows.specs.FirstTexts.{first_texts}
 use Rattle.period_rows.specs.CountRows.{row_in}
 use Rattle.period_rows.proofs.count_rows.write_period.Given as goal

@@ -1,6 +1,6 @@
 use Rattle.std.proofs.Common.{arith, length}
 use Rattle.std.proofs.lemmas.Result.{err_from_is_err_and}
-use Rattle.feed_text.specs.TextPageLaws.{takes_no_page}
+use Rattle.event_sinks.specs.TextPageLaws.{takes_no_page}
 use Rattle.report_rows.specs.FirstTextLaws.{fails_in_text, takes_next_text}
 use Rattle.period_rows.specs.CountRows.{text_at}
 use Rattle.period_rows.proofs.count_rows.write_periods.Goals as goal

@@ -1,5 +1,5 @@
 use Rattle.std.proofs.Common.{ℕ, arith, add-one, sym, subst, length}
-use Rattle.feed_text.specs.Pages.{Appends}
+use Rattle.text_out.specs.Pages.{Appends}
 use Rattle.report_rows.specs.RowTexts.{all_shown, first_cells, room_of, texts_of}
 use Rattle.best_rows.specs.AppendLaws.{appends_more}
 use Rattle.report_rows.proofs.Appending.{room_next, short_at}

@@ -1,4 +1,4 @@
-use Rattle.feed_text.specs.Pages.{Appends}
+use Rattle.text_out.specs.Pages.{Appends}
 use Rattle.report_rows.specs.RowTexts.{all_shown, first_cells, room_of, texts_of}
 use Rattle.report_rows.proofs.row.put_cells.Given as goal
 

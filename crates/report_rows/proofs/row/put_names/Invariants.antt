@@ -1,4 +1,4 @@
-use Rattle.feed_text.specs.Pages.{Appends}
+use Rattle.text_out.specs.Pages.{Appends}
 use Rattle.report_rows.specs.RowTexts.{first_names, room_of, texts_of}
 use Rattle.report_rows.proofs.row.put_names.Given as goal
 

@@ -1,6 +1,6 @@
 use Rattle.std.proofs.Common.{◌≤◌, length, arith}
 use Rattle.feed_types.specs.Symbols.{key_of}
-use Rattle.feed_text.specs.Devices.{Writing}
+use Rattle.text_out.specs.Devices.{Writing}
 use Rattle.run_notes.specs.AbsentSymbols.{has_key}
 use Rattle.run_notes.proofs.FirstAbsent.{says_all, says_first}
 use Rattle.run_notes.proofs.absent_report.write_first.Goals as goal

@@ -1,7 +1,7 @@
 use Rattle.std.proofs.Common.{ℕ, ap, flat_map, length, subst, take, ◌-◌, ◌∙◌}
-use Rattle.feed_text.specs.Devices.{Writing}
-use Rattle.feed_text.specs.StandardError.{SaysEach}
-use Rattle.feed_text.specs.laws.SaidTexts.{says_each}
+use Rattle.text_out.specs.Devices.{Writing}
+use Rattle.text_out.specs.StandardError.{SaysEach}
+use Rattle.text_out.specs.laws.SaidTexts.{says_each}
 use Rattle.run_notes.specs.AbsentSymbols.{more_symbols_texts, symbol_texts, symbols_with}
 use Rattle.run_notes.proofs.absent_report.write_listed.Goals as goal
 

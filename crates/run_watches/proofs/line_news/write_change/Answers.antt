@@ -1,6 +1,6 @@
 use Rattle.std.proofs.Common.{List, subst, ℕ}
-use Rattle.feed_text.specs.Devices.{Writing}
-use Rattle.feed_text.specs.StandardError.{Says}
+use Rattle.text_out.specs.Devices.{Writing}
+use Rattle.text_out.specs.StandardError.{Says}
 use Rattle.run_watches.proofs.line_news.write_change.Goals as goal
 
 pub returns : goal.returns

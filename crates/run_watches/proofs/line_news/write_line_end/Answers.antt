@@ -1,5 +1,5 @@
-use Rattle.feed_text.specs.Devices.{Writing}
-use Rattle.feed_text.specs.laws.SaidTexts.{says_each}
+use Rattle.text_out.specs.Devices.{Writing}
+use Rattle.text_out.specs.laws.SaidTexts.{says_each}
 use Rattle.run_watches.specs.News.{change_texts, line_name_texts}
 use Rattle.run_watches.proofs.line_news.write_line_end.Goals as goal
 

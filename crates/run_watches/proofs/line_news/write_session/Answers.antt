@@ -1,6 +1,6 @@
 use Rattle.std.proofs.Common.{[], ◌∷◌}
-use Rattle.feed_text.specs.Devices.{Writing}
-use Rattle.feed_text.specs.laws.SaidTexts.{says_each, says_one}
+use Rattle.text_out.specs.Devices.{Writing}
+use Rattle.text_out.specs.laws.SaidTexts.{says_each, says_one}
 use Rattle.run_notes.specs.SessionNames.{name_texts}
 use Rattle.run_watches.proofs.line_news.write_session.Goals as goal
 

@@ -1,7 +1,7 @@
 use Rattle.std.proofs.Common.{◌∷◌, ◌++◌}
 use Rattle.std.specs.Prelude.{codes}
-use Rattle.feed_text.specs.Devices.{Writing}
-use Rattle.feed_text.specs.laws.SaidTexts.{says_each}
+use Rattle.text_out.specs.Devices.{Writing}
+use Rattle.text_out.specs.laws.SaidTexts.{says_each}
 use Rattle.run_notes.specs.SessionNames.{name_texts}
 use Rattle.run_watches.specs.GapNews.{venue_time_texts}
 use Rattle.run_watches.specs.SessionNews.{missed_texts}

@@ -1,6 +1,6 @@
 use Rattle.std.proofs.Common.{[], ◌≡◌, ◌∙◌, Err, ap, map, refl, subst, sym}
 use Rattle.std.specs.Prelude.{is_some}
-use Rattle.feed_text.specs.Devices.{Writing}
+use Rattle.text_out.specs.Devices.{Writing}
 use Rattle.best_rows.specs.declared.style.RowStyle.{RowStyle}
 use Rattle.udp_listening.specs.Lines.{run_lines}
 use Rattle.udp_listening.specs.Listening.{IsUnprinted, ListensToEnd}

@@ -1,7 +1,7 @@
 use Rattle.std.proofs.Common.{Some, ap, sym, ◌∙◌}
 use Rattle.std.proofs.lemmas.Option.{slice_get-get_or}
-use Rattle.feed_text.specs.Devices.{Writing}
-use Rattle.feed_text.specs.laws.SaidTexts.{texts_more}
+use Rattle.text_out.specs.Devices.{Writing}
+use Rattle.text_out.specs.laws.SaidTexts.{texts_more}
 use Rattle.udp_listening.specs.Listening.{ended_texts}
 use Rattle.udp_listening.specs.declared.listen_report.EndedLine.{EndedLine}
 use Rattle.udp_listening.proofs.listen_lines.write_each_ended.Goals as goal

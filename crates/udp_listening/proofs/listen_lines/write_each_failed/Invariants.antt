@@ -1,5 +1,5 @@
 use Rattle.udp_listening.specs.Listening.{failed_texts}
-use Rattle.feed_text.specs.laws.SaidTexts.{SaysRest}
+use Rattle.text_out.specs.laws.SaidTexts.{SaysRest}
 use Rattle.udp_listening.proofs.listen_lines.write_each_failed.Given as goal
 
 abbrev pub invariant-loop-line : goal.invariant-loop-line

@@ -1,7 +1,7 @@
 use Rattle.std.proofs.Common.{◌++◌, List, flat_map, subst}
-use Rattle.feed_text.specs.Devices.{Writing}
-use Rattle.feed_text.specs.StandardError.{SaysEach}
-use Rattle.feed_text.specs.laws.SaidTexts.{says_each}
+use Rattle.text_out.specs.Devices.{Writing}
+use Rattle.text_out.specs.StandardError.{SaysEach}
+use Rattle.text_out.specs.laws.SaidTexts.{says_each}
 use Rattle.run_notes.specs.AbsentSymbols.{absent_texts, unchanged_texts}
 use Rattle.udp_listening.specs.Listening.{ended_texts}
 use Rattle.udp_listening.specs.declared.listen_report.EndedLine.{EndedLine}

@@ -1,9 +1,9 @@
 use Rattle.std.proofs.Common.{ℕ, List, flat_map, subst}
-use Rattle.feed_text.specs.Devices.{Writing}
-use Rattle.feed_text.specs.StandardError.{SaysEach}
+use Rattle.text_out.specs.Devices.{Writing}
+use Rattle.text_out.specs.StandardError.{SaysEach}
 use Rattle.feed_types.specs.declared.line.LineId.{LineId}
 use Rattle.udp_listening.specs.Listening.{failed_texts, stop_texts}
-use Rattle.feed_text.specs.laws.SaidTexts.{says_each}
+use Rattle.text_out.specs.laws.SaidTexts.{says_each}
 use Rattle.udp_listening.proofs.listen_lines.write_faults.Goals as goal
 
 pub returns : goal.returns

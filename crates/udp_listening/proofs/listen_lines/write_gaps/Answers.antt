@@ -1,11 +1,11 @@
 use Rattle.std.proofs.Common.{ℕ, List, flat_map, subst}
-use Rattle.feed_text.specs.Devices.{Writing}
-use Rattle.feed_text.specs.StandardError.{SaysEach}
+use Rattle.text_out.specs.Devices.{Writing}
+use Rattle.text_out.specs.StandardError.{SaysEach}
 use Rattle.feed_types.specs.declared.line.LineId.{LineId}
-use Rattle.feed_text.specs.LackTexts.{lack_texts}
-use Rattle.feed_text.specs.declared.lack.Lack.{Lack}
+use Rattle.event_sinks.specs.LackTexts.{lack_texts}
+use Rattle.event_sinks.specs.declared.lack.Lack.{Lack}
 use Rattle.udp_listening.specs.Listening.{read_out_texts}
-use Rattle.feed_text.specs.laws.SaidTexts.{says_each}
+use Rattle.text_out.specs.laws.SaidTexts.{says_each}
 use Rattle.udp_listening.proofs.listen_lines.write_gaps.Goals as goal
 
 pub returns : goal.returns

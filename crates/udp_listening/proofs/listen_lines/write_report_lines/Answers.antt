@@ -1,7 +1,7 @@
 use Rattle.std.proofs.Common.{flat_map, ◌++◌}
-use Rattle.feed_text.specs.Devices.{Writing}
-use Rattle.feed_text.specs.LackTexts.{lack_texts}
-use Rattle.feed_text.specs.laws.SaidTexts.{says_each}
+use Rattle.text_out.specs.Devices.{Writing}
+use Rattle.event_sinks.specs.LackTexts.{lack_texts}
+use Rattle.text_out.specs.laws.SaidTexts.{says_each}
 use Rattle.run_notes.specs.AbsentSymbols.{absent_texts, unchanged_texts}
 use Rattle.udp_listening.specs.Listening.{ended_texts, failed_texts, read_out_texts, stop_texts}
 use Rattle.udp_listening.proofs.listen_lines.write_report_lines.Goals as goal

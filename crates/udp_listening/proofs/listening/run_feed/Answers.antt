@@ -1,7 +1,7 @@
 use Rattle.std.proofs.Common.{◌≡◌, map, subst, sym}
 use Rattle.std.specs.Prelude.{Err, IfOk}
 use Rattle.std.proofs.lemmas.Result.{IfOk-at_ok}
-use Rattle.feed_text.specs.Devices.{Writing}
+use Rattle.text_out.specs.Devices.{Writing}
 use Rattle.udp_listening.specs.Listening.{HasListenedOn}
 use Rattle.udp_listening.specs.Reports.{IsReportOfFeed, IsReportOfRun, noted_symbols, task_line}
 use Rattle.udp_listening.specs.SettledNotices.{HasNoted, settled_forgotten, settled_log}

@@ -2,7 +2,7 @@ use Rattle.std.proofs.Common.{◌≡◌, ℕ, suc, ◌+◌, ◌++◌, IfSome, le
 use Rattle.std.specs.Prelude.{slice_get}
 use Rattle.std.proofs.lemmas.List.{take_min}
 use Rattle.feed_types.specs.ListLaws.{get_within}
-use Rattle.feed_text.specs.Lacks.{lack_by}
+use Rattle.event_sinks.specs.VenueLacks.{lack_by}
 use Rattle.live_feed.specs.settle.Settlements.{VenueEndState}
 use Rattle.udp_listening.specs.SettledLacks.{lacks_from}
 use Rattle.udp_listening.proofs.Lacks.{lacks_more}

@@ -4,7 +4,7 @@ use Rattle.feed_types.specs.declared.journal.Entry.TheVariants.{SelfHelp}
 use Rattle.journal_book.specs.Changes.{notices_from}
 use Rattle.journal_book.specs.NumberedBooks.{NumberedState}
 use Rattle.feed_text.specs.ReplayEvents.{self_help_declared}
-use Rattle.feed_text.specs.SinkEvents.{told_declaration}
+use Rattle.event_sinks.specs.SinkEvents.{told_declaration}
 use Rattle.feed_text.specs.ReplayStates.{GoesToFull, FailsWithin, state_of_replay}
 use Rattle.feed_text.proofs.Tales.{SinkLaws, laws_by, tale_from, entry_goes, entry_fails_first, entry_fails_later, declared_own, already_own, declared_full, plain_fails}
 use Rattle.feed_text.proofs.replay_sink.ReplaySink.declare.Given.{Over}

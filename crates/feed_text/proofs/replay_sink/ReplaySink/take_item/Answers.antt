@@ -4,7 +4,7 @@ use Rattle.std.proofs.lemmas.Result.{err_from_is_err_and}
 use Rattle.feed_types.specs.declared.journal.Entry.TheVariants.{Consumed}
 use Rattle.journal_book.specs.Changes.{notices_from}
 use Rattle.feed_text.specs.ReplayEvents.{item_taken}
-use Rattle.feed_text.specs.SinkEvents.{told_item}
+use Rattle.event_sinks.specs.SinkEvents.{told_item}
 use Rattle.feed_text.proofs.Tales.{SinkLaws, laws_by, item_full, entry_goes, entry_fails_first, entry_fails_later}
 use Rattle.feed_text.proofs.replay_sink.ReplaySink.take_item.Given.{Over}
 use Rattle.feed_text.proofs.replay_sink.ReplaySink.take_item.Goals as goal

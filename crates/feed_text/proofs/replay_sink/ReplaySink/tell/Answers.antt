@@ -1,6 +1,6 @@
 use Rattle.std.proofs.lemmas.Result.{err_from_is_err_and}
 use Rattle.feed_text.specs.ReplayStates.{state_of_replay}
-use Rattle.feed_text.specs.SinkEvents.{told_by}
+use Rattle.event_sinks.specs.SinkEvents.{told_by}
 use Rattle.feed_text.proofs.Tales.{plain_goes, plain_fails}
 use Rattle.feed_text.proofs.replay_sink.ReplaySink.tell.Goals as goal
 

@@ -2,10 +2,10 @@ use Rattle.std.proofs.Common.{◌≡◌, ℕ, [], ◌∷◌, ◌++◌, Option, S
 use Rattle.mold_packet.specs.declared.request.Request.{Request}
 use Rattle.line_arbiter.specs.Streams.{gap_of}
 use Rattle.line_arbiter.specs.Histories.{History}
-use Rattle.feed_text.specs.declared.lack.Lack.{Lack}
+use Rattle.event_sinks.specs.declared.lack.Lack.{Lack}
 use Rattle.line_arbiter.specs.LastSent.{last_sent}
 use Rattle.feed_text.specs.Following.{ReplayVenue, Follows}
-use Rattle.feed_text.specs.Lacks.{lack_by}
+use Rattle.event_sinks.specs.VenueLacks.{lack_by}
 use Rattle.feed_text.proofs.VenueSteps.{all_sent, gap_shown}
 use Rattle.feed_text.proofs.venue.VenueReplay.put_lack.Goals as goal
 use Rattle.feed_text.proofs.venue.VenueReplay.put_lack.Goals.{After-gap}

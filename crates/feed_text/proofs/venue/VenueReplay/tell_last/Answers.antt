@@ -2,7 +2,7 @@ use Rattle.std.proofs.Common.{◌≡◌, ℕ, ◌∷◌, [], sym, ap, subst, ◌
 use Rattle.std.proofs.lemmas.Result.{on_ok_weaker, on_err_weaker}
 use Rattle.line_arbiter.specs.laws.FitsHistory.{wins_shown}
 use Rattle.line_arbiter.specs.Histories.{History}
-use Rattle.feed_text.specs.SinkEvents.{SinkEvent, timed_event, told_last}
+use Rattle.event_sinks.specs.SinkEvents.{SinkEvent, timed_event, told_last}
 use Rattle.feed_text.specs.Tellings.{last_told}
 use Rattle.feed_text.specs.Following.{ReplayVenue, Follows}
 use Rattle.feed_text.proofs.VenueSteps.{last_is}

@@ -1,6 +1,6 @@
 use Rattle.std.proofs.Common.{rules, ◌≡◌, ◌≤◌, ℕ, length, ap, subst, ◌∙◌, arith, inl, inr}
 use Rattle.std.proofs.lemmas.Bool.{cases_lt}
-use Rattle.feed_text.specs.Capture.{skip_record}
+use Rattle.capture_records.specs.Capture.{skip_record}
 use Rattle.feed_text.specs.Rules.{HasStood, IsOverdueAt}
 use Rattle.feed_text.proofs.PuttingIn.{kept_past}
 use Rattle.feed_text.proofs.venues.Venues.overdue.Goals as goal

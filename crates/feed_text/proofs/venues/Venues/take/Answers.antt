@@ -1,7 +1,7 @@
 use Rattle.std.proofs.Common.{rules, ◌<◌, ℕ, List, length, refl, ap, subst}
 use Rattle.std.specs.Prelude.{slice_set}
 use Rattle.std.proofs.lemmas.Option.{slice_get_read}
-use Rattle.feed_text.specs.Capture.{CaptureRecord, record_venue, datagram_record, renewal_record}
+use Rattle.capture_records.specs.Capture.{CaptureRecord, record_venue, datagram_record, renewal_record}
 use Rattle.feed_text.specs.ReplayStates.{state_of_replay}
 use Rattle.feed_text.specs.Following.{ReplayVenue, VenueList, TakesRecord}
 use Rattle.feed_text.proofs.Telling.{takes_one, takes_self_help}

@@ -2,7 +2,7 @@ use Rattle.std.proofs.Common.{◌≡◌, ◌≤◌, ◌+◌, ◌∷◌, [], ℕ,
 use Rattle.std.specs.Prelude.{slice_get}
 use Rattle.std.proofs.lemmas.Option.{slice_get_read}
 use Rattle.std.proofs.lemmas.Result.{err_from_is_err_and}
-use Rattle.feed_text.specs.SinkEvents.{SinkEvent, at_time, timed_event}
+use Rattle.event_sinks.specs.SinkEvents.{SinkEvent, at_time, timed_event}
 use Rattle.feed_text.specs.Tellings.{last_told, lasts_told}
 use Rattle.feed_text.specs.Following.{ReplayVenue, VenueList}
 use Rattle.feed_text.proofs.Telling.{history_at, lasts_rest, lasts_done}

@@ -1,6 +1,6 @@
 use Rattle.std.proofs.Common.{ℕ, List, drop, None}
 use Rattle.line_arbiter.specs.Histories.{History}
-use Rattle.feed_text.specs.SinkEvents.{at_time}
+use Rattle.event_sinks.specs.SinkEvents.{at_time}
 use Rattle.feed_text.specs.Tellings.{lasts_told}
 use Rattle.feed_text.specs.Following.{FollowAll}
 use Rattle.feed_text.proofs.venues.Venues.tell_last.Given as goal

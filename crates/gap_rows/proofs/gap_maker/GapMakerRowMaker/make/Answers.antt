@@ -1,5 +1,5 @@
 use Rattle.std.proofs.Common.{◌≡◌, ◌∙◌, Option, ℕ, [], ◌∷◌, length, ap, sym}
-use Rattle.feed_text.specs.SinkEvents.{TimedEvent, timed_event, told_by}
+use Rattle.event_sinks.specs.SinkEvents.{TimedEvent, timed_event, told_by}
 use Rattle.gap_rows.specs.GapCells.{gap_rows_text}
 use Rattle.gap_rows.specs.GapMakers.{TakesEach, rows_in, said_at, venue_in}
 use Rattle.gap_rows.proofs.GapSteps.{failed, made, rows_are, said_told, takes_one}

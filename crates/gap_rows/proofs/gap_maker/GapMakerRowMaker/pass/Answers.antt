@@ -1,5 +1,5 @@
 use Rattle.std.proofs.Common.{[], refl}
-use Rattle.feed_text.specs.SinkEvents.{timed_event, told_before, told_by}
+use Rattle.event_sinks.specs.SinkEvents.{timed_event, told_before, told_by}
 use Rattle.gap_rows.proofs.GapSteps.{said_before, takes_one}
 use Rattle.gap_rows.proofs.gap_maker.GapMakerRowMaker.pass.Goals as goal
 

@@ -1,5 +1,5 @@
 use Rattle.std.proofs.Common.{subst}
-use Rattle.feed_text.specs.Formats.{CameOf, StepsTo}
+use Rattle.capture_records.specs.Formats.{CameOf, StepsTo}
 use Rattle.line_captures.specs.PacketFormats.{PacketState, ReadsPackets, packet_state, wants_packets, is_bad_packets}
 use Rattle.line_captures.proofs.packet_format.PacketFormatRecordFormat.next.Goals as goal
 

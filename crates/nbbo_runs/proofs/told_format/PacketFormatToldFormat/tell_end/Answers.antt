@@ -1,8 +1,8 @@
 use Rattle.std.proofs.Common.{ℕ, ◌++◌, subst}
 use Rattle.std.specs.Prelude.{Option}
-use Rattle.feed_text.specs.Devices.{Writing}
-use Rattle.feed_text.specs.StandardError.{SaysEach}
-use Rattle.feed_text.specs.laws.SaidTexts.{says_each}
+use Rattle.text_out.specs.Devices.{Writing}
+use Rattle.text_out.specs.StandardError.{SaysEach}
+use Rattle.text_out.specs.laws.SaidTexts.{says_each}
 use Rattle.line_captures.specs.declared.drop_counts.DroppedFrames.{DroppedFrames}
 use Rattle.line_captures.specs.declared.frame_counts.FrameCounts.{FrameCounts}
 use Rattle.line_captures.specs.DropCounts.{dropped_of}

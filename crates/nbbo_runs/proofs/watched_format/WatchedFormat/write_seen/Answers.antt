@@ -1,7 +1,7 @@
 use Rattle.std.proofs.Common.{List, length, subst}
-use Rattle.feed_text.specs.Devices.{Writing}
-use Rattle.feed_text.specs.StandardError.{SaysEach}
-use Rattle.feed_text.specs.laws.SaidTexts.{says_each}
+use Rattle.text_out.specs.Devices.{Writing}
+use Rattle.text_out.specs.StandardError.{SaysEach}
+use Rattle.text_out.specs.laws.SaidTexts.{says_each}
 use Rattle.nbbo_runs.specs.declared.session_row.SessionRow.{SessionRow}
 use Rattle.nbbo_runs.specs.Sessions.{session_rows, sessions_texts}
 use Rattle.nbbo_runs.specs.Watches.{first_venues_texts}

@@ -1,5 +1,5 @@
-use Rattle.feed_text.specs.Devices.{Writing}
-use Rattle.feed_text.specs.laws.SaidTexts.{says_each}
+use Rattle.text_out.specs.Devices.{Writing}
+use Rattle.text_out.specs.laws.SaidTexts.{says_each}
 use Rattle.nbbo_runs.specs.Watches.{watch_texts}
 use Rattle.nbbo_runs.proofs.watched_format.WatchedFormatToldFormat.tell_end.Goals as goal
 

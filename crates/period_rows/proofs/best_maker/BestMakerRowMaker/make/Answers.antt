@@ -1,4 +1,4 @@
-use Rattle.feed_text.specs.SinkEvents.{timed_event, told_by}
+use Rattle.event_sinks.specs.SinkEvents.{timed_event, told_by}
 use Rattle.period_rows.proofs.BestMaking.{failed_bests, made_bests}
 use Rattle.period_rows.proofs.best_maker.BestMakerRowMaker.make.Goals as goal
 

@@ -1,4 +1,4 @@
-use Rattle.feed_text.specs.SinkEvents.{told_by}
+use Rattle.event_sinks.specs.SinkEvents.{told_by}
 use Rattle.period_rows.proofs.BestMaking.{passes_bests}
 use Rattle.period_rows.proofs.best_maker.BestMakerRowMaker.pass.Goals as goal
 

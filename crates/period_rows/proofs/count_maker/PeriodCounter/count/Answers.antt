@@ -1,4 +1,4 @@
-use Rattle.feed_text.specs.SinkEvents.{told_by}
+use Rattle.event_sinks.specs.SinkEvents.{told_by}
 use Rattle.period_rows.proofs.CountSteps.{counts_begin}
 use Rattle.period_rows.proofs.count_maker.PeriodCounter.count.Goals as goal
 

@@ -1,4 +1,4 @@
-use Rattle.feed_text.specs.SinkEvents.{timed_event, told_by}
+use Rattle.event_sinks.specs.SinkEvents.{timed_event, told_by}
 use Rattle.period_rows.proofs.CountSteps.{failed, made}
 use Rattle.period_rows.proofs.count_maker.PeriodCounterRowMaker.make.Goals as goal
 

@@ -1,7 +1,7 @@
 use Rattle.std.proofs.Common.{[], ◌∷◌}
 use Rattle.std.proofs.lemmas.Result.{err_from_is_err_and}
-use Rattle.feed_text.specs.SinkEvents.{timed_event, told_by}
-use Rattle.feed_text.specs.TextPageLaws.{fails_before_text}
+use Rattle.event_sinks.specs.SinkEvents.{timed_event, told_by}
+use Rattle.event_sinks.specs.TextPageLaws.{fails_before_text}
 use Rattle.best_rows.specs.RowTexts.{event_row}
 use Rattle.replay_reports.proofs.row_sink.BestRowsEventSink.take.Goals as goal
 

@@ -1,5 +1,5 @@
 use Rattle.std.proofs.Common.{refl}
-use Rattle.feed_text.specs.TextPageLaws.{takes_no_text}
+use Rattle.event_sinks.specs.TextPageLaws.{takes_no_text}
 use Rattle.best_rows.specs.RowTexts.{event_row}
 use Rattle.replay_reports.proofs.row_sink.BestRowsSpannedSink.take_before.Goals as goal
 

@@ -1,6 +1,6 @@
 use Rattle.std.proofs.Common.{◌≡◌, ◌∷◌, subst, sym}
-use Rattle.feed_text.specs.declared.event.Event.{Event}
-use Rattle.feed_text.specs.SinkEvents.{timed_event, told_by}
+use Rattle.event_sinks.specs.declared.event.Event.{Event}
+use Rattle.event_sinks.specs.SinkEvents.{timed_event, told_by}
 use Rattle.replay_reports.specs.counts.Counts.{best_counts}
 use Rattle.replay_reports.specs.stats.Statistics.{untimed}
 use Rattle.replay_reports.proofs.stats.replay_stats.count_best.Goals as goal

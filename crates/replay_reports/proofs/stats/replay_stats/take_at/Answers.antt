@@ -2,7 +2,7 @@ use Rattle.std.proofs.Common.{◌≡◌, ◌<◌, ◌==◌, ℕ, arith, eq-eqb, 
 use Rattle.std.specs.Option.{option_map_or}
 use Rattle.std.proofs.lemmas.Bool.{ne_eqb}
 use Rattle.std.proofs.lemmas.Option.{slice_get_read}
-use Rattle.feed_text.specs.SinkEvents.{timed_event, told_by}
+use Rattle.event_sinks.specs.SinkEvents.{timed_event, told_by}
 use Rattle.replay_reports.specs.stats.Statistics.{is_at_venue}
 use Rattle.replay_reports.proofs.Statistics.{all_elsewhere, one_touched}
 use Rattle.replay_reports.proofs.stats.replay_stats.take_at.Goals as goal

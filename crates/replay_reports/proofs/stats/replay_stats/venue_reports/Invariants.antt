@@ -1,5 +1,5 @@
 use Rattle.std.proofs.Common.{◌≡◌, ◌≤◌, ℕ, List, length}
-use Rattle.feed_text.specs.SinkEvents.{TimedEvent}
+use Rattle.event_sinks.specs.SinkEvents.{TimedEvent}
 use Rattle.replay_reports.specs.counts.Counts.{best_counts}
 use Rattle.replay_reports.specs.report.Reports.{AreVenueReports}
 use Rattle.replay_reports.specs.stats.Statistics.{AreVenuesOf, untimed}

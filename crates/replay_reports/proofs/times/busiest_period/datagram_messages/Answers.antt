@@ -1,6 +1,6 @@
 use Rattle.std.proofs.Common.{◌≡◌, Some, subst, sym}
-use Rattle.feed_text.specs.declared.event.Event.{Event}
-use Rattle.feed_text.specs.SinkEvents.{told_by}
+use Rattle.event_sinks.specs.declared.event.Event.{Event}
+use Rattle.event_sinks.specs.SinkEvents.{told_by}
 use Rattle.replay_reports.specs.times.Busiest.{datagram_messages}
 use Rattle.replay_reports.proofs.times.busiest_period.datagram_messages.Goals as goal
 

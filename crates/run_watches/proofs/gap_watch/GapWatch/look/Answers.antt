@@ -1,5 +1,5 @@
 use Rattle.std.proofs.Common.{Some, ℕ, rules}
-use Rattle.feed_text.specs.Devices.{Writing}
+use Rattle.text_out.specs.Devices.{Writing}
 use Rattle.run_watches.proofs.Looking.{looked}
 use Rattle.run_watches.specs.contracts.gap_watch.GapWatch.look.K-Fn as skip_of
 use Rattle.run_watches.proofs.gap_watch.GapWatch.look.Goals as goal

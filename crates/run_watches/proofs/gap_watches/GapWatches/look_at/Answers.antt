@@ -1,6 +1,6 @@
 use Rattle.std.proofs.Common.{◌∙◌, Contains, ap, subst, sym}
 use Rattle.std.proofs.Math.Seq.{map-set_same}
-use Rattle.feed_text.specs.Devices.{Writing}
+use Rattle.text_out.specs.Devices.{Writing}
 use Rattle.run_watches.specs.RunLines.{watched_gaps, watched_venue}
 use Rattle.run_watches.specs.RunNews.{IsNewsOfGap, IsNewsOfGaps}
 use Rattle.run_watches.proofs.RunTelling.{news_of_look}

@@ -1,4 +1,4 @@
-use Rattle.feed_text.specs.Devices.{Writing}
+use Rattle.text_out.specs.Devices.{Writing}
 use Rattle.run_watches.specs.RunLines.{watched}
 use Rattle.run_watches.proofs.Telling.{both_notes}
 use Rattle.run_watches.proofs.line_watch.LineWatch.write_all_notes.Goals as goal

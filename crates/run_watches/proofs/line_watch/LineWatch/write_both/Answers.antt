@@ -1,4 +1,4 @@
-use Rattle.feed_text.specs.Devices.{Writing}
+use Rattle.text_out.specs.Devices.{Writing}
 use Rattle.run_watches.specs.RunLines.{watched}
 use Rattle.run_watches.specs.RunNews.{IsNewsOfLine}
 use Rattle.run_watches.specs.RunNewsLaws.{more_news}

@@ -1,5 +1,5 @@
 use Rattle.std.proofs.Common.{refl}
-use Rattle.feed_text.specs.Devices.{Writing}
+use Rattle.text_out.specs.Devices.{Writing}
 use Rattle.run_watches.specs.RunLines.{watched}
 use Rattle.run_watches.specs.RunNews.{IsNewsOfLine, IsTold, of_line}
 use Rattle.run_watches.proofs.Telling.{of_some, one_news}

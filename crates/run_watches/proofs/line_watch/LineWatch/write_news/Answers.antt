@@ -1,5 +1,5 @@
 use Rattle.std.proofs.Common.{◌≡◌, ◌∙◌, subst}
-use Rattle.feed_text.specs.Devices.{Writing}
+use Rattle.text_out.specs.Devices.{Writing}
 use Rattle.run_watches.specs.RunLines.{watched}
 use Rattle.run_watches.specs.RunNews.{IsNewsOfLine, SaysNews}
 use Rattle.run_watches.specs.RunNewsLaws.{more_news}

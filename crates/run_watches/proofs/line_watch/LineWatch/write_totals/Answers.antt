@@ -1,6 +1,6 @@
 use Rattle.std.proofs.Common.{◌∷◌, [], ◌∙◌, flat_map, subst, sym}
-use Rattle.feed_text.specs.Devices.{Writing}
-use Rattle.feed_text.specs.StandardError.{SaysEach}
+use Rattle.text_out.specs.Devices.{Writing}
+use Rattle.text_out.specs.StandardError.{SaysEach}
 use Rattle.run_watches.specs.News.{SaysTotals, total_if, total_texts}
 use Rattle.run_watches.specs.RunLines.{watched}
 use Rattle.run_watches.specs.declared.line_news.LineCounted.TheVariants.{HeldBack, Withheld}

@@ -1,7 +1,7 @@
 use Rattle.std.proofs.Common.{◌∙◌, Contains, ap, subst, sym}
 use Rattle.std.proofs.Math.Seq.{map-set_same}
 use Rattle.std.specs.Prelude.{is_some}
-use Rattle.feed_text.specs.Devices.{Writing}
+use Rattle.text_out.specs.Devices.{Writing}
 use Rattle.run_watches.specs.RunLines.{watched, watched_lines}
 use Rattle.run_watches.specs.RunNews.{IsNewsOfLine, IsNewsOfLines, SaysNews}
 use Rattle.run_watches.proofs.Telling.{line_within, made_within, news_within}

@@ -1,5 +1,5 @@
 use Rattle.std.proofs.Common.{◌∙◌, map, subst}
-use Rattle.feed_text.specs.Devices.{Writing}
+use Rattle.text_out.specs.Devices.{Writing}
 use Rattle.run_watches.specs.News.{SaysTotals}
 use Rattle.run_watches.specs.RunLines.{watched}
 use Rattle.run_watches.proofs.line_watch.LineWatches.write_totals.Goals as goal

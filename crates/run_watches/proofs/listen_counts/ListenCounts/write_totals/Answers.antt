@@ -1,4 +1,4 @@
-use Rattle.feed_text.specs.Devices.{Writing}
+use Rattle.text_out.specs.Devices.{Writing}
 use Rattle.run_watches.proofs.Counts.{one_count}
 use Rattle.run_watches.proofs.listen_counts.ListenCounts.write_totals.Goals as goal
 

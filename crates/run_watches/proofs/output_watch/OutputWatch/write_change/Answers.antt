@@ -1,4 +1,4 @@
-use Rattle.feed_text.specs.Devices.{Writing}
+use Rattle.text_out.specs.Devices.{Writing}
 use Rattle.run_watches.specs.RunNews.{IsNewsOfOutput, IsToldOfOutput, of_output}
 use Rattle.run_watches.proofs.Telling.{of_some, one_news}
 use Rattle.run_watches.proofs.output_watch.OutputWatch.write_change.Goals as goal

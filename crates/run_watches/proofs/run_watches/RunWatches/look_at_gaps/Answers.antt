@@ -1,4 +1,4 @@
-use Rattle.feed_text.specs.Devices.{Writing}
+use Rattle.text_out.specs.Devices.{Writing}
 use Rattle.run_watches.specs.RunLines.{watched_run}
 use Rattle.run_watches.specs.RunNews.{IsNewsOf, IsNewsOfGaps}
 use Rattle.run_watches.proofs.Telling.{gaps_within, news_within}

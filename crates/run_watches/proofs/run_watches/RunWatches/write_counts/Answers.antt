@@ -1,6 +1,6 @@
 use Rattle.std.proofs.Common.{ap}
 use Rattle.std.specs.Prelude.{is_some}
-use Rattle.feed_text.specs.Devices.{Writing}
+use Rattle.text_out.specs.Devices.{Writing}
 use Rattle.run_watches.specs.RunLines.{watched_run}
 use Rattle.run_watches.proofs.RunTelling.{run_news_of_counts}
 use Rattle.run_watches.proofs.run_watches.RunWatches.write_counts.Goals as goal

@@ -1,5 +1,5 @@
 use Rattle.std.proofs.Common.{◌≡◌, ◌+◌, ◌∙◌, List, refl, rules, subst, sym, ℕ}
-use Rattle.feed_text.specs.Devices.{Writing, Wrote}
+use Rattle.text_out.specs.Devices.{Writing, Wrote}
 use Rattle.best_rows.specs.RowTexts.{header_of}
 use Rattle.udp_listening.specs.Listening.{HasFollowed}
 use Rattle.udp_listening.specs.declared.console.LiveOutput.{LiveOutput}

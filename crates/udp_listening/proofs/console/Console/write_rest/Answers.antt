@@ -1,5 +1,5 @@
 use Rattle.std.proofs.Common.{◌≡◌, ◌+◌, ◌∙◌, ap, drop, length, rules, subst, sym, List, ℕ}
-use Rattle.feed_text.specs.Devices.{Writing, Wrote}
+use Rattle.text_out.specs.Devices.{Writing, Wrote}
 use Rattle.best_rows.specs.declared.style.RowStyle.{RowStyle}
 use Rattle.best_rows.specs.NoticeRows.{AreRowsOf}
 use Rattle.udp_listening.specs.Listening.{HasFollowed}

@@ -1,4 +1,4 @@
-use Rattle.feed_text.specs.Devices.{Writing}
+use Rattle.text_out.specs.Devices.{Writing}
 use Rattle.udp_listening.proofs.Following.{polled_longer}
 use Rattle.udp_listening.proofs.Noting.{noted_longer}
 use Rattle.udp_listening.proofs.row_follower.RowFollower.turn.Goals as goal

@@ -1,5 +1,5 @@
 use Rattle.std.proofs.Common.{◌∙◌, ap, subst, sym}
-use Rattle.feed_text.specs.Devices.{Writing}
+use Rattle.text_out.specs.Devices.{Writing}
 use Rattle.run_watches.specs.RunLines.{watched_run}
 use Rattle.run_watches.specs.RunNews.{SaysRunNews}
 use Rattle.run_watches.specs.RunNewsLaws.{more_run_news}

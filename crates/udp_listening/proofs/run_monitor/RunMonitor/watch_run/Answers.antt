@@ -1,5 +1,5 @@
 use Rattle.std.proofs.Common.{◌≡◌, ◌∙◌, refl, subst, sym}
-use Rattle.feed_text.specs.Devices.{Writing}
+use Rattle.text_out.specs.Devices.{Writing}
 use Rattle.run_watches.specs.RunLines.{WatchedRun, watched_run}
 use Rattle.run_watches.specs.RunNews.{SaysOfRun, SaysRunEnd, SaysRunNews}
 use Rattle.udp_listening.specs.declared.run_monitor.RunMonitor.{RunMonitor}

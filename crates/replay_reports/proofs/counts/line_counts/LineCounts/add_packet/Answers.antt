@@ -3,7 +3,7 @@ use Rattle.std.specs.Prelude.{min, slice_set}
 use Rattle.std.proofs.lemmas.List.Sums.{sum_by-cons}
 use Rattle.line_arbiter.specs.declared.outcome.LineFault.{LineFault}
 use Rattle.line_arbiter.specs.declared.outcome.Outcome.{Outcome}
-use Rattle.feed_text.specs.SinkEvents.{told_packet}
+use Rattle.event_sinks.specs.SinkEvents.{told_packet}
 use Rattle.report_rows.specs.EventFigures.{bytes_in}
 use Rattle.replay_reports.specs.counts.Counts.{line_counts}
 use Rattle.replay_reports.proofs.Counting.{fault_codes, line_refused, longer, summed_more}

@@ -1,5 +1,5 @@
 use Rattle.std.proofs.Common.{refl, ap, ◌∙◌}
-use Rattle.feed_text.specs.SinkEvents.{told_refusal}
+use Rattle.event_sinks.specs.SinkEvents.{told_refusal}
 use Rattle.replay_reports.proofs.Counting.{line_refused, longer, packet_codes}
 use Rattle.replay_reports.proofs.counts.line_counts.LineCounts.add_refusal.Goals as goal
 

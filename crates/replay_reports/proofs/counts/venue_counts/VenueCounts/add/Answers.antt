@@ -1,6 +1,6 @@
 use Rattle.std.proofs.Common.{◌≡◌, ◌∷◌, subst, sym}
-use Rattle.feed_text.specs.declared.event.Event.{Event}
-use Rattle.feed_text.specs.SinkEvents.{told_by}
+use Rattle.event_sinks.specs.declared.event.Event.{Event}
+use Rattle.event_sinks.specs.SinkEvents.{told_by}
 use Rattle.replay_reports.specs.counts.Counts.{venue_counts}
 use Rattle.replay_reports.proofs.Counting.{items_counted}
 use Rattle.replay_reports.proofs.counts.venue_counts.VenueCounts.add.Goals as goal

@@ -1,7 +1,7 @@
 use Rattle.std.proofs.Common.{◌∷◌, Ok, Option, Result, Some, subst, sym}
 use Rattle.line_arbiter.specs.declared.outcome.LineFault.{LineFault}
 use Rattle.line_arbiter.specs.declared.outcome.Outcome.{Outcome}
-use Rattle.feed_text.specs.SinkEvents.{timed_event, told_packet}
+use Rattle.event_sinks.specs.SinkEvents.{timed_event, told_packet}
 use Rattle.replay_reports.specs.times.VenueTiming.{IsVenueTimed}
 use Rattle.replay_reports.proofs.Timed.{timed_packet}
 use Rattle.replay_reports.proofs.times.venue_times.VenueTimes.hear.Goals as goal

@@ -1,6 +1,6 @@
 use Rattle.std.proofs.Common.{◌∷◌, subst, sym}
-use Rattle.feed_text.specs.declared.event.Event.{Event}
-use Rattle.feed_text.specs.SinkEvents.{timed_event, told_by}
+use Rattle.event_sinks.specs.declared.event.Event.{Event}
+use Rattle.event_sinks.specs.SinkEvents.{timed_event, told_by}
 use Rattle.replay_reports.specs.times.VenueTiming.{IsVenueTimed}
 use Rattle.replay_reports.proofs.times.venue_times.VenueTimes.take.Goals as goal
 

@@ -1,0 +1,3 @@
+-- Laws of the definitions, with their proofs, which nobody has to read: proofs of the crates above
+-- cite them.
+pub mod Readings

@@ -1,0 +1,16 @@
+use Rattle.text_out.specs.Devices.{Writing}
+use Rattle.event_sinks.specs.LackTexts.{lacking_texts, missing_texts}
+use Rattle.text_out.specs.laws.SaidTexts.{says_each}
+use Rattle.event_sinks.proofs.lack_lines.write_lack.Goals as goal
+
+pub returns : goal.returns
+returns g c =
+    let w : Writing g.row.E.Denot = record {
+      adds = g.E.TextOut.adds;
+      failures =
+          g.E.TextOut.failures;
+    } in
+    let lack = c.args.lack.now in
+    says_each w (lacking_texts lack.venue) (missing_texts lack.count lack.number)
+    c.args.errors.now c.write_lacking.new.errors c.write_missing.new.errors
+    c.write_lacking.ensures c.write_missing.ensures

@@ -1,0 +1,7 @@
+pub mod Lines
+pub mod SinkEvents
+pub mod TextPages
+pub mod TextPageLaws
+pub mod EventLines
+pub mod LackTexts
+pub mod VenueLacks

@@ -1,8 +1,0 @@
-use Rattle.feed_text.specs.LackTexts.{lack_texts}
-use Rattle.feed_text.specs.laws.SaidTexts.{SaysRest}
-use Rattle.feed_text.proofs.lack_lines.write_lacks.Given as goal
-
-abbrev pub invariant-loop-lack : goal.invariant-loop-lack
-invariant-loop-lack g l =
-    SaysRest (record { adds = g.E.TextOut.adds; failures = g.E.TextOut.failures }) lack_texts
-    l.lacks l.lack-index l.fn.errors l.errors

@@ -1,0 +1,8 @@
+pub mod Devices
+pub mod DeviceLaws
+pub mod Placing
+pub mod Pages
+pub mod StandardError
+pub mod Fields
+-- laws, which proofs of the crates above cite
+pub mod laws
