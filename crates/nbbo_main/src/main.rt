@@ -29,7 +29,8 @@ use crate::word_files::{WordsFault, words_of, write_unread};
 use command_words::{Refusal, StreamFiles, explanation_of, settings, stream_files, symbol_words};
 use line_recordings::{RecordingState, SkipRecords};
 use nbbo_runs::{
-    Next, RunFacts, Terminals, hint_at_file, journal_hint, refuse, run, run_normalisation,
+    Next, ProgramRun, RunFacts, Terminals, hint_at_file, journal_hint, refuse, run,
+    run_normalisation,
 };
 use run_settings::ListenSettings;
 use std::alloc::{AllocError, Global};
@@ -122,8 +123,10 @@ where
             let counts = ListenCounts {
                 rows: Count::new(of_rows),
                 texts: Count::new(of_texts),
-                file: Count::new(of_file),
-                told: Count::new(of_told),
+                recording: RecordingCounts {
+                    file: Count::new(of_file),
+                    told: Count::new(of_told),
+                },
             };
             listen_live::<H, _, L, M, F, T>(rt, threads, &settings, counts, errors)
         }
@@ -228,15 +231,19 @@ fn run_over<C: Ledger, R: Ledger, W: Ledger, E: TextOut>(
     }
     let input = StreamIn::new(input, counts.calls, counts.reads);
     let output = StreamOut::new(output, counts.writes);
-    let ran = run(rt.alloc(), words, terminals, input, output, errors);
-    write_hints(rt, words, &ran.facts, errors);
-    match ran.next {
+    let ProgramRun {
+        next,
+        mut input,
+        mut output,
+        facts,
+    } = run(rt.alloc(), words, terminals, input, output, errors);
+    write_hints(rt, words, &facts, errors);
+    match next {
         Next::Ended(status) => {
             write_unwhole(files, status, errors);
             ProgramEnd::Status(status)
         }
         Next::Normalises(settings) => {
-            let (mut input, mut output) = (ran.input, ran.output);
             let (input, output) = (&mut input, &mut output);
             let status = run_normalisation(rt.alloc(), &settings, terminals, input, output, errors);
             write_unwhole(files, status, errors);
@@ -354,14 +361,20 @@ impl StreamShares {
     }
 }
 
-/// The failures of what a run that listens writes: its rows, its texts on standard error, the file
-/// of its recording, and what that reports.
+/// The failures of what a recording writes: its file, and what it reports.
+#[derive(Drop)]
+struct RecordingCounts<F: Ledger, T: Ledger> {
+    file: Count<F>,
+    told: Count<T>,
+}
+
+/// The failures of what a run that listens writes: its rows, its texts on standard error, and what
+/// its recording does.
 #[derive(Drop)]
 struct ListenCounts<L: Ledger, M: Ledger, F: Ledger, T: Ledger> {
     rows: Count<L>,
     texts: Count<M>,
-    file: Count<F>,
-    told: Count<T>,
+    recording: RecordingCounts<F, T>,
 }
 
 /// Opens the file of the recording, if there is to be one. Where it isn't opened standard error has
@@ -384,22 +397,29 @@ fn opened<E: TextOut>(
     }
 }
 
-/// Starts the recording of a run over these sockets.
+/// Starts the recording of a run over these sockets, where there is a file for it. None is returned
+/// where memory or the recording's thread was refused.
 fn recorded<H, F, T>(
     rt: &HostRuntime,
     threads: &H,
     sockets: &mut ListenSockets,
     venues: usize,
-    file: StreamOut<File, F>,
-    told: Count<T>,
-) -> Option<RecordingState>
+    file: Option<File>,
+    counts: RecordingCounts<F, T>,
+) -> Option<Option<RecordingState>>
 where
     H: Threads,
     F: Ledger + Send + 'static,
     T: Ledger + Send + 'static,
 {
+    let Some(file) = file else {
+        return Some(None);
+    };
     let venues = record_lines(rt.alloc(), venues, sockets).ok()?;
-    start_recording(rt, threads, venues, file, StreamOut::new(rt.stderr(), told))
+    let file = StreamOut::new(file, counts.file);
+    let told = StreamOut::new(rt.stderr(), counts.told);
+    let state = start_recording(rt, threads, venues, file, told)?;
+    Some(Some(state))
 }
 
 /// Listens on the lines of the settings, records what they bring where there is a file for it, and
@@ -419,6 +439,11 @@ where
     F: Ledger + Send + 'static,
     T: Ledger + Send + 'static,
 {
+    let ListenCounts {
+        rows: row_counts,
+        texts: text_counts,
+        recording: recording_counts,
+    } = counts;
     fill_streams(rt);
     let Some(file) = opened(rt, &settings.record, &mut errors) else {
         return 1;
@@ -440,24 +465,15 @@ where
         return 1;
     };
     let venues = settings.feed.sessions.len();
-    let recording = match file {
-        Some(file) => {
-            let file = StreamOut::new(file, counts.file);
-            match recorded(rt, threads, &mut sockets, venues, file, counts.told) {
-                Some(state) => Some(state),
-                None => {
-                    write_stderr(NO_MEMORY, &mut errors);
-                    return 1;
-                }
-            }
-        }
-        None => None,
+    let Some(recording) = recorded(rt, threads, &mut sockets, venues, file, recording_counts) else {
+        write_stderr(NO_MEMORY, &mut errors);
+        return 1;
     };
     let output = PatientOutput::new(rt.stdout(), shares.output);
     let streams = ListenStreams {
         input: rt.stdin(),
-        output: StreamOut::new(output, counts.rows),
-        errors: UnheldErrors::new(errors, counts.texts, shares.errors),
+        output: StreamOut::new(output, row_counts),
+        errors: UnheldErrors::new(errors, text_counts, shares.errors),
         output_state: shares.output_state,
         errors_progress: shares.errors_progress,
     };

@@ -17,3 +17,9 @@ ghosts-run_streams-L-Ledger g a = record { name = a.of_rows.name; parts = a.of_r
 
 abbrev pub ghosts-run_streams-M-Ledger : goal.ghosts-run_streams-M-Ledger
 ghosts-run_streams-M-Ledger g a = record { name = a.of_texts.name; parts = a.of_texts.parts }
+
+abbrev pub ghosts-run_streams-F-Ledger : goal.ghosts-run_streams-F-Ledger
+ghosts-run_streams-F-Ledger g a = record { name = a.of_file.name; parts = a.of_file.parts }
+
+abbrev pub ghosts-run_streams-T-Ledger : goal.ghosts-run_streams-T-Ledger
+ghosts-run_streams-T-Ledger g a = record { name = a.of_told.name; parts = a.of_told.parts }
