@@ -8,7 +8,8 @@ use Rattle.nbbo_runs.proofs.normalisation.run_normalisation.Goals as goal
 pub new-format-requires-in-Packets : goal.new-format-requires-in-Packets
 new-format-requires-in-Packets g c =
     let venues = c.len-venues.result in
-    subst (λ (lines : List CapturedLine). AreOfVenues venues lines) (sym c.as_slice-in-Packets-2.ensures.value)
+    subst (λ (lines : List CapturedLine). AreOfVenues venues lines)
+    (sym c.as_slice-in-Packets-2.ensures.value)
     (subst (λ (input : RunInput). AreOfVenues venues (captured_lines_in input)) c.in-Packets.is
     (subst (λ (n : ℕ). AreOfVenues n (captured_lines_in c.args.settings.now.input))
     (sym c.len-venues.ensures) c.args.settings.now.of_venues))
