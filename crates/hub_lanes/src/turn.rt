@@ -5,10 +5,11 @@ ghost use Rattle.hub_lanes.specs.Turns.{ConsumesRound, TakesTurn};
 
 use crate::calls::{consume_some, offer_each};
 use crate::journal_and_lanes::JournalAndLanes;
-use feed_steps::{Bells, FeedName, FeedTimes};
+use feed_steps::FeedName;
 use feed_types::{Genuine, VenueId};
 use filter_terms::Filter;
 use journal_book::JournalFault;
+use live_wakeups::{Bells, FeedTimes};
 use std::sync::Wait;
 
 /// The most items that are journaled in one section, so that nobody waits long for the lock, nor

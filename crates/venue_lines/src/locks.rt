@@ -4,8 +4,9 @@ ghost use Rattle.std.specs.Prelude.{◌≡◌, ◌<◌, ◌↔◌, length, IsSom
 
 use crate::locked_venue::LockedVenue;
 use crossbeam_utils::CachePadded;
-use feed_steps::{Bells, FeedName};
+use feed_steps::FeedName;
 use feed_types::{Genuine, VenueId};
+use live_wakeups::Bells;
 use std::alloc::{AllocError, Global};
 use std::marker::Model;
 use std::sync::atomic::{AtomicBool, Ordering};
