@@ -19,5 +19,5 @@ mod unsent;
 pub use bells::Bells;
 pub use event::{Done, Event};
 pub use feed_name::FeedName;
-pub use times::FeedTimes;
+pub use times::{FeedTimes, NotedTimes};
 pub use unsent::Unsent;

@@ -220,8 +220,6 @@ impl<G: Genuine, N: FeedName> OpenFeed<G, N> {
         let mut hub = self.hub.lock(rt);
         hub.core.show_lock_invariant();
         let declared = hub.core.declare(venue, on);
-        let changes = hub.core.change_count();
-        self.venues.bells().times().pass_changes(changes);
         hub.core.show_lock_invariant();
         drop(hub);
         if declared.is_ok() {
