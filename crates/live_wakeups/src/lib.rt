@@ -14,4 +14,4 @@ mod bells;
 mod times;
 
 pub use bells::Bells;
-pub use times::FeedTimes;
+pub use times::{FeedTimes, NotedTimes};
