@@ -1,6 +1,9 @@
 mod Forms
 mod Packing
+mod Running
 mod Runs
 mod Sent
+mod Steps
 mod Taking
 mod Venue
+mod Venues

@@ -1,4 +1,7 @@
 pub mod Carried
+pub mod Keeping
+pub mod Normalisations
+pub mod Normalised
 pub mod OfSession
 pub mod Texts
 pub mod Writes

@@ -1,0 +1,235 @@
+-- The venues of a run: one of them takes a record, and the others stay.
+use Rattle.std.proofs.Common.{◌≡◌, ◌≢◌, ◌⊎◌, ⊤, ℕ, zero, suc, ◌+◌, ◌<◌, ◌≤◌, List, [], ◌∷◌, ◌++◌, length, length-append, map, take, get_or, refl, sym, ap, subst, ◌∙◌, inl, inr, arith, Option, Some, None, Result, Ok, Err}
+use Rattle.std.specs.Prelude.{nat_lt, slice_get, slice_set, if◌then◌else◌}
+use Rattle.std.proofs.Math.ListN.{length-set}
+use Rattle.std.proofs.lemmas.List.{length-map, map-append, take_more}
+use Rattle.std.proofs.lemmas.Grind.{common_steps}
+use Rattle.std.proofs.lemmas.Option.{slice_get_within}
+use Rattle.feed_types.specs.ListLaws.{get_within}
+use Rattle.feed_types.specs.declared.item.Numbered.{Numbered}
+use Rattle.capture_records.specs.Capture.{CaptureRecord, record_venue}
+use Rattle.capture_records.specs.Formats.{TimedRecord}
+use Rattle.text_out.specs.Devices.{Writing}
+use Rattle.normalising.specs.Keeping.{FailedAtVenue, FollowHistories, FollowsAt, FollowsRun, FollowsVenue, RunsOn, TakesAtVenue, TookAtVenue, TookOf}
+use Rattle.normalising.specs.Normalised.{GoesOnWithin, IsNormalisedNext, NormalisedHistory, NormalisedPoint, NormalisesAt, NormalisesRecord, new_normalised, time_after}
+use Rattle.normalising.specs.declared.normalised_feed.NormalisedFeed.{NormalisedFeed}
+use Rattle.normalising.specs.declared.normalised_venue.NormalisedVenue.{NormalisedVenue}
+use Rattle.normalising.specs.declared.normalised_venues.NormalisedVenues.{NormalisedVenues}
+use Rattle.normalising.specs.declared.venue_stop.VenueStop.{VenueStop}
+use Rattle.normalising.specs.declared.venue_stop.VenueStop.TheVariants.{Book, Sink}
+use Rattle.normalising.proofs.Steps.{all_none, all_one}
+use Rattle.normalising.proofs.Venue.{puts_nothing}
+
+-- ---- places of a list
+
+get_set_same : {X : Type 0} (xs : List X) (i : ℕ) (x y : X)
+    → slice_get (slice_set xs i x) i ≡ Some y → y ≡ x
+get_set_same [] i x y e = absurd cc
+get_set_same (z ∷ xs) zero x y e = cc
+get_set_same (z ∷ xs) (suc i) x y e = get_set_same xs i x y e
+
+get_set_other : {X : Type 0} (xs : List X) (i j : ℕ) (x : X) → j ≢ i
+    → slice_get (slice_set xs i x) j ≡ slice_get xs j
+get_set_other [] i j x h = refl
+get_set_other (z ∷ xs) zero zero x h = absurd (h refl)
+get_set_other (z ∷ xs) zero (suc j) x h = refl
+get_set_other (z ∷ xs) (suc i) zero x h = refl
+get_set_other (z ∷ xs) (suc i) (suc j) x h = get_set_other xs i j x (λ e. h (omega arith))
+
+same_or_not : (j i : ℕ) → (j ≡ i) ⊎ (j ≢ i)
+same_or_not zero zero = inl refl
+same_or_not zero (suc i) = inr (λ e. absurd (omega arith))
+same_or_not (suc j) zero = inr (λ e. absurd (omega arith))
+same_or_not (suc j) (suc i) =
+    elim (same_or_not j i) [ inl e ↦ inl (ap suc e) | inr n ↦ inr (λ e. n (omega arith)) ]
+
+pub same_set : {X : Type 0} (xs : List X) (i : ℕ) (x : X) → slice_get xs i ≡ Some x
+    → slice_set xs i x ≡ xs
+same_set [] i x e = refl
+same_set (y ∷ xs) zero x e = cc
+same_set (y ∷ xs) (suc i) x e = ap (λ (ys : List _). y ∷ ys) (same_set xs i x e)
+
+-- ---- the venues follow their histories
+
+-- one venue and its history go on
+pub follow_set : (feed : NormalisedFeed) (i : ℕ) (vs : List NormalisedVenue)
+    (hs : List NormalisedHistory) (v : NormalisedVenue) (h : NormalisedHistory)
+    → FollowHistories feed vs hs → FollowsVenue feed i v.normaliser h
+    → FollowHistories feed (slice_set vs i v) (slice_set hs i h)
+follow_set feed i vs hs v h f now = record {
+  count = length-set vs i v ∙ f.count ∙ sym (length-set hs i h);
+  each = λ j w k e g. elim (same_or_not j i) [
+    | inl same ↦
+        let a : w ≡ v = get_set_same vs i v w
+        (subst (λ (n : ℕ). slice_get (slice_set vs i v) n ≡ Some w) same e) in
+        let b : k ≡ h = get_set_same hs i h k
+        (subst (λ (n : ℕ). slice_get (slice_set hs i h) n ≡ Some k) same g) in
+        rw (same, a, b) now
+    | inr other ↦ f.each j w k (sym (get_set_other vs i j v other) ∙ e)
+        (sym (get_set_other hs i j h other) ∙ g)
+  ];
+}
+
+-- a list as long as one that has a place has it too
+pub history_at : (feed : NormalisedFeed) (vs : List NormalisedVenue)
+    (hs : List NormalisedHistory) (i : ℕ) (v : NormalisedVenue) → FollowHistories feed vs hs
+    → slice_get vs i ≡ Some v
+    → (h : NormalisedHistory) × (slice_get hs i ≡ Some h) × FollowsVenue feed i v.normaliser h
+history_at feed vs hs i v f at =
+    let within = slice_get_within vs i v at in
+    let n = f.count in
+    let h = get_within hs i (omega arith) in
+    (h.0, h.1, f.each i v h.0 at h.1)
+
+-- a venue whose normaliser is the same follows its history
+pub follow_same : (feed : NormalisedFeed) (vs : List NormalisedVenue)
+    (hs : List NormalisedHistory) (i : ℕ) (v w : NormalisedVenue) → FollowHistories feed vs hs
+    → slice_get vs i ≡ Some v → w.normaliser ≡ v.normaliser
+    → FollowHistories feed (slice_set vs i w) hs
+follow_same feed vs hs i v w f at same =
+    let h = history_at feed vs hs i v f at in
+    subst (λ (ks : List NormalisedHistory). FollowHistories feed (slice_set vs i w) ks)
+    (same_set hs i h.0 h.1)
+    (follow_set feed i vs hs w h.0 f
+    (subst (λ (n : _). FollowsVenue feed i n h.0) (sym same) h.2))
+
+slice_get_push : {X : Type 0} (xs : List X) (y : X) (i : ℕ) (x : X)
+    → slice_get (xs ++ y ∷ []) i ≡ Some x → (slice_get xs i ≡ Some x) ⊎ ((i ≡ length xs) × (x ≡ y))
+slice_get_push [] y zero x e = inr (refl, cc)
+slice_get_push [] y (suc i) x e = absurd cc
+slice_get_push (z ∷ xs) y zero x e = inl e
+slice_get_push (z ∷ xs) y (suc i) x e = elim (slice_get_push xs y i x e) [
+  | inl a ↦ inl a
+  | inr b ↦ inr (ap suc b.0, b.1)
+]
+
+follow_push : (feed : NormalisedFeed) (vs : List NormalisedVenue) (hs : List NormalisedHistory)
+    (v : NormalisedVenue) (h : NormalisedHistory) → FollowHistories feed vs hs
+    → FollowsVenue feed (length hs) v.normaliser h
+    → FollowHistories feed (vs ++ v ∷ []) (hs ++ h ∷ [])
+follow_push feed vs hs v h f now = record {
+  count = length-append vs (v ∷ []) ∙ ap (λ (n : ℕ). n + 1) f.count
+      ∙ sym (length-append hs (h ∷ []));
+  each = λ i w k e g. elim (slice_get_push vs v i w e) [
+    | inl a ↦ elim (slice_get_push hs h i k g) [
+      | inl b ↦ f.each i w k a b
+      | inr b ↦ let past = slice_get_within vs i w a in let n = f.count
+          in absurd (omega (arith, b.0))
+    ]
+    | inr a ↦ elim (slice_get_push hs h i k g) [
+      | inl b ↦ let past = slice_get_within hs i k b in let n = f.count
+          in absurd (omega (arith, a.0))
+      | inr b ↦ rw (b.0, a.1, b.1) now
+    ]
+  ];
+}
+
+-- one more venue, to which nothing was given
+pub follow_next : (feed : NormalisedFeed) (vs : List NormalisedVenue) (sessions : List (List ℕ))
+    (i : ℕ) (v : NormalisedVenue)
+    → FollowHistories feed vs (map new_normalised (take i sessions)) → i < length sessions
+    → FollowsVenue feed i v.normaliser (new_normalised (get_or sessions i []))
+    → FollowHistories feed (vs ++ v ∷ []) (map new_normalised (take (i + 1) sessions))
+follow_next feed vs sessions i v f h now =
+    let hs : List NormalisedHistory = map new_normalised (take i sessions) in
+    let len : length hs ≡ i = length-map (take i sessions) new_normalised
+    ∙ length-take_le i sessions h in
+    let more : map new_normalised (take (i + 1) sessions)
+    ≡ hs ++ new_normalised (get_or sessions i []) ∷ [] =
+    rw (take_more sessions i [] h) (map-append new_normalised (take i sessions)
+    (get_or sessions i [] ∷ [])) in
+    rw more (follow_push feed vs hs v (new_normalised (get_or sessions i [])) f (rw len now))
+  where
+    length-take_le : (n : ℕ) (xs : List (List ℕ)) → n < length xs → length (take n xs) ≡ n
+    length-take_le n xs h = grind (arith, common_steps)
+
+-- ---- times
+
+-- the time of a record is the latest one after it, too
+pub time_again : (latest : ℕ) (time : Option ℕ)
+    → time_after (time_after latest time) time ≡ time_after latest time
+time_again latest None = refl
+time_again latest (Some time) = by_test (nat_lt time 4294967296000000000)
+  where
+    by_test : (b : _) → (if b then time else (if b then time else latest))
+        ≡ (if b then time else latest)
+    by_test true = refl
+    by_test false = refl
+
+-- ---- one record
+
+pub point_with : NormalisedPoint → (place : ℕ) → (latest : ℕ) → NormalisedHistory
+    → NormalisedPoint
+point_with at place latest after =
+    record { venues = slice_set at.venues place after; latest = latest }
+
+module _ {W A : Type 0} (writing : Writing W) (adds_none : (s : W) → writing.adds s [] s)
+    (feed : NormalisedFeed) (r : CaptureRecord) (t : TimedRecord) (records left : List TimedRecord)
+    (at : NormalisedPoint) (time : ℕ) (v w : NormalisedVenue) (vs : List NormalisedVenue)
+    (from to : W) (waited waits : List ℕ)
+    (f : FollowHistories feed vs at.venues)
+    (here : slice_get vs (record_venue r) ≡ Some v)
+    (is : t.what ≡ r) (next : IsNormalisedNext feed records t left)
+    (time_is : time ≡ time_after at.latest t.time) where
+  place : ℕ
+  place = record_venue r
+
+  before : NormalisedHistory
+  before = (history_at feed vs at.venues place v f here).0
+
+  of_record : (rest : List Numbered) (text : List ℕ) (after : NormalisedHistory)
+      → NormalisesAt feed time r before rest text after
+      → NormalisesRecord feed t at rest text (point_with at place time after)
+  of_record rest text after n =
+      let h = history_at feed vs at.venues place v f here in
+      subst (λ (what : CaptureRecord). NormalisesRecord feed (record t { what = what }) at rest text
+      (point_with at place time after)) (sym is) (record {
+        before = h.0;
+        after = after;
+        at = h.1;
+        normalises = subst (λ (now : ℕ). NormalisesAt feed now r before rest text after) time_is n;
+        venues = refl;
+        latest = time_is;
+      })
+
+  -- a venue's record is one of the run
+  pub venue_next : (IsAfter : NormalisedPoint → Type 0) (result : Result A VenueStop)
+      → TakesAtVenue writing feed time place r before w.normaliser from to waited waits result
+      → ((after : NormalisedHistory)
+      → FollowHistories feed (slice_set vs place w) (slice_set at.venues place after)
+      → IsAfter (point_with at place time after))
+      → RunsOn writing feed records at (λ l. l ≡ left) IsAfter from to waited waits result
+  venue_next IsAfter (Ok done) took lead = record {
+    taken = t ∷ [];
+    text = took.text;
+    left = left;
+    after = point_with at place time took.after;
+    normalises = all_one feed records at t took.text left (point_with at place time took.after)
+        next (of_record [] took.text took.after took.normalises);
+    is_left = refl;
+    is_after = lead took.after
+        (follow_set feed place vs at.venues w took.after f took.follows);
+    puts = took.puts;
+  }
+  venue_next IsAfter (Err (Sink stop)) took lead = record {
+    taken = [];
+    text = [];
+    left = records;
+    after = at;
+    normalises = all_none feed records at;
+    more = took.text;
+    within = inr (t, left, took.rest, point_with at place time took.after, next,
+        of_record took.rest took.text took.after took.normalises);
+    wrote = took.wrote;
+    failed = took.failed;
+  }
+  venue_next IsAfter (Err (Book fault)) took lead = record {
+    taken = [];
+    text = [];
+    left = records;
+    after = at;
+    normalises = all_none feed records at;
+    is_left = tt;
+    is_after = tt;
+    puts = rw (took.0, took.1) (puts_nothing writing adds_none from waited);
+  }
