@@ -140,6 +140,15 @@ module _ {feed : NormalisedFeed} {place : ℕ} {form : OutputForm} {h : Normalis
     }
     given_takes (Err (Book fault)) put stopped = stopped
 
+-- a stop is one whatever the answer would be
+pub stop_takes : {W A B : Type 0} (writing : Writing W) (feed : NormalisedFeed) (time place : ℕ)
+    (r : CaptureRecord) (h : NormalisedHistory) (n m : NormaliserState) (from to : W)
+    (waited waits : List ℕ) (stop : VenueStop)
+    → TakesAtVenue {A = A} writing feed time place r h n from to waited waits (Err stop)
+    → TakesAtVenue {A = B} writing feed time place r h m from to waited waits (Err stop)
+stop_takes writing feed time place r h n m from to waited waits (Sink stop) x = x
+stop_takes writing feed time place r h n m from to waited waits (Book fault) x = x
+
 -- what is put out after what was put out before
 pub ready_put_out : (keys : List ℕ) (packets later : List Input)
     (output start ready : List Numbered) → start ≡ [] → PutsOut keys packets later start ready
@@ -217,6 +226,11 @@ packet_at feed time place h before line bytes more p answer after f spells outco
 
 -- ---- a skip
 
+pub puts_nothing : {W : Type 0} (writing : Writing W) → ((s : W) → writing.adds s [] s) → (w : W)
+    (waits : List ℕ) → PutsText writing w w waits [] waits
+puts_nothing writing adds_none w waits =
+    record { shown = []; wrote = adds_none w; all = append-nil waits; kept = refl }
+
 pub skip_given : (feed : NormalisedFeed) (place : ℕ) (form : OutputForm)
     (h : NormalisedHistory) (before mid after : NormaliserState) (number : ℕ)
     (start ready : List Numbered)
@@ -280,11 +294,6 @@ no_skip writing adds_none feed time place number h before after fault w waits do
     }
 
 -- ---- a renewal
-
-pub puts_nothing : {W : Type 0} (writing : Writing W) → ((s : W) → writing.adds s [] s) → (w : W)
-    (waits : List ℕ) → PutsText writing w w waits [] waits
-puts_nothing writing adds_none w waits =
-    record { shown = []; wrote = adds_none w; all = append-nil waits; kept = refl }
 
 renewed_names : (h : History) (name : List ℕ)
     → names_of (after_renewal h name) ≡ names_of h ++ name ∷ []

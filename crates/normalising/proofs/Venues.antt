@@ -8,16 +8,16 @@ use Rattle.std.proofs.lemmas.Option.{slice_get_within}
 use Rattle.feed_types.specs.ListLaws.{get_within}
 use Rattle.feed_types.specs.declared.item.Numbered.{Numbered}
 use Rattle.capture_records.specs.Capture.{CaptureRecord, record_venue}
-use Rattle.capture_records.specs.Formats.{TimedRecord}
+use Rattle.capture_records.specs.Formats.{TimedRecord, timed_record}
 use Rattle.text_out.specs.Devices.{Writing}
-use Rattle.normalising.specs.Keeping.{FailedAtVenue, FollowHistories, FollowsAt, FollowsRun, FollowsVenue, RunsOn, TakesAtVenue, TookAtVenue, TookOf}
-use Rattle.normalising.specs.Normalised.{GoesOnWithin, IsNormalisedNext, NormalisedHistory, NormalisedPoint, NormalisesAt, NormalisesRecord, new_normalised, time_after}
+use Rattle.normalising.specs.Keeping.{FailedAtVenue, FollowHistories, FollowsAt, FollowsRun, FollowsVenue, GivesNext, IsNoted, IsSameRun, PutsInFirst, RunsOn, TakesAtVenue, TakesToo, TookAtVenue, TookOf}
+use Rattle.normalising.specs.Normalised.{GoesOnWithin, IsNormalisedNext, MayPutIn, NormalisedHistory, NormalisedPoint, NormalisesAt, NormalisesRecord, new_normalised, time_after}
 use Rattle.normalising.specs.declared.normalised_feed.NormalisedFeed.{NormalisedFeed}
 use Rattle.normalising.specs.declared.normalised_venue.NormalisedVenue.{NormalisedVenue}
 use Rattle.normalising.specs.declared.normalised_venues.NormalisedVenues.{NormalisedVenues}
 use Rattle.normalising.specs.declared.venue_stop.VenueStop.{VenueStop}
 use Rattle.normalising.specs.declared.venue_stop.VenueStop.TheVariants.{Book, Sink}
-use Rattle.normalising.proofs.Steps.{all_none, all_one}
+use Rattle.normalising.proofs.Steps.{all_none, all_one, runs_then}
 use Rattle.normalising.proofs.Venue.{puts_nothing}
 
 -- ---- places of a list
@@ -233,3 +233,220 @@ module _ {W A : Type 0} (writing : Writing W) (adds_none : (s : W) → writing.a
     is_after = tt;
     puts = rw (took.0, took.1) (puts_nothing writing adds_none from waited);
   }
+
+-- ---- calls of a run
+
+pub runs_weaker : {W A B : Type 0} (writing : Writing W) (feed : NormalisedFeed)
+    (records : List TimedRecord) (at : NormalisedPoint) (IsLeft : List TimedRecord → Type 0)
+    (IsMid IsAfter : NormalisedPoint → Type 0) (from to : W) (waited waits : List ℕ)
+    → ((p : NormalisedPoint) → IsMid p → IsAfter p) → (result : Result A VenueStop)
+    → RunsOn writing feed records at IsLeft IsMid from to waited waits result
+    → RunsOn writing feed records at IsLeft IsAfter from to waited waits result
+runs_weaker writing feed records at IsLeft IsMid IsAfter from to waited waits lead (Ok done) x =
+    record x { is_after = lead x.after x.is_after }
+runs_weaker writing feed records at IsLeft IsMid IsAfter from to waited waits lead
+    (Err (Sink stop)) x = x
+runs_weaker writing feed records at IsLeft IsMid IsAfter from to waited waits lead
+    (Err (Book fault)) x = x
+
+-- a stop is one whatever the answer would be
+pub stop_runs : {W A B : Type 0} (writing : Writing W) (feed : NormalisedFeed)
+    (records : List TimedRecord) (at : NormalisedPoint)
+    (IsLeft IsOther : List TimedRecord → Type 0) (IsMid IsAfter : NormalisedPoint → Type 0)
+    (from to : W) (waited waits : List ℕ) (stop : VenueStop)
+    → RunsOn {A = A} writing feed records at IsLeft IsMid from to waited waits (Err stop)
+    → RunsOn {A = B} writing feed records at IsOther IsAfter from to waited waits (Err stop)
+stop_runs writing feed records at IsLeft IsOther IsMid IsAfter from to waited waits (Sink stop) x = x
+stop_runs writing feed records at IsLeft IsOther IsMid IsAfter from to waited waits (Book fault) x =
+    x
+
+-- an answer is one whatever it is
+pub answer_runs : {W A B : Type 0} (writing : Writing W) (feed : NormalisedFeed)
+    (records : List TimedRecord) (at : NormalisedPoint) (IsLeft : List TimedRecord → Type 0)
+    (IsAfter : NormalisedPoint → Type 0) (from to : W) (waited waits : List ℕ) (a : A) (b : B)
+    → RunsOn {A = A} writing feed records at IsLeft IsAfter from to waited waits (Ok a)
+    → RunsOn {A = B} writing feed records at IsLeft IsAfter from to waited waits (Ok b)
+answer_runs writing feed records at IsLeft IsAfter from to waited waits a b x = x
+
+-- what a book stops after something was taken
+pub book_runs : {W A B : Type 0} (writing : Writing W) (feed : NormalisedFeed)
+    (records : List TimedRecord) (at : NormalisedPoint)
+    (IsLeft IsOther : List TimedRecord → Type 0) (IsMid IsAfter : NormalisedPoint → Type 0)
+    (from to : W) (waited waits : List ℕ) (a : A) (fault : _)
+    → RunsOn {A = A} writing feed records at IsLeft IsMid from to waited waits (Ok a)
+    → RunsOn {A = B} writing feed records at IsOther IsAfter from to waited waits
+    (Err (Book fault))
+book_runs writing feed records at IsLeft IsOther IsMid IsAfter from to waited waits a fault x =
+    record {
+      taken = x.taken;
+      text = x.text;
+      left = x.left;
+      after = x.after;
+      normalises = x.normalises;
+      is_left = tt;
+      is_after = tt;
+      puts = x.puts;
+    }
+
+-- a venue's record, whichever is the next one
+pub gives_next : {W A : Type 0} (writing : Writing W) → ((s : W) → writing.adds s [] s)
+    → (r : CaptureRecord) (old new : NormalisedVenues) (v w : NormalisedVenue) (from to : W)
+    (result : Result A VenueStop)
+    → slice_get old.venues.items (record_venue r) ≡ Some v
+    → new.venues.items ≡ slice_set old.venues.items (record_venue r) w
+    → new.settings ≡ old.settings → new.latest ≡ old.latest
+    → new.output.page.form ≡ old.output.page.form
+    → ((feed : NormalisedFeed) (h : NormalisedHistory)
+    → FollowsVenue feed (record_venue r) v.normaliser h → old.output.page.form ≡ feed.form
+    → TakesAtVenue writing feed old.latest (record_venue r) r h w.normaliser from to
+    old.output.page.page new.output.page.page result)
+    → GivesNext writing r old new from to result
+gives_next writing adds_none r old new v w from to result here set settings latest form takes =
+    λ t records left at f is next.
+    let h = history_at old.settings old.venues.items at.venues (record_venue r) v f.venues here in
+    venue_next writing adds_none old.settings r t records left at old.latest v w old.venues.items
+    from to old.output.page.page new.output.page.page f.venues here is next f.latest
+    (FollowsAt new t.time) result (takes old.settings h.0 h.2 f.form)
+    (λ after follows. (
+      record {
+        venues = subst (λ (feed : NormalisedFeed). FollowHistories feed new.venues.items
+            (slice_set at.venues (record_venue r) after)) (sym settings)
+            (subst (λ (vs : List NormalisedVenue). FollowHistories old.settings vs
+            (slice_set at.venues (record_venue r) after)) (sym set) follows);
+        latest = latest ∙ f.latest ∙ sym (time_again at.latest t.time)
+            ∙ ap (λ (l : ℕ). time_after l t.time) (sym f.latest);
+        form = form ∙ f.form ∙ ap (λ (feed : NormalisedFeed). feed.form) (sym settings);
+      },
+      sym latest,
+    ))
+
+-- a record that is put in is the next one before another
+pub put_in_first : {W A : Type 0} (writing : Writing W) (r : TimedRecord)
+    (put_in : CaptureRecord) (old new : NormalisedVenues) (from to : W)
+    (result : Result A VenueStop) → MayPutIn old.settings r put_in
+    → GivesNext writing put_in old new from to result
+    → PutsInFirst writing r old new from to result
+put_in_first writing r put_in old new from to result may gives = λ at f.
+    runs_weaker writing old.settings (r ∷ []) at (λ l. l ≡ r ∷ []) (FollowsAt new r.time)
+    (FollowsRun new r.time) from to old.output.page.page new.output.page.page (λ p x. x.0) result
+    (gives (timed_record put_in r.time) (r ∷ []) (r ∷ []) at f refl
+    (inl ((put_in, may, refl), refl)))
+
+-- a record is the next one where nothing more is put in
+pub takes_itself : {W A : Type 0} (writing : Writing W) (r : TimedRecord)
+    (old new : NormalisedVenues) (from to : W) (result : Result A VenueStop)
+    → GivesNext writing r.what old new from to result
+    → TakesToo writing r old new from to result
+takes_itself writing r old new from to result gives = λ at f.
+    gives r (r ∷ []) [] at f refl (inr (refl, refl))
+
+-- nothing is put in
+pub first_none : {W A : Type 0} (writing : Writing W) → ((s : W) → writing.adds s [] s)
+    → (r : TimedRecord) (run : NormalisedVenues) (w : W) (a : A)
+    → PutsInFirst writing r run run w w (Ok a)
+first_none writing adds_none r run w a = λ at f. record {
+  taken = [];
+  text = [];
+  left = r ∷ [];
+  after = at;
+  normalises = all_none run.settings (r ∷ []) at;
+  is_left = refl;
+  is_after = f;
+  puts = puts_nothing writing adds_none w run.output.page.page;
+}
+
+module _ {W : Type 0} (writing : Writing W)
+    (adds_more : (s t u : W) (xs ys : List ℕ) → writing.adds s xs t → writing.adds t ys u
+    → writing.adds s (xs ++ ys) u)
+    (r : TimedRecord) (old mid new : NormalisedVenues) (from between to : W)
+    (same : IsSameRun old mid) where
+  -- one call puts in after another
+  pub first_then : {A B : Type 0} (a : A) (result : Result B VenueStop)
+      → PutsInFirst writing r old mid from between (Ok a)
+      → PutsInFirst writing r mid new between to result
+      → PutsInFirst writing r old new from to result
+  first_then a result x y = λ at f.
+      let one = x at f in
+      runs_then writing adds_more old.settings (r ∷ []) at (λ l. l ≡ r ∷ []) (λ l. l ≡ r ∷ [])
+      (FollowsRun mid r.time) (FollowsRun new r.time) from between to old.output.page.page
+      mid.output.page.page new.output.page.page result one
+      (subst (λ (feed : NormalisedFeed). RunsOn writing feed one.left one.after
+      (λ l. l ≡ r ∷ []) (FollowsRun new r.time) between to mid.output.page.page
+      new.output.page.page result) same.settings
+      (subst (λ (l : List TimedRecord). RunsOn writing mid.settings l one.after
+      (λ l. l ≡ r ∷ []) (FollowsRun new r.time) between to mid.output.page.page
+      new.output.page.page result) (sym one.is_left) (y one.after one.is_after)))
+
+  -- a record is taken after what is put in
+  pub takes_then : {A B : Type 0} (a : A) (result : Result B VenueStop)
+      → PutsInFirst writing r old mid from between (Ok a)
+      → TakesToo writing r mid new between to result
+      → TakesToo writing r old new from to result
+  takes_then a result x y = λ at f.
+      let one = x at f in
+      runs_then writing adds_more old.settings (r ∷ []) at (λ l. l ≡ r ∷ []) (λ l. l ≡ [])
+      (FollowsRun mid r.time) (FollowsAt new r.time) from between to old.output.page.page
+      mid.output.page.page new.output.page.page result one
+      (subst (λ (feed : NormalisedFeed). RunsOn writing feed one.left one.after
+      (λ l. l ≡ []) (FollowsAt new r.time) between to mid.output.page.page
+      new.output.page.page result) same.settings
+      (subst (λ (l : List TimedRecord). RunsOn writing mid.settings l one.after
+      (λ l. l ≡ []) (FollowsAt new r.time) between to mid.output.page.page
+      new.output.page.page result) (sym one.is_left) (y one.after one.is_after)))
+
+-- a note after what was put in
+pub first_noted : {W A B : Type 0} (writing : Writing W) (r : TimedRecord)
+    (old mid new : NormalisedVenues) (from to : W) (a : A) (b : B) → IsNoted mid new
+    → PutsInFirst writing r old mid from to (Ok a) → PutsInFirst writing r old new from to (Ok b)
+first_noted {A = A} {B = B} writing r old mid new from to a b noted x = λ at f.
+    subst (λ (o : _). RunsOn {A = B} writing old.settings (r ∷ []) at (λ l. l ≡ r ∷ [])
+    (FollowsRun new r.time) from to old.output.page.page o.page.page (Ok b)) (sym noted.output)
+    (runs_weaker writing old.settings (r ∷ []) at (λ l. l ≡ r ∷ []) (FollowsRun mid r.time)
+    (FollowsRun new r.time) from to old.output.page.page mid.output.page.page
+    (λ p g. noted.follows r.time p g) (Ok a) (x at f))
+
+-- a note after a record that was given
+pub next_noted : {W A B : Type 0} (writing : Writing W) (r : CaptureRecord)
+    (old mid new : NormalisedVenues) (from to : W) (a : A) (b : B) → IsNoted mid new
+    → GivesNext writing r old mid from to (Ok a) → GivesNext writing r old new from to (Ok b)
+next_noted {A = A} {B = B} writing r old mid new from to a b noted x =
+    λ t records left at f is next.
+    subst (λ (o : _). RunsOn {A = B} writing old.settings records at (λ l. l ≡ left)
+    (FollowsAt new t.time) from to old.output.page.page o.page.page (Ok b)) (sym noted.output)
+    (runs_weaker writing old.settings records at (λ l. l ≡ left) (FollowsAt mid t.time)
+    (FollowsAt new t.time) from to old.output.page.page mid.output.page.page
+    (λ p g. (noted.follows t.time p g.0, g.1 ∙ sym noted.latest)) (Ok a)
+    (x t records left at f is next))
+
+-- a note that has no memory after a record that was given
+pub next_unnoted : {W A B : Type 0} (writing : Writing W) (r : CaptureRecord)
+    (old mid new : NormalisedVenues) (from to : W) (a : A) (fault : _) → IsNoted mid new
+    → GivesNext writing r old mid from to (Ok a)
+    → GivesNext {A = B} writing r old new from to (Err (Book fault))
+next_unnoted {A = A} {B = B} writing r old mid new from to a fault noted x =
+    λ t records left at f is next.
+    subst (λ (o : _). RunsOn {A = B} writing old.settings records at (λ l. l ≡ left)
+    (FollowsAt new t.time) from to old.output.page.page o.page.page (Err (Book fault)))
+    (sym noted.output)
+    (book_runs writing old.settings records at (λ l. l ≡ left) (λ l. l ≡ left)
+    (FollowsAt mid t.time) (FollowsAt new t.time) from to old.output.page.page
+    mid.output.page.page a fault (x t records left at f is next))
+
+-- a note after a record that was taken, at its time
+pub too_noted : {W A B : Type 0} (writing : Writing W) (r : TimedRecord)
+    (old mid new : NormalisedVenues) (from to : W) (a : A) (b : B) → IsNoted mid new
+    → TakesToo writing r old mid from to (Ok a) → TakesToo writing r old new from to (Ok b)
+too_noted {A = A} {B = B} writing r old mid new from to a b noted x = λ at f.
+    subst (λ (o : _). RunsOn {A = B} writing old.settings (r ∷ []) at (λ l. l ≡ [])
+    (FollowsAt new r.time) from to old.output.page.page o.page.page (Ok b)) (sym noted.output)
+    (runs_weaker writing old.settings (r ∷ []) at (λ l. l ≡ []) (FollowsAt mid r.time)
+    (FollowsAt new r.time) from to old.output.page.page mid.output.page.page
+    (λ p g. (noted.follows r.time p g.0, g.1 ∙ sym noted.latest)) (Ok a) (x at f))
+
+pub is_same : (old : NormalisedVenues) → IsSameRun old old
+is_same old = record { settings = refl; count = refl }
+
+pub same_then : (old mid new : NormalisedVenues) → IsSameRun old mid → IsSameRun mid new
+    → IsSameRun old new
+same_then old mid new a b =
+    record { settings = b.settings ∙ a.settings; count = b.count ∙ a.count }

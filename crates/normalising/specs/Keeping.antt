@@ -91,6 +91,14 @@ pub record IsSameRun (old new : NormalisedVenues) : Type 0 where
   pub settings : new.settings ≡ old.settings
   pub count : length new.venues.items ≡ length old.venues.items
 
+-- what a note changes nothing of
+pub record IsNoted (old new : NormalisedVenues) : Type 0 where
+  pub same : IsSameRun old new
+  pub latest : new.latest ≡ old.latest
+  pub output : new.output ≡ old.output
+  pub follows : (time : Option ℕ) (at : NormalisedPoint) → FollowsRun old time at
+      → FollowsRun new time at
+
 -- the run follows a point, whose latest time is its own
 abbrev pub FollowsAt : NormalisedVenues → Option ℕ → NormalisedPoint → Type 0
 FollowsAt run time at = FollowsRun run time at × (at.latest ≡ run.latest)

@@ -4,7 +4,7 @@ ghost use Rattle.capture_records.specs.Capture.{datagram_record, record_of, reco
 ghost use Rattle.capture_records.specs.Formats.{TimedRecord, timed_record};
 ghost use Rattle.mold_packet.specs.Content.{Spells};
 ghost use Rattle.text_out.specs.Devices.{Wrote};
-ghost use Rattle.normalising.specs.Keeping.{FollowHistories, FollowsRun, FollowsVenue, GivesNext, IsNewRun, IsSameRun, PutsInFirst, RunsOn, TakesToo};
+ghost use Rattle.normalising.specs.Keeping.{FollowHistories, FollowsRun, FollowsVenue, GivesNext, IsNewRun, IsNoted, IsSameRun, PutsInFirst, RunsOn, TakesToo};
 ghost use Rattle.normalising.specs.Normalised.{IsNamedNext, IsPacketOfName, MaySkipBefore, NormalisedPoint, new_normalised, time_after};
 
 use crate::normalised_feed::NormalisedFeed;
@@ -169,10 +169,7 @@ impl<'a> NormalisedVenues<'a> {
 
     /// Notes a gap that was given up.
     fn note(&mut self, given_up: Option<GivenUp>) -> Result<(), BookFault>
-        ensures page { self.new.output ≡ self.old.output }
-        ensures follows { (time : Option ℕ) (at : NormalisedPoint)
-            → FollowsRun self.old time at → FollowsRun self.new time at }
-        ensures same { IsSameRun self.old self.new }
+        ensures { IsNoted self.old self.new }
     {
         let Some(given_up) = given_up else {
             return Ok(());
@@ -241,10 +238,7 @@ impl<'a> NormalisedVenues<'a> {
     /// Counts a datagram of a venue that is no packet.
     fn count_bad(&mut self, venue: VenueId)
         requires { venue < length self.old.venues.items }
-        ensures output { self.new.output ≡ self.old.output }
-        ensures follows { (time : Option ℕ) (at : NormalisedPoint)
-            → FollowsRun self.old time at → FollowsRun self.new time at }
-        ensures same { IsSameRun self.old self.new }
+        ensures { IsNoted self.old self.new }
     {
         let it = &mut self.venues[venue.index()];
         it.count_bad();
@@ -253,10 +247,7 @@ impl<'a> NormalisedVenues<'a> {
     /// Notes since when the gap of a venue stands.
     fn note_gap(&mut self, venue: VenueId, time: u64)
         requires { venue < length self.old.venues.items }
-        ensures output { self.new.output ≡ self.old.output }
-        ensures follows { (time : Option ℕ) (at : NormalisedPoint)
-            → FollowsRun self.old time at → FollowsRun self.new time at }
-        ensures same { IsSameRun self.old self.new }
+        ensures { IsNoted self.old self.new }
     {
         let it = &mut self.venues[venue.index()];
         it.note_gap(time);
@@ -356,10 +347,7 @@ impl<'a> NormalisedVenues<'a> {
 
     /// Notes that the next session at a place of the list has begun.
     fn note_begun(&mut self, place: usize)
-        ensures output { self.new.output ≡ self.old.output }
-        ensures follows { (time : Option ℕ) (at : NormalisedPoint)
-            → FollowsRun self.old time at → FollowsRun self.new time at }
-        ensures same { IsSameRun self.old self.new }
+        ensures { IsNoted self.old self.new }
     {
         if let Some(begun) = self.begun.get_mut(place) {
             *begun = true;
