@@ -2,6 +2,7 @@ mod Forms
 mod Packing
 mod Running
 mod Runs
+mod Sendings
 mod Sent
 mod Steps
 mod Taking

@@ -40,7 +40,7 @@ pub after_given : NormalisedHistory → Input → List Numbered → NormalisedHi
 after_given h given ready =
     record { history = after_input h.history given; output = h.output ++ ready }
 
-same_names : (h : History) (x : Input) → names_of (after_input h x) ≡ names_of h
+pub same_names : (h : History) (x : Input) → names_of (after_input h x) ≡ names_of h
 same_names h x =
     map-append (λ (s : Begun). s.name) h.earlier (record h.present { packets = h.present.packets ++ x ∷ [] } ∷ [])
     ∙ sym (map-append (λ (s : Begun). s.name) h.earlier (h.present ∷ []))

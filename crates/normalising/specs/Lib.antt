@@ -3,5 +3,6 @@ pub mod Keeping
 pub mod Normalisations
 pub mod Normalised
 pub mod OfSession
+pub mod Sendings
 pub mod Texts
 pub mod Writes

@@ -33,7 +33,10 @@ mod venue_report;
 mod venue_stop;
 
 pub use conversion::{Normalised, normalise};
-pub use laws::{packets_carry_on, what_is_written_is_the_session};
+pub use laws::{
+    a_run_sends_its_sessions, packets_carry_on, what_a_run_sends_is_the_session,
+    what_is_written_is_the_session,
+};
 pub use normalise_stop::NormaliseStop;
 pub use normalised_feed::NormalisedFeed;
 pub use output_form::OutputForm;
