@@ -1,5 +1,5 @@
 -- The venues of a run: one of them takes a record, and the others stay.
-use Rattle.std.proofs.Common.{◌≡◌, ◌≢◌, ◌⊎◌, ⊤, ℕ, zero, suc, ◌+◌, ◌<◌, ◌≤◌, List, [], ◌∷◌, ◌++◌, length, length-append, map, take, get_or, refl, sym, ap, subst, ◌∙◌, inl, inr, arith, Option, Some, None, Result, Ok, Err}
+use Rattle.std.proofs.Common.{◌≡◌, ◌≢◌, ◌⊎◌, ⊤, ℕ, zero, suc, ◌+◌, ◌<◌, ◌≤◌, Bool, true, false, List, [], ◌∷◌, ◌++◌, length, length-append, map, take, get_or, refl, sym, ap, subst, ◌∙◌, inl, inr, arith, Option, Some, None, Result, Ok, Err}
 use Rattle.std.specs.Prelude.{nat_lt, slice_get, slice_set, if◌then◌else◌}
 use Rattle.std.proofs.Math.ListN.{length-set}
 use Rattle.std.proofs.lemmas.List.{length-map, map-append, take_more}
@@ -7,17 +7,24 @@ use Rattle.std.proofs.lemmas.Grind.{common_steps}
 use Rattle.std.proofs.lemmas.Option.{slice_get_within}
 use Rattle.feed_types.specs.ListLaws.{get_within}
 use Rattle.feed_types.specs.declared.item.Numbered.{Numbered}
-use Rattle.capture_records.specs.Capture.{CaptureRecord, record_venue}
+use Rattle.feed_types.specs.declared.line.LineId.{LineId}
+use Rattle.mold_packet.specs.declared.fault.PacketFault.{PacketFault}
+use Rattle.mold_packet.specs.Faults.{HasFault}
+use Rattle.capture_records.specs.Capture.{CaptureRecord, datagram_record, record_venue, self_help_record, skip_record}
 use Rattle.capture_records.specs.Formats.{TimedRecord, timed_record}
-use Rattle.text_out.specs.Devices.{Writing}
+use Rattle.run_settings.specs.declared.skip_rule.SkipRule.TheVariants.{Gaps}
+use Rattle.text_out.specs.Devices.{Writing, Wrote}
 use Rattle.normalising.specs.Keeping.{FailedAtVenue, FollowHistories, FollowsAt, FollowsRun, FollowsVenue, GivesNext, IsNoted, IsSameRun, PutsInFirst, RunsOn, TakesAtVenue, TakesToo, TookAtVenue, TookOf}
 use Rattle.normalising.specs.Normalised.{GoesOnWithin, IsNormalisedNext, MayPutIn, NormalisedHistory, NormalisedPoint, NormalisesAt, NormalisesRecord, new_normalised, time_after}
+use Rattle.normalising.specs.Texts.{record_text}
+use Rattle.normalising.specs.Writes.{PutsText}
 use Rattle.normalising.specs.declared.normalised_feed.NormalisedFeed.{NormalisedFeed}
 use Rattle.normalising.specs.declared.normalised_venue.NormalisedVenue.{NormalisedVenue}
 use Rattle.normalising.specs.declared.normalised_venues.NormalisedVenues.{NormalisedVenues}
 use Rattle.normalising.specs.declared.venue_stop.VenueStop.{VenueStop}
 use Rattle.normalising.specs.declared.venue_stop.VenueStop.TheVariants.{Book, Sink}
 use Rattle.normalising.proofs.Steps.{all_none, all_one, runs_then}
+use Rattle.normalising.proofs.Taking.{wrote_longer}
 use Rattle.normalising.proofs.Venue.{puts_nothing}
 
 -- ---- places of a list
@@ -450,3 +457,170 @@ pub same_then : (old mid new : NormalisedVenues) → IsSameRun old mid → IsSam
     → IsSameRun old new
 same_then old mid new a b =
     record { settings = b.settings ∙ a.settings; count = b.count ∙ a.count }
+
+-- a note at a venue
+pub noted_at : (old new : NormalisedVenues) (place : ℕ) (v w : NormalisedVenue)
+    → slice_get old.venues.items place ≡ Some v
+    → new.venues.items ≡ slice_set old.venues.items place w → new.settings ≡ old.settings
+    → new.latest ≡ old.latest → new.output ≡ old.output → w.normaliser ≡ v.normaliser
+    → IsNoted old new
+noted_at old new place v w here set settings latest output same = record {
+  same = record {
+    settings = settings;
+    count = ap length set ∙ length-set old.venues.items place w;
+  };
+  latest = latest;
+  output = output;
+  follows = λ time at f. record {
+    venues = subst (λ (feed : NormalisedFeed). FollowHistories feed new.venues.items at.venues)
+        (sym settings)
+        (subst (λ (vs : List NormalisedVenue). FollowHistories old.settings vs at.venues)
+        (sym set) (follow_same old.settings old.venues.items at.venues place v w f.venues here
+        same));
+    latest = latest ∙ f.latest;
+    form = ap (λ (o : _). o.page.form) output ∙ f.form
+        ∙ ap (λ (feed : NormalisedFeed). feed.form) (sym settings);
+  };
+}
+
+-- ---- what changes no history
+
+-- a record that leaves its venue's history as it is: the run follows the same point, later
+module _ {W : Type 0} (writing : Writing W) (old new : NormalisedVenues)
+    (r : CaptureRecord) (from to : W) (text : List ℕ)
+    (within : record_venue r < length old.venues.items)
+    (items : new.venues.items ≡ old.venues.items) (settings : new.settings ≡ old.settings)
+    (latest : new.latest ≡ old.latest)
+    (form : new.output.page.form ≡ old.output.page.form)
+    (at_venue : (h : NormalisedHistory) → old.output.page.form ≡ old.settings.form
+    → NormalisesAt old.settings old.latest r h [] text h) where
+  kept_next : (t : TimedRecord) (at : NormalisedPoint) → FollowsRun old t.time at → t.what ≡ r
+      → (after : NormalisedPoint) × NormalisesRecord old.settings t at [] text after
+      × FollowsAt new t.time after
+  kept_next t at f is =
+      let n = f.venues.count in
+      let h = get_within at.venues (record_venue r) (omega (arith, n, within)) in
+      (
+        point_with at (record_venue r) old.latest h.0,
+        subst (λ (what : CaptureRecord). NormalisesRecord old.settings (record t { what = what }) at
+            [] text (point_with at (record_venue r) old.latest h.0)) (sym is) (record {
+              before = h.0;
+              after = h.0;
+              at = h.1;
+              normalises = subst (λ (now : ℕ). NormalisesAt old.settings now r h.0 [] text h.0)
+                  f.latest (at_venue h.0 f.form);
+              venues = refl;
+              latest = f.latest;
+            }),
+        (record {
+          venues = subst (λ (feed : NormalisedFeed). FollowHistories feed new.venues.items
+              (slice_set at.venues (record_venue r) h.0)) (sym settings)
+              (subst (λ (vs : List NormalisedVenue). FollowHistories old.settings vs
+              (slice_set at.venues (record_venue r) h.0)) (sym items)
+              (subst (λ (hs : List NormalisedHistory). FollowHistories old.settings
+              old.venues.items hs) (sym (same_set at.venues (record_venue r) h.0 h.1)) f.venues));
+          latest = latest ∙ f.latest ∙ sym (time_again at.latest t.time)
+              ∙ ap (λ (l : ℕ). time_after l t.time) (sym f.latest);
+          form = form ∙ f.form ∙ ap (λ (feed : NormalisedFeed). feed.form) (sym settings);
+        }, sym latest),
+      )
+
+  pub kept_gives : {A : Type 0} (a : A)
+      → PutsText writing from to old.output.page.page text new.output.page.page
+      → GivesNext writing r old new from to (Ok a)
+  kept_gives a puts = λ t records left at f is next.
+      let k = kept_next t at f is in
+      record {
+        taken = t ∷ [];
+        text = text;
+        left = left;
+        after = k.0;
+        normalises = all_one old.settings records at t text left k.0 next k.1;
+        is_left = refl;
+        is_after = k.2;
+        puts = puts;
+      }
+
+  pub kept_fails : {A : Type 0} (stop : _)
+      → Wrote writing.adds from (old.output.page.page ++ text) to
+      → writing.failures to ≡ writing.failures from + 1
+      → GivesNext {A = A} writing r old new from to (Err (Sink stop))
+  kept_fails stop wrote failed = λ t records left at f is next.
+      let k = kept_next t at f is in
+      record {
+        taken = [];
+        text = [];
+        left = records;
+        after = at;
+        normalises = all_none old.settings records at;
+        more = text;
+        within = inr (t, left, [], k.0, next, k.1);
+        wrote = wrote;
+        failed = failed;
+      }
+
+help_at : (old : NormalisedVenues) (venue : ℕ) (on : Bool) (h : NormalisedHistory)
+    → old.output.page.form ≡ old.settings.form
+    → NormalisesAt old.settings old.latest (self_help_record venue on) h []
+    (record_text old.output.page.form (self_help_record venue on)) h
+help_at old venue on h form = record {
+  same = refl;
+  text_is = ap (λ (o : _). record_text o (self_help_record venue on)) form;
+}
+
+pub passed_next : {W : Type 0} (writing : Writing W) (old new : NormalisedVenues) (venue : ℕ)
+    (on : Bool) (from to : W) (a : Unit {0}) → venue < length old.venues.items
+    → new.venues.items ≡ old.venues.items → new.settings ≡ old.settings
+    → new.latest ≡ old.latest → new.output.page.form ≡ old.output.page.form
+    → PutsText writing from to old.output.page.page
+    (record_text old.output.page.form (self_help_record venue on)) new.output.page.page
+    → GivesNext writing (self_help_record venue on) old new from to (Ok a)
+passed_next writing old new venue on from to a within items settings latest form puts =
+    kept_gives writing old new (self_help_record venue on) from to
+    (record_text old.output.page.form (self_help_record venue on)) within items settings latest
+    form (help_at old venue on) a puts
+
+pub passing_failed : {W : Type 0} (writing : Writing W) (old new : NormalisedVenues) (venue : ℕ)
+    (on : Bool) (from to : W) (stop : _) → venue < length old.venues.items
+    → new.venues.items ≡ old.venues.items → new.settings ≡ old.settings
+    → new.latest ≡ old.latest → new.output.page.form ≡ old.output.page.form
+    → Wrote writing.adds from old.output.page.page to
+    → writing.failures to ≡ writing.failures from + 1
+    → GivesNext {A = Unit {0}} writing (self_help_record venue on) old new from to
+    (Err (Sink stop))
+passing_failed writing old new venue on from to stop within items settings latest form part failed =
+    kept_fails writing old new (self_help_record venue on) from to
+    (record_text old.output.page.form (self_help_record venue on)) within items settings latest
+    form (help_at old venue on) stop
+    (wrote_longer writing.adds from to old.output.page.page
+    (record_text old.output.page.form (self_help_record venue on)) part) failed
+
+-- a datagram that is no packet
+pub bad_taken : {W : Type 0} (writing : Writing W) → ((s : W) → writing.adds s [] s)
+    → (old new : NormalisedVenues) (venue : ℕ) (line : LineId) (bytes : List ℕ)
+    (fault : PacketFault) (w : W) (a : Unit {0}) → venue < length old.venues.items
+    → HasFault bytes fault → IsNoted old new
+    → GivesNext writing (datagram_record venue line bytes) old new w w (Ok a)
+bad_taken writing adds_none old new venue line bytes fault w a within has noted =
+    next_noted writing (datagram_record venue line bytes) old old new w w a a noted
+    (kept_gives writing old old (datagram_record venue line bytes) w w [] within refl refl refl
+    refl
+    (λ h form. inl (record { fault = fault; has = has; leaves = record { same = refl; none = refl } }))
+    a (puts_nothing writing adds_none w old.output.page.page))
+
+-- a skip by the rule for gaps
+pub gaps_may : {old run : NormalisedVenues} (number : ℕ) (r : TimedRecord) (venue : ℕ)
+    → old.settings.skips ≡ Gaps → IsSameRun old run → venue ≡ record_venue r.what
+    → MayPutIn run.settings r (skip_record venue number)
+gaps_may {old = old} {run = run} number r venue rule same is =
+    rw (ap (λ (feed : NormalisedFeed). feed.skips) same.settings ∙ rule) is
+
+-- a stop of what is put in is one of the record
+pub stop_first : {W A B : Type 0} (writing : Writing W) (r : TimedRecord)
+    (old new : NormalisedVenues) (from to : W) (stop : VenueStop)
+    → PutsInFirst {A = A} writing r old new from to (Err stop)
+    → TakesToo {A = B} writing r old new from to (Err stop)
+stop_first {A = A} {B = B} writing r old new from to stop x = λ at f.
+    stop_runs {A = A} {B = B} writing old.settings (r ∷ []) at (λ l. l ≡ r ∷ []) (λ l. l ≡ [])
+    (FollowsRun new r.time) (FollowsAt new r.time) from to old.output.page.page
+    new.output.page.page stop (x at f)

@@ -313,21 +313,19 @@ impl<'a> NormalisedVenues<'a> {
     }
 
     /// Gives up the gaps of a venue before a packet, until the packet lies within the window.
-    fn make_room<W: TextOut>(
+    fn give_up_ahead<W: TextOut>(
         &mut self,
         venue: VenueId,
         packet: &Packet<'_>,
         writer: &mut W,
     ) -> Result<(), VenueStop>
-        requires { venue < length self.old.venues.items }
-        ensures puts_in { (r : TimedRecord) → record_venue r.what ≡ venue
+        requires venue { venue < length self.old.venues.items }
+        requires rule { self.old.settings.skips ≡ SkipRule.Gaps }
+        ensures puts_in { (r : TimedRecord) → venue ≡ record_venue r.what
             → PutsInFirst (record { adds = W.adds; failures = W.failures }) r self.old self.new
             writer.old writer.new result }
         ensures same { IsSameRun self.old self.new }
     {
-        if self.settings.skips != SkipRule::Gaps {
-            return Ok(());
-        }
         for _ in 0..self.settings.normaliser.window {
             let Some(number) = self.venues[venue.index()].gap_before(packet) else {
                 return Ok(());
@@ -335,6 +333,25 @@ impl<'a> NormalisedVenues<'a> {
             self.give_up(venue, number, writer)?;
         }
         Ok(())
+    }
+
+    /// Does so by the rule for gaps.
+    fn make_room<W: TextOut>(
+        &mut self,
+        venue: VenueId,
+        packet: &Packet<'_>,
+        writer: &mut W,
+    ) -> Result<(), VenueStop>
+        requires { venue < length self.old.venues.items }
+        ensures puts_in { (r : TimedRecord) → venue ≡ record_venue r.what
+            → PutsInFirst (record { adds = W.adds; failures = W.failures }) r self.old self.new
+            writer.old writer.new result }
+        ensures same { IsSameRun self.old self.new }
+    {
+        match self.settings.skips {
+            SkipRule::Gaps => self.give_up_ahead(venue, packet, writer),
+            SkipRule::Never | SkipRule::Join | SkipRule::After(_) => Ok(()),
+        }
     }
 
     /// Returns whether the next session at a place of the list has begun.

@@ -36,7 +36,7 @@ returns-in_err-write_ready-in-Ok-clause-skips g c =
     c.args.output.now.page.page c.write_ready-in-Ok.new.output.page.page
     (skip_at feed c.args.time place c.args.number h c.args.self.now.normaliser _ follows
     (rw c.in-Ok.is at (said.answer _ follows.fits)))
-    (Err c.in_err-write_ready-in-Ok.e) tt
+    (Err c.in_err-write_ready-in-Ok.field-0.0) tt
     (c.in_err-write_ready-in-Ok.ensures.stopped _ _ (omega arith) (given_row w)))
 
 pub returns-in_ok-write_ready-in-Ok-clause-skips : goal.returns-in_ok-write_ready-in-Ok-clause-skips
