@@ -30,7 +30,7 @@ use Rattle.normalising.specs.Sendings.{Sending, packet_sent, record_sent, SendsS
 use Rattle.normalising.specs.Texts.{datagram_text, record_text}
 use Rattle.normalising.specs.declared.normalised_feed.NormalisedFeed.{NormalisedFeed}
 use Rattle.normalising.proofs.Packing.{all_append}
-use Rattle.normalising.proofs.Venue.{after_begun, after_given, same_names}
+use Rattle.normalising.proofs.Venue.{after_begun, after_given, nothing_put_out, same_names}
 use Rattle.normalising.proofs.Venues.{get_set_other, get_set_same, same_or_not}
 
 -- ---- packets of a session
@@ -266,13 +266,6 @@ sends_more feed time place given old h after text p is s =
         none_earlier bs apart.1)
 
 -- ---- a record
-
-nothing_put_out : (keys : List ℕ) → IsPutOut keys [] []
-nothing_put_out keys = record {
-  items = [];
-  made = record { count = refl; each = λ k d lt. absurd (omega (arith, lt)) };
-  is = refl;
-}
 
 -- a session more, of which nothing is sent
 apart_from : (names : List (List ℕ)) (name : List ℕ) → (Contains names name → ⊥)

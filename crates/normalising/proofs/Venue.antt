@@ -22,10 +22,10 @@ use Rattle.text_out.specs.Devices.{Writing, Wrote}
 use Rattle.venue_normaliser.specs.declared.end_number.EndNumber.{EndNumber}
 use Rattle.venue_normaliser.specs.Ends.{read_as}
 use Rattle.venue_normaliser.specs.Outputs.{IsPutOut}
-use Rattle.venue_normaliser.specs.States.{FitsPackets, KeepsItsBook, NormaliserState, PutsOut}
+use Rattle.venue_normaliser.specs.States.{FitsPackets, IsNewNormaliser, KeepsItsBook, NormaliserState, PutsOut}
 use Rattle.normalising.specs.Carried.{AreWritten, RunsFrom}
 use Rattle.normalising.specs.Keeping.{FailedAtVenue, FollowsVenue, TakesAtVenue, TookAtVenue}
-use Rattle.normalising.specs.Normalised.{NormalisedHistory, NormalisesAt, NormalisesRenewal, PutsOutMore, RenewsBy, inputs_of, quoted_keys}
+use Rattle.normalising.specs.Normalised.{NormalisedHistory, NormalisesAt, NormalisesRenewal, PutsOutMore, RenewsBy, inputs_of, new_normalised, quoted_keys}
 use Rattle.normalising.specs.Texts.{datagram_text, record_text}
 use Rattle.normalising.specs.Writes.{PutsFront, PutsPackets, PutsText, StopsPut, origin_of, text_of}
 use Rattle.normalising.specs.declared.normalised_feed.NormalisedFeed.{NormalisedFeed}
@@ -390,3 +390,29 @@ module _ {W A : Type 0} (writing : Writing W) (feed : NormalisedFeed) (time plac
         (record_text form (renewal_record place name)) part;
     failed = failed;
   }
+
+-- ---- a new venue
+
+pub nothing_put_out : (keys : List ℕ) → IsPutOut keys [] []
+nothing_put_out keys = record {
+  items = [];
+  made = record { count = refl; each = λ k d lt. absurd (omega (arith, lt)) };
+  is = refl;
+}
+
+pub new_follows : (feed : NormalisedFeed) (place : ℕ) (name : List ℕ) (n m : NormaliserState)
+    → FitsPackets n []
+    → IsNewNormaliser n place name (quoted_keys feed) feed.normaliser.window
+    feed.normaliser.end_number → m ≡ n → FollowsVenue feed place m (new_normalised name)
+new_follows feed place name n m fits made same =
+    subst (λ (k : NormaliserState). FollowsVenue feed place k (new_normalised name)) (sym same)
+    (record {
+      fits = fits;
+      put_out = nothing_put_out (quoted_keys feed);
+      venue = made.lines.venue;
+      session = made.lines.begun.session;
+      sessions = made.lines.sessions;
+      window = made.lines.window;
+      keys = made.keys;
+      end_number = made.end_number;
+    })

@@ -352,12 +352,14 @@ impl NormalisedVenue {
             output.old.page.page output.new.page.page result }
         ensures form { output.new.page.form ≡ output.old.page.form }
     {
-        if self.normaliser.renew(alloc, session)?.is_err() {
-            return Ok(false);
+        match self.normaliser.renew(alloc, session)? {
+            Err(_) => Ok(false),
+            Ok(_) => {
+                self.told = 0;
+                self.standing = None;
+                output.put_renewal(self.normaliser.venue(), &session, writer)?;
+                Ok(true)
+            }
         }
-        self.told = 0;
-        self.standing = None;
-        output.put_renewal(self.normaliser.venue(), &session, writer)?;
-        Ok(true)
     }
 }
