@@ -624,3 +624,35 @@ stop_first {A = A} {B = B} writing r old new from to stop x = λ at f.
     stop_runs {A = A} {B = B} writing old.settings (r ∷ []) at (λ l. l ≡ r ∷ []) (λ l. l ≡ [])
     (FollowsRun new r.time) (FollowsAt new r.time) from to old.output.page.page
     new.output.page.page stop (x at f)
+
+-- the latest time is that of a record, and the run follows the same point
+pub follows_later : (old new : NormalisedVenues) (time : Option ℕ) (at : NormalisedPoint)
+    → new.venues ≡ old.venues → new.settings ≡ old.settings → new.output ≡ old.output
+    → new.latest ≡ time_after old.latest time → FollowsRun old None at → FollowsRun new time at
+follows_later old new time at venues settings output latest f = record {
+  venues = subst (λ (feed : NormalisedFeed). FollowHistories feed new.venues.items at.venues)
+      (sym settings)
+      (subst (λ (vs : _). FollowHistories old.settings vs.items at.venues) (sym venues) f.venues);
+  latest = latest ∙ ap (λ (l : ℕ). time_after l time) f.latest;
+  form = ap (λ (o : _). o.page.form) output ∙ f.form
+      ∙ ap (λ (feed : NormalisedFeed). feed.form) (sym settings);
+}
+
+-- a record was taken at its time, and the run follows the point after it
+pub timed_taken : {W A : Type 0} (writing : Writing W) (r : TimedRecord)
+    (old start new : NormalisedVenues) (from to : W) (result : Result A VenueStop)
+    → start.venues ≡ old.venues → start.settings ≡ old.settings → start.output ≡ old.output
+    → start.latest ≡ time_after old.latest r.time
+    → TakesToo writing r start new from to result
+    → (at : NormalisedPoint) → FollowsRun old None at
+    → RunsOn writing old.settings (r ∷ []) at (λ l. l ≡ []) (FollowsRun new None) from to
+    old.output.page.page new.output.page.page result
+timed_taken writing r old start new from to result venues settings output latest takes at f =
+    subst (λ (feed : NormalisedFeed). RunsOn writing feed (r ∷ []) at (λ l. l ≡ [])
+    (FollowsRun new None) from to old.output.page.page new.output.page.page result) settings
+    (subst (λ (o : _). RunsOn writing start.settings (r ∷ []) at (λ l. l ≡ [])
+    (FollowsRun new None) from to o.page.page new.output.page.page result) output
+    (runs_weaker writing start.settings (r ∷ []) at (λ l. l ≡ []) (FollowsAt new r.time)
+    (FollowsRun new None) from to start.output.page.page new.output.page.page
+    (λ p x. record { venues = x.0.venues; latest = sym x.1; form = x.0.form }) result
+    (takes at (follows_later old start r.time at venues settings output latest f))))
