@@ -656,3 +656,22 @@ timed_taken writing r old start new from to result venues settings output latest
     (FollowsRun new None) from to start.output.page.page new.output.page.page
     (λ p x. record { venues = x.0.venues; latest = sym x.1; form = x.0.form }) result
     (takes at (follows_later old start r.time at venues settings output latest f))))
+
+-- a note beside the venues
+pub noted_beside : (old new : NormalisedVenues) → new.venues ≡ old.venues
+    → new.settings ≡ old.settings → new.latest ≡ old.latest → new.output ≡ old.output
+    → IsNoted old new
+noted_beside old new venues settings latest output = record {
+  same = record { settings = settings; count = ap (λ (vs : _). length vs.items) venues };
+  latest = latest;
+  output = output;
+  follows = λ time at f. record {
+    venues = subst (λ (feed : NormalisedFeed). FollowHistories feed new.venues.items at.venues)
+        (sym settings)
+        (subst (λ (vs : _). FollowHistories old.settings vs.items at.venues) (sym venues)
+        f.venues);
+    latest = latest ∙ f.latest;
+    form = ap (λ (o : _). o.page.form) output ∙ f.form
+        ∙ ap (λ (feed : NormalisedFeed). feed.form) (sym settings);
+  };
+}
