@@ -8,6 +8,7 @@ use Rattle.std.proofs.lemmas.List.{map-append}
 use Rattle.std.proofs.lemmas.List.Concat.{flat_map-append}
 use Rattle.std.proofs.lemmas.List.Elements.{All-contains_itself, Contains-append_left, Contains-push, recursion_from_All}
 use Rattle.feed_types.specs.declared.item.Numbered.{Numbered}
+use Rattle.feed_types.specs.declared.line.LineId.{LineId}
 use Rattle.line_arbiter.specs.Answered.{AreAnswered, AreAnsweredAfter, IsAnswered}
 use Rattle.line_arbiter.specs.Histories.{Begun, History, all_begun, names_of, new_history, new_session}
 use Rattle.line_arbiter.specs.declared.faults.RenewFault.{RenewFault}
@@ -364,7 +365,7 @@ read_content Last p c = by_test ((is_end p.kind) && nat_lt p.number 184467440737
         less_of : (n : ℕ) → nat_lt n 18446744073709551615 ≡ true → n < 18446744073709551615
         less_of n e = ltb-true n 18446744073709551615 e
 
-step_packet : (feed : NormalisedFeed) (time place : ℕ) (line : _) (bytes text : List ℕ)
+step_packet : (feed : NormalisedFeed) (time place : ℕ) (line : LineId) (bytes text : List ℕ)
     (old : List Sending) (h after : NormalisedHistory)
     → NormalisesPacket feed time place line bytes h [] text after → SendsVenue feed place old h
     → StepSends feed place text old after

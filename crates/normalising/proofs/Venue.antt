@@ -1,5 +1,5 @@
 -- What a venue takes.
-use Rattle.std.proofs.Common.{◌≡◌, ℕ, ◌+◌, ◌≤◌, List, [], ◌∷◌, ◌++◌, length, map, refl, sym, ap, ap₂, subst, ◌∙◌, inl, inr, arith, append-nil, Result, Ok, Err, IfErr, OnOk}
+use Rattle.std.proofs.Common.{◌≡◌, ℕ, ◌+◌, ◌≤◌, List, [], ◌∷◌, ◌++◌, length, map, refl, sym, ap, ap₂, subst, ◌∙◌, inl, inr, arith, append-nil, Option, Result, Ok, Err, IfErr, OnOk}
 use Rattle.std.specs.Prelude.{flat_map}
 use Rattle.std.proofs.lemmas.List.{map-append}
 use Rattle.feed_types.specs.declared.item.Numbered.{Numbered}
@@ -18,6 +18,7 @@ use Rattle.line_arbiter.specs.Renewals.{IsRenewal}
 use Rattle.line_arbiter.specs.Skips.{IsSkip}
 use Rattle.line_arbiter.specs.States.{IsRenewed, KeepsItsSession}
 use Rattle.capture_records.specs.Capture.{CaptureRecord, datagram_record, renewal_record, skip_record}
+use Rattle.event_sinks.specs.declared.event_sink.SinkStop.{SinkStop}
 use Rattle.text_out.specs.Devices.{Writing, Wrote}
 use Rattle.venue_normaliser.specs.declared.end_number.EndNumber.{EndNumber}
 use Rattle.venue_normaliser.specs.Ends.{read_as}
@@ -311,7 +312,7 @@ renewal_is feed place name h before answer text after f is does = record {
   answer = answer;
   is = subst (λ (names : List (List ℕ)). IsRenewal names (end_of (inputs_of h)) before.lines.sent
       name answer) f.sessions
-      (subst (λ (e : _). IsRenewal before.lines.sessions e before.lines.sent name answer)
+      (subst (λ (e : Option ℕ). IsRenewal before.lines.sessions e before.lines.sent name answer)
       f.fits.lines.end is);
   does = does;
 }
@@ -376,7 +377,7 @@ module _ {W A : Type 0} (writing : Writing W) (feed : NormalisedFeed) (time plac
     };
   }
 
-  pub renewal_failed : (stop : _)
+  pub renewal_failed : (stop : SinkStop)
       → Wrote writing.adds from waited to
       → writing.failures to ≡ writing.failures from + 1
       → TakesAtVenue {A = A} writing feed time place (renewal_record place name) h after from to

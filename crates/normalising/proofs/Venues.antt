@@ -11,9 +11,12 @@ use Rattle.feed_types.specs.declared.line.LineId.{LineId}
 use Rattle.mold_packet.specs.declared.fault.PacketFault.{PacketFault}
 use Rattle.mold_packet.specs.Faults.{HasFault}
 use Rattle.capture_records.specs.Capture.{CaptureRecord, datagram_record, record_venue, self_help_record, skip_record}
+use Rattle.event_sinks.specs.declared.event_sink.SinkStop.{SinkStop}
+use Rattle.itch_book.specs.declared.fault.BookFault.{BookFault}
 use Rattle.capture_records.specs.Formats.{TimedRecord, timed_record}
 use Rattle.run_settings.specs.declared.skip_rule.SkipRule.TheVariants.{Gaps}
 use Rattle.text_out.specs.Devices.{Writing, Wrote}
+use Rattle.venue_normaliser.specs.States.{NormaliserState}
 use Rattle.normalising.specs.Keeping.{FailedAtVenue, FollowHistories, FollowsAt, FollowsRun, FollowsVenue, GivesNext, IsNoted, IsSameRun, PutsInFirst, RunsOn, TakesAtVenue, TakesToo, TookAtVenue, TookOf}
 use Rattle.normalising.specs.Normalised.{GoesOnWithin, IsNormalisedNext, MayPutIn, NormalisedHistory, NormalisedPoint, NormalisesAt, NormalisesRecord, new_normalised, time_after}
 use Rattle.normalising.specs.Texts.{record_text}
@@ -21,6 +24,8 @@ use Rattle.normalising.specs.Writes.{PutsText}
 use Rattle.normalising.specs.declared.normalised_feed.NormalisedFeed.{NormalisedFeed}
 use Rattle.normalising.specs.declared.normalised_venue.NormalisedVenue.{NormalisedVenue}
 use Rattle.normalising.specs.declared.normalised_venues.NormalisedVenues.{NormalisedVenues}
+use Rattle.normalising.specs.declared.output_form.OutputForm.{OutputForm}
+use Rattle.normalising.specs.declared.output_packets.OutputPackets.{OutputPackets}
 use Rattle.normalising.specs.declared.venue_stop.VenueStop.{VenueStop}
 use Rattle.normalising.specs.declared.venue_stop.VenueStop.TheVariants.{Book, Sink}
 use Rattle.normalising.proofs.Steps.{all_none, all_one, runs_then}
@@ -29,13 +34,13 @@ use Rattle.normalising.proofs.Venue.{puts_nothing}
 
 -- ---- places of a list
 
-get_set_same : {X : Type 0} (xs : List X) (i : ℕ) (x y : X)
+pub get_set_same : {X : Type 0} (xs : List X) (i : ℕ) (x y : X)
     → slice_get (slice_set xs i x) i ≡ Some y → y ≡ x
 get_set_same [] i x y e = absurd cc
 get_set_same (z ∷ xs) zero x y e = cc
 get_set_same (z ∷ xs) (suc i) x y e = get_set_same xs i x y e
 
-get_set_other : {X : Type 0} (xs : List X) (i j : ℕ) (x : X) → j ≢ i
+pub get_set_other : {X : Type 0} (xs : List X) (i j : ℕ) (x : X) → j ≢ i
     → slice_get (slice_set xs i x) j ≡ slice_get xs j
 get_set_other [] i j x h = refl
 get_set_other (z ∷ xs) zero zero x h = absurd (h refl)
@@ -43,7 +48,7 @@ get_set_other (z ∷ xs) zero (suc j) x h = refl
 get_set_other (z ∷ xs) (suc i) zero x h = refl
 get_set_other (z ∷ xs) (suc i) (suc j) x h = get_set_other xs i j x (λ e. h (omega arith))
 
-same_or_not : (j i : ℕ) → (j ≡ i) ⊎ (j ≢ i)
+pub same_or_not : (j i : ℕ) → (j ≡ i) ⊎ (j ≢ i)
 same_or_not zero zero = inl refl
 same_or_not zero (suc i) = inr (λ e. absurd (omega arith))
 same_or_not (suc j) zero = inr (λ e. absurd (omega arith))
@@ -98,7 +103,7 @@ follow_same feed vs hs i v w f at same =
     subst (λ (ks : List NormalisedHistory). FollowHistories feed (slice_set vs i w) ks)
     (same_set hs i h.0 h.1)
     (follow_set feed i vs hs w h.0 f
-    (subst (λ (n : _). FollowsVenue feed i n h.0) (sym same) h.2))
+    (subst (λ (n : NormaliserState). FollowsVenue feed i n h.0) (sym same) h.2))
 
 slice_get_push : {X : Type 0} (xs : List X) (y : X) (i : ℕ) (x : X)
     → slice_get (xs ++ y ∷ []) i ≡ Some x → (slice_get xs i ≡ Some x) ⊎ ((i ≡ length xs) × (x ≡ y))
@@ -158,7 +163,7 @@ pub time_again : (latest : ℕ) (time : Option ℕ)
 time_again latest None = refl
 time_again latest (Some time) = by_test (nat_lt time 4294967296000000000)
   where
-    by_test : (b : _) → (if b then time else (if b then time else latest))
+    by_test : (b : Bool) → (if b then time else (if b then time else latest))
         ≡ (if b then time else latest)
     by_test true = refl
     by_test false = refl
@@ -279,7 +284,7 @@ answer_runs writing feed records at IsLeft IsAfter from to waited waits a b x = 
 pub book_runs : {W A B : Type 0} (writing : Writing W) (feed : NormalisedFeed)
     (records : List TimedRecord) (at : NormalisedPoint)
     (IsLeft IsOther : List TimedRecord → Type 0) (IsMid IsAfter : NormalisedPoint → Type 0)
-    (from to : W) (waited waits : List ℕ) (a : A) (fault : _)
+    (from to : W) (waited waits : List ℕ) (a : A) (fault : BookFault)
     → RunsOn {A = A} writing feed records at IsLeft IsMid from to waited waits (Ok a)
     → RunsOn {A = B} writing feed records at IsOther IsAfter from to waited waits
     (Err (Book fault))
@@ -406,7 +411,7 @@ pub first_noted : {W A B : Type 0} (writing : Writing W) (r : TimedRecord)
     (old mid new : NormalisedVenues) (from to : W) (a : A) (b : B) → IsNoted mid new
     → PutsInFirst writing r old mid from to (Ok a) → PutsInFirst writing r old new from to (Ok b)
 first_noted {A = A} {B = B} writing r old mid new from to a b noted x = λ at f.
-    subst (λ (o : _). RunsOn {A = B} writing old.settings (r ∷ []) at (λ l. l ≡ r ∷ [])
+    subst (λ (o : OutputPackets). RunsOn {A = B} writing old.settings (r ∷ []) at (λ l. l ≡ r ∷ [])
     (FollowsRun new r.time) from to old.output.page.page o.page.page (Ok b)) (sym noted.output)
     (runs_weaker writing old.settings (r ∷ []) at (λ l. l ≡ r ∷ []) (FollowsRun mid r.time)
     (FollowsRun new r.time) from to old.output.page.page mid.output.page.page
@@ -418,7 +423,7 @@ pub next_noted : {W A B : Type 0} (writing : Writing W) (r : CaptureRecord)
     → GivesNext writing r old mid from to (Ok a) → GivesNext writing r old new from to (Ok b)
 next_noted {A = A} {B = B} writing r old mid new from to a b noted x =
     λ t records left at f is next.
-    subst (λ (o : _). RunsOn {A = B} writing old.settings records at (λ l. l ≡ left)
+    subst (λ (o : OutputPackets). RunsOn {A = B} writing old.settings records at (λ l. l ≡ left)
     (FollowsAt new t.time) from to old.output.page.page o.page.page (Ok b)) (sym noted.output)
     (runs_weaker writing old.settings records at (λ l. l ≡ left) (FollowsAt mid t.time)
     (FollowsAt new t.time) from to old.output.page.page mid.output.page.page
@@ -427,12 +432,12 @@ next_noted {A = A} {B = B} writing r old mid new from to a b noted x =
 
 -- a note that has no memory after a record that was given
 pub next_unnoted : {W A B : Type 0} (writing : Writing W) (r : CaptureRecord)
-    (old mid new : NormalisedVenues) (from to : W) (a : A) (fault : _) → IsNoted mid new
+    (old mid new : NormalisedVenues) (from to : W) (a : A) (fault : BookFault) → IsNoted mid new
     → GivesNext writing r old mid from to (Ok a)
     → GivesNext {A = B} writing r old new from to (Err (Book fault))
 next_unnoted {A = A} {B = B} writing r old mid new from to a fault noted x =
     λ t records left at f is next.
-    subst (λ (o : _). RunsOn {A = B} writing old.settings records at (λ l. l ≡ left)
+    subst (λ (o : OutputPackets). RunsOn {A = B} writing old.settings records at (λ l. l ≡ left)
     (FollowsAt new t.time) from to old.output.page.page o.page.page (Err (Book fault)))
     (sym noted.output)
     (book_runs writing old.settings records at (λ l. l ≡ left) (λ l. l ≡ left)
@@ -444,7 +449,7 @@ pub too_noted : {W A B : Type 0} (writing : Writing W) (r : TimedRecord)
     (old mid new : NormalisedVenues) (from to : W) (a : A) (b : B) → IsNoted mid new
     → TakesToo writing r old mid from to (Ok a) → TakesToo writing r old new from to (Ok b)
 too_noted {A = A} {B = B} writing r old mid new from to a b noted x = λ at f.
-    subst (λ (o : _). RunsOn {A = B} writing old.settings (r ∷ []) at (λ l. l ≡ [])
+    subst (λ (o : OutputPackets). RunsOn {A = B} writing old.settings (r ∷ []) at (λ l. l ≡ [])
     (FollowsAt new r.time) from to old.output.page.page o.page.page (Ok b)) (sym noted.output)
     (runs_weaker writing old.settings (r ∷ []) at (λ l. l ≡ []) (FollowsAt mid r.time)
     (FollowsAt new r.time) from to old.output.page.page mid.output.page.page
@@ -478,7 +483,7 @@ noted_at old new place v w here set settings latest output same = record {
         (sym set) (follow_same old.settings old.venues.items at.venues place v w f.venues here
         same));
     latest = latest ∙ f.latest;
-    form = ap (λ (o : _). o.page.form) output ∙ f.form
+    form = ap (λ (o : OutputPackets). o.page.form) output ∙ f.form
         ∙ ap (λ (feed : NormalisedFeed). feed.form) (sym settings);
   };
 }
@@ -541,7 +546,7 @@ module _ {W : Type 0} (writing : Writing W) (old new : NormalisedVenues)
         puts = puts;
       }
 
-  pub kept_fails : {A : Type 0} (stop : _)
+  pub kept_fails : {A : Type 0} (stop : SinkStop)
       → Wrote writing.adds from (old.output.page.page ++ text) to
       → writing.failures to ≡ writing.failures from + 1
       → GivesNext {A = A} writing r old new from to (Err (Sink stop))
@@ -565,7 +570,7 @@ help_at : (old : NormalisedVenues) (venue : ℕ) (on : Bool) (h : NormalisedHist
     (record_text old.output.page.form (self_help_record venue on)) h
 help_at old venue on h form = record {
   same = refl;
-  text_is = ap (λ (o : _). record_text o (self_help_record venue on)) form;
+  text_is = ap (λ (o : OutputForm). record_text o (self_help_record venue on)) form;
 }
 
 pub passed_next : {W : Type 0} (writing : Writing W) (old new : NormalisedVenues) (venue : ℕ)
@@ -581,7 +586,7 @@ passed_next writing old new venue on from to a within items settings latest form
     form (help_at old venue on) a puts
 
 pub passing_failed : {W : Type 0} (writing : Writing W) (old new : NormalisedVenues) (venue : ℕ)
-    (on : Bool) (from to : W) (stop : _) → venue < length old.venues.items
+    (on : Bool) (from to : W) (stop : SinkStop) → venue < length old.venues.items
     → new.venues.items ≡ old.venues.items → new.settings ≡ old.settings
     → new.latest ≡ old.latest → new.output.page.form ≡ old.output.page.form
     → Wrote writing.adds from old.output.page.page to
@@ -627,21 +632,22 @@ stop_first {A = A} {B = B} writing r old new from to stop x = λ at f.
 
 -- the latest time is that of a record, and the run follows the same point
 pub follows_later : (old new : NormalisedVenues) (time : Option ℕ) (at : NormalisedPoint)
-    → new.venues ≡ old.venues → new.settings ≡ old.settings → new.output ≡ old.output
+    → new.venues.items ≡ old.venues.items → new.settings ≡ old.settings → new.output ≡ old.output
     → new.latest ≡ time_after old.latest time → FollowsRun old None at → FollowsRun new time at
 follows_later old new time at venues settings output latest f = record {
   venues = subst (λ (feed : NormalisedFeed). FollowHistories feed new.venues.items at.venues)
       (sym settings)
-      (subst (λ (vs : _). FollowHistories old.settings vs.items at.venues) (sym venues) f.venues);
+      (subst (λ (vs : List NormalisedVenue). FollowHistories old.settings vs at.venues)
+      (sym venues) f.venues);
   latest = latest ∙ ap (λ (l : ℕ). time_after l time) f.latest;
-  form = ap (λ (o : _). o.page.form) output ∙ f.form
+  form = ap (λ (o : OutputPackets). o.page.form) output ∙ f.form
       ∙ ap (λ (feed : NormalisedFeed). feed.form) (sym settings);
 }
 
 -- a record was taken at its time, and the run follows the point after it
 pub timed_taken : {W A : Type 0} (writing : Writing W) (r : TimedRecord)
     (old start new : NormalisedVenues) (from to : W) (result : Result A VenueStop)
-    → start.venues ≡ old.venues → start.settings ≡ old.settings → start.output ≡ old.output
+    → start.venues.items ≡ old.venues.items → start.settings ≡ old.settings → start.output ≡ old.output
     → start.latest ≡ time_after old.latest r.time
     → TakesToo writing r start new from to result
     → (at : NormalisedPoint) → FollowsRun old None at
@@ -650,7 +656,7 @@ pub timed_taken : {W A : Type 0} (writing : Writing W) (r : TimedRecord)
 timed_taken writing r old start new from to result venues settings output latest takes at f =
     subst (λ (feed : NormalisedFeed). RunsOn writing feed (r ∷ []) at (λ l. l ≡ [])
     (FollowsRun new None) from to old.output.page.page new.output.page.page result) settings
-    (subst (λ (o : _). RunsOn writing start.settings (r ∷ []) at (λ l. l ≡ [])
+    (subst (λ (o : OutputPackets). RunsOn writing start.settings (r ∷ []) at (λ l. l ≡ [])
     (FollowsRun new None) from to o.page.page new.output.page.page result) output
     (runs_weaker writing start.settings (r ∷ []) at (λ l. l ≡ []) (FollowsAt new r.time)
     (FollowsRun new None) from to start.output.page.page new.output.page.page
@@ -658,20 +664,20 @@ timed_taken writing r old start new from to result venues settings output latest
     (takes at (follows_later old start r.time at venues settings output latest f))))
 
 -- a note beside the venues
-pub noted_beside : (old new : NormalisedVenues) → new.venues ≡ old.venues
+pub noted_beside : (old new : NormalisedVenues) → new.venues.items ≡ old.venues.items
     → new.settings ≡ old.settings → new.latest ≡ old.latest → new.output ≡ old.output
     → IsNoted old new
 noted_beside old new venues settings latest output = record {
-  same = record { settings = settings; count = ap (λ (vs : _). length vs.items) venues };
+  same = record { settings = settings; count = ap length venues };
   latest = latest;
   output = output;
   follows = λ time at f. record {
     venues = subst (λ (feed : NormalisedFeed). FollowHistories feed new.venues.items at.venues)
         (sym settings)
-        (subst (λ (vs : _). FollowHistories old.settings vs.items at.venues) (sym venues)
-        f.venues);
+        (subst (λ (vs : List NormalisedVenue). FollowHistories old.settings vs at.venues)
+        (sym venues) f.venues);
     latest = latest ∙ f.latest;
-    form = ap (λ (o : _). o.page.form) output ∙ f.form
+    form = ap (λ (o : OutputPackets). o.page.form) output ∙ f.form
         ∙ ap (λ (feed : NormalisedFeed). feed.form) (sym settings);
   };
 }
