@@ -1,7 +1,7 @@
 //! The payload that messages look like.
 ghost use Rattle.std.specs.Prelude.{◌≡◌, ◌||◌, ℕ, List};
 ghost use Rattle.std.specs.List.{list_any};
-ghost use Rattle.message_forms.specs.Payloads.{is_itch, is_own, look_with};
+ghost use Rattle.message_forms.specs.Payloads.{is_itch, is_look_own, is_own, look_with};
 ghost use Rattle.message_forms.specs.Datagrams.{HasMessages};
 
 use crate::forms::{is_itch, is_own};
@@ -16,6 +16,16 @@ pub enum Payload {
     Itch,
     /// A message has one of the three forms of this project's own messages.
     Own,
+}
+
+impl Payload {
+    /// Returns whether the messages look like this project's own, as they then do whatever follows.
+    #[inline(always)]
+    pub fn is_own(self) -> bool
+        ensures { result ≡ is_look_own self }
+    {
+        matches!(self, Payload::Own)
+    }
 }
 
 /// Returns whether a message of a packet has a form of this project's.
@@ -48,6 +58,9 @@ pub fn look_with(before: Payload, packet: &Packet<'_>) -> Payload
 
 /// Returns what messages look like that go on with those of a datagram, where the ones before look
 /// like this. A datagram that is no packet has none.
+// Once a message of this project's own came it need not be called: it isn't part of a usual replay.
+#[cold]
+#[inline(never)]
 pub fn look_after(before: Payload, datagram: &[u8]) -> Payload
     ensures { (messages : List (List ℕ)) × HasMessages datagram.now messages
         × (result ≡ look_with before messages) }
