@@ -53,7 +53,8 @@ sum-set f (x ∷ slots) (suc p) s d h =
       sum-set f slots p s d (omega (arith, h)),
     )
 
-pub weight_live : (f : Order → ℕ) (s : Slot) → (s.order.shares ≡ 0 → ⊥) → slot_weight f s ≡ f s.order
+pub weight_live : (f : Order → ℕ) (s : Slot) → (s.order.shares ≡ 0 → ⊥)
+    → slot_weight f s ≡ f s.order
 unfolding slot_weight
 weight_live f s some = ap (λ b. cond b 0 (f s.order)) (ne_eqb s.order.shares 0 some)
 
