@@ -6,10 +6,11 @@ ghost use Rattle.hub_lanes.specs.Batches.{ConsumesBatch};
 ghost use Rattle.hub_lanes.specs.Offers.{LacksSubscriber, Offers, OffersAll, OffersUpTo};
 
 use crate::journal_and_lanes::JournalAndLanes;
-use feed_steps::{Bells, FeedName, FeedTimes, Unsent};
+use feed_steps::{FeedName, Unsent};
 use feed_types::{Genuine, SubscriberId, VenueId};
 use filter_terms::Filter;
 use journal_book::{JournalFault, Unfinished};
+use live_wakeups::{Bells, FeedTimes};
 use std::sync::Wait;
 
 /// The most changes that are looked at for a subscriber in one section, so that nobody waits long

@@ -6,11 +6,12 @@ ghost use Rattle.hub_lanes.specs.Hubs.{HubLockInvariant};
 ghost use Rattle.hub_lanes.specs.Sections.{Consumes, DeclaresAt, KeepsButIntake, HubOffersOne, LooksOn, KeepsButOffersTo, HubSubscribes};
 
 use crate::spare::SpareLane;
-use feed_steps::{FeedName, FeedTimes, NotedTimes, Unsent};
+use feed_steps::{FeedName, Unsent};
 use feed_types::{Genuine, Notice, Numbered, SubscriberId, VenueId};
 use fifo_lane::{Receiver, RisingNotices, Sender, VenueItems};
 use filter_terms::{Filter, Terms};
 use journal_book::{Journal, JournalFault, Unfinished};
+use live_wakeups::{FeedTimes, NotedTimes};
 use std::collections::VecDeque;
 use std::marker::{Model, PhantomData};
 use std::sync::Wait;

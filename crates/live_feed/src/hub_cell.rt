@@ -8,12 +8,13 @@ ghost use Rattle.journal_book.specs.Journals.{RefusesSubscribe};
 ghost use Rattle.hub_lanes.specs.Sections.{AddsSubscriber};
 ghost use Rattle.hub_lanes.specs.Turns.{TakesTurn};
 
-use feed_steps::{Bells, FeedName};
+use feed_steps::FeedName;
 use feed_types::{Genuine, Notice, SubscriberId};
 use fifo_lane::{Receiver, RisingNotices};
 use filter_terms::Filter;
 use hub_lanes::{Consolidated, JournalAndLanes, offer_each, take_turn};
 use journal_book::JournalFault;
+use live_wakeups::Bells;
 use std::sync::Wait;
 
 /// The journal and the lanes that meet at it, with the subscribers' filters beside them.

@@ -7,10 +7,11 @@ use crate::run::kept_lock::KeptLock;
 use crate::run::names::name_consolidator;
 use crate::run::report::Stop;
 use crate::run::signals::Signals;
-use feed_steps::{Bells, FeedName};
+use feed_steps::FeedName;
 use feed_types::{Genuine, MAX_SUBSCRIBERS, MAX_VENUES, SubscriberId, VenueId};
 use hub_lanes::Consolidated;
 use journal_book::JournalFault;
+use live_wakeups::Bells;
 use std::sync::Wait;
 use std::thread::{JoinHandle, Scope, Threads};
 

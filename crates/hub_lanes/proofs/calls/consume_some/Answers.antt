@@ -20,8 +20,9 @@ loop-count-preserved g c =
     c.consume.new.self) c.in-Ok-Some.field-0-is e.consume in (
       search rules,
       λ none. absurd (omega arith),
-      subst (λ (s : HubState). ConsumesCount c.args.venue (c.loop-count.count + 1)
-          c.args.core.now s) (sym c.note_item.ensures)
+      subst
+          (λ (s : HubState). ConsumesCount c.args.venue (c.loop-count.count + 1) c.args.core.now s)
+          (sym c.note_item.ensures)
           (one_more_item c.args.venue c.args.core.now c.loop-count.count _ c.loop-count.core
           c.consume.new.self i.2 one e.kept),
     )
