@@ -1,10 +1,6 @@
 mod Forms
 mod Packing
-mod Running
 mod Runs
-mod Sendings
 mod Sent
-mod Steps
 mod Taking
 mod Venue
-mod Venues
