@@ -88,10 +88,10 @@ puts_one writing form origin known from to old new p bytes s name beat t = recor
       (sym (append-nil (datagram_text form origin.venue origin.time bytes))) t;
 }
 
-pub written_both : (name : List ℕ) (known : ℕ) (xs ys : List Numbered) (as bs : List (List ℕ))
-    → AreWritten name known xs as → AreWritten name known ys bs
-    → AreWritten name known (xs ++ ys) (as ++ bs)
-written_both name known xs ys as bs a b = record {
+pub written_both : (name : List ℕ) (known : ℕ) (xs ys : List Numbered) (ds es : List (List ℕ))
+    → AreWritten name known xs ds → AreWritten name known ys es
+    → AreWritten name known (xs ++ ys) (ds ++ es)
+written_both name known xs ys ds es a b = record {
   packets = a.packets ++ b.packets;
   carry = record {
     each = all_append IsContent a.packets b.packets a.carry.each b.carry.each;

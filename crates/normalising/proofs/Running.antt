@@ -1,6 +1,6 @@
 -- What is known while a run goes on.
-use Rattle.std.proofs.Common.{◌≡◌, ⊤, ℕ, ◌+◌, List, [], ◌∷◌, ◌++◌, length, drop, take, map, append_assoc, append-nil, refl, sym, ap, subst, ◌∙◌, inl, Err}
-use Rattle.std.specs.Prelude.{All}
+use Rattle.std.proofs.Common.{◌≡◌, ℕ, ◌+◌, List, [], ◌∷◌, ◌++◌, length, drop, take, map, append_assoc, append-nil, refl, sym, ap, subst, ◌∙◌, inl, Err}
+use Rattle.std.specs.Prelude.{⊤, All}
 use Rattle.std.proofs.lemmas.List.{map-append}
 use Rattle.std.proofs.lemmas.List.Elements.{All-nil, All-cons, All-append}
 use Rattle.capture_records.specs.Capture.{IsRecord}
@@ -57,21 +57,21 @@ pub record Kept {R S F W : Type 0} (reading : Reading R) (parsing : Parsing S F)
   pub is_at : IsAt at
 
 module _ {R S F W : Type 0} {reading : Reading R} {parsing : Parsing S F} {writing : Writing W}
-    {feed : NormalisedFeed} (laws : Laws reading parsing writing) {from : R} {start : S} where
+    (laws : Laws reading parsing writing) {from : R} {start : S} where
   -- pieces with these records were read
-  read_more : {to : R} {calls : ℕ} {finish next : S} {rest left seen : List ℕ}
+  read_more : {venues : ℕ} {to : R} {calls : ℕ} {finish next : S} {rest left seen : List ℕ}
       (rs qs : List TimedRecord) (len : ℕ) → seen ≡ rest → left ≡ drop len rest
       → TakesPiece parsing.reads finish seen qs len next
-      → All (IsRecord (venues_normalised feed)) (map what_of qs)
-      → HasReadRecords reading parsing (venues_normalised feed) from calls to start rs finish rest
-      → HasReadRecords reading parsing (venues_normalised feed) from calls to start (rs ++ qs) next
+      → All (IsRecord venues) (map what_of qs)
+      → HasReadRecords reading parsing venues from calls to start rs finish rest
+      → HasReadRecords reading parsing venues from calls to start (rs ++ qs) next
       left
-  read_more {finish = finish} {next = next} {rest = rest} rs qs len same gone piece are x =
+  read_more {venues = venues} {finish = finish} {next = next} {rest = rest} rs qs len same gone piece are x =
       let read : parsing.reads finish rest qs next (drop len rest) =
       subst (λ (bs : List ℕ). parsing.reads finish bs qs next (drop len bs)) same piece.read in
       record {
-        each = subst (All (IsRecord (venues_normalised feed))) (sym (map-append what_of rs qs))
-            (All-append (IsRecord (venues_normalised feed)) (map what_of rs) (map what_of qs) x.each
+        each = subst (All (IsRecord venues)) (sym (map-append what_of rs qs))
+            (All-append (IsRecord venues) (map what_of rs) (map what_of qs) x.each
             are);
         bytes = x.bytes;
         given = x.given;
@@ -79,6 +79,8 @@ module _ {R S F W : Type 0} {reading : Reading R} {parsing : Parsing S F} {writi
             (drop len rest) rs qs x.read read);
       }
 
+module _ {R S F W : Type 0} {reading : Reading R} {parsing : Parsing S F} {writing : Writing W}
+    {feed : NormalisedFeed} (laws : Laws reading parsing writing) {from : R} {start : S} where
   module _ {before : W} where
     pub kept_none : (calls : ℕ) (rest waits : List ℕ) (IsAt : NormalisedPoint → Type 0)
         → calls ≡ 0 → rest ≡ [] → waits ≡ begun_text feed.form
@@ -134,7 +136,7 @@ module _ {R S F W : Type 0} {reading : Reading R} {parsing : Parsing S F} {writi
     kept_record {waits = waits} {longer = longer} {after = after} {last = last} IsNext r len same
         gone piece is x t = record {
           records = x.records ++ r ∷ [];
-          read = read_more x.records (r ∷ []) len same gone piece
+          read = read_more laws x.records (r ∷ []) len same gone piece
               (All-cons (IsRecord (venues_normalised feed)) r.what [] is
               (All-nil (IsRecord (venues_normalised feed)))) x.read;
           taken = x.taken ++ t.taken;
@@ -159,10 +161,21 @@ module _ {R S F W : Type 0} {reading : Reading R} {parsing : Parsing S F} {writi
         → Kept reading parsing writing feed from calls to start finish rest before after waits IsAt
         → Kept reading parsing writing feed from calls to start next left before after waits IsAt
     kept_passed {to = to} {calls = calls} {next = next} {left = left} len same gone piece x =
-        record x {
+        record {
+          records = x.records;
+          taken = x.taken;
+          text = x.text;
+          left = x.left;
+          at = x.at;
+          normalises = x.normalises;
+          none_left = x.none_left;
+          shown = x.shown;
+          took = x.took;
+          all = x.all;
+          is_at = x.is_at;
           read = subst (λ (rs : List TimedRecord). HasReadRecords reading parsing
               (venues_normalised feed) from calls to start rs next left) (append-nil x.records)
-              (read_more x.records [] len same gone piece
+              (read_more laws x.records [] len same gone piece
               (All-nil (IsRecord (venues_normalised feed))) x.read);
         }
 
@@ -173,7 +186,18 @@ module _ {R S F W : Type 0} {reading : Reading R} {parsing : Parsing S F} {writi
         → Kept reading parsing writing feed from calls mid start finish rest before after waits IsAt
         → Kept reading parsing writing feed from all to start finish longer before after waits IsAt
     kept_read {mid = mid} {to = to} {calls = calls} {finish = finish} {rest = rest}
-        all count m x = record x {
+        all count m x = record {
+          records = x.records;
+          taken = x.taken;
+          text = x.text;
+          left = x.left;
+          at = x.at;
+          normalises = x.normalises;
+          none_left = x.none_left;
+          shown = x.shown;
+          took = x.took;
+          all = x.all;
+          is_at = x.is_at;
           read = record {
             each = x.read.each;
             bytes = x.read.bytes ++ m.bytes;
@@ -192,7 +216,15 @@ module _ {R S F W : Type 0} {reading : Reading R} {parsing : Parsing S F} {writi
         → Kept reading parsing writing feed from calls to start finish rest before after waits IsAt
         → Kept reading parsing writing feed from calls to start finish rest before last left IsNext
     kept_written {waits = waits} {left = left} {after = after} {last = last} IsNext wrote none lead
-        x = record x {
+        x = record {
+          records = x.records;
+          read = x.read;
+          taken = x.taken;
+          text = x.text;
+          left = x.left;
+          at = x.at;
+          normalises = x.normalises;
+          none_left = x.none_left;
           shown = x.shown ++ waits;
           took = laws.adds_more before after last x.shown waits x.took wrote;
           all = x.all ∙ sym (append-nil (x.shown ++ waits))
@@ -211,7 +243,7 @@ module _ {R S F W : Type 0} {reading : Reading R} {parsing : Parsing S F} {writi
         waits IsAt) (sym e) x
 
     -- all that was read was taken and written
-    pub has_all : {mid to : R} {calls : ℕ} {finish : S} {rest waits : List ℕ} {after : W}
+    pub has_all : {mid : R} {calls : ℕ} {finish : S} {rest waits : List ℕ} {after : W}
         {IsAt : NormalisedPoint → Type 0} (IsRest : List ℕ → Type 0) (CameTo : ℕ → R → Type 0)
         → waits ≡ [] → IsRest rest → CameTo calls mid
         → Kept reading parsing writing feed from calls mid start finish rest before after waits IsAt
@@ -285,7 +317,7 @@ module _ {R S F W : Type 0} {reading : Reading R} {parsing : Parsing S F} {writi
           calls = calls;
           mid = to;
           rest = drop len rest;
-          read = read_more x.records (r ∷ []) len same refl piece
+          read = read_more laws x.records (r ∷ []) len same refl piece
               (All-cons (IsRecord (venues_normalised feed)) r.what [] is
               (All-nil (IsRecord (venues_normalised feed)))) x.read;
           is_rest = tt;
@@ -334,7 +366,7 @@ module _ {R S F W : Type 0} {reading : Reading R} {parsing : Parsing S F} {writi
         calls = calls;
         mid = to;
         rest = drop len rest;
-        read = read_more x.records (r ∷ []) len same refl piece
+        read = read_more laws x.records (r ∷ []) len same refl piece
             (All-cons (IsRecord (venues_normalised feed)) r.what [] is
             (All-nil (IsRecord (venues_normalised feed)))) x.read;
         is_rest = tt;
@@ -357,7 +389,7 @@ module _ {R S F W : Type 0} {reading : Reading R} {parsing : Parsing S F} {writi
         calls = calls;
         mid = to;
         rest = drop len rest;
-        read = read_more x.records (r ∷ []) len same refl piece
+        read = read_more laws x.records (r ∷ []) len same refl piece
             (All-cons (IsRecord (venues_normalised feed)) r.what [] is
             (All-nil (IsRecord (venues_normalised feed)))) x.read;
         is_rest = tt;
@@ -381,8 +413,9 @@ module _ {R S F W : Type 0} {reading : Reading R} {parsing : Parsing S F} {writi
       }
 
     -- why a run ends at a record
-    pub stop_answers : {A : Type 0} {to : R} {calls turns : ℕ} {finish next : S}
-        {rest seen waits longer : List ℕ} {after mid last : W} {IsAt : NormalisedPoint → Type 0}
+    pub stop_answers : {to : R} {calls : ℕ} {finish next : S}
+        {rest seen waits : List ℕ} {after : W} {IsAt : NormalisedPoint → Type 0}
+        (turns : ℕ) (longer : List ℕ) (mid last : W)
         (IsLeft : List TimedRecord → Type 0) (IsAfter : NormalisedPoint → Type 0)
         (r : TimedRecord) (len : ℕ) (stop : VenueStop) (ends : NormaliseStop F)
         (same : seen ≡ rest) (piece : TakesPiece parsing.reads finish seen (r ∷ []) len next)
@@ -390,11 +423,11 @@ module _ {R S F W : Type 0} {reading : Reading R} {parsing : Parsing S F} {writi
         (writes : writing.failures after ≡ writing.failures before)
         (x : Kept reading parsing writing feed from calls to start finish rest before after waits
         IsAt)
-        → RunsOn {A = A} writing feed (r ∷ []) x.at IsLeft IsAfter after mid waits longer (Err stop)
+        → RunsOn {A = Unit {0}} writing feed (r ∷ []) x.at IsLeft IsAfter after mid waits longer (Err stop)
         → EndsRun writing longer mid last stop ends
         → AnswersNormalising reading parsing writing feed turns from to start next before last
         (Err ends)
-    stop_answers {to = to} {turns = turns} {next = next} {last = last} IsLeft IsAfter r len
+    stop_answers {to = to} {next = next} turns longer mid last IsLeft IsAfter r len
         (Sink stop) ends same piece is writes x t e =
         subst (λ (s : NormaliseStop F). AnswersNormalising reading parsing writing feed turns from to
         start next before last (Err s)) (sym e.0)
@@ -402,15 +435,15 @@ module _ {R S F W : Type 0} {reading : Reading R} {parsing : Parsing S F} {writi
         start next before w (Err (Replay SinkFailed))) (sym e.1)
         (failed_record r len same piece is x t,
         t.failed ∙ ap (λ (n : ℕ). n + 1) writes))
-    stop_answers IsLeft IsAfter r len (Book fault) (ends.Book venue why) same piece is writes x t e =
+    stop_answers turns longer mid last IsLeft IsAfter r len (Book fault) (ends.Book venue why) same piece is writes x t e =
         stopped_record r len same piece is x t e.0
-    stop_answers {to = to} {turns = turns} {next = next} {last = last} IsLeft IsAfter r len
+    stop_answers {to = to} {next = next} turns longer mid last IsLeft IsAfter r len
         (Book fault) (Replay why) same piece is writes x t e =
         subst (λ (s : NormaliseStop F). AnswersNormalising reading parsing writing feed turns from to
         start next before last (Err s)) (sym e.0)
         (stopped_part r len same piece is x t e.1,
         e.2 ∙ ap (λ (n : ℕ). n + 1) (t.puts.kept ∙ writes))
-    stop_answers {to = to} {turns = turns} {next = next} {last = last} IsLeft IsAfter r len
+    stop_answers {to = to} {next = next} turns longer mid last IsLeft IsAfter r len
         (Book fault) (Fault why) same piece is writes x t e =
         subst (λ (s : NormaliseStop F). AnswersNormalising reading parsing writing feed turns from to
         start next before last (Err s)) (sym e.0)

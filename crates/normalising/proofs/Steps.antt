@@ -1,5 +1,6 @@
 -- What a run takes of records, step after step.
-use Rattle.std.proofs.Common.{◌≡◌, ◌⊎◌, ⊤, ℕ, ◌+◌, List, [], ◌∷◌, ◌++◌, refl, sym, ap, ap₂, subst, ◌∙◌, inl, inr, append-nil, append_assoc, Result, Ok, Err}
+use Rattle.std.proofs.Common.{◌≡◌, ◌⊎◌, ℕ, ◌+◌, List, [], ◌∷◌, ◌++◌, refl, sym, ap, ap₂, subst, ◌∙◌, inl, inr, append-nil, append_assoc, Result, Ok, Err}
+use Rattle.std.specs.Prelude.{⊤}
 use Rattle.feed_types.specs.declared.item.Numbered.{Numbered}
 use Rattle.capture_records.specs.Formats.{TimedRecord}
 use Rattle.text_out.specs.Devices.{Writing, Wrote}

@@ -1,5 +1,5 @@
 -- What the writer took, and what waits, call after call.
-use Rattle.std.proofs.Common.{◌≡◌, ℕ, zero, suc, ◌+◌, List, [], ◌∷◌, ◌++◌, length, take, min, refl, sym, ap, subst, ◌∙◌, append_assoc, append-nil, Result, Ok, Err, OnErr}
+use Rattle.std.proofs.Common.{◌≡◌, ℕ, zero, suc, ◌+◌, List, [], ◌∷◌, ◌++◌, length, take, refl, sym, ap, subst, ◌∙◌, append_assoc, append-nil, Result, Ok, Err, OnErr}
 use Rattle.std.proofs.Math.Seq.{take-append-add}
 use Rattle.text_out.specs.Devices.{Writing, Wrote}
 use Rattle.normalising.specs.Writes.{PutsText}
@@ -41,16 +41,13 @@ on_err_any (Err e) p = p
 pub wrote_longer : {W : Type 0} (adds : W → List ℕ → W → Type 0) (from to : W) (xs ys : List ℕ)
     → Wrote adds from xs to → Wrote adds from (xs ++ ys) to
 wrote_longer adds from to xs ys w = record {
-  count = min w.count (length xs);
+  count = length (take w.count xs);
   taken = subst (λ (z : List ℕ). adds from z to) (front xs w.count) w.taken;
 }
   where
-    front : (xs : List ℕ) (n : ℕ) → take n xs ≡ take (min n (length xs)) (xs ++ ys)
-    front [] n = by_zero n
-      where
-        by_zero : (n : ℕ) → take n ([] {A = ℕ}) ≡ take (min n 0) ys
-        by_zero zero = refl
-        by_zero (suc n) = refl
+    front : (xs : List ℕ) (n : ℕ) → take n xs ≡ take (length (take n xs)) (xs ++ ys)
+    front [] zero = refl
+    front [] (suc n) = refl
     front (x ∷ xs) zero = refl
     front (x ∷ xs) (suc n) = ap (λ (z : List ℕ). x ∷ z) (front xs n)
 

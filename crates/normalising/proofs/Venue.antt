@@ -37,7 +37,7 @@ use Rattle.normalising.proofs.Runs.{more_runs}
 use Rattle.normalising.proofs.Taking.{wrote_longer}
 
 -- what a venue was given is one input more of its present session
-pub after_given : NormalisedHistory → Input → List Numbered → NormalisedHistory
+abbrev pub after_given : NormalisedHistory → Input → List Numbered → NormalisedHistory
 after_given h given ready =
     record { history = after_input h.history given; output = h.output ++ ready }
 
@@ -142,13 +142,13 @@ module _ {feed : NormalisedFeed} {place : ℕ} {form : OutputForm} {h : Normalis
     given_takes (Err (Book fault)) put stopped = stopped
 
 -- a stop is one whatever the answer would be
-pub stop_takes : {W A B : Type 0} (writing : Writing W) (feed : NormalisedFeed) (time place : ℕ)
+pub stop_takes : {W : Type 0} (A B : Type 0) (writing : Writing W) (feed : NormalisedFeed) (time place : ℕ)
     (r : CaptureRecord) (h : NormalisedHistory) (n m : NormaliserState) (from to : W)
     (waited waits : List ℕ) (stop : VenueStop)
     → TakesAtVenue {A = A} writing feed time place r h n from to waited waits (Err stop)
     → TakesAtVenue {A = B} writing feed time place r h m from to waited waits (Err stop)
-stop_takes writing feed time place r h n m from to waited waits (Sink stop) x = x
-stop_takes writing feed time place r h n m from to waited waits (Book fault) x = x
+stop_takes A B writing feed time place r h n m from to waited waits (Sink stop) x = x
+stop_takes A B writing feed time place r h n m from to waited waits (Book fault) x = x
 
 -- what is put out after what was put out before
 pub ready_put_out : (keys : List ℕ) (packets later : List Input)
@@ -317,7 +317,7 @@ renewal_is feed place name h before answer text after f is does = record {
   does = does;
 }
 
-pub after_begun : NormalisedHistory → List ℕ → NormalisedHistory
+abbrev pub after_begun : NormalisedHistory → List ℕ → NormalisedHistory
 after_begun h name = record { history = after_renewal h.history name; output = [] }
 
 pub no_renewal : {W A : Type 0} (writing : Writing W) → ((s : W) → writing.adds s [] s)
@@ -338,7 +338,7 @@ no_renewal writing adds_none feed time place name h before after fault w waits d
       follows = subst (λ (n : NormaliserState). FollowsVenue feed place n h) (sym same) f;
     }
 
-module _ {W A : Type 0} (writing : Writing W) (feed : NormalisedFeed) (time place : ℕ)
+module _ {W : Type 0} (writing : Writing W) (feed : NormalisedFeed) (time place : ℕ)
     (name : List ℕ) (h : NormalisedHistory) (before after : NormaliserState) (ordinal : ℕ)
     (form : OutputForm) (from to : W) (waited waits : List ℕ)
     (f : FollowsVenue feed place before h) (form_is : form ≡ feed.form)
@@ -353,7 +353,7 @@ module _ {W A : Type 0} (writing : Writing W) (feed : NormalisedFeed) (time plac
   begins = renewal_is feed place name h before (Ok ordinal) _ (after_begun h name) f is
       (record { history = refl; output = refl; text_is = renewal_text })
 
-  pub renewal_begun : (done : A) → FitsPackets after []
+  pub renewal_begun : {A : Type 0} (done : A) → FitsPackets after []
       → IsRenewed before.lines after.lines name
       → KeepsItsBook before after → ((keys : List ℕ) → IsPutOut keys [] [])
       → PutsText writing from to waited (record_text form (renewal_record place name)) waits
@@ -377,12 +377,12 @@ module _ {W A : Type 0} (writing : Writing W) (feed : NormalisedFeed) (time plac
     };
   }
 
-  pub renewal_failed : (stop : SinkStop)
+  pub renewal_failed : (A : Type 0) (stop : SinkStop)
       → Wrote writing.adds from waited to
       → writing.failures to ≡ writing.failures from + 1
       → TakesAtVenue {A = A} writing feed time place (renewal_record place name) h after from to
       waited waits (Err (Sink stop))
-  renewal_failed stop part failed = record {
+  renewal_failed A stop part failed = record {
     after = after_begun h name;
     rest = [];
     text = record_text form (renewal_record place name);

@@ -1,6 +1,6 @@
 -- The venues of a run: one of them takes a record, and the others stay.
-use Rattle.std.proofs.Common.{◌≡◌, ◌≢◌, ◌⊎◌, ⊤, ℕ, zero, suc, ◌+◌, ◌<◌, ◌≤◌, Bool, true, false, List, [], ◌∷◌, ◌++◌, length, length-append, map, take, get_or, refl, sym, ap, subst, ◌∙◌, inl, inr, arith, Option, Some, None, Result, Ok, Err}
-use Rattle.std.specs.Prelude.{nat_lt, slice_get, slice_set, if◌then◌else◌}
+use Rattle.std.proofs.Common.{◌≡◌, ◌≢◌, ◌⊎◌, ℕ, zero, suc, ◌+◌, ◌<◌, ◌≤◌, Bool, true, false, List, [], ◌∷◌, ◌++◌, length, length-append, map, take, get_or, refl, sym, ap, subst, ◌∙◌, inl, inr, arith, Option, Some, None, Result, Ok, Err}
+use Rattle.std.specs.Prelude.{⊤, nat_lt, slice_get, slice_set, if◌then◌else◌}
 use Rattle.std.proofs.Math.ListN.{length-set}
 use Rattle.std.proofs.lemmas.List.{length-map, map-append, take_more}
 use Rattle.std.proofs.lemmas.Grind.{common_steps}
@@ -170,12 +170,12 @@ time_again latest (Some time) = by_test (nat_lt time 4294967296000000000)
 
 -- ---- one record
 
-pub point_with : NormalisedPoint → (place : ℕ) → (latest : ℕ) → NormalisedHistory
+abbrev pub point_with : NormalisedPoint → (place : ℕ) → (latest : ℕ) → NormalisedHistory
     → NormalisedPoint
 point_with at place latest after =
     record { venues = slice_set at.venues place after; latest = latest }
 
-module _ {W A : Type 0} (writing : Writing W) (adds_none : (s : W) → writing.adds s [] s)
+module _ {W : Type 0} (writing : Writing W) (adds_none : (s : W) → writing.adds s [] s)
     (feed : NormalisedFeed) (r : CaptureRecord) (t : TimedRecord) (records left : List TimedRecord)
     (at : NormalisedPoint) (time : ℕ) (v w : NormalisedVenue) (vs : List NormalisedVenue)
     (from to : W) (waited waits : List ℕ)
@@ -183,44 +183,40 @@ module _ {W A : Type 0} (writing : Writing W) (adds_none : (s : W) → writing.a
     (here : slice_get vs (record_venue r) ≡ Some v)
     (is : t.what ≡ r) (next : IsNormalisedNext feed records t left)
     (time_is : time ≡ time_after at.latest t.time) where
-  place : ℕ
-  place = record_venue r
-
-  before : NormalisedHistory
-  before = (history_at feed vs at.venues place v f here).0
-
   of_record : (rest : List Numbered) (text : List ℕ) (after : NormalisedHistory)
-      → NormalisesAt feed time r before rest text after
-      → NormalisesRecord feed t at rest text (point_with at place time after)
+      → NormalisesAt feed time r (history_at feed vs at.venues (record_venue r) v f here).0
+      rest text after
+      → NormalisesRecord feed t at rest text (point_with at (record_venue r) time after)
   of_record rest text after n =
-      let h = history_at feed vs at.venues place v f here in
+      let h = history_at feed vs at.venues (record_venue r) v f here in
       subst (λ (what : CaptureRecord). NormalisesRecord feed (record t { what = what }) at rest text
-      (point_with at place time after)) (sym is) (record {
+      (point_with at (record_venue r) time after)) (sym is) (record {
         before = h.0;
         after = after;
         at = h.1;
-        normalises = subst (λ (now : ℕ). NormalisesAt feed now r before rest text after) time_is n;
+        normalises = subst (λ (now : ℕ). NormalisesAt feed now r (history_at feed vs at.venues (record_venue r) v f here).0 rest text after) time_is n;
         venues = refl;
         latest = time_is;
       })
 
   -- a venue's record is one of the run
-  pub venue_next : (IsAfter : NormalisedPoint → Type 0) (result : Result A VenueStop)
-      → TakesAtVenue writing feed time place r before w.normaliser from to waited waits result
+  pub venue_next : {A : Type 0} (IsAfter : NormalisedPoint → Type 0) (result : Result A VenueStop)
+      → TakesAtVenue writing feed time (record_venue r) r
+      (history_at feed vs at.venues (record_venue r) v f here).0 w.normaliser from to waited waits result
       → ((after : NormalisedHistory)
-      → FollowHistories feed (slice_set vs place w) (slice_set at.venues place after)
-      → IsAfter (point_with at place time after))
+      → FollowHistories feed (slice_set vs (record_venue r) w) (slice_set at.venues (record_venue r) after)
+      → IsAfter (point_with at (record_venue r) time after))
       → RunsOn writing feed records at (λ l. l ≡ left) IsAfter from to waited waits result
   venue_next IsAfter (Ok done) took lead = record {
     taken = t ∷ [];
     text = took.text;
     left = left;
-    after = point_with at place time took.after;
-    normalises = all_one feed records at t took.text left (point_with at place time took.after)
+    after = point_with at (record_venue r) time took.after;
+    normalises = all_one feed records at t took.text left (point_with at (record_venue r) time took.after)
         next (of_record [] took.text took.after took.normalises);
     is_left = refl;
     is_after = lead took.after
-        (follow_set feed place vs at.venues w took.after f took.follows);
+        (follow_set feed (record_venue r) vs at.venues w took.after f took.follows);
     puts = took.puts;
   }
   venue_next IsAfter (Err (Sink stop)) took lead = record {
@@ -230,7 +226,7 @@ module _ {W A : Type 0} (writing : Writing W) (adds_none : (s : W) → writing.a
     after = at;
     normalises = all_none feed records at;
     more = took.text;
-    within = inr (t, left, took.rest, point_with at place time took.after, next,
+    within = inr (t, left, took.rest, point_with at (record_venue r) time took.after, next,
         of_record took.rest took.text took.after took.normalises);
     wrote = took.wrote;
     failed = took.failed;
@@ -248,47 +244,48 @@ module _ {W A : Type 0} (writing : Writing W) (adds_none : (s : W) → writing.a
 
 -- ---- calls of a run
 
-pub runs_weaker : {W A B : Type 0} (writing : Writing W) (feed : NormalisedFeed)
+pub runs_weaker : {W A : Type 0} (writing : Writing W) (feed : NormalisedFeed)
     (records : List TimedRecord) (at : NormalisedPoint) (IsLeft : List TimedRecord → Type 0)
     (IsMid IsAfter : NormalisedPoint → Type 0) (from to : W) (waited waits : List ℕ)
     → ((p : NormalisedPoint) → IsMid p → IsAfter p) → (result : Result A VenueStop)
     → RunsOn writing feed records at IsLeft IsMid from to waited waits result
     → RunsOn writing feed records at IsLeft IsAfter from to waited waits result
 runs_weaker writing feed records at IsLeft IsMid IsAfter from to waited waits lead (Ok done) x =
-    record x { is_after = lead x.after x.is_after }
+    record {
+      taken = x.taken;
+      text = x.text;
+      left = x.left;
+      after = x.after;
+      normalises = x.normalises;
+      is_left = x.is_left;
+      is_after = lead x.after x.is_after;
+      puts = x.puts;
+    }
 runs_weaker writing feed records at IsLeft IsMid IsAfter from to waited waits lead
     (Err (Sink stop)) x = x
 runs_weaker writing feed records at IsLeft IsMid IsAfter from to waited waits lead
     (Err (Book fault)) x = x
 
 -- a stop is one whatever the answer would be
-pub stop_runs : {W A B : Type 0} (writing : Writing W) (feed : NormalisedFeed)
+pub stop_runs : {W : Type 0} (A B : Type 0) (writing : Writing W) (feed : NormalisedFeed)
     (records : List TimedRecord) (at : NormalisedPoint)
     (IsLeft IsOther : List TimedRecord → Type 0) (IsMid IsAfter : NormalisedPoint → Type 0)
     (from to : W) (waited waits : List ℕ) (stop : VenueStop)
     → RunsOn {A = A} writing feed records at IsLeft IsMid from to waited waits (Err stop)
     → RunsOn {A = B} writing feed records at IsOther IsAfter from to waited waits (Err stop)
-stop_runs writing feed records at IsLeft IsOther IsMid IsAfter from to waited waits (Sink stop) x = x
-stop_runs writing feed records at IsLeft IsOther IsMid IsAfter from to waited waits (Book fault) x =
+stop_runs A B writing feed records at IsLeft IsOther IsMid IsAfter from to waited waits (Sink stop) x = x
+stop_runs A B writing feed records at IsLeft IsOther IsMid IsAfter from to waited waits (Book fault) x =
     x
 
--- an answer is one whatever it is
-pub answer_runs : {W A B : Type 0} (writing : Writing W) (feed : NormalisedFeed)
-    (records : List TimedRecord) (at : NormalisedPoint) (IsLeft : List TimedRecord → Type 0)
-    (IsAfter : NormalisedPoint → Type 0) (from to : W) (waited waits : List ℕ) (a : A) (b : B)
-    → RunsOn {A = A} writing feed records at IsLeft IsAfter from to waited waits (Ok a)
-    → RunsOn {A = B} writing feed records at IsLeft IsAfter from to waited waits (Ok b)
-answer_runs writing feed records at IsLeft IsAfter from to waited waits a b x = x
-
 -- what a book stops after something was taken
-pub book_runs : {W A B : Type 0} (writing : Writing W) (feed : NormalisedFeed)
+pub book_runs : {W A : Type 0} (B : Type 0) (writing : Writing W) (feed : NormalisedFeed)
     (records : List TimedRecord) (at : NormalisedPoint)
     (IsLeft IsOther : List TimedRecord → Type 0) (IsMid IsAfter : NormalisedPoint → Type 0)
     (from to : W) (waited waits : List ℕ) (a : A) (fault : BookFault)
     → RunsOn {A = A} writing feed records at IsLeft IsMid from to waited waits (Ok a)
     → RunsOn {A = B} writing feed records at IsOther IsAfter from to waited waits
     (Err (Book fault))
-book_runs writing feed records at IsLeft IsOther IsMid IsAfter from to waited waits a fault x =
+book_runs B writing feed records at IsLeft IsOther IsMid IsAfter from to waited waits a fault x =
     record {
       taken = x.taken;
       text = x.text;
@@ -406,6 +403,12 @@ module _ {W : Type 0} (writing : Writing W)
       (λ l. l ≡ []) (FollowsAt new r.time) between to mid.output.page.page
       new.output.page.page result) (sym one.is_left) (y one.after one.is_after)))
 
+-- an answer of what is put in is one whatever it is
+pub answer_first : {W A B : Type 0} (writing : Writing W) (r : TimedRecord)
+    (old new : NormalisedVenues) (from to : W) (a : A) (b : B)
+    → PutsInFirst writing r old new from to (Ok a) → PutsInFirst writing r old new from to (Ok b)
+answer_first writing r old new from to a b x = x
+
 -- a note after what was put in
 pub first_noted : {W A B : Type 0} (writing : Writing W) (r : TimedRecord)
     (old mid new : NormalisedVenues) (from to : W) (a : A) (b : B) → IsNoted mid new
@@ -431,16 +434,16 @@ next_noted {A = A} {B = B} writing r old mid new from to a b noted x =
     (x t records left at f is next))
 
 -- a note that has no memory after a record that was given
-pub next_unnoted : {W A B : Type 0} (writing : Writing W) (r : CaptureRecord)
+pub next_unnoted : {W A : Type 0} (B : Type 0) (writing : Writing W) (r : CaptureRecord)
     (old mid new : NormalisedVenues) (from to : W) (a : A) (fault : BookFault) → IsNoted mid new
     → GivesNext writing r old mid from to (Ok a)
     → GivesNext {A = B} writing r old new from to (Err (Book fault))
-next_unnoted {A = A} {B = B} writing r old mid new from to a fault noted x =
+next_unnoted {A = A} B writing r old mid new from to a fault noted x =
     λ t records left at f is next.
     subst (λ (o : OutputPackets). RunsOn {A = B} writing old.settings records at (λ l. l ≡ left)
     (FollowsAt new t.time) from to old.output.page.page o.page.page (Err (Book fault)))
     (sym noted.output)
-    (book_runs writing old.settings records at (λ l. l ≡ left) (λ l. l ≡ left)
+    (book_runs B writing old.settings records at (λ l. l ≡ left) (λ l. l ≡ left)
     (FollowsAt mid t.time) (FollowsAt new t.time) from to old.output.page.page
     mid.output.page.page a fault (x t records left at f is next))
 
@@ -546,11 +549,11 @@ module _ {W : Type 0} (writing : Writing W) (old new : NormalisedVenues)
         puts = puts;
       }
 
-  pub kept_fails : {A : Type 0} (stop : SinkStop)
+  pub kept_fails : (A : Type 0) (stop : SinkStop)
       → Wrote writing.adds from (old.output.page.page ++ text) to
       → writing.failures to ≡ writing.failures from + 1
       → GivesNext {A = A} writing r old new from to (Err (Sink stop))
-  kept_fails stop wrote failed = λ t records left at f is next.
+  kept_fails A stop wrote failed = λ t records left at f is next.
       let k = kept_next t at f is in
       record {
         taken = [];
@@ -596,7 +599,7 @@ pub passing_failed : {W : Type 0} (writing : Writing W) (old new : NormalisedVen
 passing_failed writing old new venue on from to stop within items settings latest form part failed =
     kept_fails writing old new (self_help_record venue on) from to
     (record_text old.output.page.form (self_help_record venue on)) within items settings latest
-    form (help_at old venue on) stop
+    form (help_at old venue on) (Unit {0}) stop
     (wrote_longer writing.adds from to old.output.page.page
     (record_text old.output.page.form (self_help_record venue on)) part) failed
 
@@ -621,12 +624,12 @@ gaps_may {old = old} {run = run} number r venue rule same is =
     rw (ap (λ (feed : NormalisedFeed). feed.skips) same.settings ∙ rule) is
 
 -- a stop of what is put in is one of the record
-pub stop_first : {W A B : Type 0} (writing : Writing W) (r : TimedRecord)
+pub stop_first : {W : Type 0} (A B : Type 0) (writing : Writing W) (r : TimedRecord)
     (old new : NormalisedVenues) (from to : W) (stop : VenueStop)
     → PutsInFirst {A = A} writing r old new from to (Err stop)
     → TakesToo {A = B} writing r old new from to (Err stop)
-stop_first {A = A} {B = B} writing r old new from to stop x = λ at f.
-    stop_runs {A = A} {B = B} writing old.settings (r ∷ []) at (λ l. l ≡ r ∷ []) (λ l. l ≡ [])
+stop_first A B writing r old new from to stop x = λ at f.
+    stop_runs A B writing old.settings (r ∷ []) at (λ l. l ≡ r ∷ []) (λ l. l ≡ [])
     (FollowsRun new r.time) (FollowsAt new r.time) from to old.output.page.page
     new.output.page.page stop (x at f)
 

@@ -1,5 +1,5 @@
 -- The results of a run over a capture.
-use Rattle.std.specs.Prelude.{◌≡◌, ¬◌, ⊤, ℕ, ◌+◌, ◌*◌, ◌≤◌, List, [], ◌++◌, length, Result, Ok, Err}
+use Rattle.std.specs.Prelude.{◌≡◌, ⊤, ℕ, ◌+◌, ◌≤◌, List, [], ◌++◌, length, Result, Ok, Err}
 use Rattle.capture_records.specs.Formats.{HasReadRecords, IsCutOff, Parsing, TimedRecord}
 use Rattle.event_sinks.specs.declared.replay_stop.ReplayStop.{ReplayStop}
 use Rattle.event_sinks.specs.declared.replay_stop.ReplayStop.TheVariants.{Bad, JournalFull, NoMemory, ReadFailed, Short, SinkFailed, TooManyTurns}

@@ -74,8 +74,9 @@ fn make_venues(
     let mut venues = Vec::new(alloc);
     for (place, session) in settings.sessions.iter().enumerate() {
         let venue = make_venue(alloc, settings, place, *session)?;
-        if venues.push(venue).is_err() {
-            return Err(NormaliserFault::Book(BookFault::NoMemory));
+        match venues.push(venue) {
+            Ok(()) => {}
+            Err(_) => return Err(NormaliserFault::Book(BookFault::NoMemory)),
         }
     }
     Ok(venues)
@@ -88,7 +89,7 @@ fn no_memory(_error: AllocError) -> NormaliserFault {
 
 /// Returns the venue of a record.
 fn venue_of(record: &Record<'_>) -> VenueId
-    ensures { result ≡ record_venue (record_of record.now) }
+    ensures { result ≡ record_venue (record_of «record».now) }
 {
     match record {
         Record::Datagram { venue, .. }
@@ -439,8 +440,8 @@ impl<'a> NormalisedVenues<'a> {
 
     /// Takes a record, after what is put in before it but for gaps by time.
     fn take<W: TextOut>(&mut self, record: &Record<'_>, writer: &mut W) -> Result<(), VenueStop>
-        requires { record_venue (record_of record.now) < length self.old.venues.items }
-        ensures takes { (r : TimedRecord) → r.what ≡ record_of record.now
+        requires { record_venue (record_of «record».now) < length self.old.venues.items }
+        ensures takes { (r : TimedRecord) → r.what ≡ record_of «record».now
             → TakesToo (record { adds = W.adds; failures = W.failures }) r self.old self.new
             writer.old writer.new result }
         ensures same { IsSameRun self.old self.new }
@@ -465,11 +466,11 @@ impl<'a> NormalisedVenues<'a> {
         time: Option<u64>,
         writer: &mut W,
     ) -> Result<(), VenueStop>
-        requires venue { record_venue (record_of record.now) < length self.old.venues.items }
+        requires venue { record_venue (record_of «record».now) < length self.old.venues.items }
         requires few { length self.old.venues.items ≤ 16 }
         ensures takes { (at : NormalisedPoint) → FollowsRun self.old None at
             → RunsOn (record { adds = W.adds; failures = W.failures }) self.old.settings
-            (timed_record (record_of record.now) time ∷ []) at (λ l. l ≡ [])
+            (timed_record (record_of «record».now) time ∷ []) at (λ l. l ≡ [])
             (FollowsRun self.new None) writer.old writer.new self.old.output.page.page
             self.new.output.page.page result }
         ensures same { IsSameRun self.old self.new }

@@ -7,6 +7,6 @@ use Rattle.normalising.proofs.normalised_venues.make_venues.Goals as goal
 pub loop-place-preserved : goal.loop-place-preserved
 loop-place-preserved c =
     let new = c.in_ok-venue.ensures in
-    rw c.in_ok-push.ensures.items (follow_next c.args.settings.now c.loop-place.venues.items
+    rw c.in-Ok.ensures.items (follow_next c.args.settings.now c.loop-place.venues.items
     c.args.settings.now.sessions.now c.loop-place.place c.in_ok-venue.venue c.loop-place.invariant
     c.loop-place-test.true new)

@@ -5,5 +5,5 @@ use Rattle.normalising.specs.Normalised.{new_normalised}
 use Rattle.normalising.proofs.normalised_venues.make_venues.Given as goal
 
 abbrev pub invariant-loop-place : goal.invariant-loop-place
-invariant-loop-place l = FollowHistories l.settings.now l.venues.items
-    (map new_normalised (take l.place l.settings.now.sessions.now))
+invariant-loop-place l = FollowHistories l.settings l.venues.items
+    (map new_normalised (take l.place l.settings.sessions.now))

@@ -1,4 +1,4 @@
-use Rattle.std.proofs.Common.{[], ◌∙◌, refl, sym, ap, subst, Ok, Err}
+use Rattle.std.proofs.Common.{Bool, true, false, [], ◌∙◌, refl, sym, ap, subst, Ok, Err}
 use Rattle.std.proofs.lemmas.Result.{err_from_is_err_and}
 use Rattle.capture_records.specs.Capture.{renewal_record}
 use Rattle.normalising.specs.Texts.{record_text}
@@ -15,7 +15,7 @@ pub returns-in-Err-clause-renews : goal.returns-in-Err-clause-renews
 returns-in-Err-clause-renews g c = λ feed time place h follows form_is.
     no_renewal (record { adds = g.W.TextOut.adds; failures = g.W.TextOut.failures })
     g.met.W.TextOut.adds_none feed time place c.args.session h c.args.self.now.normaliser
-    c.renew.new.self _ c.args.writer.now c.args.output.now.page.page _ follows
+    c.renew.new.self _ c.args.writer.now c.args.output.now.page.page false follows
     (rw c.in-Err.is at c.in_ok-renew.ensures.answer)
     (rw c.in-Err.is at c.in_ok-renew.ensures.refused)
 
@@ -26,9 +26,9 @@ returns-in_err-put_renewal-in-Ok-clause-renews g c =
     rw (p.1, p.2) (λ feed time place h follows form_is.
     renewal_failed (record { adds = g.W.TextOut.adds; failures = g.W.TextOut.failures })
     feed time place c.args.session h c.args.self.now.normaliser c.renew.new.self _
-    c.args.output.now.page.form c.args.writer.now c.put_renewal-in-Ok.new.writer
-    c.args.output.now.page.page c.put_renewal-in-Ok.new.self.page.page follows form_is
-    (rw c.in-Ok.is at c.in_ok-renew.ensures.answer) _
+    c.args.output.now.page.form c.args.writer.now c.put_renewal.new.writer
+    c.args.output.now.page.page c.put_renewal.new.self.page.page follows form_is
+    (rw c.in-Ok.is at c.in_ok-renew.ensures.answer) Bool _
     c.in_err-put_renewal-in-Ok.ensures.part c.in_err-put_renewal-in-Ok.ensures.failed)
 
 pub returns-in_ok-put_renewal-in-Ok-clause-renews : goal.returns-in_ok-put_renewal-in-Ok-clause-renews
@@ -36,14 +36,14 @@ returns-in_ok-put_renewal-in-Ok-clause-renews g c = λ feed time place h follows
     let renewed = rw c.in-Ok.is at c.in_ok-renew.ensures.renewed in
     renewal_begun (record { adds = g.W.TextOut.adds; failures = g.W.TextOut.failures })
     feed time place c.args.session h c.args.self.now.normaliser c.renew.new.self _
-    c.args.output.now.page.form c.args.writer.now c.put_renewal-in-Ok.new.writer
-    c.args.output.now.page.page c.put_renewal-in-Ok.new.self.page.page follows form_is
-    (rw c.in-Ok.is at c.in_ok-renew.ensures.answer) _
+    c.args.output.now.page.form c.args.writer.now c.put_renewal.new.writer
+    c.args.output.now.page.page c.put_renewal.new.self.page.page follows form_is
+    (rw c.in-Ok.is at c.in_ok-renew.ensures.answer) true
     (rw c.in-Ok.is at c.in_ok-renew.ensures.fits) renewed c.in_ok-renew.ensures.kept
     nothing_put_out
     (subst (λ venue. PutsText (record { adds = g.W.TextOut.adds; failures = g.W.TextOut.failures })
-    c.args.writer.now c.put_renewal-in-Ok.new.writer c.args.output.now.page.page
+    c.args.writer.now c.put_renewal.new.writer c.args.output.now.page.page
     (record_text c.args.output.now.page.form (renewal_record venue c.args.session))
-    c.put_renewal-in-Ok.new.self.page.page)
-    (c.venue-in-Ok.ensures ∙ renewed.venue ∙ follows.venue)
+    c.put_renewal.new.self.page.page)
+    (c.venue.ensures ∙ renewed.venue ∙ follows.venue)
     c.in_ok-put_renewal-in-Ok.ensures.taken)

@@ -20,7 +20,7 @@ returns-in_err-given_up-clause-takes g c =
     (rw (← c.index.ensures.value) c.index_mut-it.ensures.value))
     (ap (λ i. slice_set c.args.self.now.venues.items i c.give_up.new.self) c.index.ensures.value)
     refl refl c.in_err-given_up.ensures.form
-    (λ feed h f is. stop_takes (record { adds = g.W.TextOut.adds; failures = g.W.TextOut.failures })
+    (λ feed h f is. stop_takes _ (Unit {0}) (record { adds = g.W.TextOut.adds; failures = g.W.TextOut.failures })
     feed c.args.self.now.latest c.args.venue (skip_record c.args.venue c.args.number) h _ _ _ _ _ _
     c.in_err-given_up.field-0.0
     (c.in_err-given_up.ensures.skips feed c.args.venue h f is)))
@@ -29,15 +29,15 @@ pub returns-in_err-note-clause-takes : goal.returns-in_err-note-clause-takes
 returns-in_err-note-clause-takes g c =
     let p = err_from_is_err_and c.from_residual-in_err-note.result
     c.from_residual-in_err-note.ensures.1 in
-    rw (p.1, p.2) (next_unnoted
+    rw (p.1, p.2) (next_unnoted (Unit {0})
     (record { adds = g.W.TextOut.adds; failures = g.W.TextOut.failures })
     (skip_record c.args.venue c.args.number) c.args.self.now _ _ c.args.writer.now
-    c.give_up.new.writer tt _ c.in_err-note.ensures
+    c.give_up.new.writer (tt {0}) _ c.in_err-note.ensures
     (gives_next
     (record { adds = g.W.TextOut.adds; failures = g.W.TextOut.failures })
     g.met.W.TextOut.adds_none (skip_record c.args.venue c.args.number) c.args.self.now _
     c.index_mut-it.result.now c.give_up.new.self c.args.writer.now c.give_up.new.writer
-    (Ok tt)
+    (Ok (tt {0}))
     (slice_get_read c.args.self.now.venues.items (length c.args.self.now.venues.items)
     c.args.venue _ refl c.requires
     (rw (← c.index.ensures.value) c.index_mut-it.ensures.value))
@@ -49,12 +49,12 @@ pub returns-clause-takes : goal.returns-clause-takes
 returns-clause-takes g c = next_noted
     (record { adds = g.W.TextOut.adds; failures = g.W.TextOut.failures })
     (skip_record c.args.venue c.args.number) c.args.self.now _ _ c.args.writer.now
-    c.give_up.new.writer tt tt c.in_ok-note.ensures
+    c.give_up.new.writer (tt {0}) (tt {0}) c.in_ok-note.ensures
     (gives_next
     (record { adds = g.W.TextOut.adds; failures = g.W.TextOut.failures })
     g.met.W.TextOut.adds_none (skip_record c.args.venue c.args.number) c.args.self.now _
     c.index_mut-it.result.now c.give_up.new.self c.args.writer.now c.give_up.new.writer
-    (Ok tt)
+    (Ok (tt {0}))
     (slice_get_read c.args.self.now.venues.items (length c.args.self.now.venues.items)
     c.args.venue _ refl c.requires
     (rw (← c.index.ensures.value) c.index_mut-it.ensures.value))

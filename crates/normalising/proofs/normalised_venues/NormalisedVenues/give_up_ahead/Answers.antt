@@ -23,7 +23,7 @@ returns-in_err-give_up-clause-puts_in g c = λ r is.
     (record { adds = g.W.TextOut.adds; failures = g.W.TextOut.failures })
     g.met.W.TextOut.adds_more r c.args.self.now c.loop.self c.give_up.new.self
     c.args.writer.now c.loop.writer c.give_up.new.writer
-    c.loop.invariant.same tt _ (c.loop.invariant.puts_in r is)
+    c.loop.invariant.same (tt {0}) _ (c.loop.invariant.puts_in r is)
     (put_in_first
     (record { adds = g.W.TextOut.adds; failures = g.W.TextOut.failures })
     r (skip_record c.args.venue c.in-Some.number) c.loop.self c.give_up.new.self
@@ -39,11 +39,11 @@ loop-preserved g c = record {
       (record { adds = g.W.TextOut.adds; failures = g.W.TextOut.failures })
       g.met.W.TextOut.adds_more r c.args.self.now c.loop.self c.give_up.new.self
       c.args.writer.now c.loop.writer c.give_up.new.writer
-      c.loop.invariant.same tt (Ok tt) (c.loop.invariant.puts_in r is)
+      c.loop.invariant.same (tt {0}) (Ok (tt {0})) (c.loop.invariant.puts_in r is)
       (put_in_first
       (record { adds = g.W.TextOut.adds; failures = g.W.TextOut.failures })
       r (skip_record c.args.venue c.in-Some.number) c.loop.self c.give_up.new.self
-      c.loop.writer c.give_up.new.writer (Ok tt)
+      c.loop.writer c.give_up.new.writer (Ok (tt {0}))
       (gaps_may c.in-Some.number r c.args.venue c.requires.rule c.loop.invariant.same is)
       c.in_ok-give_up.ensures.takes);
 }

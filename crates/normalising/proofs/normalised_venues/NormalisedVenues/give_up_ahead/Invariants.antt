@@ -9,5 +9,5 @@ invariant-loop g l = record {
   same : IsSameRun l.fn.self l.self;
   puts_in : (r : TimedRecord) → l.venue ≡ record_venue r.what
       → PutsInFirst (record { adds = g.W.TextOut.adds; failures = g.W.TextOut.failures })
-      r l.fn.self l.self l.fn.writer l.writer (Ok tt);
+      r l.fn.self l.self l.fn.writer l.writer (Ok (tt {0}));
 }

@@ -7,7 +7,7 @@ use Rattle.normalising.proofs.normalised_venues.NormalisedVenues.give_up_overdue
 pub returns-in_default-clause-puts_in : goal.returns-in_default-clause-puts_in
 returns-in_default-clause-puts_in g c = λ r is. first_none
     (record { adds = g.W.TextOut.adds; failures = g.W.TextOut.failures })
-    g.met.W.TextOut.adds_none r c.args.self.now c.args.writer.now tt
+    g.met.W.TextOut.adds_none r c.args.self.now c.args.writer.now (tt {0})
 
 pub loop-place-init : goal.loop-place-init
 loop-place-init g c = record {
@@ -25,7 +25,7 @@ returns-in_err-give_up_standing-clause-puts_in g c = λ r is.
     (record { adds = g.W.TextOut.adds; failures = g.W.TextOut.failures })
     g.met.W.TextOut.adds_more r c.args.self.now c.loop-place.self c.give_up_standing.new.self
     c.args.writer.now c.loop-place.writer c.give_up_standing.new.writer
-    c.loop-place.invariant.same tt _ (c.loop-place.invariant.puts_in r is)
+    c.loop-place.invariant.same (tt {0}) _ (c.loop-place.invariant.puts_in r is)
     (c.in_err-give_up_standing.ensures.puts_in r
     (subst (λ feed. MaySkipBefore feed.skips r _) (sym c.loop-place.invariant.same.settings)
     (c.in_default.ensures r _ is))))
@@ -38,7 +38,7 @@ loop-place-preserved g c = record {
       (record { adds = g.W.TextOut.adds; failures = g.W.TextOut.failures })
       g.met.W.TextOut.adds_more r c.args.self.now c.loop-place.self c.give_up_standing.new.self
       c.args.writer.now c.loop-place.writer c.give_up_standing.new.writer
-      c.loop-place.invariant.same tt (Ok tt) (c.loop-place.invariant.puts_in r is)
+      c.loop-place.invariant.same (tt {0}) (Ok (tt {0})) (c.loop-place.invariant.puts_in r is)
       (c.in_ok-give_up_standing.ensures.puts_in r
       (subst (λ feed. MaySkipBefore feed.skips r _) (sym c.loop-place.invariant.same.settings)
       (c.in_default.ensures r _ is)));

@@ -7,7 +7,7 @@ use Rattle.normalising.proofs.normalised_venues.NormalisedVenues.give_up_standin
 pub returns-in_default-clause-puts_in : goal.returns-in_default-clause-puts_in
 returns-in_default-clause-puts_in g c = λ r may. first_none
     (record { adds = g.W.TextOut.adds; failures = g.W.TextOut.failures })
-    g.met.W.TextOut.adds_none r c.args.self.now c.args.writer.now tt
+    g.met.W.TextOut.adds_none r c.args.self.now c.args.writer.now (tt {0})
 
 pub returns-in_err-give_up-clause-puts_in : goal.returns-in_err-give_up-clause-puts_in
 returns-in_err-give_up-clause-puts_in g c = λ r may.
@@ -21,8 +21,8 @@ pub returns-clause-puts_in : goal.returns-clause-puts_in
 returns-clause-puts_in g c = λ r may. first_noted
     (record { adds = g.W.TextOut.adds; failures = g.W.TextOut.failures })
     r c.args.self.now c.give_up.new.self c.note_gap.new.self c.args.writer.now
-    c.give_up.new.writer tt tt c.note_gap.ensures
+    c.give_up.new.writer (tt {0}) (tt {0}) c.note_gap.ensures
     (put_in_first
     (record { adds = g.W.TextOut.adds; failures = g.W.TextOut.failures })
     r (skip_record c.args.venue c.in-Some.number) c.args.self.now c.give_up.new.self
-    c.args.writer.now c.give_up.new.writer (Ok tt) may c.in_ok-give_up.ensures.takes)
+    c.args.writer.now c.give_up.new.writer (Ok (tt {0})) may c.in_ok-give_up.ensures.takes)

@@ -15,6 +15,6 @@ returns-in_err-put_self_help-clause-takes g c =
 pub returns-clause-takes : goal.returns-clause-takes
 returns-clause-takes g c = passed_next
     (record { adds = g.W.TextOut.adds; failures = g.W.TextOut.failures })
-    c.args.self.now _ c.args.venue c.args.on c.args.writer.now c.put_self_help.new.writer tt
+    c.args.self.now _ c.args.venue c.args.on c.args.writer.now c.put_self_help.new.writer (tt {0})
     c.requires refl refl refl c.in_ok-put_self_help.ensures.form
     c.in_ok-put_self_help.ensures.taken

@@ -12,7 +12,7 @@ returns-in_err-give_up_overdue-clause-takes g c = λ at f.
     rw (p.1, p.2) (timed_taken (record { adds = g.W.TextOut.adds; failures = g.W.TextOut.failures })
     r c.args.self.now _ c.give_up_overdue.new.self c.args.writer.now c.give_up_overdue.new.writer
     (Err _) refl refl refl c.latest_after.ensures
-    (stop_first (record { adds = g.W.TextOut.adds; failures = g.W.TextOut.failures })
+    (stop_first (Unit {0}) (Unit {0}) (record { adds = g.W.TextOut.adds; failures = g.W.TextOut.failures })
     r _ c.give_up_overdue.new.self c.args.writer.now c.give_up_overdue.new.writer _
     (c.in_err-give_up_overdue.ensures.puts_in r refl)) at f)
 
@@ -27,6 +27,6 @@ returns-in_err-take-clause-takes g c = λ at f.
     (takes_then (record { adds = g.W.TextOut.adds; failures = g.W.TextOut.failures })
     g.met.W.TextOut.adds_more r _ c.give_up_overdue.new.self c.take.new.self
     c.args.writer.now c.give_up_overdue.new.writer c.take.new.writer
-    c.in_ok-give_up_overdue.ensures.same tt (Err _)
+    c.in_ok-give_up_overdue.ensures.same (tt {0}) (Err _)
     (c.in_ok-give_up_overdue.ensures.puts_in r refl)
     (c.in_err-take.ensures.takes r refl)) at f)
