@@ -38,7 +38,7 @@ use Rattle.normalising.proofs.Venues.{get_set_other, get_set_same, same_or_not}
 
 -- the packets of a venue's step
 abbrev sent_at : ℕ → ℕ → List Content → List Sending
-sent_at venue time packets = map (packet_sent venue time) packets
+sent_at venue time packets = map (λ p. packet_sent venue time p) packets
 
 of_session_both : (place : ℕ) (name : List ℕ) (xs ys : List Sending)
     → packets_of_session place name (xs ++ ys)

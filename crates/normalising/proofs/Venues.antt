@@ -684,3 +684,27 @@ noted_beside old new venues settings latest output = record {
         ∙ ap (λ (feed : NormalisedFeed). feed.form) (sym settings);
   };
 }
+
+-- a stop at a record that was given is one whatever the answer would be
+pub next_stop : {W : Type 0} (A B : Type 0) (writing : Writing W) (r : CaptureRecord)
+    (old new : NormalisedVenues) (from to : W) (stop : VenueStop)
+    → GivesNext {A = A} writing r old new from to (Err stop)
+    → GivesNext {A = B} writing r old new from to (Err stop)
+next_stop A B writing r old new from to stop x = λ t records left at f is next.
+    stop_runs A B writing old.settings records at (λ l. l ≡ left) (λ l. l ≡ left)
+    (FollowsAt new t.time) (FollowsAt new t.time) from to old.output.page.page
+    new.output.page.page stop (x t records left at f is next)
+
+pub next_answer : {W A B : Type 0} (writing : Writing W) (r : CaptureRecord)
+    (old new : NormalisedVenues) (from to : W) (a : A) (b : B)
+    → GivesNext writing r old new from to (Ok a) → GivesNext writing r old new from to (Ok b)
+next_answer writing r old new from to a b x = x
+
+-- the record that a run takes is the next one
+pub takes_record : {W A : Type 0} (writing : Writing W) (r : TimedRecord) (what : CaptureRecord)
+    (old new : NormalisedVenues) (from to : W) (result : Result A VenueStop) → r.what ≡ what
+    → GivesNext writing what old new from to result
+    → TakesToo writing r old new from to result
+takes_record writing r what old new from to result is gives =
+    takes_itself writing r old new from to result
+    (subst (λ (c : CaptureRecord). GivesNext writing c old new from to result) (sym is) gives)

@@ -30,3 +30,32 @@ returns-in_err-take-clause-takes g c = λ at f.
     c.in_ok-give_up_overdue.ensures.same (tt {0}) (Err _)
     (c.in_ok-give_up_overdue.ensures.puts_in r refl)
     (c.in_err-take.ensures.takes r refl)) at f)
+
+pub returns-in-Some-clause-takes : goal.returns-in-Some-clause-takes
+returns-in-Some-clause-takes g c = λ at f.
+    let r = timed_record (record_of c.args.record.now) c.args.time in
+    timed_taken (record { adds = g.W.TextOut.adds; failures = g.W.TextOut.failures })
+    r c.args.self.now _ c.note_gap.new.self c.args.writer.now c.take.new.writer
+    (Ok (tt {0})) refl refl refl c.latest_after.ensures
+    (too_noted (record { adds = g.W.TextOut.adds; failures = g.W.TextOut.failures })
+    r _ c.take.new.self c.note_gap.new.self c.args.writer.now c.take.new.writer (tt {0}) (tt {0})
+    c.note_gap.ensures
+    (takes_then (record { adds = g.W.TextOut.adds; failures = g.W.TextOut.failures })
+    g.met.W.TextOut.adds_more r _ c.give_up_overdue.new.self c.take.new.self
+    c.args.writer.now c.give_up_overdue.new.writer c.take.new.writer
+    c.in_ok-give_up_overdue.ensures.same (tt {0}) (Ok (tt {0}))
+    (c.in_ok-give_up_overdue.ensures.puts_in r refl)
+    (c.in_ok-take.ensures.takes r refl))) at f
+
+pub returns-in_default-clause-takes : goal.returns-in_default-clause-takes
+returns-in_default-clause-takes g c = λ at f.
+    let r = timed_record (record_of c.args.record.now) c.args.time in
+    timed_taken (record { adds = g.W.TextOut.adds; failures = g.W.TextOut.failures })
+    r c.args.self.now _ c.take.new.self c.args.writer.now c.take.new.writer
+    (Ok (tt {0})) refl refl refl c.latest_after.ensures
+    (takes_then (record { adds = g.W.TextOut.adds; failures = g.W.TextOut.failures })
+    g.met.W.TextOut.adds_more r _ c.give_up_overdue.new.self c.take.new.self
+    c.args.writer.now c.give_up_overdue.new.writer c.take.new.writer
+    c.in_ok-give_up_overdue.ensures.same (tt {0}) (Ok (tt {0}))
+    (c.in_ok-give_up_overdue.ensures.puts_in r refl)
+    (c.in_ok-take.ensures.takes r refl)) at f
