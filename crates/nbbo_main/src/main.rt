@@ -30,7 +30,6 @@ use command_words::{Refusal, StreamFiles, explanation_of, settings, stream_files
 use line_recordings::{RecordingState, SkipRecords};
 use nbbo_runs::{
     Next, ProgramRun, RunFacts, Terminals, hint_at_file, journal_hint, refuse, run,
-    run_normalisation,
 };
 use run_settings::ListenSettings;
 use std::alloc::{AllocError, Global};
@@ -231,21 +230,10 @@ fn run_over<C: Ledger, R: Ledger, W: Ledger, E: TextOut>(
     }
     let input = StreamIn::new(input, counts.calls, counts.reads);
     let output = StreamOut::new(output, counts.writes);
-    let ProgramRun {
-        next,
-        mut input,
-        mut output,
-        facts,
-    } = run(rt.alloc(), words, terminals, input, output, errors);
+    let ProgramRun { next, facts, .. } = run(rt.alloc(), words, terminals, input, output, errors);
     write_hints(rt, words, &facts, errors);
     match next {
         Next::Ended(status) => {
-            write_unwhole(files, status, errors);
-            ProgramEnd::Status(status)
-        }
-        Next::Normalises(settings) => {
-            let (input, output) = (&mut input, &mut output);
-            let status = run_normalisation(rt.alloc(), &settings, terminals, input, output, errors);
             write_unwhole(files, status, errors);
             ProgramEnd::Status(status)
         }

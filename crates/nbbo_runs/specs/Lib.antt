@@ -7,6 +7,7 @@ pub mod Hints
 pub mod Kept
 pub mod Lacks
 pub mod NamedSessions
+pub mod NormaliseRuns
 pub mod OwnCaptureLaws
 pub mod OwnCaptures
 pub mod Printing

@@ -46,6 +46,5 @@ mod watched_format;
 mod watched_sink;
 
 pub use hints::{hint_at_file, journal_hint};
-pub use normalisation::run_normalisation;
 pub use program_run::{Next, ProgramRun, RunFacts, refuse, run};
 pub use terminals::Terminals;

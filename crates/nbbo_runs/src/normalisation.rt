@@ -1,5 +1,8 @@
 //! A capture of ITCH lines as one of this project's own messages.
-ghost use Rattle.std.specs.Prelude.{◌≡◌, vec_len};
+ghost use Rattle.std.specs.Prelude.{◌≡◌, ◌≤◌, ◌<◌, ℕ, IfOk, length, slice_index_or, vec_len};
+ghost use Rattle.run_settings.specs.Lists.{AreOfVenues};
+ghost use Rattle.normalising.specs.Texts.{nowhere};
+ghost use Rattle.nbbo_runs.specs.NormaliseRuns.{IsFeedOf, NormalisesOver, RunsNormalising, destination_in, end_number_of, normalising_status};
 
 use crate::config::MAX_TURNS;
 use crate::hints::input_hint;
@@ -25,7 +28,11 @@ fn destinations_of(
     alloc: Global,
     lines: &[CapturedLine],
     venues: usize,
-) -> Result<Vec<Destination>, AllocError> {
+) -> Result<Vec<Destination>, AllocError>
+    ensures count { IfOk result (λ to. length to.items ≡ venues) }
+    ensures each { IfOk result (λ to. (place : ℕ) → place < venues
+        → slice_index_or to.items place nowhere ≡ destination_in lines.now place nowhere) }
+{
     let nowhere = Destination {
         address: [0; 4],
         port: 0,
@@ -126,7 +133,9 @@ fn write_fault<E: TextOut>(fault: NormaliserFault, errors: &mut E) {
 }
 
 /// Writes what a run came to, and returns the status of the program.
-fn tell<F: ToldFormat, E: TextOut>(format: &F, run: &Normalised<F::Fault>, errors: &mut E) -> u8 {
+fn tell<F: ToldFormat, E: TextOut>(format: &F, run: &Normalised<F::Fault>, errors: &mut E) -> u8
+    ensures { result ≡ normalising_status run.now.outcome }
+{
     for given_up in &run.given_up {
         write_given_up(given_up, errors);
     }
@@ -154,6 +163,35 @@ fn tell<F: ToldFormat, E: TextOut>(format: &F, run: &Normalised<F::Fault>, error
     }
 }
 
+/// Returns which number an end of session has.
+fn end_number_of(rule: EndNumberRule) -> EndNumber
+    ensures { result ≡ end_number_of rule }
+{
+    match rule {
+        EndNumberRule::Next => EndNumber::Next,
+        EndNumberRule::Last => EndNumber::Last,
+    }
+}
+
+/// Returns what is normalised by the settings, in a form.
+fn feed_of<'a>(settings: &'a NormaliseSettings, form: OutputForm<'a>) -> NormalisedFeed<'a>
+    ensures is { IsFeedOf settings.now result }
+    ensures form { result.form ≡ form }
+{
+    NormalisedFeed {
+        sessions: settings.feed.sessions.as_slice(),
+        next_sessions: settings.next_sessions.as_slice(),
+        symbols: settings.feed.symbols.as_slice(),
+        normaliser: NormaliserSettings {
+            window: settings.feed.window,
+            most_orders: settings.orders as usize,
+            end_number: end_number_of(settings.end_number),
+        },
+        skips: settings.skips,
+        form,
+    }
+}
+
 /// Normalises a capture of a format, and tells what it came to.
 fn run_over<R: CaptureIn, F: ToldFormat, W: TextOut, E: TextOut>(
     alloc: Global,
@@ -165,22 +203,23 @@ fn run_over<R: CaptureIn, F: ToldFormat, W: TextOut, E: TextOut>(
     errors: &mut E,
 ) -> u8
     requires { F.venues format.old ≡ vec_len settings.now.feed.sessions }
+    ensures { NormalisesOver
+        (record {
+          reading = record {
+            gives = R.gives;
+            ends = R.ends;
+            failures = R.failures;
+            fails = R.fails;
+          };
+          writing = record { adds = W.adds; failures = W.failures };
+          telling = record { adds = E.adds; failures = E.failures };
+        })
+        (record { reads = F.reads; wants = F.wants; is_bad = F.is_bad; is_whole = F.is_whole })
+        settings.now form format.old
+        (record { input = input.old; output = output.old; errors = errors.old })
+        (record { input = input.new; output = output.new; errors = errors.new }) result }
 {
-    let feed = NormalisedFeed {
-        sessions: settings.feed.sessions.as_slice(),
-        next_sessions: settings.next_sessions.as_slice(),
-        symbols: settings.feed.symbols.as_slice(),
-        normaliser: NormaliserSettings {
-            window: settings.feed.window,
-            most_orders: settings.orders as usize,
-            end_number: match settings.end_number {
-                EndNumberRule::Next => EndNumber::Next,
-                EndNumberRule::Last => EndNumber::Last,
-            },
-        },
-        skips: settings.skips,
-        form,
-    };
+    let feed = feed_of(settings, form);
     let run = normalise(alloc, MAX_TURNS, &feed, format, input, output);
     tell(format, &run, errors)
 }
@@ -193,21 +232,28 @@ pub fn run_normalisation<R: CaptureIn, W: TextOut, E: TextOut>(
     input: &mut R,
     output: &mut W,
     errors: &mut E,
-) -> u8 {
+) -> u8
+    ensures { RunsNormalising
+        (record {
+          reading = record {
+            gives = R.gives;
+            ends = R.ends;
+            failures = R.failures;
+            fails = R.fails;
+          };
+          writing = record { adds = W.adds; failures = W.failures };
+          telling = record { adds = E.adds; failures = E.failures };
+        })
+        settings.now
+        (record { input = input.old; output = output.old; errors = errors.old })
+        (record { input = input.new; output = output.new; errors = errors.new }) result }
+{
     write_stderr(input_hint(terminals.input), errors);
     let venues = settings.feed.sessions.len();
     match &settings.input {
         RunInput::Own => {
-            let mut format = OwnCapture::new(venues);
-            run_over(
-                alloc,
-                settings,
-                OutputForm::Own,
-                &mut format,
-                input,
-                output,
-                errors,
-            )
+            let (form, mut format) = (OutputForm::Own, OwnCapture::new(venues));
+            run_over(alloc, settings, form, &mut format, input, output, errors)
         }
         RunInput::Packets(lines) => {
             let Ok(destinations) = destinations_of(alloc, lines.as_slice(), venues) else {

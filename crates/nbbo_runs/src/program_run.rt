@@ -4,11 +4,12 @@ ghost use Rattle.nbbo_runs.specs.Runs.{Leads, TellsRefusal};
 
 use crate::discovery::run_discovery;
 use crate::ending::WRITE_FAILED;
+use crate::normalisation::run_normalisation;
 use crate::runs::{RunEnd, run_conversion, run_settings};
 use crate::survey_form::SurveyForm;
 use crate::terminals::Terminals;
 use command_words::{Refusal, Task, settings};
-use run_settings::{ListenSettings, NormaliseSettings};
+use run_settings::ListenSettings;
 use std::alloc::Global;
 use text_out::{CaptureIn, TextOut, write_all, write_stderr};
 
@@ -19,8 +20,6 @@ pub enum Next {
     Ended(u8),
     /// The words ask to listen, and nothing else was done.
     Listens(ListenSettings),
-    /// The words ask to normalise, and nothing else was done.
-    Normalises(NormaliseSettings),
 }
 
 /// What hints are made of after a run.
@@ -97,11 +96,11 @@ fn left<R, W>(next: Next, input: R, output: W) -> ProgramRun<R, W>
 }
 
 /// Does what the words ask for, of which the first is the program's name, except listening, which
-/// takes sockets and threads, and normalising: then the settings for it are returned.
+/// takes sockets and threads: then the settings for it are returned.
 ///
-/// The input is read only for a replay, a conversion, statistics or the lines of a capture. The
-/// lines of a replay, the rows of its best lines, its statistics, the converted capture, or the
-/// lines of a capture are all that is written on the output. Before a terminal is read, standard
+/// The input is read only for a replay, a conversion, statistics, the lines of a capture, or to be
+/// normalised. The lines of a replay, the rows of its best lines, its statistics, the converted or
+/// normalised capture, or the lines of a capture are all that is written on the output. Before a terminal is read, standard
 /// error says so.
 pub fn run<R: CaptureIn + Drop, W: TextOut + Drop, E: TextOut>(
     alloc: Global,
@@ -151,7 +150,11 @@ pub fn run<R: CaptureIn + Drop, W: TextOut + Drop, E: TextOut>(
             ended(status, input, output, RunFacts::default())
         }
         Ok(Task::Listen(settings)) => left(Next::Listens(settings), input, output),
-        Ok(Task::Normalise(settings)) => left(Next::Normalises(settings), input, output),
+        Ok(Task::Normalise(settings)) => {
+            let (from, to) = (&mut input, &mut output);
+            let status = run_normalisation(alloc, &settings, terminals, from, to, errors);
+            ended(status, input, output, RunFacts::default())
+        }
         Err(refusal) => {
             let status = refuse(&refusal, &mut output, errors);
             let facts = RunFacts {
