@@ -342,7 +342,7 @@ module _ {R S F W : Type 0} {reading : Reading R} {parsing : Parsing S F} {writi
 
     -- a book took no more within a record, and what waited was written, or a part of it
     module _ {to : R} {calls : ℕ} {finish next : S} {rest seen waits longer : List ℕ}
-        {after mid last : W} {IsAt : NormalisedPoint → Type 0} (r : TimedRecord) (len : ℕ)
+        {after mid : W} {IsAt : NormalisedPoint → Type 0} (r : TimedRecord) (len : ℕ)
         (same : seen ≡ rest) (piece : TakesPiece parsing.reads finish seen (r ∷ []) len next)
         (is : IsRecord (venues_normalised feed) r.what)
         (x : Kept reading parsing writing feed from calls to start finish rest before after waits
@@ -358,10 +358,10 @@ module _ {R S F W : Type 0} {reading : Reading R} {parsing : Parsing S F} {writi
       took_both : writing.adds before (x.shown ++ t.puts.shown) mid
       took_both = laws.adds_more before after mid x.shown t.puts.shown x.took t.puts.wrote
 
-      pub stopped_record : writing.adds mid longer last
+      pub stopped_record : {last : W} → writing.adds mid longer last
           → HasNormalised reading parsing feed from start next (λ rest. ⊤) (λ calls mid. mid ≡ to)
           (λ left. ⊤) (TookText writing before last)
-      stopped_record wrote = record {
+      stopped_record {last = last} wrote = record {
         records = x.records ++ r ∷ [];
         calls = calls;
         mid = to;
@@ -381,10 +381,10 @@ module _ {R S F W : Type 0} {reading : Reading R} {parsing : Parsing S F} {writi
             (laws.adds_more before mid last (x.shown ++ t.puts.shown) longer took_both wrote);
       }
 
-      pub stopped_part : Wrote writing.adds mid longer last
+      pub stopped_part : {last : W} → Wrote writing.adds mid longer last
           → HasNormalised reading parsing feed from start next (λ rest. ⊤) (λ calls mid. mid ≡ to)
           (λ left. ⊤) (TookPart writing feed before last)
-      stopped_part part = record {
+      stopped_part {last = last} part = record {
         records = x.records ++ r ∷ [];
         calls = calls;
         mid = to;

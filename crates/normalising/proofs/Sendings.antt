@@ -430,7 +430,7 @@ step_renewal feed place name text old h after p s = by_answer p.answer p.is p.do
       text_is = does.text_is ∙ sym (append-nil (record_text feed.form (renewal_record place name)));
       sends = subst (λ (k : NormalisedHistory). SendsVenue feed place (old ++ more) k)
           (sym (ap₂ (λ (a : History) (o : List Numbered). record { history = a; output = o })
-          does.history does.output)) (begun is.1.0);
+          does.history does.output)) (begun is.1);
       others = λ other n which. refl;
     }
     by_answer (Err fault) is does = step_leaves feed place text old h after does s

@@ -70,7 +70,7 @@ returns-in-Err g c =
     (subst (λ (n : ℕ). IsRecord n r.what)
     (c.pieces.invariant.of_venues ∙ c.requires.of_venues) c.in-Came.ensures.came)
     c.pieces.invariant.writes c.pieces.invariant.kept
-    (subst (λ feed. RunsOn (record {
+    (subst (λ feed. RunsOn {A = Unit {0}} (record {
       adds = g.W.TextOut.adds;
       failures = g.W.TextOut.failures;
     }) feed (r ∷ []) c.pieces.invariant.kept.at (λ l. l ≡ [])
@@ -134,8 +134,8 @@ returns-in_err-write-in-Bad g c =
       failed.failed ∙ ap (λ (n : ℕ). n + 1) c.pieces.invariant.writes,
     )
 
-pub returns-in_ok-write-in-Bad : goal.returns-in_ok-write-in-Bad
-returns-in_ok-write-in-Bad g c =
+pub returns-in-Bad : goal.returns-in-Bad
+returns-in-Bad g c =
     let same = c.in-Bad.ensures.steps.1 in
     let wrote = c.in_ok-write-in-Bad.ensures in
     let bad = subst (λ (bs : List ℕ). g.F.RecordFormat.is_bad c.pieces.format bs c.in-Bad.fault)

@@ -2,7 +2,7 @@ use Rattle.std.proofs.Common.{◌≡◌, ◌∙◌, length, sym, subst, arith, O
 use Rattle.std.proofs.lemmas.Result.{err_from_is_err_and}
 use Rattle.capture_records.specs.Capture.{record_venue, skip_record}
 use Rattle.normalising.specs.Normalised.{MaySkipBefore}
-use Rattle.normalising.proofs.Venues.{first_none, first_then, is_same, put_in_first, same_then}
+use Rattle.normalising.proofs.Venues.{first_none, first_then, gaps_may, is_same, put_in_first, same_then}
 use Rattle.normalising.proofs.normalised_venues.NormalisedVenues.give_up_ahead.Goals as goal
 
 pub loop-init : goal.loop-init
@@ -10,7 +10,7 @@ loop-init g c = record {
   same = is_same c.args.self.now;
   puts_in = λ r is. first_none
       (record { adds = g.W.TextOut.adds; failures = g.W.TextOut.failures })
-      g.met.W.TextOut.adds_none r c.args.self.now c.args.writer.now tt;
+      g.met.W.TextOut.adds_none r c.args.self.now c.args.writer.now (tt {0});
 }
 
 pub returns-in_default-clause-puts_in : goal.returns-in_default-clause-puts_in
