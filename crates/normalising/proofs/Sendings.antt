@@ -3,10 +3,11 @@ use Rattle.std.proofs.Common.{◌≡◌, ◌≢◌, ◌⊎◌, ℕ, zero, suc, �
 use Rattle.std.specs.Prelude.{flat_map, ◌==◌, ◌&&◌, nat_lt, Contains, slice_get, slice_set, if◌then◌else◌}
 use Rattle.std.specs.List.{AllByRecursion}
 use Rattle.std.specs.Str.{bytes_eq}
-use Rattle.std.proofs.lemmas.Bool.{ltb-true}
+use Rattle.std.proofs.lemmas.Bool.{eq-eqb, eqb-true, ltb-true}
 use Rattle.std.proofs.lemmas.List.{map-append}
 use Rattle.std.proofs.lemmas.List.Concat.{flat_map-append}
 use Rattle.std.proofs.lemmas.List.Elements.{All-contains_itself, Contains-append_left, Contains-push, recursion_from_All}
+use Rattle.std.proofs.lemmas.Slice.Eq.{bytes_eq-Decides}
 use Rattle.feed_types.specs.declared.item.Numbered.{Numbered}
 use Rattle.feed_types.specs.declared.line.LineId.{LineId}
 use Rattle.line_arbiter.specs.Answered.{AreAnswered, AreAnsweredAfter, IsAnswered}
@@ -46,29 +47,20 @@ of_session_both : (place : ℕ) (name : List ℕ) (xs ys : List Sending)
 of_session_both place name xs ys = flat_map-append (packet_of_session place name) xs ys
 
 same_place : (p : ℕ) → (p == p) ≡ true
-same_place zero = refl
-same_place (suc p) = same_place p
+same_place p = eq-eqb p p refl
+
+not_true : (b : Bool) → (b ≡ true → ⊥) → b ≡ false
+not_true true n = absurd (n refl)
+not_true false n = refl
 
 other_place : (p q : ℕ) → p ≢ q → (p == q) ≡ false
-other_place zero zero n = absurd (n refl)
-other_place zero (suc q) n = refl
-other_place (suc p) zero n = refl
-other_place (suc p) (suc q) n = other_place p q (λ e. n (ap suc e))
+other_place p q n = not_true (p == q) (λ e. n (eqb-true p q e))
 
 same_bytes : (xs : List ℕ) → bytes_eq xs xs ≡ true
-same_bytes [] = refl
-same_bytes (x ∷ xs) = ap₂ (λ (a b : Bool). a && b) (same_place x) (same_bytes xs)
+same_bytes xs = (bytes_eq-Decides xs xs).1 refl
 
 other_bytes : (xs ys : List ℕ) → xs ≢ ys → bytes_eq xs ys ≡ false
-other_bytes [] [] n = absurd (n refl)
-other_bytes [] (y ∷ ys) n = refl
-other_bytes (x ∷ xs) [] n = refl
-other_bytes (x ∷ xs) (y ∷ ys) n = by_head (same_or_not x y)
-  where
-    by_head : (x ≡ y) ⊎ (x ≢ y) → bytes_eq (x ∷ xs) (y ∷ ys) ≡ false
-    by_head (inl e) = ap₂ (λ (a b : Bool). a && b) (ap (λ (z : ℕ). x == z) (sym e) ∙ same_place x)
-        (other_bytes xs ys (λ rest. n (ap₂ (λ (a : ℕ) (b : List ℕ). a ∷ b) e rest)))
-    by_head (inr other) = ap (λ (a : Bool). a && bytes_eq xs ys) (other_place x y other)
+other_bytes xs ys n = not_true (bytes_eq xs ys) (λ e. n ((bytes_eq-Decides xs ys).0 e))
 
 -- packets of the session
 all_of : (place time : ℕ) (name : List ℕ) (ps : List Content)
@@ -271,7 +263,8 @@ sends_more feed time place given old h after text p is s =
 -- a session more, of which nothing is sent
 apart_from : (names : List (List ℕ)) (name : List ℕ) → (Contains names name → ⊥)
     → AllByRecursion (λ n. name ≡ n → ⊥) names
-apart_from names name n = weaken names (recursion_from_All names (All-contains_itself names))
+apart_from names name n = weaken names (recursion_from_All (Contains names) names
+    (All-contains_itself names))
   where
     weaken : (xs : List (List ℕ)) → AllByRecursion (Contains names) xs
         → AllByRecursion (λ m. name ≡ m → ⊥) xs

@@ -9,6 +9,7 @@ use Rattle.feed_types.specs.ListLaws.{get_within}
 use Rattle.feed_types.specs.declared.item.Numbered.{Numbered}
 use Rattle.feed_types.specs.declared.line.LineId.{LineId}
 use Rattle.mold_packet.specs.declared.fault.PacketFault.{PacketFault}
+use Rattle.mold_packet.specs.Content.{Content, Spells}
 use Rattle.mold_packet.specs.Faults.{HasFault}
 use Rattle.capture_records.specs.Capture.{CaptureRecord, datagram_record, record_venue, self_help_record, skip_record}
 use Rattle.event_sinks.specs.declared.event_sink.SinkStop.{SinkStop}
@@ -18,7 +19,7 @@ use Rattle.run_settings.specs.declared.skip_rule.SkipRule.TheVariants.{Gaps}
 use Rattle.text_out.specs.Devices.{Writing, Wrote}
 use Rattle.venue_normaliser.specs.States.{NormaliserState}
 use Rattle.normalising.specs.Keeping.{FailedAtVenue, FollowHistories, FollowsAt, FollowsRun, FollowsVenue, GivesNext, IsNoted, IsSameRun, PutsInFirst, RunsOn, TakesAtVenue, TakesToo, TookAtVenue, TookOf}
-use Rattle.normalising.specs.Normalised.{GoesOnWithin, IsNormalisedNext, MayPutIn, NormalisedHistory, NormalisedPoint, NormalisesAt, NormalisesRecord, new_normalised, time_after}
+use Rattle.normalising.specs.Normalised.{GoesOnWithin, IsNormalisedNext, IsPacketOfName, MayPutIn, NormalisedHistory, NormalisedPoint, NormalisesAt, NormalisesRecord, new_normalised, time_after}
 use Rattle.normalising.specs.Texts.{record_text}
 use Rattle.normalising.specs.Writes.{PutsText}
 use Rattle.normalising.specs.declared.normalised_feed.NormalisedFeed.{NormalisedFeed}
@@ -708,3 +709,17 @@ pub takes_record : {W A : Type 0} (writing : Writing W) (r : TimedRecord) (what 
 takes_record writing r what old new from to result is gives =
     takes_itself writing r old new from to result
     (subst (λ (c : CaptureRecord). GivesNext writing c old new from to result) (sym is) gives)
+
+-- a datagram that is a packet is one of its session's name
+pub named_packet : (r : TimedRecord) (venue : ℕ) (line : LineId) (bytes : List ℕ)
+    (packet : Content) (more : List ℕ) → r.what ≡ datagram_record venue line bytes
+    → Spells bytes packet more → IsPacketOfName r.what venue packet.session
+named_packet r venue line bytes packet more is spells = record {
+  line = line;
+  bytes = bytes;
+  is = is;
+  packet = packet;
+  more = more;
+  spells = spells;
+  session = refl;
+}

@@ -351,7 +351,7 @@ impl<'a> NormalisedVenues<'a> {
     {
         match self.settings.skips {
             SkipRule::Gaps => self.give_up_ahead(venue, packet, writer),
-            SkipRule::Never | SkipRule::Join | SkipRule::After(_) => Ok(()),
+            _ => Ok(()),
         }
     }
 

@@ -7,7 +7,7 @@ use Rattle.normalising.proofs.normalised_venues.NormalisedVenues.give_up_overdue
 abbrev pub invariant-loop-place : goal.invariant-loop-place
 invariant-loop-place g l = record {
   same : IsSameRun l.fn.self l.self;
-  puts_in : (r : TimedRecord) → r.time ≡ l.time
+  puts_in : (r : TimedRecord) → r.time ≡ l.fn.time
       → PutsInFirst (record { adds = g.W.TextOut.adds; failures = g.W.TextOut.failures })
       r l.fn.self l.self l.fn.writer l.writer (Ok (tt {0}));
 }

@@ -11,7 +11,7 @@ returns-in_err-give_up_overdue-clause-takes g c = λ at f.
     let r = timed_record (record_of c.args.record.now) c.args.time in
     rw (p.1, p.2) (timed_taken (record { adds = g.W.TextOut.adds; failures = g.W.TextOut.failures })
     r c.args.self.now _ c.give_up_overdue.new.self c.args.writer.now c.give_up_overdue.new.writer
-    (Err _) refl refl refl c.latest_after.ensures
+    (Err _) refl refl refl c.latest_after-self.ensures
     (stop_first (Unit {0}) (Unit {0}) (record { adds = g.W.TextOut.adds; failures = g.W.TextOut.failures })
     r _ c.give_up_overdue.new.self c.args.writer.now c.give_up_overdue.new.writer _
     (c.in_err-give_up_overdue.ensures.puts_in r refl)) at f)
@@ -23,7 +23,7 @@ returns-in_err-take-clause-takes g c = λ at f.
     let r = timed_record (record_of c.args.record.now) c.args.time in
     rw (p.1, p.2) (timed_taken (record { adds = g.W.TextOut.adds; failures = g.W.TextOut.failures })
     r c.args.self.now _ c.take.new.self c.args.writer.now c.take.new.writer
-    (Err _) refl refl refl c.latest_after.ensures
+    (Err _) refl refl refl c.latest_after-self.ensures
     (takes_then (record { adds = g.W.TextOut.adds; failures = g.W.TextOut.failures })
     g.met.W.TextOut.adds_more r _ c.give_up_overdue.new.self c.take.new.self
     c.args.writer.now c.give_up_overdue.new.writer c.take.new.writer
@@ -36,7 +36,7 @@ returns-in-Some-clause-takes g c = λ at f.
     let r = timed_record (record_of c.args.record.now) c.args.time in
     timed_taken (record { adds = g.W.TextOut.adds; failures = g.W.TextOut.failures })
     r c.args.self.now _ c.note_gap.new.self c.args.writer.now c.take.new.writer
-    (Ok (tt {0})) refl refl refl c.latest_after.ensures
+    (Ok (tt {0})) refl refl refl c.latest_after-self.ensures
     (too_noted (record { adds = g.W.TextOut.adds; failures = g.W.TextOut.failures })
     r _ c.take.new.self c.note_gap.new.self c.args.writer.now c.take.new.writer (tt {0}) (tt {0})
     c.note_gap.ensures
@@ -52,7 +52,7 @@ returns-in_default-clause-takes g c = λ at f.
     let r = timed_record (record_of c.args.record.now) c.args.time in
     timed_taken (record { adds = g.W.TextOut.adds; failures = g.W.TextOut.failures })
     r c.args.self.now _ c.take.new.self c.args.writer.now c.take.new.writer
-    (Ok (tt {0})) refl refl refl c.latest_after.ensures
+    (Ok (tt {0})) refl refl refl c.latest_after-self.ensures
     (takes_then (record { adds = g.W.TextOut.adds; failures = g.W.TextOut.failures })
     g.met.W.TextOut.adds_more r _ c.give_up_overdue.new.self c.take.new.self
     c.args.writer.now c.give_up_overdue.new.writer c.take.new.writer
