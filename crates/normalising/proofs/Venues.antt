@@ -330,6 +330,26 @@ gives_next writing adds_none r old new v w from to result here set settings late
       sym latest,
     ))
 
+-- a stop at a venue is one of the run, whatever the run would be after it
+pub gives_stop : {W : Type 0} (writing : Writing W) → ((s : W) → writing.adds s [] s)
+    → (r : CaptureRecord) (old : NormalisedVenues) (v : NormalisedVenue) (from to : W)
+    (waits : List ℕ) (stop : VenueStop)
+    → slice_get old.venues.items (record_venue r) ≡ Some v
+    → ((feed : NormalisedFeed) (h : NormalisedHistory)
+    → FollowsVenue feed (record_venue r) v.normaliser h → old.output.page.form ≡ feed.form
+    → TakesAtVenue {A = Unit {0}} writing feed old.latest (record_venue r) r h v.normaliser from to
+    old.output.page.page waits (Err stop))
+    → (t : TimedRecord) (records left : List TimedRecord) (at : NormalisedPoint)
+    → FollowsRun old t.time at → t.what ≡ r → IsNormalisedNext old.settings records t left
+    → RunsOn {A = Unit {0}} writing old.settings records at (λ l. l ≡ left) (λ p. ⊤) from to
+    old.output.page.page waits (Err stop)
+gives_stop writing adds_none r old v from to waits stop here takes =
+    λ t records left at f is next.
+    let h = history_at old.settings old.venues.items at.venues (record_venue r) v f.venues here in
+    venue_next writing adds_none old.settings r t records left at old.latest v v old.venues.items
+    from to old.output.page.page waits f.venues here is next f.latest {A = Unit {0}} (λ p. ⊤)
+    (Err stop) (takes old.settings h.0 h.2 f.form) (λ after follows. tt)
+
 -- a record that is put in is the next one before another
 pub put_in_first : {W A : Type 0} (writing : Writing W) (r : TimedRecord)
     (put_in : CaptureRecord) (old new : NormalisedVenues) (from to : W)

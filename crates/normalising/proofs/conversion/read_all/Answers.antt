@@ -134,8 +134,8 @@ returns-in_err-write-in-Bad g c =
       failed.failed ∙ ap (λ (n : ℕ). n + 1) c.pieces.invariant.writes,
     )
 
-pub returns : goal.returns
-returns g c =
+pub returns-in-Bad : goal.returns-in-Bad
+returns-in-Bad g c =
     let same = c.in-Bad.ensures.steps.1 in
     let wrote = c.in_ok-write-in-Bad.ensures in
     let bad = subst (λ (bs : List ℕ). g.F.RecordFormat.is_bad c.pieces.format bs c.in-Bad.fault)

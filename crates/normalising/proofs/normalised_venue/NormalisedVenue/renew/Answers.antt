@@ -28,8 +28,8 @@ returns-in_err-put_renewal-in-Ok-clause-renews g c =
     feed time place c.args.session h c.args.self.now.normaliser c.renew.new.self _
     c.args.output.now.page.form c.args.writer.now c.put_renewal.new.writer
     c.args.output.now.page.page c.put_renewal.new.self.page.page follows form_is
-    (rw c.in-Ok.is at c.in_ok-renew.ensures.answer) Bool _
-    c.in_err-put_renewal-in-Ok.ensures.part c.in_err-put_renewal-in-Ok.ensures.failed)
+    (rw c.in-Ok.is at c.in_ok-renew.ensures.answer) Bool
+    c.in_err-put_renewal-in-Ok.field-0.0 c.in_err-put_renewal-in-Ok.ensures.part c.in_err-put_renewal-in-Ok.ensures.failed)
 
 pub returns-in_ok-put_renewal-in-Ok-clause-renews : goal.returns-in_ok-put_renewal-in-Ok-clause-renews
 returns-in_ok-put_renewal-in-Ok-clause-renews g c = λ feed time place h follows form_is.

@@ -31,7 +31,7 @@ returns-in_err-write_ready-in-Ok-clause-skips g c =
     c.skip_to.new.out.items follows form_is c.clear.ensures.items said.kept.0 said.kept.1
     c.in_err-write_ready-in-Ok.ensures.same (rw c.in-Ok.is at (said.fits _ follows.fits))
     (rw c.in-Ok.is at (said.output _ follows.fits)) in
-    given_takes {A = Bool} w c.args.time (record { adds = g.W.TextOut.adds; failures = g.W.TextOut.failures })
+    given_takes w c.args.time {A = Bool} (record { adds = g.W.TextOut.adds; failures = g.W.TextOut.failures })
     (skip_record place c.args.number) c.args.writer.now c.write_ready.new.writer
     c.args.output.now.page.page c.write_ready.new.output.page.page
     (skip_at feed c.args.time place c.args.number h c.args.self.now.normaliser _ follows
@@ -47,7 +47,7 @@ returns-in_ok-write_ready-in-Ok-clause-skips g c = λ feed place h follows form_
     c.skip_to.new.out.items follows form_is c.clear.ensures.items said.kept.0 said.kept.1
     c.in_ok-write_ready-in-Ok.ensures.same (rw c.in-Ok.is at (said.fits _ follows.fits))
     (rw c.in-Ok.is at (said.output _ follows.fits)) in
-    given_takes {A = Bool} w c.args.time (record { adds = g.W.TextOut.adds; failures = g.W.TextOut.failures })
+    given_takes w c.args.time {A = Bool} (record { adds = g.W.TextOut.adds; failures = g.W.TextOut.failures })
     (skip_record place c.args.number) c.args.writer.now c.write_ready.new.writer
     c.args.output.now.page.page c.write_ready.new.output.page.page
     (skip_at feed c.args.time place c.args.number h c.args.self.now.normaliser _ follows

@@ -1,6 +1,7 @@
-use Rattle.std.proofs.Common.{refl, Ok}
+use Rattle.std.proofs.Common.{true, sym, subst, Ok, Err}
 use Rattle.std.proofs.lemmas.Result.{err_from_is_err_and}
 use Rattle.capture_records.specs.Capture.{renewal_record}
+use Rattle.normalising.specs.Normalised.{IsPacketOfName}
 use Rattle.normalising.proofs.Venues.{answer_first, first_none, first_noted, put_in_first}
 use Rattle.normalising.proofs.normalised_venues.NormalisedVenues.follow.Goals as goal
 
@@ -17,28 +18,31 @@ returns-in_default-clause-puts_in g c = λ r is. first_none
 pub returns-in_err-renew-clause-puts_in : goal.returns-in_err-renew-clause-puts_in
 returns-in_err-renew-clause-puts_in g c = λ r is.
     let p = err_from_is_err_and c.from_residual.result c.from_residual.ensures.1 in
-    rw (p.1, p.2) (put_in_first
+    rw (p.1, p.2) (put_in_first {A = Unit {0}}
     (record { adds = g.W.TextOut.adds; failures = g.W.TextOut.failures })
-    r (renewal_record c.args.venue c.session.result) c.args.self.now c.renew.new.self
-    c.args.writer.now c.renew.new.writer _ (c.in-Some.ensures, is) c.in_err-renew.ensures.takes)
+    r (renewal_record c.args.venue c.session-session.result) c.args.self.now c.renew.new.self
+    c.args.writer.now c.renew.new.writer (Err c.in_err-renew.field-0.0) (c.in-Some.ensures,
+    subst (λ name. IsPacketOfName r.what c.args.venue name) (sym c.session-session.ensures.value) is) c.in_err-renew.ensures.takes)
 
 pub returns-else-branch-clause-puts_in : goal.returns-else-branch-clause-puts_in
 returns-else-branch-clause-puts_in g c = λ r is. answer_first
     (record { adds = g.W.TextOut.adds; failures = g.W.TextOut.failures })
-    r c.args.self.now c.renew.new.self c.args.writer.now c.renew.new.writer _ (tt {0})
+    r c.args.self.now c.renew.new.self c.args.writer.now c.renew.new.writer true (tt {0})
     (put_in_first
     (record { adds = g.W.TextOut.adds; failures = g.W.TextOut.failures })
-    r (renewal_record c.args.venue c.session.result) c.args.self.now c.renew.new.self
-    c.args.writer.now c.renew.new.writer (Ok _) (c.in-Some.ensures, is)
+    r (renewal_record c.args.venue c.session-session.result) c.args.self.now c.renew.new.self
+    c.args.writer.now c.renew.new.writer (Ok true) (c.in-Some.ensures,
+    subst (λ name. IsPacketOfName r.what c.args.venue name) (sym c.session-session.ensures.value) is)
     c.in_ok-renew.ensures.takes)
 
 pub returns-then-branch-clause-puts_in : goal.returns-then-branch-clause-puts_in
 returns-then-branch-clause-puts_in g c = λ r is. first_noted
     (record { adds = g.W.TextOut.adds; failures = g.W.TextOut.failures })
     r c.args.self.now c.renew.new.self c.note_begun.new.self c.args.writer.now
-    c.renew.new.writer _ (tt {0}) c.note_begun.ensures
+    c.renew.new.writer true (tt {0}) c.note_begun.ensures
     (put_in_first
     (record { adds = g.W.TextOut.adds; failures = g.W.TextOut.failures })
-    r (renewal_record c.args.venue c.session.result) c.args.self.now c.renew.new.self
-    c.args.writer.now c.renew.new.writer (Ok _) (c.in-Some.ensures, is)
+    r (renewal_record c.args.venue c.session-session.result) c.args.self.now c.renew.new.self
+    c.args.writer.now c.renew.new.writer (Ok true) (c.in-Some.ensures,
+    subst (λ name. IsPacketOfName r.what c.args.venue name) (sym c.session-session.ensures.value) is)
     c.in_ok-renew.ensures.takes)

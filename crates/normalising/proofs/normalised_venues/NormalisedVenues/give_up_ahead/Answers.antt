@@ -1,4 +1,4 @@
-use Rattle.std.proofs.Common.{◌≡◌, ◌∙◌, length, sym, subst, arith, Ok}
+use Rattle.std.proofs.Common.{◌≡◌, ◌∙◌, length, sym, subst, arith, Ok, Err}
 use Rattle.std.proofs.lemmas.Result.{err_from_is_err_and}
 use Rattle.capture_records.specs.Capture.{record_venue, skip_record}
 use Rattle.normalising.specs.Normalised.{MaySkipBefore}
@@ -23,11 +23,12 @@ returns-in_err-give_up-clause-puts_in g c = λ r is.
     (record { adds = g.W.TextOut.adds; failures = g.W.TextOut.failures })
     g.met.W.TextOut.adds_more r c.args.self.now c.loop.self c.give_up.new.self
     c.args.writer.now c.loop.writer c.give_up.new.writer
-    c.loop.invariant.same (tt {0}) _ (c.loop.invariant.puts_in r is)
-    (put_in_first
+    c.loop.invariant.same {B = Unit {0}} (tt {0}) (Err c.in_err-give_up.field-0.0)
+    (c.loop.invariant.puts_in r is)
+    (put_in_first {A = Unit {0}}
     (record { adds = g.W.TextOut.adds; failures = g.W.TextOut.failures })
     r (skip_record c.args.venue c.in-Some.number) c.loop.self c.give_up.new.self
-    c.loop.writer c.give_up.new.writer _
+    c.loop.writer c.give_up.new.writer (Err c.in_err-give_up.field-0.0)
     (gaps_may c.in-Some.number r c.args.venue c.requires.rule c.loop.invariant.same is)
     c.in_err-give_up.ensures.takes))
 

@@ -1,4 +1,4 @@
-use Rattle.std.proofs.Common.{◌≡◌, ◌<◌, ◌∙◌, length, sym, subst, arith, Ok}
+use Rattle.std.proofs.Common.{◌≡◌, ◌<◌, ◌∙◌, length, sym, subst, arith, Ok, Err}
 use Rattle.std.proofs.lemmas.Result.{err_from_is_err_and}
 use Rattle.normalising.specs.Normalised.{MaySkipBefore}
 use Rattle.normalising.proofs.Venues.{first_none, first_then, is_same, same_then}
@@ -14,7 +14,7 @@ loop-place-init g c = record {
   same = is_same c.args.self.now;
   puts_in = λ r is. first_none
       (record { adds = g.W.TextOut.adds; failures = g.W.TextOut.failures })
-      g.met.W.TextOut.adds_none r c.args.self.now c.args.writer.now tt;
+      g.met.W.TextOut.adds_none r c.args.self.now c.args.writer.now (tt {0});
 }
 
 pub returns-in_err-give_up_standing-clause-puts_in :
@@ -25,10 +25,11 @@ returns-in_err-give_up_standing-clause-puts_in g c = λ r is.
     (record { adds = g.W.TextOut.adds; failures = g.W.TextOut.failures })
     g.met.W.TextOut.adds_more r c.args.self.now c.loop-place.self c.give_up_standing.new.self
     c.args.writer.now c.loop-place.writer c.give_up_standing.new.writer
-    c.loop-place.invariant.same (tt {0}) _ (c.loop-place.invariant.puts_in r is)
+    c.loop-place.invariant.same {B = Unit {0}} (tt {0})
+    (Err c.in_err-give_up_standing.field-0.0) (c.loop-place.invariant.puts_in r is)
     (c.in_err-give_up_standing.ensures.puts_in r
-    (subst (λ feed. MaySkipBefore feed.skips r _) (sym c.loop-place.invariant.same.settings)
-    (c.in_default.ensures r _ is))))
+    (subst (λ feed. MaySkipBefore feed.skips r c.at.result) (sym c.loop-place.invariant.same.settings)
+    (c.in-Some.ensures r c.at.result is))))
 
 pub loop-place-preserved : goal.loop-place-preserved
 loop-place-preserved g c = record {
@@ -40,8 +41,8 @@ loop-place-preserved g c = record {
       c.args.writer.now c.loop-place.writer c.give_up_standing.new.writer
       c.loop-place.invariant.same (tt {0}) (Ok (tt {0})) (c.loop-place.invariant.puts_in r is)
       (c.in_ok-give_up_standing.ensures.puts_in r
-      (subst (λ feed. MaySkipBefore feed.skips r _) (sym c.loop-place.invariant.same.settings)
-      (c.in_default.ensures r _ is)));
+      (subst (λ feed. MaySkipBefore feed.skips r c.at.result) (sym c.loop-place.invariant.same.settings)
+      (c.in-Some.ensures r c.at.result is)));
 }
 
 pub returns-clause-puts_in : goal.returns-clause-puts_in

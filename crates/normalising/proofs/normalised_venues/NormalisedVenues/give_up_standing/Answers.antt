@@ -1,4 +1,4 @@
-use Rattle.std.proofs.Common.{refl, Ok}
+use Rattle.std.proofs.Common.{refl, Ok, Err}
 use Rattle.std.proofs.lemmas.Result.{err_from_is_err_and}
 use Rattle.capture_records.specs.Capture.{skip_record}
 use Rattle.normalising.proofs.Venues.{first_none, first_noted, put_in_first}
@@ -12,10 +12,11 @@ returns-in_default-clause-puts_in g c = λ r may. first_none
 pub returns-in_err-give_up-clause-puts_in : goal.returns-in_err-give_up-clause-puts_in
 returns-in_err-give_up-clause-puts_in g c = λ r may.
     let p = err_from_is_err_and c.from_residual.result c.from_residual.ensures.1 in
-    rw (p.1, p.2) (put_in_first
+    rw (p.1, p.2) (put_in_first {A = Unit {0}}
     (record { adds = g.W.TextOut.adds; failures = g.W.TextOut.failures })
     r (skip_record c.args.venue c.in-Some.number) c.args.self.now c.give_up.new.self
-    c.args.writer.now c.give_up.new.writer _ may c.in_err-give_up.ensures.takes)
+    c.args.writer.now c.give_up.new.writer (Err c.in_err-give_up.field-0.0) may
+    c.in_err-give_up.ensures.takes)
 
 pub returns-clause-puts_in : goal.returns-clause-puts_in
 returns-clause-puts_in g c = λ r may. first_noted

@@ -8,8 +8,8 @@ returns-in_err-put_self_help-clause-takes g c =
     let p = err_from_is_err_and c.from_residual.result c.from_residual.ensures.1 in
     rw (p.1, p.2) (passing_failed
     (record { adds = g.W.TextOut.adds; failures = g.W.TextOut.failures })
-    c.args.self.now _ c.args.venue c.args.on c.args.writer.now c.put_self_help.new.writer _
-    c.requires refl refl refl c.in_err-put_self_help.ensures.form
+    c.args.self.now c.args.self.now c.args.venue c.args.on c.args.writer.now
+    c.put_self_help.new.writer c.in_err-put_self_help.field-0.0 c.requires refl refl refl refl
     c.in_err-put_self_help.ensures.part c.in_err-put_self_help.ensures.failed)
 
 pub returns-clause-takes : goal.returns-clause-takes

@@ -1,4 +1,4 @@
-use Rattle.std.proofs.Common.{Bool, ◌∙◌, refl, ap, Ok}
+use Rattle.std.proofs.Common.{Bool, true, ◌∙◌, refl, ap, Ok, Err}
 use Rattle.std.proofs.lemmas.Result.{err_from_is_err_and}
 use Rattle.capture_records.specs.Capture.{record_of, renewal_record, self_help_record, skip_record}
 use Rattle.normalising.proofs.Venues.{next_answer, next_stop, takes_record}
@@ -11,12 +11,14 @@ returns-in-Datagram-clause-takes g c = λ r is.
 pub returns-in_err-renew-in-Renewal-clause-takes : goal.returns-in_err-renew-in-Renewal-clause-takes
 returns-in_err-renew-in-Renewal-clause-takes g c = λ r is.
     let p = err_from_is_err_and c.from_residual.result c.from_residual.ensures.1 in
-    rw (p.1, p.2) (takes_record (record { adds = g.W.TextOut.adds; failures = g.W.TextOut.failures })
+    rw (p.1, p.2) (takes_record {A = Unit {0}} (record { adds = g.W.TextOut.adds; failures = g.W.TextOut.failures })
     r (renewal_record c.in-Renewal.venue c.in-Renewal.session) c.args.self.now c.renew.new.self
-    c.args.writer.now c.renew.new.writer _ (is ∙ ap record_of c.in-Renewal.is)
+    c.args.writer.now c.renew.new.writer (Err c.in_err-renew-in-Renewal.field-0.0)
+    (is ∙ ap record_of c.in-Renewal.is)
     (next_stop Bool (Unit {0}) (record { adds = g.W.TextOut.adds; failures = g.W.TextOut.failures })
     (renewal_record c.in-Renewal.venue c.in-Renewal.session) c.args.self.now c.renew.new.self
-    c.args.writer.now c.renew.new.writer _ c.in_err-renew-in-Renewal.ensures.takes))
+    c.args.writer.now c.renew.new.writer c.in_err-renew-in-Renewal.field-0.0
+    c.in_err-renew-in-Renewal.ensures.takes))
 
 pub returns-in_ok-renew-in-Renewal-clause-takes : goal.returns-in_ok-renew-in-Renewal-clause-takes
 returns-in_ok-renew-in-Renewal-clause-takes g c = λ r is. takes_record
@@ -25,7 +27,7 @@ returns-in_ok-renew-in-Renewal-clause-takes g c = λ r is. takes_record
     c.args.writer.now c.renew.new.writer (Ok (tt {0})) (is ∙ ap record_of c.in-Renewal.is)
     (next_answer (record { adds = g.W.TextOut.adds; failures = g.W.TextOut.failures })
     (renewal_record c.in-Renewal.venue c.in-Renewal.session) c.args.self.now c.renew.new.self
-    c.args.writer.now c.renew.new.writer _ (tt {0}) c.in_ok-renew-in-Renewal.ensures.takes)
+    c.args.writer.now c.renew.new.writer true (tt {0}) c.in_ok-renew-in-Renewal.ensures.takes)
 
 pub returns-in-Skip-clause-takes : goal.returns-in-Skip-clause-takes
 returns-in-Skip-clause-takes g c = λ r is. takes_record

@@ -1,4 +1,4 @@
-use Rattle.std.proofs.Common.{◌∙◌, refl, sym, ap, subst, Ok}
+use Rattle.std.proofs.Common.{◌∙◌, refl, sym, ap, subst, Ok, Err}
 use Rattle.std.proofs.lemmas.Result.{err_from_is_err_and}
 use Rattle.capture_records.specs.Capture.{datagram_record, record_venue}
 use Rattle.normalising.specs.Keeping.{GivesNext}
@@ -33,7 +33,8 @@ returns-in_err-make_room-clause-takes g c = λ r is.
     r c.args.self.now c.make_room.new.self c.args.writer.now c.make_room.new.writer _
     (first_then (record { adds = g.W.TextOut.adds; failures = g.W.TextOut.failures })
     g.met.W.TextOut.adds_more r c.args.self.now c.follow.new.self c.make_room.new.self
-    c.args.writer.now c.follow.new.writer c.make_room.new.writer c.in_ok-follow.ensures.same (tt {0}) _
+    c.args.writer.now c.follow.new.writer c.make_room.new.writer c.in_ok-follow.ensures.same
+    {B = Unit {0}} (tt {0}) (Err c.in_err-make_room.field-0.0)
     (c.in_ok-follow.ensures.puts_in r (named_packet r c.args.venue c.args.line c.args.bytes.now _ _ is
     c.in-Ok.ensures.spelled.1))
     (c.in_err-make_room.ensures.puts_in r (ap record_venue (sym is)))))
