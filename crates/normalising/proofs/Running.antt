@@ -1,16 +1,15 @@
 -- What is known while a run goes on.
-use Rattle.std.proofs.Common.{◌≡◌, ℕ, ◌+◌, List, [], ◌∷◌, ◌++◌, length, drop, take, map, append_assoc, append-nil, refl, sym, ap, subst, ◌∙◌, inl, Err}
+use Rattle.std.proofs.Common.{◌≡◌, ℕ, ◌+◌, List, [], ◌∷◌, ◌++◌, drop, map, append_assoc, append-nil, refl, sym, ap, subst, ◌∙◌, inl, Err}
 use Rattle.std.specs.Prelude.{⊤, All}
 use Rattle.std.proofs.lemmas.List.{map-append}
 use Rattle.std.proofs.lemmas.List.Elements.{All-nil, All-cons, All-append}
 use Rattle.capture_records.specs.Capture.{IsRecord}
 use Rattle.capture_records.specs.Formats.{TimedRecord, Parsing, TakesPiece, HasReadRecords, what_of}
 use Rattle.text_out.specs.Devices.{Reading, Writing, HasGiven, Wrote}
-use Rattle.normalising.specs.Keeping.{EndsRun, FailedWithin, FollowsRun, IsNewRun, RunsOn, TookOf}
+use Rattle.normalising.specs.Keeping.{EndsRun, FailedWithin, RunsOn, TookOf}
 use Rattle.normalising.specs.Normalisations.{AnswersNormalising, HasNormalised, IsNoneLeft, TookPart, TookText, venues_normalised}
-use Rattle.normalising.specs.Normalised.{GoesOnWithin, NormalisedPoint, NormalisesAll, new_normalised_point}
+use Rattle.normalising.specs.Normalised.{NormalisedPoint, NormalisesAll, new_normalised_point}
 use Rattle.normalising.specs.Texts.{begun_text}
-use Rattle.normalising.specs.Writes.{PutsText}
 use Rattle.event_sinks.specs.declared.replay_stop.ReplayStop.TheVariants.{SinkFailed}
 use Rattle.normalising.specs.declared.normalise_stop.NormaliseStop.{NormaliseStop}
 use Rattle.normalising.specs.declared.normalise_stop.NormaliseStop.TheVariants as ends
@@ -18,7 +17,6 @@ use Rattle.normalising.specs.declared.normalise_stop.NormaliseStop.TheVariants.{
 use Rattle.normalising.specs.declared.venue_stop.VenueStop.{VenueStop}
 use Rattle.normalising.specs.declared.venue_stop.VenueStop.TheVariants.{Book, Sink}
 use Rattle.normalising.specs.declared.normalised_feed.NormalisedFeed.{NormalisedFeed}
-use Rattle.normalising.specs.declared.normalised_venues.NormalisedVenues.{NormalisedVenues}
 use Rattle.normalising.proofs.Steps.{all_longer, all_none, all_then}
 use Rattle.normalising.proofs.Taking.{wrote_after}
 
@@ -432,20 +430,23 @@ module _ {R S F W : Type 0} {reading : Reading R} {parsing : Parsing S F} {writi
         subst (λ (s : NormaliseStop F). AnswersNormalising reading parsing writing feed turns from to
         start next before last (Err s)) (sym e.0)
         (subst (λ (w : W). AnswersNormalising reading parsing writing feed turns from to
-        start next before w (Err (Replay SinkFailed))) (sym e.1)
-        (failed_record r len same piece is x t,
-        t.failed ∙ ap (λ (n : ℕ). n + 1) writes))
+        start next before w (Err (Replay SinkFailed))) (sym e.1) (
+          failed_record r len same piece is x t,
+          t.failed ∙ ap (λ (n : ℕ). n + 1) writes,
+        ))
     stop_answers turns longer mid last IsLeft IsAfter r len (Book fault) (ends.Book venue why) same piece is writes x t e =
         stopped_record r len same piece is x t e.0
     stop_answers {to = to} {next = next} turns longer mid last IsLeft IsAfter r len
         (Book fault) (Replay why) same piece is writes x t e =
         subst (λ (s : NormaliseStop F). AnswersNormalising reading parsing writing feed turns from to
-        start next before last (Err s)) (sym e.0)
-        (stopped_part r len same piece is x t e.1,
-        e.2 ∙ ap (λ (n : ℕ). n + 1) (t.puts.kept ∙ writes))
+        start next before last (Err s)) (sym e.0) (
+          stopped_part r len same piece is x t e.1,
+          e.2 ∙ ap (λ (n : ℕ). n + 1) (t.puts.kept ∙ writes),
+        )
     stop_answers {to = to} {next = next} turns longer mid last IsLeft IsAfter r len
         (Book fault) (Fault why) same piece is writes x t e =
         subst (λ (s : NormaliseStop F). AnswersNormalising reading parsing writing feed turns from to
-        start next before last (Err s)) (sym e.0)
-        (stopped_part r len same piece is x t e.1,
-        e.2 ∙ ap (λ (n : ℕ). n + 1) (t.puts.kept ∙ writes))
+        start next before last (Err s)) (sym e.0) (
+          stopped_part r len same piece is x t e.1,
+          e.2 ∙ ap (λ (n : ℕ). n + 1) (t.puts.kept ∙ writes),
+        )

@@ -1,5 +1,5 @@
 -- What a run writes of each session of a venue.
-use Rattle.std.proofs.Common.{◌≡◌, ◌≢◌, ◌⊎◌, ℕ, zero, suc, ◌+◌, ◌<◌, ◌≤◌, ◌^◌, Bool, true, false, List, [], ◌∷◌, ◌++◌, length, map, refl, sym, ap, ap₂, subst, ◌∙◌, inl, inr, arith, append-nil, append_assoc, Some, Result, Ok, Err}
+use Rattle.std.proofs.Common.{◌≡◌, ◌≢◌, ◌⊎◌, ℕ, zero, suc, ◌+◌, ◌<◌, Bool, true, false, List, [], ◌∷◌, ◌++◌, length, map, refl, sym, ap, ap₂, subst, ◌∙◌, inl, inr, arith, append-nil, append_assoc, Some, Result, Ok, Err}
 use Rattle.std.specs.Prelude.{flat_map, ◌==◌, ◌&&◌, nat_lt, Contains, slice_get, slice_set, if◌then◌else◌}
 use Rattle.std.specs.List.{AllByRecursion}
 use Rattle.std.specs.Str.{bytes_eq}
@@ -11,10 +11,10 @@ use Rattle.std.proofs.lemmas.Slice.Eq.{bytes_eq-Decides}
 use Rattle.feed_types.specs.declared.item.Numbered.{Numbered}
 use Rattle.feed_types.specs.declared.line.LineId.{LineId}
 use Rattle.line_arbiter.specs.Answered.{AreAnswered, AreAnsweredAfter, IsAnswered}
-use Rattle.line_arbiter.specs.Histories.{Begun, History, all_begun, names_of, new_history, new_session}
+use Rattle.line_arbiter.specs.Histories.{Begun, History, all_begun, names_of, new_session}
 use Rattle.line_arbiter.specs.declared.faults.RenewFault.{RenewFault}
 use Rattle.line_arbiter.specs.declared.faults.SkipFault.{SkipFault}
-use Rattle.line_arbiter.specs.Packets.{Input, Arrived, Skip, arrival_of, end_of, known_of}
+use Rattle.line_arbiter.specs.Packets.{Input, Skip, arrival_of, end_of}
 use Rattle.line_arbiter.specs.Renewals.{IsRenewal}
 use Rattle.line_arbiter.specs.Skips.{IsSkip}
 use Rattle.mold_packet.specs.declared.packet.Kind.{Kind}
@@ -26,7 +26,7 @@ use Rattle.venue_normaliser.specs.declared.end_number.EndNumber.{EndNumber}
 use Rattle.venue_normaliser.specs.declared.end_number.EndNumber.TheVariants.{Next, Last}
 use Rattle.venue_normaliser.specs.Ends.{is_end, read_as}
 use Rattle.venue_normaliser.specs.Outputs.{IsPutOut}
-use Rattle.normalising.specs.Carried.{AreWritten, Carry, items_carried}
+use Rattle.normalising.specs.Carried.{Carry, items_carried}
 use Rattle.normalising.specs.Normalised.{LeavesVenue, NormalisedHistory, NormalisedPoint, NormalisesAll, NormalisesAt, NormalisesPacket, NormalisesRecord, NormalisesRenewal, NormalisesSkip, PassesOn, PutsOutMore, RenewsBy, SkipsBy, inputs_of, new_normalised, new_normalised_point, quoted_keys, time_after}
 use Rattle.normalising.specs.Sendings.{Sending, packet_sent, record_sent, SendsSession, SendsSessions, packet_of_session, packets_of_session, sending_text}
 use Rattle.normalising.specs.Texts.{datagram_text, record_text}
@@ -116,12 +116,15 @@ sends_all : {feed : NormalisedFeed} {place : ℕ} {sendings : List Sending} {h :
     → AllByRecursion (SendsSession feed place sendings) (all_begun h.history)
 sends_all {feed = feed} {place = place} {sendings = sendings} {h = h} s =
     all_append (SendsSession feed place sendings) h.history.earlier (h.history.present ∷ [])
-    s.earlier (record {
-      output = h.output;
-      answered = s.answered;
-      put_out = s.put_out;
-      carry = s.carry;
-    }, tt)
+    s.earlier (
+      record {
+        output = h.output;
+        answered = s.answered;
+        put_out = s.put_out;
+        carry = s.carry;
+      },
+      tt,
+    )
 
 -- the earlier sessions stay where nothing of theirs is sent
 earlier_stay : (feed : NormalisedFeed) (place : ℕ) (old more : List Sending) (bs : List Begun)
@@ -175,10 +178,12 @@ answered_more : (name : List ℕ) (window : ℕ) (before rest : List Input) (x :
     → AreAnsweredAfter name window before (rest ++ x ∷ [])
 answered_more name window before [] x a is =
     (subst (λ (z : List Input). IsAnswered name window z x) (append-nil before) is, tt)
-answered_more name window before (y ∷ rest) x a is =
-    (a.0, answered_more name window (before ++ y ∷ []) rest x a.1
-    (subst (λ (z : List Input). IsAnswered name window z x)
-    (sym (append_assoc before (y ∷ []) rest)) is))
+answered_more name window before (y ∷ rest) x a is = (
+  a.0,
+  answered_more name window (before ++ y ∷ []) rest x a.1
+      (subst (λ (z : List Input). IsAnswered name window z x)
+      (sym (append_assoc before (y ∷ []) rest)) is),
+)
 
 carry_both : (name : List ℕ) (xs ys : List Numbered) (ps qs : List Content)
     → Carry name xs ps → Carry name ys qs → Carry name (xs ++ ys) (ps ++ qs)
@@ -254,9 +259,10 @@ sends_more feed time place given old h after text p is s =
     none_earlier : (bs : List Begun) → AllByRecursion (λ b. name ≡ b.name → ⊥) bs
         → AllByRecursion (λ b. packets_of_session place b.name more ≡ []) bs
     none_earlier [] apart = tt
-    none_earlier (b ∷ bs) apart =
-        (none_of place time name b.name packets p.written.carry.session apart.0,
-        none_earlier bs apart.1)
+    none_earlier (b ∷ bs) apart = (
+      none_of place time name b.name packets p.written.carry.session apart.0,
+      none_earlier bs apart.1,
+    )
 
 -- ---- a record
 

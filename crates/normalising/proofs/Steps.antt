@@ -1,12 +1,10 @@
 -- What a run takes of records, step after step.
-use Rattle.std.proofs.Common.{◌≡◌, ◌⊎◌, ℕ, ◌+◌, List, [], ◌∷◌, ◌++◌, refl, sym, ap, ap₂, subst, ◌∙◌, inl, inr, append-nil, append_assoc, Result, Ok, Err}
+use Rattle.std.proofs.Common.{ℕ, ◌+◌, List, [], ◌∷◌, ◌++◌, refl, sym, ap, subst, ◌∙◌, inl, inr, append-nil, append_assoc, Result, Ok, Err}
 use Rattle.std.specs.Prelude.{⊤}
-use Rattle.feed_types.specs.declared.item.Numbered.{Numbered}
 use Rattle.capture_records.specs.Formats.{TimedRecord}
 use Rattle.text_out.specs.Devices.{Writing, Wrote}
 use Rattle.normalising.specs.Keeping.{FailedWithin, RunsOn, TookOf}
-use Rattle.normalising.specs.Normalised.{GoesOnWithin, IsNormalisedNext, NormalisedPoint, NormalisesAll, NormalisesRecord}
-use Rattle.normalising.specs.Writes.{PutsText}
+use Rattle.normalising.specs.Normalised.{IsNormalisedNext, NormalisedPoint, NormalisesAll, NormalisesRecord}
 use Rattle.normalising.specs.declared.normalised_feed.NormalisedFeed.{NormalisedFeed}
 use Rattle.normalising.specs.declared.venue_stop.VenueStop.{VenueStop}
 use Rattle.normalising.specs.declared.venue_stop.VenueStop.TheVariants.{Book, Sink}

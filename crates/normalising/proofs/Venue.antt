@@ -1,12 +1,10 @@
 -- What a venue takes.
-use Rattle.std.proofs.Common.{◌≡◌, ℕ, ◌+◌, ◌≤◌, List, [], ◌∷◌, ◌++◌, length, map, refl, sym, ap, ap₂, subst, ◌∙◌, inl, inr, arith, append-nil, Option, Result, Ok, Err, IfErr, OnOk}
+use Rattle.std.proofs.Common.{◌≡◌, ℕ, ◌+◌, List, [], ◌∷◌, ◌++◌, length, refl, sym, ap, ap₂, subst, ◌∙◌, inr, arith, append-nil, Option, Result, Ok, Err, IfErr, OnOk}
 use Rattle.std.specs.Prelude.{flat_map}
 use Rattle.std.proofs.lemmas.List.{map-append}
 use Rattle.feed_types.specs.declared.item.Numbered.{Numbered}
 use Rattle.feed_types.specs.declared.line.LineId.{LineId}
-use Rattle.mold_packet.specs.declared.fault.PacketFault.{PacketFault}
 use Rattle.mold_packet.specs.Content.{Content, Spells}
-use Rattle.mold_packet.specs.Faults.{HasFault}
 use Rattle.line_arbiter.specs.declared.faults.RenewFault.{RenewFault}
 use Rattle.line_arbiter.specs.declared.faults.SkipFault.{SkipFault}
 use Rattle.line_arbiter.specs.declared.outcome.LineFault.{LineFault}
@@ -25,10 +23,10 @@ use Rattle.venue_normaliser.specs.Ends.{read_as}
 use Rattle.venue_normaliser.specs.Outputs.{IsPutOut}
 use Rattle.venue_normaliser.specs.States.{FitsPackets, IsNewNormaliser, KeepsItsBook, NormaliserState, PutsOut}
 use Rattle.normalising.specs.Carried.{AreWritten, RunsFrom}
-use Rattle.normalising.specs.Keeping.{FailedAtVenue, FollowsVenue, TakesAtVenue, TookAtVenue}
+use Rattle.normalising.specs.Keeping.{FollowsVenue, TakesAtVenue}
 use Rattle.normalising.specs.Normalised.{NormalisedHistory, NormalisesAt, NormalisesRenewal, PutsOutMore, RenewsBy, inputs_of, new_normalised, quoted_keys}
 use Rattle.normalising.specs.Texts.{datagram_text, record_text}
-use Rattle.normalising.specs.Writes.{PutsFront, PutsPackets, PutsText, StopsPut, origin_of, text_of}
+use Rattle.normalising.specs.Writes.{PutsPackets, PutsText, StopsPut, origin_of, text_of}
 use Rattle.normalising.specs.declared.normalised_feed.NormalisedFeed.{NormalisedFeed}
 use Rattle.normalising.specs.declared.output_form.OutputForm.{OutputForm}
 use Rattle.normalising.specs.declared.venue_stop.VenueStop.{VenueStop}
@@ -343,54 +341,54 @@ module _ {W : Type 0} (writing : Writing W) (feed : NormalisedFeed) (time place 
     (form : OutputForm) (from to : W) (waited waits : List ℕ)
     (f : FollowsVenue feed place before h) (form_is : form ≡ feed.form)
     (is : IsRenewal before.lines.sessions before.lines.end before.lines.sent name (Ok ordinal))
-    where
-  renewal_text : record_text form (renewal_record place name)
-      ≡ record_text feed.form (renewal_record place name)
-  renewal_text = ap (λ (o : OutputForm). record_text o (renewal_record place name)) form_is
+  where
+    renewal_text : record_text form (renewal_record place name)
+        ≡ record_text feed.form (renewal_record place name)
+    renewal_text = ap (λ (o : OutputForm). record_text o (renewal_record place name)) form_is
 
-  begins : NormalisesRenewal feed place name h
-      (record_text form (renewal_record place name)) (after_begun h name)
-  begins = renewal_is feed place name h before (Ok ordinal) _ (after_begun h name) f is
-      (record { history = refl; output = refl; text_is = renewal_text })
+    begins : NormalisesRenewal feed place name h
+        (record_text form (renewal_record place name)) (after_begun h name)
+    begins = renewal_is feed place name h before (Ok ordinal) _ (after_begun h name) f is
+        (record { history = refl; output = refl; text_is = renewal_text })
 
-  pub renewal_begun : {A : Type 0} (done : A) → FitsPackets after []
-      → IsRenewed before.lines after.lines name
-      → KeepsItsBook before after → ((keys : List ℕ) → IsPutOut keys [] [])
-      → PutsText writing from to waited (record_text form (renewal_record place name)) waits
-      → TakesAtVenue writing feed time place (renewal_record place name) h after from to waited
-      waits (Ok done)
-  renewal_begun done fits renewed book nothing puts = record {
-    after = after_begun h name;
-    text = record_text form (renewal_record place name);
-    normalises = begins;
-    puts = puts;
-    follows = record {
-      fits = fits;
-      put_out = nothing (quoted_keys feed);
-      venue = renewed.venue ∙ f.venue;
-      session = renewed.begun.session;
-      sessions = renewed.sessions ∙ ap (λ (ns : List (List ℕ)). ns ++ name ∷ []) f.sessions
-          ∙ sym (renewed_names h.history name);
-      window = renewed.window ∙ f.window;
-      keys = book.keys ∙ f.keys;
-      end_number = book.end_number ∙ f.end_number;
-    };
-  }
+    pub renewal_begun : {A : Type 0} (done : A) → FitsPackets after []
+        → IsRenewed before.lines after.lines name
+        → KeepsItsBook before after → ((keys : List ℕ) → IsPutOut keys [] [])
+        → PutsText writing from to waited (record_text form (renewal_record place name)) waits
+        → TakesAtVenue writing feed time place (renewal_record place name) h after from to waited
+        waits (Ok done)
+    renewal_begun done fits renewed book nothing puts = record {
+      after = after_begun h name;
+      text = record_text form (renewal_record place name);
+      normalises = begins;
+      puts = puts;
+      follows = record {
+        fits = fits;
+        put_out = nothing (quoted_keys feed);
+        venue = renewed.venue ∙ f.venue;
+        session = renewed.begun.session;
+        sessions = renewed.sessions ∙ ap (λ (ns : List (List ℕ)). ns ++ name ∷ []) f.sessions
+            ∙ sym (renewed_names h.history name);
+        window = renewed.window ∙ f.window;
+        keys = book.keys ∙ f.keys;
+        end_number = book.end_number ∙ f.end_number;
+      };
+    }
 
-  pub renewal_failed : (A : Type 0) (stop : SinkStop)
-      → Wrote writing.adds from waited to
-      → writing.failures to ≡ writing.failures from + 1
-      → TakesAtVenue {A = A} writing feed time place (renewal_record place name) h after from to
-      waited waits (Err (Sink stop))
-  renewal_failed A stop part failed = record {
-    after = after_begun h name;
-    rest = [];
-    text = record_text form (renewal_record place name);
-    normalises = begins;
-    wrote = wrote_longer writing.adds from to waited
-        (record_text form (renewal_record place name)) part;
-    failed = failed;
-  }
+    pub renewal_failed : (A : Type 0) (stop : SinkStop)
+        → Wrote writing.adds from waited to
+        → writing.failures to ≡ writing.failures from + 1
+        → TakesAtVenue {A = A} writing feed time place (renewal_record place name) h after from to
+        waited waits (Err (Sink stop))
+    renewal_failed A stop part failed = record {
+      after = after_begun h name;
+      rest = [];
+      text = record_text form (renewal_record place name);
+      normalises = begins;
+      wrote = wrote_longer writing.adds from to waited
+          (record_text form (renewal_record place name)) part;
+      failed = failed;
+    }
 
 -- ---- a new venue
 

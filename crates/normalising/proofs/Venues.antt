@@ -1,5 +1,5 @@
 -- The venues of a run: one of them takes a record, and the others stay.
-use Rattle.std.proofs.Common.{◌≡◌, ◌≢◌, ◌⊎◌, ℕ, zero, suc, ◌+◌, ◌<◌, ◌≤◌, Bool, true, false, List, [], ◌∷◌, ◌++◌, length, length-append, map, take, get_or, refl, sym, ap, subst, ◌∙◌, inl, inr, arith, Option, Some, None, Result, Ok, Err}
+use Rattle.std.proofs.Common.{◌≡◌, ◌≢◌, ◌⊎◌, ℕ, zero, suc, ◌+◌, ◌<◌, Bool, true, false, List, [], ◌∷◌, ◌++◌, length, length-append, map, take, get_or, refl, sym, ap, subst, ◌∙◌, inl, inr, arith, Option, Some, None, Result, Ok, Err}
 use Rattle.std.specs.Prelude.{⊤, nat_lt, slice_get, slice_set, if◌then◌else◌}
 use Rattle.std.proofs.Math.ListN.{length-set}
 use Rattle.std.proofs.lemmas.List.{length-map, map-append, take_more}
@@ -18,8 +18,8 @@ use Rattle.capture_records.specs.Formats.{TimedRecord, timed_record}
 use Rattle.run_settings.specs.declared.skip_rule.SkipRule.TheVariants.{Gaps}
 use Rattle.text_out.specs.Devices.{Writing, Wrote}
 use Rattle.venue_normaliser.specs.States.{NormaliserState}
-use Rattle.normalising.specs.Keeping.{FailedAtVenue, FollowHistories, FollowsAt, FollowsRun, FollowsVenue, GivesNext, IsNoted, IsSameRun, PutsInFirst, RunsOn, TakesAtVenue, TakesToo, TookAtVenue, TookOf}
-use Rattle.normalising.specs.Normalised.{GoesOnWithin, IsNormalisedNext, IsPacketOfName, MayPutIn, NormalisedHistory, NormalisedPoint, NormalisesAt, NormalisesRecord, new_normalised, time_after}
+use Rattle.normalising.specs.Keeping.{FollowHistories, FollowsAt, FollowsRun, FollowsVenue, GivesNext, IsNoted, IsSameRun, PutsInFirst, RunsOn, TakesAtVenue, TakesToo}
+use Rattle.normalising.specs.Normalised.{IsNormalisedNext, IsPacketOfName, MayPutIn, NormalisedHistory, NormalisedPoint, NormalisesAt, NormalisesRecord, new_normalised, time_after}
 use Rattle.normalising.specs.Texts.{record_text}
 use Rattle.normalising.specs.Writes.{PutsText}
 use Rattle.normalising.specs.declared.normalised_feed.NormalisedFeed.{NormalisedFeed}
@@ -227,8 +227,14 @@ module _ {W : Type 0} (writing : Writing W) (adds_none : (s : W) → writing.add
     after = at;
     normalises = all_none feed records at;
     more = took.text;
-    within = inr (t, left, took.rest, point_with at (record_venue r) time took.after, next,
-        of_record took.rest took.text took.after took.normalises);
+    within = inr (
+      t,
+      left,
+      took.rest,
+      point_with at (record_venue r) time took.after,
+      next,
+      of_record took.rest took.text took.after took.normalises,
+    );
     wrote = took.wrote;
     failed = took.failed;
   }
@@ -528,8 +534,7 @@ module _ {W : Type 0} (writing : Writing W) (old new : NormalisedVenues)
       × FollowsAt new t.time after
   kept_next t at f is =
       let n = f.venues.count in
-      let h = get_within at.venues (record_venue r) (omega (arith, n, within)) in
-      (
+      let h = get_within at.venues (record_venue r) (omega (arith, n, within)) in (
         point_with at (record_venue r) old.latest h.0,
         subst (λ (what : CaptureRecord). NormalisesRecord old.settings (record t { what = what }) at
             [] text (point_with at (record_venue r) old.latest h.0)) (sym is) (record {
@@ -541,17 +546,20 @@ module _ {W : Type 0} (writing : Writing W) (old new : NormalisedVenues)
               venues = refl;
               latest = f.latest;
             }),
-        (record {
-          venues = subst (λ (feed : NormalisedFeed). FollowHistories feed new.venues.items
-              (slice_set at.venues (record_venue r) h.0)) (sym settings)
-              (subst (λ (vs : List NormalisedVenue). FollowHistories old.settings vs
-              (slice_set at.venues (record_venue r) h.0)) (sym items)
-              (subst (λ (hs : List NormalisedHistory). FollowHistories old.settings
-              old.venues.items hs) (sym (same_set at.venues (record_venue r) h.0 h.1)) f.venues));
-          latest = latest ∙ f.latest ∙ sym (time_again at.latest t.time)
-              ∙ ap (λ (l : ℕ). time_after l t.time) (sym f.latest);
-          form = form ∙ f.form ∙ ap (λ (feed : NormalisedFeed). feed.form) (sym settings);
-        }, sym latest),
+        (
+          record {
+            venues = subst (λ (feed : NormalisedFeed). FollowHistories feed new.venues.items
+                (slice_set at.venues (record_venue r) h.0)) (sym settings)
+                (subst (λ (vs : List NormalisedVenue). FollowHistories old.settings vs
+                (slice_set at.venues (record_venue r) h.0)) (sym items)
+                (subst (λ (hs : List NormalisedHistory). FollowHistories old.settings
+                old.venues.items hs) (sym (same_set at.venues (record_venue r) h.0 h.1)) f.venues));
+            latest = latest ∙ f.latest ∙ sym (time_again at.latest t.time)
+                ∙ ap (λ (l : ℕ). time_after l t.time) (sym f.latest);
+            form = form ∙ f.form ∙ ap (λ (feed : NormalisedFeed). feed.form) (sym settings);
+          },
+          sym latest,
+        ),
       )
 
   pub kept_gives : {A : Type 0} (a : A)

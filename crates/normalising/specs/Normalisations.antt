@@ -1,10 +1,8 @@
 -- The results of a run over a capture.
 use Rattle.std.specs.Prelude.{◌≡◌, ⊤, ℕ, ◌+◌, ◌≤◌, List, [], ◌++◌, length, Result, Ok, Err}
 use Rattle.capture_records.specs.Formats.{HasReadRecords, IsCutOff, Parsing, TimedRecord}
-use Rattle.event_sinks.specs.declared.replay_stop.ReplayStop.{ReplayStop}
 use Rattle.event_sinks.specs.declared.replay_stop.ReplayStop.TheVariants.{Bad, JournalFull, NoMemory, ReadFailed, Short, SinkFailed, TooManyTurns}
 use Rattle.text_out.specs.Devices.{Reading, Writing, Wrote}
-use Rattle.venue_normaliser.specs.declared.fault.NormaliserFault.{NormaliserFault}
 use Rattle.normalising.specs.Normalised.{GoesOnWithin, NormalisedPoint, NormalisesAll, new_normalised_point}
 use Rattle.normalising.specs.Texts.{begun_text}
 use Rattle.normalising.specs.declared.normalise_stop.NormaliseStop.{NormaliseStop}

@@ -1,6 +1,6 @@
 -- A run over records: what each venue's normaliser is given of them, what is put out of it, and the
 -- text of the packets that carry that.
-use Rattle.std.specs.Prelude.{◌≡◌, ◌⊎◌, ⊤, ℕ, nat_lt, List, [], ◌∷◌, ◌++◌, map, flat_map, Contains, Option, Some, None, IsSome, Result, Ok, Err, slice_get, slice_set, if◌then◌else◌}
+use Rattle.std.specs.Prelude.{◌≡◌, ◌⊎◌, ℕ, nat_lt, List, [], ◌∷◌, ◌++◌, map, flat_map, Contains, Option, Some, None, IsSome, Result, Ok, Err, slice_get, slice_set, if◌then◌else◌}
 use Rattle.feed_types.specs.declared.item.Numbered.{Numbered}
 use Rattle.feed_types.specs.declared.line.LineId.{LineId}
 use Rattle.feed_types.specs.Symbols.{key_of}

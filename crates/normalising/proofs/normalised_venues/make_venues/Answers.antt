@@ -1,6 +1,3 @@
-use Rattle.std.proofs.Common.{ℕ, [], get_or, subst}
-use Rattle.normalising.specs.Keeping.{FollowsVenue}
-use Rattle.normalising.specs.Normalised.{new_normalised}
 use Rattle.normalising.proofs.Venues.{follow_next}
 use Rattle.normalising.proofs.normalised_venues.make_venues.Goals as goal
 

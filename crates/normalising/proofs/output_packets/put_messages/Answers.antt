@@ -1,4 +1,4 @@
-use Rattle.std.proofs.Common.{◌+◌, ◌-◌, ◌∙◌, length, map, take, drop, sym, ap, subst, arith, length-drop}
+use Rattle.std.proofs.Common.{◌-◌, ◌∙◌, length, map, take, drop, sym, ap, subst, arith, length-drop}
 use Rattle.std.specs.List.{AllByRecursion}
 use Rattle.feed_types.specs.Sessions.{numbered_from}
 use Rattle.mold_packet.specs.Block.{IsMessage}

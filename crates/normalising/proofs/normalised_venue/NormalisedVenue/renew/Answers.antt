@@ -1,4 +1,4 @@
-use Rattle.std.proofs.Common.{Bool, true, false, [], ◌∙◌, refl, sym, ap, subst, Ok, Err}
+use Rattle.std.proofs.Common.{Bool, true, false, ◌∙◌, refl, subst}
 use Rattle.std.proofs.lemmas.Result.{err_from_is_err_and}
 use Rattle.capture_records.specs.Capture.{renewal_record}
 use Rattle.normalising.specs.Texts.{record_text}

@@ -1,8 +1,7 @@
-use Rattle.std.proofs.Common.{Bool, true, false, ◌++◌, [], ◌∷◌, refl, arith}
+use Rattle.std.proofs.Common.{Bool, true, false, refl, arith}
 use Rattle.std.specs.Prelude.{Err, Ok}
 use Rattle.std.proofs.lemmas.Result.{err_from_is_err_and}
 use Rattle.capture_records.specs.Capture.{skip_record}
-use Rattle.line_arbiter.specs.Packets.{Skip, known_of}
 use Rattle.normalising.specs.Normalised.{inputs_of}
 use Rattle.normalising.proofs.Venue.{given_row, given_takes, no_skip, skip_at, skip_given}
 use Rattle.normalising.proofs.normalised_venue.NormalisedVenue.skip_to.Goals as goal

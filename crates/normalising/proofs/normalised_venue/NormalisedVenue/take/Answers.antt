@@ -1,7 +1,6 @@
 use Rattle.std.proofs.Common.{refl, arith}
 use Rattle.std.proofs.lemmas.Result.{err_from_is_err_and, on_ok_weaker}
 use Rattle.capture_records.specs.Capture.{datagram_record}
-use Rattle.line_arbiter.specs.Packets.{known_of}
 use Rattle.normalising.proofs.Packing.{if_err_weaker}
 use Rattle.normalising.proofs.Venue.{given_row, given_takes, packet_at, packet_given}
 use Rattle.normalising.proofs.normalised_venue.NormalisedVenue.take.Goals as goal

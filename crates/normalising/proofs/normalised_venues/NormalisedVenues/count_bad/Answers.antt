@@ -1,4 +1,4 @@
-use Rattle.std.proofs.Common.{refl, ap, length, subst}
+use Rattle.std.proofs.Common.{refl, ap, length}
 use Rattle.std.specs.Prelude.{slice_set}
 use Rattle.std.proofs.lemmas.Option.{slice_get_read}
 use Rattle.normalising.proofs.Venues.{noted_at}

@@ -21,8 +21,10 @@ returns-in_err-renew-clause-puts_in g c = λ r is.
     rw (p.1, p.2) (put_in_first {A = Unit {0}}
     (record { adds = g.W.TextOut.adds; failures = g.W.TextOut.failures })
     r (renewal_record c.args.venue c.session-session.result) c.args.self.now c.renew.new.self
-    c.args.writer.now c.renew.new.writer (Err c.in_err-renew.field-0.0) (c.in-Some.ensures,
-    subst (λ name. IsPacketOfName r.what c.args.venue name) (sym c.session-session.ensures.value) is) c.in_err-renew.ensures.takes)
+    c.args.writer.now c.renew.new.writer (Err c.in_err-renew.field-0.0) (
+      c.in-Some.ensures,
+      subst (λ name. IsPacketOfName r.what c.args.venue name) (sym c.session-session.ensures.value) is,
+    ) c.in_err-renew.ensures.takes)
 
 pub returns-else-branch-clause-puts_in : goal.returns-else-branch-clause-puts_in
 returns-else-branch-clause-puts_in g c = λ r is. answer_first
@@ -31,8 +33,10 @@ returns-else-branch-clause-puts_in g c = λ r is. answer_first
     (put_in_first
     (record { adds = g.W.TextOut.adds; failures = g.W.TextOut.failures })
     r (renewal_record c.args.venue c.session-session.result) c.args.self.now c.renew.new.self
-    c.args.writer.now c.renew.new.writer (Ok true) (c.in-Some.ensures,
-    subst (λ name. IsPacketOfName r.what c.args.venue name) (sym c.session-session.ensures.value) is)
+    c.args.writer.now c.renew.new.writer (Ok true) (
+      c.in-Some.ensures,
+      subst (λ name. IsPacketOfName r.what c.args.venue name) (sym c.session-session.ensures.value) is,
+    )
     c.in_ok-renew.ensures.takes)
 
 pub returns-then-branch-clause-puts_in : goal.returns-then-branch-clause-puts_in
@@ -43,6 +47,8 @@ returns-then-branch-clause-puts_in g c = λ r is. first_noted
     (put_in_first
     (record { adds = g.W.TextOut.adds; failures = g.W.TextOut.failures })
     r (renewal_record c.args.venue c.session-session.result) c.args.self.now c.renew.new.self
-    c.args.writer.now c.renew.new.writer (Ok true) (c.in-Some.ensures,
-    subst (λ name. IsPacketOfName r.what c.args.venue name) (sym c.session-session.ensures.value) is)
+    c.args.writer.now c.renew.new.writer (Ok true) (
+      c.in-Some.ensures,
+      subst (λ name. IsPacketOfName r.what c.args.venue name) (sym c.session-session.ensures.value) is,
+    )
     c.in_ok-renew.ensures.takes)

@@ -1,7 +1,6 @@
-use Rattle.std.proofs.Common.{◌≡◌, ◌∙◌, length, sym, subst, arith, Ok, Err}
+use Rattle.std.proofs.Common.{Ok, Err}
 use Rattle.std.proofs.lemmas.Result.{err_from_is_err_and}
-use Rattle.capture_records.specs.Capture.{record_venue, skip_record}
-use Rattle.normalising.specs.Normalised.{MaySkipBefore}
+use Rattle.capture_records.specs.Capture.{skip_record}
 use Rattle.normalising.proofs.Venues.{first_none, first_then, gaps_may, is_same, put_in_first, same_then}
 use Rattle.normalising.proofs.normalised_venues.NormalisedVenues.give_up_ahead.Goals as goal
 

@@ -1,4 +1,4 @@
-use Rattle.std.proofs.Common.{◌≡◌, ◌<◌, ◌∙◌, length, sym, subst, arith, Ok, Err}
+use Rattle.std.proofs.Common.{sym, subst, Ok, Err}
 use Rattle.std.proofs.lemmas.Result.{err_from_is_err_and}
 use Rattle.normalising.specs.Normalised.{MaySkipBefore}
 use Rattle.normalising.proofs.Venues.{first_none, first_then, is_same, same_then}

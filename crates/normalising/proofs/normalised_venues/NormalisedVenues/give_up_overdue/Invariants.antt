@@ -1,6 +1,5 @@
 use Rattle.std.proofs.Common.{◌≡◌, Ok}
 use Rattle.capture_records.specs.Formats.{TimedRecord}
-use Rattle.capture_records.specs.Capture.{record_venue}
 use Rattle.normalising.specs.Keeping.{IsSameRun, PutsInFirst}
 use Rattle.normalising.proofs.normalised_venues.NormalisedVenues.give_up_overdue.Given as goal
 

@@ -1,4 +1,4 @@
-use Rattle.std.proofs.Common.{Bool, true, ◌∙◌, refl, ap, Ok, Err}
+use Rattle.std.proofs.Common.{Bool, true, ◌∙◌, ap, Ok, Err}
 use Rattle.std.proofs.lemmas.Result.{err_from_is_err_and}
 use Rattle.capture_records.specs.Capture.{record_of, renewal_record, self_help_record, skip_record}
 use Rattle.normalising.proofs.Venues.{next_answer, next_stop, takes_record}

@@ -1,8 +1,7 @@
-use Rattle.std.proofs.Common.{◌∙◌, refl, sym, ap, subst, Ok, Err}
+use Rattle.std.proofs.Common.{sym, ap, subst, Ok, Err}
 use Rattle.std.proofs.lemmas.Result.{err_from_is_err_and}
-use Rattle.capture_records.specs.Capture.{datagram_record, record_venue}
+use Rattle.capture_records.specs.Capture.{record_venue}
 use Rattle.normalising.specs.Keeping.{GivesNext}
-use Rattle.normalising.specs.Normalised.{IsPacketOfName}
 use Rattle.normalising.proofs.Venues.{bad_taken, first_then, named_packet, same_then, stop_first, takes_itself, takes_then}
 use Rattle.normalising.proofs.normalised_venues.NormalisedVenues.take_datagram.Goals as goal
 

@@ -2,7 +2,7 @@ use Rattle.std.proofs.Common.{refl, Ok, Err}
 use Rattle.std.proofs.lemmas.Result.{err_from_is_err_and}
 use Rattle.capture_records.specs.Capture.{record_of}
 use Rattle.capture_records.specs.Formats.{timed_record}
-use Rattle.normalising.proofs.Venues.{same_then, stop_first, takes_then, timed_taken, too_noted}
+use Rattle.normalising.proofs.Venues.{stop_first, takes_then, timed_taken, too_noted}
 use Rattle.normalising.proofs.normalised_venues.NormalisedVenues.take_timed.Goals as goal
 
 pub returns-in_err-give_up_overdue-clause-takes : goal.returns-in_err-give_up_overdue-clause-takes
