@@ -3,7 +3,7 @@
 use crate::times::FeedTimes;
 use crossbeam_utils::CachePadded;
 use crossbeam_utils::sync::EventCount;
-use feed_types::SubscriberId;
+use feed_types::{MAX_SUBSCRIBERS, SubscriberId};
 use std::array;
 use std::sync::atomic::{AtomicBool, Ordering};
 
@@ -15,12 +15,12 @@ pub struct Bells {
     /// The place where the consolidators of runs sleep.
     work: EventCount,
     /// By id, the place where the subscriber's thread sleeps.
-    notices: [EventCount; 32],
+    notices: [EventCount; MAX_SUBSCRIBERS],
     /// By id, whether a notice waits for room in the subscriber's lane. It changes under the
     /// consolidator's lock alone, and is stored only where it differs.
-    full: [AtomicBool; 32],
+    full: [AtomicBool; MAX_SUBSCRIBERS],
     /// By id, whether a thread takes notices out of the subscriber's lane.
-    polled: [AtomicBool; 32],
+    polled: [AtomicBool; MAX_SUBSCRIBERS],
     /// The lines of runs are to read no further datagram. Each reads it before each datagram, so it
     /// lies on a cache line of its own.
     ended: CachePadded<AtomicBool>,

@@ -85,7 +85,7 @@ impl SocketTables {
     }
 
     /// Reads the tables of groups as they stand.
-    pub(crate) fn groups(&self) -> GroupTable {
+    pub fn groups(&self) -> GroupTable {
         GroupTable::of(
             self.alloc,
             rows_of(self.alloc, &self.groups_of_four),

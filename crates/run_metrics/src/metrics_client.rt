@@ -1,7 +1,7 @@
 //! A client of the metrics, from its connection on.
 ghost use Rattle.std.specs.Prelude.{◌≤◌};
 
-use run_metrics::{Reply, reply_to};
+use crate::reply::{Reply, reply_to};
 use std::alloc::{AllocError, Global};
 use std::io::{Error, ErrorKind, Read, Write};
 use std::net::{Shutdown, TcpStream};

@@ -52,13 +52,13 @@ fn has_row(table: &[u8], wanted: &[u8]) -> bool {
 
 impl GroupTable {
     /// These rows.
-    pub(crate) fn of(alloc: Global, four: Vec<u8>, six: Vec<u8>) -> GroupTable {
+    pub fn of(alloc: Global, four: Vec<u8>, six: Vec<u8>) -> GroupTable {
         GroupTable { alloc, four, six }
     }
 
     /// Whether the address is that of a group that the tables don't have. It isn't where a table
     /// can't be read or memory is refused.
-    pub(crate) fn lacks(&self, address: SocketAddr) -> bool {
+    pub fn lacks(&self, address: SocketAddr) -> bool {
         if !address.ip().is_multicast() {
             return false;
         }

@@ -93,13 +93,13 @@ fn drops_in(table: &[u8], local: &[u8]) -> Option<u64> {
 
 impl DropTable {
     /// These rows.
-    pub(crate) fn of(alloc: Global, four: Vec<u8>, six: Vec<u8>) -> DropTable {
+    pub fn of(alloc: Global, four: Vec<u8>, six: Vec<u8>) -> DropTable {
         DropTable { alloc, four, six }
     }
 
     /// How many datagrams were dropped at the socket at this address; None where the system doesn't
     /// say, or memory is refused.
-    pub(crate) fn drops_at(&self, address: SocketAddr) -> Option<u64> {
+    pub fn drops_at(&self, address: SocketAddr) -> Option<u64> {
         let (table, text) = match address {
             SocketAddr::V4(at) => (&self.four, text_of_four(self.alloc, *at.ip(), at.port())),
             SocketAddr::V6(at) => (&self.six, text_of_six(self.alloc, *at.ip(), at.port())),

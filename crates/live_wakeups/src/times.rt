@@ -107,10 +107,6 @@ struct VenueTimes {
     /// By how much the count of an item is past its number in its session, modulo 2^64. It changes
     /// under the venue's lock alone.
     offset: AtomicU64,
-    /// The count of items that were journaled. It changes under the consolidator's lock alone.
-    journaled: AtomicU64,
-    /// The time of the last of these, or `UNKNOWN`. It changes under the consolidator's lock alone.
-    last: AtomicU64,
 }
 
 impl VenueTimes {
@@ -119,21 +115,60 @@ impl VenueTimes {
         Ok(VenueTimes {
             datagrams: TimeRing::new(alloc, items)?,
             offset: AtomicU64::new(0),
-            journaled: AtomicU64::new(0),
-            last: AtomicU64::new(UNKNOWN),
         })
     }
+}
 
-    /// Counts one more item that was journaled, and returns its time, or `UNKNOWN`.
-    fn journal_one(&self) -> u64 {
-        let count = self.journaled.load(Ordering::SeqCst).wrapping_add(1);
-        self.journaled.store(count, Ordering::SeqCst);
-        if let Some(time) = self.datagrams.time_of(count) {
-            self.last.store(time, Ordering::SeqCst);
-        } else if self.datagrams.is_past(count) {
-            self.last.store(UNKNOWN, Ordering::SeqCst);
+/// How many items of a venue were journaled, and the time of the last of them.
+#[derive(Clone, Copy, Debug)]
+struct JournaledItems {
+    count: u64,
+    /// The time, or `UNKNOWN`.
+    last: u64,
+}
+
+impl JournaledItems {
+    /// No items.
+    fn none() -> JournaledItems {
+        JournaledItems {
+            count: 0,
+            last: UNKNOWN,
         }
-        self.last.load(Ordering::SeqCst)
+    }
+
+    /// Counts one more item, whose venue has these times.
+    fn add_one(&mut self, times: &VenueTimes) {
+        self.count = self.count.wrapping_add(1);
+        if let Some(time) = times.datagrams.time_of(self.count) {
+            self.last = time;
+        } else if times.datagrams.is_past(self.count) {
+            self.last = UNKNOWN;
+        }
+    }
+}
+
+/// How far a feed has noted the times of its items and changes. It stands under the consolidator's
+/// lock, beside the journal, and [`FeedTimes`] beside the locks.
+#[derive(Clone, Copy, Debug)]
+pub struct NotedTimes {
+    /// By the venue's number, its items that were journaled.
+    items: [JournaledItems; 16],
+    /// The number of the last change whose time was noted, or that has none.
+    changes: u64,
+}
+
+impl NotedTimes {
+    /// Nothing was noted: no item was journaled.
+    pub fn nothing() -> NotedTimes {
+        NotedTimes {
+            items: [JournaledItems::none(); 16],
+            changes: 0,
+        }
+    }
+
+    /// Says that the changes up to this number that have no time get none: no item caused them.
+    pub fn pass_changes(&mut self, changes: usize) {
+        self.changes = changes as u64;
     }
 }
 
@@ -149,9 +184,6 @@ pub struct FeedTimes {
     venues: Vec<VenueTimes>,
     /// Those of the latest changes.
     changes: TimeRing,
-    /// The number of the last change whose time was noted, or that has none. It changes under the
-    /// consolidator's lock alone.
-    noted: AtomicU64,
 }
 
 impl FeedTimes {
@@ -162,7 +194,6 @@ impl FeedTimes {
             changes: TimeRing {
                 slots: Vec::new(alloc),
             },
-            noted: AtomicU64::new(0),
         }
     }
 
@@ -181,7 +212,6 @@ impl FeedTimes {
         Ok(FeedTimes {
             venues: of_venues,
             changes: TimeRing::new(alloc, changes)?,
-            noted: AtomicU64::new(0),
         })
     }
 
@@ -212,22 +242,20 @@ impl FeedTimes {
     }
 
     /// Counts an item of the venue that was journaled, after which there are `changes` changes, and
-    /// notes its time as that of those that it caused.
-    pub fn note_item(&self, venue: VenueId, changes: usize) {
+    /// notes its time as that of those that it caused: those past `noted`, which is how far this
+    /// came before.
+    pub fn note_item(&self, noted: &mut NotedTimes, venue: VenueId, changes: usize) {
         let Some(times) = self.venues.get(venue.index()) else {
             return;
         };
-        let time = times.journal_one();
-        let first = self.noted.load(Ordering::SeqCst).saturating_add(1);
+        let items = &mut noted.items[venue.index()];
+        items.add_one(times);
+        let time = items.last;
+        let first = noted.changes.saturating_add(1);
         for number in first..=changes as u64 {
             self.changes.note(number, time);
         }
-        self.pass_changes(changes);
-    }
-
-    /// Says that the changes up to this number that have no time get none: no item caused them.
-    pub fn pass_changes(&self, changes: usize) {
-        self.noted.store(changes as u64, Ordering::SeqCst);
+        noted.pass_changes(changes);
     }
 
     /// The time in nanoseconds from 1970 on of the datagram that brought the item by which the
