@@ -23,7 +23,8 @@ returns-in_err-renew-clause-puts_in g c = λ r is.
     r (renewal_record c.args.venue c.session-session.result) c.args.self.now c.renew.new.self
     c.args.writer.now c.renew.new.writer (Err c.in_err-renew.field-0.0) (
       c.in-Some.ensures,
-      subst (λ name. IsPacketOfName r.what c.args.venue name) (sym c.session-session.ensures.value) is,
+      subst (λ name. IsPacketOfName r.what c.args.venue name)
+      (sym c.session-session.ensures.value) is,
     ) c.in_err-renew.ensures.takes)
 
 pub returns-else-branch-clause-puts_in : goal.returns-else-branch-clause-puts_in
@@ -35,7 +36,8 @@ returns-else-branch-clause-puts_in g c = λ r is. answer_first
     r (renewal_record c.args.venue c.session-session.result) c.args.self.now c.renew.new.self
     c.args.writer.now c.renew.new.writer (Ok true) (
       c.in-Some.ensures,
-      subst (λ name. IsPacketOfName r.what c.args.venue name) (sym c.session-session.ensures.value) is,
+      subst (λ name. IsPacketOfName r.what c.args.venue name)
+      (sym c.session-session.ensures.value) is,
     )
     c.in_ok-renew.ensures.takes)
 
@@ -49,6 +51,7 @@ returns-then-branch-clause-puts_in g c = λ r is. first_noted
     r (renewal_record c.args.venue c.session-session.result) c.args.self.now c.renew.new.self
     c.args.writer.now c.renew.new.writer (Ok true) (
       c.in-Some.ensures,
-      subst (λ name. IsPacketOfName r.what c.args.venue name) (sym c.session-session.ensures.value) is,
+      subst (λ name. IsPacketOfName r.what c.args.venue name)
+      (sym c.session-session.ensures.value) is,
     )
     c.in_ok-renew.ensures.takes)

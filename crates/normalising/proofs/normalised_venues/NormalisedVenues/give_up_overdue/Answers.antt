@@ -28,8 +28,8 @@ returns-in_err-give_up_standing-clause-puts_in g c = λ r is.
     c.loop-place.invariant.same {B = Unit {0}} (tt {0})
     (Err c.in_err-give_up_standing.field-0.0) (c.loop-place.invariant.puts_in r is)
     (c.in_err-give_up_standing.ensures.puts_in r
-    (subst (λ feed. MaySkipBefore feed.skips r c.at.result) (sym c.loop-place.invariant.same.settings)
-    (c.in-Some.ensures r c.at.result is))))
+    (subst (λ feed. MaySkipBefore feed.skips r c.at.result)
+    (sym c.loop-place.invariant.same.settings) (c.in-Some.ensures r c.at.result is))))
 
 pub loop-place-preserved : goal.loop-place-preserved
 loop-place-preserved g c = record {
@@ -41,8 +41,8 @@ loop-place-preserved g c = record {
       c.args.writer.now c.loop-place.writer c.give_up_standing.new.writer
       c.loop-place.invariant.same (tt {0}) (Ok (tt {0})) (c.loop-place.invariant.puts_in r is)
       (c.in_ok-give_up_standing.ensures.puts_in r
-      (subst (λ feed. MaySkipBefore feed.skips r c.at.result) (sym c.loop-place.invariant.same.settings)
-      (c.in-Some.ensures r c.at.result is)));
+      (subst (λ feed. MaySkipBefore feed.skips r c.at.result)
+      (sym c.loop-place.invariant.same.settings) (c.in-Some.ensures r c.at.result is)));
 }
 
 pub returns-clause-puts_in : goal.returns-clause-puts_in

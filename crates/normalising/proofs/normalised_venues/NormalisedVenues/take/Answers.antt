@@ -11,7 +11,8 @@ returns-in-Datagram-clause-takes g c = λ r is.
 pub returns-in_err-renew-in-Renewal-clause-takes : goal.returns-in_err-renew-in-Renewal-clause-takes
 returns-in_err-renew-in-Renewal-clause-takes g c = λ r is.
     let p = err_from_is_err_and c.from_residual.result c.from_residual.ensures.1 in
-    rw (p.1, p.2) (takes_record {A = Unit {0}} (record { adds = g.W.TextOut.adds; failures = g.W.TextOut.failures })
+    rw (p.1, p.2) (takes_record {A = Unit {0}}
+    (record { adds = g.W.TextOut.adds; failures = g.W.TextOut.failures })
     r (renewal_record c.in-Renewal.venue c.in-Renewal.session) c.args.self.now c.renew.new.self
     c.args.writer.now c.renew.new.writer (Err c.in_err-renew-in-Renewal.field-0.0)
     (is ∙ ap record_of c.in-Renewal.is)

@@ -9,10 +9,12 @@ pub returns-in_err-give_up_overdue-clause-takes : goal.returns-in_err-give_up_ov
 returns-in_err-give_up_overdue-clause-takes g c = λ at f.
     let p = err_from_is_err_and c.from_residual.result c.from_residual.ensures.1 in
     let r = timed_record (record_of c.args.record.now) c.args.time in
-    rw (p.1, p.2) (timed_taken {A = Unit {0}} (record { adds = g.W.TextOut.adds; failures = g.W.TextOut.failures })
+    rw (p.1, p.2) (timed_taken {A = Unit {0}}
+    (record { adds = g.W.TextOut.adds; failures = g.W.TextOut.failures })
     r c.args.self.now _ c.give_up_overdue.new.self c.args.writer.now c.give_up_overdue.new.writer
     (Err c.in_err-give_up_overdue.field-0.0) refl refl refl c.latest_after-self.ensures
-    (stop_first (Unit {0}) (Unit {0}) (record { adds = g.W.TextOut.adds; failures = g.W.TextOut.failures })
+    (stop_first (Unit {0}) (Unit {0})
+    (record { adds = g.W.TextOut.adds; failures = g.W.TextOut.failures })
     r _ c.give_up_overdue.new.self c.args.writer.now c.give_up_overdue.new.writer
     c.in_err-give_up_overdue.field-0.0
     (c.in_err-give_up_overdue.ensures.puts_in r refl)) at f)
@@ -22,7 +24,8 @@ returns-in_err-take-clause-takes g c = λ at f.
     let p = err_from_is_err_and c.from_residual-in_err-take.result
     c.from_residual-in_err-take.ensures.1 in
     let r = timed_record (record_of c.args.record.now) c.args.time in
-    rw (p.1, p.2) (timed_taken {A = Unit {0}} (record { adds = g.W.TextOut.adds; failures = g.W.TextOut.failures })
+    rw (p.1, p.2) (timed_taken {A = Unit {0}}
+    (record { adds = g.W.TextOut.adds; failures = g.W.TextOut.failures })
     r c.args.self.now _ c.take.new.self c.args.writer.now c.take.new.writer
     (Err c.in_err-take.field-0.0) refl refl refl c.latest_after-self.ensures
     (takes_then (record { adds = g.W.TextOut.adds; failures = g.W.TextOut.failures })
