@@ -100,8 +100,8 @@ fn left<R, W>(next: Next, input: R, output: W) -> ProgramRun<R, W>
 ///
 /// The input is read only for a replay, a conversion, statistics, the lines of a capture, or to be
 /// normalised. The lines of a replay, the rows of its best lines, its statistics, the converted or
-/// normalised capture, or the lines of a capture are all that is written on the output. Before a terminal is read, standard
-/// error says so.
+/// normalised capture, or the lines of a capture are all that is written on the output. Before a
+/// terminal is read, standard error says so.
 pub fn run<R: CaptureIn + Drop, W: TextOut + Drop, E: TextOut>(
     alloc: Global,
     words: &[String],

@@ -261,7 +261,8 @@ items_each items first its is each =
     (sym (ap (map numbered_item) is ∙ items_numbered first its)) each
 
 -- a row is its messages, and then its end
-record IsParted (first count : ℕ) (items front rest : List Numbered) (its : List Item) : Type 0 where
+record IsParted (first count : ℕ) (items front rest : List Numbered)
+    (its : List Item) : Type 0 where
   row : front ≡ numbered_from first its
   end : (rest ≡ []) ⊎ (rest ≡ end_item (first + length its) ∷ [])
   whole : front ++ rest ≡ items

@@ -64,7 +64,8 @@ module _ {R S F W : Type 0} {reading : Reading R} {parsing : Parsing S F} {writi
       → HasReadRecords reading parsing venues from calls to start rs finish rest
       → HasReadRecords reading parsing venues from calls to start (rs ++ qs) next
       left
-  read_more {venues = venues} {finish = finish} {next = next} {rest = rest} rs qs len same gone piece are x =
+  read_more {venues = venues} {finish = finish} {next = next} {rest = rest} rs qs len
+      same gone piece are x =
       let read : parsing.reads finish rest qs next (drop len rest) =
       subst (λ (bs : List ℕ). parsing.reads finish bs qs next (drop len bs)) same piece.read in
       record {
@@ -421,32 +422,34 @@ module _ {R S F W : Type 0} {reading : Reading R} {parsing : Parsing S F} {writi
         (writes : writing.failures after ≡ writing.failures before)
         (x : Kept reading parsing writing feed from calls to start finish rest before after waits
         IsAt)
-        → RunsOn {A = Unit {0}} writing feed (r ∷ []) x.at IsLeft IsAfter after mid waits longer (Err stop)
+        → RunsOn {A = Unit {0}} writing feed (r ∷ []) x.at IsLeft IsAfter after mid waits longer
+        (Err stop)
         → EndsRun writing longer mid last stop ends
         → AnswersNormalising reading parsing writing feed turns from to start next before last
         (Err ends)
     stop_answers {to = to} {next = next} turns longer mid last IsLeft IsAfter r len
         (Sink stop) ends same piece is writes x t e =
-        subst (λ (s : NormaliseStop F). AnswersNormalising reading parsing writing feed turns from to
-        start next before last (Err s)) (sym e.0)
+        subst (λ (s : NormaliseStop F).
+        AnswersNormalising reading parsing writing feed turns from to start next before last (Err s)) (sym e.0)
         (subst (λ (w : W). AnswersNormalising reading parsing writing feed turns from to
         start next before w (Err (Replay SinkFailed))) (sym e.1) (
           failed_record r len same piece is x t,
           t.failed ∙ ap (λ (n : ℕ). n + 1) writes,
         ))
-    stop_answers turns longer mid last IsLeft IsAfter r len (Book fault) (ends.Book venue why) same piece is writes x t e =
+    stop_answers turns longer mid last IsLeft IsAfter r len (Book fault)
+        (ends.Book venue why) same piece is writes x t e =
         stopped_record r len same piece is x t e.0
     stop_answers {to = to} {next = next} turns longer mid last IsLeft IsAfter r len
         (Book fault) (Replay why) same piece is writes x t e =
-        subst (λ (s : NormaliseStop F). AnswersNormalising reading parsing writing feed turns from to
-        start next before last (Err s)) (sym e.0) (
+        subst (λ (s : NormaliseStop F).
+        AnswersNormalising reading parsing writing feed turns from to start next before last (Err s)) (sym e.0) (
           stopped_part r len same piece is x t e.1,
           e.2 ∙ ap (λ (n : ℕ). n + 1) (t.puts.kept ∙ writes),
         )
     stop_answers {to = to} {next = next} turns longer mid last IsLeft IsAfter r len
         (Book fault) (Fault why) same piece is writes x t e =
-        subst (λ (s : NormaliseStop F). AnswersNormalising reading parsing writing feed turns from to
-        start next before last (Err s)) (sym e.0) (
+        subst (λ (s : NormaliseStop F).
+        AnswersNormalising reading parsing writing feed turns from to start next before last (Err s)) (sym e.0) (
           stopped_part r len same piece is x t e.1,
           e.2 ∙ ap (λ (n : ℕ). n + 1) (t.puts.kept ∙ writes),
         )

@@ -219,7 +219,8 @@ sends_more feed time place given old h after text p is s =
           (none_earlier h.history.earlier s.apart) s.earlier;
       apart = s.apart;
       answered = answered_more name feed.normaliser.window [] (inputs_of h) given s.answered is;
-      put_out = subst (λ (k : NormalisedHistory). IsPutOut (quoted_keys feed) (inputs_of k) k.output)
+      put_out = subst (λ (k : NormalisedHistory).
+          IsPutOut (quoted_keys feed) (inputs_of k) k.output)
           same p.put_out;
       carry = subst (λ (ps : List Content). Carry name (h.output ++ (p.carried ++ [])) ps)
           (sym (of_session_both place name old more
@@ -406,7 +407,8 @@ step_renewal feed place name text old h after p s = by_answer p.answer p.is p.do
         let same = sends_none feed place old more h (λ n. refl) s in
         record {
           earlier = sends_all same;
-          apart = apart_sessions (all_begun h.history) name (apart_from (names_of h.history) name new);
+          apart = apart_sessions (all_begun h.history) name
+              (apart_from (names_of h.history) name new);
           answered = tt;
           put_out = nothing_put_out (quoted_keys feed);
           carry = subst (λ (ps : List Content). Carry name [] ps) (sym (same.named name new))

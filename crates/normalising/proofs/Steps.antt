@@ -84,18 +84,19 @@ module _ {W : Type 0} (writing : Writing W)
       → (a : TookOf writing feed records at IsBetween IsMid from mid waited between)
       → TookOf writing feed a.left a.after IsLeft IsAfter mid to between waits
       → TookOf writing feed records at IsLeft IsAfter from to waited waits
-  some_then records at IsBetween IsLeft IsMid IsAfter from mid to waited between waits a b = record {
-    taken = a.taken ++ b.taken;
-    text = a.text ++ b.text;
-    left = b.left;
-    after = b.after;
-    normalises = all_then feed records at a.taken b.taken a.text b.text a.left b.left a.after
-        b.after a.normalises b.normalises;
-    is_left = b.is_left;
-    is_after = b.is_after;
-    puts = takes_both writing from mid to waited a.text between b.text waits adds_more a.puts
-        b.puts;
-  }
+  some_then records at IsBetween IsLeft IsMid IsAfter from mid to waited between waits a b =
+      record {
+        taken = a.taken ++ b.taken;
+        text = a.text ++ b.text;
+        left = b.left;
+        after = b.after;
+        normalises = all_then feed records at a.taken b.taken a.text b.text a.left b.left a.after
+            b.after a.normalises b.normalises;
+        is_left = b.is_left;
+        is_after = b.is_after;
+        puts = takes_both writing from mid to waited a.text between b.text waits adds_more a.puts
+            b.puts;
+      }
 
   failed_then : (records : List TimedRecord) (at : NormalisedPoint)
       (IsBetween : List TimedRecord → Type 0) (IsMid : NormalisedPoint → Type 0)
@@ -126,7 +127,8 @@ module _ {W : Type 0} (writing : Writing W)
       → (a : TookOf writing feed records at IsBetween IsMid from mid waited between)
       → RunsOn writing feed a.left a.after IsLeft IsAfter mid to between waits result
       → RunsOn writing feed records at IsLeft IsAfter from to waited waits result
-  runs_then records at IsBetween IsLeft IsMid IsAfter from mid to waited between waits (Ok done) a b =
+  runs_then records at IsBetween IsLeft IsMid IsAfter from mid to waited between waits
+      (Ok done) a b =
       some_then records at IsBetween IsLeft IsMid IsAfter from mid to waited between waits a b
   runs_then records at IsBetween IsLeft IsMid IsAfter from mid to waited between waits
       (Err (Sink stop)) a b =

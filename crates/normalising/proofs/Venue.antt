@@ -41,7 +41,8 @@ after_given h given ready =
 
 pub same_names : (h : History) (x : Input) → names_of (after_input h x) ≡ names_of h
 same_names h x =
-    map-append (λ (s : Begun). s.name) h.earlier (record h.present { packets = h.present.packets ++ x ∷ [] } ∷ [])
+    map-append (λ (s : Begun). s.name) h.earlier
+    (record h.present { packets = h.present.packets ++ x ∷ [] } ∷ [])
     ∙ sym (map-append (λ (s : Begun). s.name) h.earlier (h.present ∷ []))
 
 -- The normaliser of a venue was given something, and these items are ready.
@@ -138,15 +139,6 @@ module _ {feed : NormalisedFeed} {place : ℕ} {form : OutputForm} {h : Normalis
       failed = stopped.failed;
     }
     given_takes (Err (Book fault)) put stopped = stopped
-
--- a stop is one whatever the answer would be
-pub stop_takes : {W : Type 0} (A B : Type 0) (writing : Writing W) (feed : NormalisedFeed) (time place : ℕ)
-    (r : CaptureRecord) (h : NormalisedHistory) (n m : NormaliserState) (from to : W)
-    (waited waits : List ℕ) (stop : VenueStop)
-    → TakesAtVenue {A = A} writing feed time place r h n from to waited waits (Err stop)
-    → TakesAtVenue {A = B} writing feed time place r h m from to waited waits (Err stop)
-stop_takes A B writing feed time place r h n m from to waited waits (Sink stop) x = x
-stop_takes A B writing feed time place r h n m from to waited waits (Book fault) x = x
 
 -- what is put out after what was put out before
 pub ready_put_out : (keys : List ℕ) (packets later : List Input)

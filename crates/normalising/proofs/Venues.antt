@@ -195,7 +195,8 @@ module _ {W : Type 0} (writing : Writing W) (adds_none : (s : W) → writing.add
         before = h.0;
         after = after;
         at = h.1;
-        normalises = subst (λ (now : ℕ). NormalisesAt feed now r (history_at feed vs at.venues (record_venue r) v f here).0 rest text after) time_is n;
+        normalises = subst (λ (now : ℕ). NormalisesAt feed now r
+            (history_at feed vs at.venues (record_venue r) v f here).0 rest text after) time_is n;
         venues = refl;
         latest = time_is;
       })
@@ -203,9 +204,11 @@ module _ {W : Type 0} (writing : Writing W) (adds_none : (s : W) → writing.add
   -- a venue's record is one of the run
   pub venue_next : {A : Type 0} (IsAfter : NormalisedPoint → Type 0) (result : Result A VenueStop)
       → TakesAtVenue writing feed time (record_venue r) r
-      (history_at feed vs at.venues (record_venue r) v f here).0 w.normaliser from to waited waits result
+      (history_at feed vs at.venues (record_venue r) v f here).0 w.normaliser from to waited waits
+      result
       → ((after : NormalisedHistory)
-      → FollowHistories feed (slice_set vs (record_venue r) w) (slice_set at.venues (record_venue r) after)
+      → FollowHistories feed (slice_set vs (record_venue r) w)
+      (slice_set at.venues (record_venue r) after)
       → IsAfter (point_with at (record_venue r) time after))
       → RunsOn writing feed records at (λ l. l ≡ left) IsAfter from to waited waits result
   venue_next IsAfter (Ok done) took lead = record {
@@ -213,7 +216,8 @@ module _ {W : Type 0} (writing : Writing W) (adds_none : (s : W) → writing.add
     text = took.text;
     left = left;
     after = point_with at (record_venue r) time took.after;
-    normalises = all_one feed records at t took.text left (point_with at (record_venue r) time took.after)
+    normalises = all_one feed records at t took.text left
+        (point_with at (record_venue r) time took.after)
         next (of_record [] took.text took.after took.normalises);
     is_left = refl;
     is_after = lead took.after
@@ -280,9 +284,10 @@ pub stop_runs : {W : Type 0} (A B : Type 0) (writing : Writing W) (feed : Normal
     (from to : W) (waited waits : List ℕ) (stop : VenueStop)
     → RunsOn {A = A} writing feed records at IsLeft IsMid from to waited waits (Err stop)
     → RunsOn {A = B} writing feed records at IsOther IsAfter from to waited waits (Err stop)
-stop_runs A B writing feed records at IsLeft IsOther IsMid IsAfter from to waited waits (Sink stop) x = x
-stop_runs A B writing feed records at IsLeft IsOther IsMid IsAfter from to waited waits (Book fault) x =
-    x
+stop_runs A B writing feed records at IsLeft IsOther IsMid IsAfter from to waited waits
+    (Sink stop) x = x
+stop_runs A B writing feed records at IsLeft IsOther IsMid IsAfter from to waited waits
+    (Book fault) x = x
 
 -- what a book stops after something was taken
 pub book_runs : {W A : Type 0} (B : Type 0) (writing : Writing W) (feed : NormalisedFeed)
@@ -642,7 +647,11 @@ bad_taken writing adds_none old new venue line bytes fault w a within has noted 
     next_noted writing (datagram_record venue line bytes) old old new w w a a noted
     (kept_gives writing old old (datagram_record venue line bytes) w w [] within refl refl refl
     refl
-    (λ h form. inl (record { fault = fault; has = has; leaves = record { same = refl; none = refl } }))
+    (λ h form. inl (record {
+      fault = fault;
+      has = has;
+      leaves = record { same = refl; none = refl };
+    }))
     a (puts_nothing writing adds_none w old.output.page.page))
 
 -- a skip by the rule for gaps
@@ -679,8 +688,8 @@ follows_later old new time at venues settings output latest f = record {
 -- a record was taken at its time, and the run follows the point after it
 pub timed_taken : {W A : Type 0} (writing : Writing W) (r : TimedRecord)
     (old start new : NormalisedVenues) (from to : W) (result : Result A VenueStop)
-    → start.venues.items ≡ old.venues.items → start.settings ≡ old.settings → start.output ≡ old.output
-    → start.latest ≡ time_after old.latest r.time
+    → start.venues.items ≡ old.venues.items → start.settings ≡ old.settings
+    → start.output ≡ old.output → start.latest ≡ time_after old.latest r.time
     → TakesToo writing r start new from to result
     → (at : NormalisedPoint) → FollowsRun old None at
     → RunsOn writing old.settings (r ∷ []) at (λ l. l ≡ []) (FollowsRun new None) from to

@@ -65,7 +65,8 @@ pub returns-in-Err : goal.returns-in-Err
 returns-in-Err g c =
     let r = timed_record (record_of c.in-Came.record) c.in-Came.time in
     stop_answers (laws_of g) c.args.turns c.take_timed.new.self.output.page.page
-    c.take_timed.new.writer c.stop_at.new.writer (λ l. l ≡ []) (FollowsRun c.take_timed.new.self None) r c.in-Came.len
+    c.take_timed.new.writer c.stop_at.new.writer (λ l. l ≡ [])
+    (FollowsRun c.take_timed.new.self None) r c.in-Came.len
     c.in-Err.stop c.stop_at.result c.bytes.ensures c.in-Came.ensures.steps
     (subst (λ (n : ℕ). IsRecord n r.what)
     (c.pieces.invariant.of_venues ∙ c.requires.of_venues) c.in-Came.ensures.came)

@@ -19,7 +19,8 @@ returns-in-Err-clause-renews g c = λ feed time place h follows form_is.
     (rw c.in-Err.is at c.in_ok-renew.ensures.answer)
     (rw c.in-Err.is at c.in_ok-renew.ensures.refused)
 
-pub returns-in_err-put_renewal-in-Ok-clause-renews : goal.returns-in_err-put_renewal-in-Ok-clause-renews
+pub returns-in_err-put_renewal-in-Ok-clause-renews :
+    goal.returns-in_err-put_renewal-in-Ok-clause-renews
 returns-in_err-put_renewal-in-Ok-clause-renews g c =
     let p = err_from_is_err_and c.from_residual-in_err-put_renewal-in-Ok.result
     c.from_residual-in_err-put_renewal-in-Ok.ensures.1 in
@@ -29,9 +30,11 @@ returns-in_err-put_renewal-in-Ok-clause-renews g c =
     c.args.output.now.page.form c.args.writer.now c.put_renewal.new.writer
     c.args.output.now.page.page c.put_renewal.new.self.page.page follows form_is
     (rw c.in-Ok.is at c.in_ok-renew.ensures.answer) Bool
-    c.in_err-put_renewal-in-Ok.field-0.0 c.in_err-put_renewal-in-Ok.ensures.part c.in_err-put_renewal-in-Ok.ensures.failed)
+    c.in_err-put_renewal-in-Ok.field-0.0 c.in_err-put_renewal-in-Ok.ensures.part
+    c.in_err-put_renewal-in-Ok.ensures.failed)
 
-pub returns-in_ok-put_renewal-in-Ok-clause-renews : goal.returns-in_ok-put_renewal-in-Ok-clause-renews
+pub returns-in_ok-put_renewal-in-Ok-clause-renews :
+    goal.returns-in_ok-put_renewal-in-Ok-clause-renews
 returns-in_ok-put_renewal-in-Ok-clause-renews g c = λ feed time place h follows form_is.
     let renewed = rw c.in-Ok.is at c.in_ok-renew.ensures.renewed in
     renewal_begun (record { adds = g.W.TextOut.adds; failures = g.W.TextOut.failures })

@@ -19,7 +19,8 @@ returns-in-Err-clause-skips g c = λ feed place h follows form_is.
     (rw c.in-Err.is at (c.in_ok-skip_to.ensures.answer (inputs_of h) follows.fits))
     (rw c.in-Err.is at c.in_ok-skip_to.ensures.refused).0
 
-pub returns-in_err-write_ready-in-Ok-clause-skips : goal.returns-in_err-write_ready-in-Ok-clause-skips
+pub returns-in_err-write_ready-in-Ok-clause-skips :
+    goal.returns-in_err-write_ready-in-Ok-clause-skips
 returns-in_err-write_ready-in-Ok-clause-skips g c =
     let p = err_from_is_err_and c.from_residual-in_err-write_ready-in-Ok.result
     c.from_residual-in_err-write_ready-in-Ok.ensures.1 in
@@ -30,7 +31,8 @@ returns-in_err-write_ready-in-Ok-clause-skips g c =
     c.skip_to.new.out.items follows form_is c.clear.ensures.items said.kept.0 said.kept.1
     c.in_err-write_ready-in-Ok.ensures.same (rw c.in-Ok.is at (said.fits _ follows.fits))
     (rw c.in-Ok.is at (said.output _ follows.fits)) in
-    given_takes w c.args.time {A = Bool} (record { adds = g.W.TextOut.adds; failures = g.W.TextOut.failures })
+    given_takes w c.args.time {A = Bool}
+    (record { adds = g.W.TextOut.adds; failures = g.W.TextOut.failures })
     (skip_record place c.args.number) c.args.writer.now c.write_ready.new.writer
     c.args.output.now.page.page c.write_ready.new.output.page.page
     (skip_at feed c.args.time place c.args.number h c.args.self.now.normaliser _ follows
@@ -46,7 +48,8 @@ returns-in_ok-write_ready-in-Ok-clause-skips g c = λ feed place h follows form_
     c.skip_to.new.out.items follows form_is c.clear.ensures.items said.kept.0 said.kept.1
     c.in_ok-write_ready-in-Ok.ensures.same (rw c.in-Ok.is at (said.fits _ follows.fits))
     (rw c.in-Ok.is at (said.output _ follows.fits)) in
-    given_takes w c.args.time {A = Bool} (record { adds = g.W.TextOut.adds; failures = g.W.TextOut.failures })
+    given_takes w c.args.time {A = Bool}
+    (record { adds = g.W.TextOut.adds; failures = g.W.TextOut.failures })
     (skip_record place c.args.number) c.args.writer.now c.write_ready.new.writer
     c.args.output.now.page.page c.write_ready.new.output.page.page
     (skip_at feed c.args.time place c.args.number h c.args.self.now.normaliser _ follows

@@ -24,7 +24,7 @@ returns-in_err-renew-clause-puts_in g c = λ r is.
     c.args.writer.now c.renew.new.writer (Err c.in_err-renew.field-0.0) (
       c.in-Some.ensures,
       subst (λ name. IsPacketOfName r.what c.args.venue name)
-      (sym c.session-session.ensures.value) is,
+          (sym c.session-session.ensures.value) is,
     ) c.in_err-renew.ensures.takes)
 
 pub returns-else-branch-clause-puts_in : goal.returns-else-branch-clause-puts_in
@@ -37,7 +37,7 @@ returns-else-branch-clause-puts_in g c = λ r is. answer_first
     c.args.writer.now c.renew.new.writer (Ok true) (
       c.in-Some.ensures,
       subst (λ name. IsPacketOfName r.what c.args.venue name)
-      (sym c.session-session.ensures.value) is,
+          (sym c.session-session.ensures.value) is,
     )
     c.in_ok-renew.ensures.takes)
 
@@ -52,6 +52,6 @@ returns-then-branch-clause-puts_in g c = λ r is. first_noted
     c.args.writer.now c.renew.new.writer (Ok true) (
       c.in-Some.ensures,
       subst (λ name. IsPacketOfName r.what c.args.venue name)
-      (sym c.session-session.ensures.value) is,
+          (sym c.session-session.ensures.value) is,
     )
     c.in_ok-renew.ensures.takes)

@@ -61,5 +61,6 @@ returns-clause-takes g c = λ r is.
     c.give_packet.result
     (subst (λ what. GivesNext
     (record { adds = g.W.TextOut.adds; failures = g.W.TextOut.failures }) what
-    c.make_room.new.self c.give_packet.new.self c.make_room.new.writer c.give_packet.new.writer c.give_packet.result) (sym is)
+    c.make_room.new.self c.give_packet.new.self c.make_room.new.writer c.give_packet.new.writer
+    c.give_packet.result) (sym is)
     (c.give_packet.ensures.takes c.args.bytes.now spelled.0 spelled.1)))
