@@ -430,7 +430,9 @@ module _ {R S F W : Type 0} {reading : Reading R} {parsing : Parsing S F} {writi
     stop_answers {to = to} {next = next} turns longer mid last IsLeft IsAfter r len
         (Sink stop) ends same piece is writes x t e =
         subst (λ (s : NormaliseStop F).
-        AnswersNormalising reading parsing writing feed turns from to start next before last (Err s)) (sym e.0)
+        AnswersNormalising reading parsing writing feed turns from to start next before last
+        (Err s))
+        (sym e.0)
         (subst (λ (w : W). AnswersNormalising reading parsing writing feed turns from to
         start next before w (Err (Replay SinkFailed))) (sym e.1) (
           failed_record r len same piece is x t,
@@ -442,14 +444,18 @@ module _ {R S F W : Type 0} {reading : Reading R} {parsing : Parsing S F} {writi
     stop_answers {to = to} {next = next} turns longer mid last IsLeft IsAfter r len
         (Book fault) (Replay why) same piece is writes x t e =
         subst (λ (s : NormaliseStop F).
-        AnswersNormalising reading parsing writing feed turns from to start next before last (Err s)) (sym e.0) (
+        AnswersNormalising reading parsing writing feed turns from to start next before last
+        (Err s))
+        (sym e.0) (
           stopped_part r len same piece is x t e.1,
           e.2 ∙ ap (λ (n : ℕ). n + 1) (t.puts.kept ∙ writes),
         )
     stop_answers {to = to} {next = next} turns longer mid last IsLeft IsAfter r len
         (Book fault) (Fault why) same piece is writes x t e =
         subst (λ (s : NormaliseStop F).
-        AnswersNormalising reading parsing writing feed turns from to start next before last (Err s)) (sym e.0) (
+        AnswersNormalising reading parsing writing feed turns from to start next before last
+        (Err s))
+        (sym e.0) (
           stopped_part r len same piece is x t e.1,
           e.2 ∙ ap (λ (n : ℕ). n + 1) (t.puts.kept ∙ writes),
         )
