@@ -33,7 +33,7 @@ end_number_of rules.Next = ends.Next
 end_number_of rules.Last = ends.Last
 
 -- what is normalised is what the settings have
-pub record IsFeedOf (settings : NormaliseSettings) (feed : NormalisedFeed) : Type 0 where
+pub record IsNormalisedFeed (settings : NormaliseSettings) (feed : NormalisedFeed) : Type 0 where
   pub sessions : feed.sessions.now ≡ settings.feed.sessions.items
   pub next : feed.next_sessions.now ≡ settings.next_sessions.items
   pub symbols : feed.symbols.now ≡ settings.feed.symbols.items
@@ -53,7 +53,7 @@ pub record NormalisesOver {R W E S F : Type 0} (devices : Devices R W E) (parsin
     (settings : NormaliseSettings) (form : OutputForm) (start : S)
     (before after : Streams R W E) (status : ℕ) : Type 0 where
   pub feed : NormalisedFeed
-  pub is : IsFeedOf settings feed
+  pub is : IsNormalisedFeed settings feed
   pub form_is : feed.form ≡ form
   pub finish : S
   pub outcome : Result (Unit {0}) (NormaliseStop F)
@@ -68,9 +68,9 @@ destination_by A (V4 address) port before = record { address = address; port = p
 destination_by line address port before = before
 
 -- the destination of a venue: that of the last line that gives one
-abbrev pub destination_in : List CapturedLine → ℕ → Destination → Destination
-destination_in [] place to = to
-destination_in (l ∷ ls) place to = destination_in ls place
+abbrev pub captured_destination : List CapturedLine → ℕ → Destination → Destination
+captured_destination [] place to = to
+captured_destination (l ∷ ls) place to = captured_destination ls place
     (if l.venue == place then destination_by l.line l.address l.port to else to)
 
 -- The form of the output: that of the input, whose frames go to the venues' lines A.
@@ -80,7 +80,7 @@ IsFormOf (Packets lines) venues forms.Own = ⊥
 IsFormOf (Packets lines) venues (forms.Capture destinations) =
     (length destinations.now ≡ venues)
     × ((place : ℕ) → place < venues → slice_index_or destinations.now place nowhere
-    ≡ destination_in lines.items place nowhere)
+    ≡ captured_destination lines.items place nowhere)
 
 -- A run over a capture of the project's own format, or over a packet capture.
 abbrev pub NormalisesInput : {R W E : Type 0} (devices : Devices R W E)

@@ -2,7 +2,7 @@
 ghost use Rattle.std.specs.Prelude.{◌≡◌, ◌≤◌, ◌<◌, ℕ, IfOk, length, slice_index_or, vec_len};
 ghost use Rattle.run_settings.specs.Lists.{AreOfVenues};
 ghost use Rattle.normalising.specs.Texts.{nowhere};
-ghost use Rattle.nbbo_runs.specs.NormaliseRuns.{IsFeedOf, NormalisesOver, RunsNormalising, destination_in, end_number_of, normalising_status};
+ghost use Rattle.nbbo_runs.specs.NormaliseRuns.{IsNormalisedFeed, NormalisesOver, RunsNormalising, captured_destination, end_number_of, normalising_status};
 
 use crate::config::MAX_TURNS;
 use crate::hints::input_hint;
@@ -31,7 +31,7 @@ fn destinations_of(
 ) -> Result<Vec<Destination>, AllocError>
     ensures count { IfOk result (λ to. length to.items ≡ venues) }
     ensures each { IfOk result (λ to. (place : ℕ) → place < venues
-        → slice_index_or to.items place nowhere ≡ destination_in lines.now place nowhere) }
+        → slice_index_or to.items place nowhere ≡ captured_destination lines.now place nowhere) }
 {
     let nowhere = Destination {
         address: [0; 4],
@@ -175,7 +175,7 @@ fn end_number_of(rule: EndNumberRule) -> EndNumber
 
 /// Returns what is normalised by the settings, in a form.
 fn feed_of<'a>(settings: &'a NormaliseSettings, form: OutputForm<'a>) -> NormalisedFeed<'a>
-    ensures is { IsFeedOf settings.now result }
+    ensures is { IsNormalisedFeed settings.now result }
     ensures form { result.form ≡ form }
 {
     NormalisedFeed {
