@@ -21,17 +21,17 @@ moved keys a b x y i j ab xy ij made =
     (subst (λ (z : List ℕ). MakesItem keys (events_of b) (order_event_of z) i) xy
     (subst (λ (c : List (List ℕ)). MakesItem keys (events_of c) (order_event_of x) i) ab made))
 
-pub made_none : (keys : List ℕ) → AreMade keys [] []
-made_none keys = record {
+pub made_none : (keys : List ℕ) (before : List (List ℕ)) → AreMade keys before [] []
+made_none keys before = record {
   count = refl;
   each = λ k d lt. let none : k < 0 = lt in absurd (omega arith);
 }
 
-pub made_more : (keys : List ℕ) (messages : List (List ℕ)) (message : List ℕ)
-    (items : List Item) (item : Item) → AreMade keys messages items
-    → MakesItem keys (events_of messages) (order_event_of message) item
-    → AreMade keys (messages ++ message ∷ []) (items ++ item ∷ [])
-made_more keys messages message items item made one =
+pub made_more : (keys : List ℕ) (before messages : List (List ℕ)) (message : List ℕ)
+    (items : List Item) (item : Item) → AreMade keys before messages items
+    → MakesItem keys (events_of (before ++ messages)) (order_event_of message) item
+    → AreMade keys before (messages ++ message ∷ []) (items ++ item ∷ [])
+made_more keys before messages message items item made one =
     let count = made.count in
     record {
       count = omega (
@@ -41,10 +41,11 @@ made_more keys messages message items item made one =
       );
       each = λ k d lt. elim (cases_lt k (length messages)) [
         | inl below ↦
-            moved keys (take k messages) (take k (messages ++ message ∷ []))
+            moved keys (before ++ take k messages) (before ++ take k (messages ++ message ∷ []))
             (get_or messages k []) (get_or (messages ++ message ∷ []) k [])
             (get_or items k d) (get_or (items ++ item ∷ []) k d)
-            (sym (take-append-le k messages (message ∷ []) (omega arith)))
+            (ap (λ (xs : List (List ℕ)). before ++ xs)
+            (sym (take-append-le k messages (message ∷ []) (omega arith))))
             (sym (get_or_append_left messages (message ∷ []) [] k below))
             (sym (get_or_append_left items (item ∷ []) d k (omega arith)))
             (made.each k d below)
@@ -52,11 +53,12 @@ made_more keys messages message items item made one =
             let grown = length-append messages (message ∷ []) in
             let last : k ≡ length messages = omega arith in
             let last_item : k ≡ length items = omega arith in
-            moved keys messages (take k (messages ++ message ∷ []))
+            moved keys (before ++ messages) (before ++ take k (messages ++ message ∷ []))
             message (get_or (messages ++ message ∷ []) k [])
             item (get_or (items ++ item ∷ []) k d)
+            (ap (λ (xs : List (List ℕ)). before ++ xs)
             (sym (ap (λ (n : ℕ). take n (messages ++ message ∷ [])) last
-            ∙ take-append_seam messages (message ∷ [])))
+            ∙ take-append_seam messages (message ∷ []))))
             (sym (ap (λ (n : ℕ). get_or (messages ++ message ∷ []) n []) last
             ∙ get_or-append_seam messages message [] []))
             (sym (ap (λ (n : ℕ). get_or (items ++ item ∷ []) n d) last_item
@@ -82,9 +84,10 @@ many_none n book out = record {
   keys = refl;
   fits = λ earlier fits. subst (λ (ms : List (List ℕ)). FitsEvents book (events_of ms))
       (sym (append-nil earlier)) fits;
-  made = λ earlier was fits made.
-      subst (λ (ms : List (List ℕ)). AreMade book.keys ms (was ++ [])) (sym (append-nil earlier))
-      (subst (λ (is : List Item). AreMade book.keys earlier is) (sym (append-nil was)) made);
+  made = λ first earlier was fits made.
+      subst (λ (ms : List (List ℕ)). AreMade book.keys first ms (was ++ []))
+      (sym (append-nil earlier))
+      (subst (λ (is : List Item). AreMade book.keys first earlier is) (sym (append-nil was)) made);
 }
 
 pub many_one : (n : ℕ) (message : List ℕ) (old new : OrderBookState)
@@ -98,8 +101,9 @@ many_one n message old new before after one = record {
   fits = λ earlier fits. subst (λ (es : List OrderEvent). FitsEvents new es)
       (sym (map-append order_event_of earlier (message ∷ [])))
       (one.fits (events_of earlier) fits);
-  made = λ earlier was fits made.
-      made_more old.keys earlier message was one.item made (one.made (events_of earlier) fits);
+  made = λ first earlier was fits made.
+      made_more old.keys first earlier message was one.item made
+      (one.made (events_of (first ++ earlier)) fits);
 }
 
 pub many_join : (n : ℕ) (ms more : List (List ℕ)) (old mid new : OrderBookState)
@@ -127,16 +131,18 @@ many_join n ms more old mid new before between after a b =
           subst (λ (xs : List (List ℕ)). FitsEvents new (events_of xs))
           (append_assoc earlier ms more)
           (b.fits (earlier ++ ms) (a.fits earlier fits));
-      made = λ earlier was fits made.
-          subst (λ (xs : List (List ℕ)). AreMade old.keys xs (was ++ (a.items ++ b.items)))
+      made = λ first earlier was fits made.
+          subst (λ (xs : List (List ℕ)). AreMade old.keys first xs (was ++ (a.items ++ b.items)))
           (append_assoc earlier ms more)
-          (subst (λ (is : List Item). AreMade old.keys ((earlier ++ ms) ++ more) is)
+          (subst (λ (is : List Item). AreMade old.keys first ((earlier ++ ms) ++ more) is)
           (append_assoc was a.items b.items)
-          (subst (λ (keys : List ℕ). AreMade keys ((earlier ++ ms) ++ more)
+          (subst (λ (keys : List ℕ). AreMade keys first ((earlier ++ ms) ++ more)
           ((was ++ a.items) ++ b.items)) a.keys
-          (b.made (earlier ++ ms) (was ++ a.items) (a.fits earlier fits)
-          (subst (λ (keys : List ℕ). AreMade keys (earlier ++ ms) (was ++ a.items)) (sym a.keys)
-          (a.made earlier was fits made)))));
+          (b.made first (earlier ++ ms) (was ++ a.items)
+          (subst (λ (xs : List (List ℕ)). FitsEvents mid (events_of xs))
+          (append_assoc first earlier ms) (a.fits (first ++ earlier) fits))
+          (subst (λ (keys : List ℕ). AreMade keys first (earlier ++ ms) (was ++ a.items))
+          (sym a.keys) (a.made first earlier was fits made)))));
     }
 
 -- one message more

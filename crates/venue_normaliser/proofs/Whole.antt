@@ -31,7 +31,7 @@ use Rattle.line_arbiter.specs.laws.Fronts.{front_greatest, front_is, not_in, not
 use Rattle.line_arbiter.specs.laws.Lengths.{end_most}
 use Rattle.venue_normaliser.specs.declared.message_slot.MessageSlot.{MessageSlot}
 use Rattle.venue_normaliser.specs.Brought.{before_skip, has_skip, kept_bytes, message_at, message_brought, messages_brought, messages_to, taken_message}
-use Rattle.venue_normaliser.specs.Outputs.{AreMade, IsPutOut, end_put_out, events_of}
+use Rattle.venue_normaliser.specs.Outputs.{AreMade, IsPutOut, Opening, end_put_out, events_of, from_start, put_first}
 use Rattle.venue_normaliser.specs.Slots.{KeepsPacket, KeepsTaken, kept_of_packet, stored_at}
 use Rattle.venue_normaliser.specs.States.{FitsPackets, NormaliserState, PutsOut}
 use Rattle.venue_normaliser.specs.Inside.{BringsMessages, BringsPacket, PutsMany, PutsReady, messages_between}
@@ -187,44 +187,52 @@ ended_stays session window sent packets a outcome ended =
 
 -- ---- a gap was given up
 
-end_given : (packets : List Input) → has_skip packets ≡ true
-    → end_put_out packets ≡ end_item (front_of (before_skip packets) + 1) ∷ []
-end_given packets some =
-    ap (λ (b : Bool). if b then end_item (front_of (before_skip packets) + 1) ∷ []
+end_given : (from : ℕ) (packets : List Input) → has_skip from packets ≡ true
+    → end_put_out from packets ≡ end_item (front_of (before_skip from packets) + 1) ∷ []
+end_given from packets some =
+    ap (λ (b : Bool). if b then end_item (front_of (before_skip from packets) + 1) ∷ []
     else end_at (end_of packets) (front_of packets + 1)) some
 
-end_open : (packets : List Input) → has_skip packets ≡ false
-    → end_put_out packets ≡ end_here packets
-end_open packets none =
-    ap (λ (b : Bool). if b then end_item (front_of (before_skip packets) + 1) ∷ []
+end_open : (from : ℕ) (packets : List Input) → has_skip from packets ≡ false
+    → end_put_out from packets ≡ end_here packets
+end_open from packets none =
+    ap (λ (b : Bool). if b then end_item (front_of (before_skip from packets) + 1) ∷ []
     else end_at (end_of packets) (front_of packets + 1)) none
 
 -- nothing is put out then
-pub puts_nothing : (keys : List ℕ) (packets : List Input) (x : Input) (old new : List Numbered)
-    → has_skip packets ≡ true → new ≡ old → PutsOut keys packets (packets ++ x ∷ []) old new
-puts_nothing keys packets x old new some same = record {
-  more = [];
-  appended = same ∙ sym (append-nil old);
-  whole = λ output is. record {
-    items = is.items;
-    made = subst (λ (xs : List Input). AreMade keys (messages_brought xs) is.items)
-        (sym (before_same packets x some)) is.made;
-    is = append-nil output ∙ is.is
-        ∙ ap (λ (xs : List Numbered). numbered_from 1 is.items ++ xs)
-        (end_given packets some
-        ∙ ap (λ (xs : List Input). end_item (front_of xs + 1) ∷ [])
-        (sym (before_same packets x some))
-        ∙ sym (end_given (packets ++ x ∷ []) (skip_stays packets x some)));
-  };
-}
+pub puts_nothing : (keys : List ℕ) (opening : Opening) (packets : List Input) (x : Input)
+    (old new : List Numbered) → has_skip opening.number packets ≡ true → new ≡ old
+    → PutsOut keys opening packets (packets ++ x ∷ []) old new
+puts_nothing keys opening packets x old new some same =
+    let from = opening.number in
+    record {
+      more = [];
+      appended = same ∙ sym (append-nil old);
+      whole = λ output is. record {
+        one = is.one;
+        items = is.items;
+        made = subst (λ (xs : List Input). AreMade keys opening.messages
+            (messages_brought from xs) is.items)
+            (sym (before_same from packets x some)) is.made;
+        is = append-nil output ∙ is.is
+            ∙ ap (λ (xs : List Numbered). put_first opening ++ (numbered_from from is.items ++ xs))
+            (end_given from packets some
+            ∙ ap (λ (xs : List Input). end_item (front_of xs + 1) ∷ [])
+            (sym (before_same from packets x some))
+            ∙ sym (end_given from (packets ++ x ∷ []) (skip_stays from packets x some)));
+      };
+    }
 
 -- the end at the first missing number
-pub puts_end : (keys : List ℕ) (packets : List Input) (n : ℕ) (old new : List Numbered)
-    → has_skip packets ≡ false → MaySkip packets n
+pub puts_end : (keys : List ℕ) (opening : Opening) (packets : List Input) (n : ℕ)
+    (old new : List Numbered) → opening.number ≤ front_of packets + 1
+    → has_skip opening.number packets ≡ false → MaySkip packets n
     → new ≡ old ++ end_item (front_of packets + 1) ∷ []
-    → PutsOut keys packets (packets ++ Skip n ∷ []) old new
-puts_end keys packets n old new none may put =
+    → PutsOut keys opening packets (packets ++ Skip n ∷ []) old new
+puts_end keys opening packets n old new low none may put =
+    let from = opening.number in
     let past = may.past in
+    let later : from < n = omega arith in
     let going : length (end_here packets) ≡ 0 =
     elim (cases_lt 0 (length (end_here packets))) [
       | inr le ↦ omega arith
@@ -235,17 +243,23 @@ puts_end keys packets n old new none may put =
       more = end_item (front_of packets + 1) ∷ [];
       appended = put;
       whole = λ output is. record {
+        one = is.one;
         items = is.items;
-        made = subst (λ (xs : List Input). AreMade keys (messages_brought xs) is.items)
-            (before_all packets none ∙ sym (before_here packets n none)) is.made;
+        made = subst (λ (xs : List Input). AreMade keys opening.messages
+            (messages_brought from xs) is.items)
+            (before_all from packets none ∙ sym (before_here from packets n later none)) is.made;
         is = ap (λ (xs : List Numbered). xs ++ end_item (front_of packets + 1) ∷ [])
-            (is.is ∙ ap (λ (xs : List Numbered). numbered_from 1 is.items ++ xs)
-            (end_open packets none ∙ end_none (end_of packets) (front_of packets + 1) going)
-            ∙ append-nil (numbered_from 1 is.items))
-            ∙ ap (λ (xs : List Numbered). numbered_from 1 is.items ++ xs)
+            (is.is ∙ ap (λ (xs : List Numbered). put_first opening
+            ++ (numbered_from from is.items ++ xs))
+            (end_open from packets none ∙ end_none (end_of packets) (front_of packets + 1) going)
+            ∙ ap (λ (xs : List Numbered). put_first opening ++ xs)
+            (append-nil (numbered_from from is.items)))
+            ∙ append_assoc (put_first opening) (numbered_from from is.items)
+            (end_item (front_of packets + 1) ∷ [])
+            ∙ ap (λ (xs : List Numbered). put_first opening ++ (numbered_from from is.items ++ xs))
             (ap (λ (xs : List Input). end_item (front_of xs + 1) ∷ [])
-            (sym (before_here packets n none))
-            ∙ sym (end_given (packets ++ Skip n ∷ []) (skip_here packets n)));
+            (sym (before_here from packets n later none))
+            ∙ sym (end_given from (packets ++ Skip n ∷ []) (skip_here from packets n later)));
       };
     }
 
@@ -318,19 +332,22 @@ joined packets f sent g book0 book1 book2 out0 out1 mid from grows first second 
     ]
 
 -- the whole of what is put out, and the orders after it
-pub record Finishes (packets after : List Input) (old new : OrderBookState)
+pub record Finishes (opening : Opening) (packets after : List Input) (old new : OrderBookState)
     (before out : List Numbered) : Type 0 where
-  pub output : PutsOut old.keys packets after before out
+  pub output : PutsOut old.keys opening packets after before out
   pub keys : new.keys ≡ old.keys
-  pub book : FitsEvents new (events_of (messages_brought after))
+  pub book : FitsEvents new (events_of (opening.messages
+      ++ messages_brought opening.number after))
 
 -- a packet came
-pub finishes : (session : List ℕ) (window given : ℕ) (packets : List Input) (a : Arrival)
+pub finishes : (opening : Opening) (session : List ℕ) (window given : ℕ)
+    (packets : List Input) (a : Arrival)
     (slots : List MessageSlot) (lines1 lines2 : State) (book0 book1 book2 : OrderBookState)
     (out0 out1 out2 : List Numbered)
-    → has_skip packets ≡ false
+    → (1 ≤ opening.number) × (opening.number ≤ front_of packets + 1)
+    → has_skip opening.number packets ≡ false
     → IsOutcome session window given packets a.packet a.answer
-    → FitsEvents book0 (events_of (messages_brought packets))
+    → FitsEvents book0 (events_of (opening.messages ++ messages_brought opening.number packets))
     → front_of packets ≤ lines1.sent
     → (lines1.sent ≤ front_of (packets ++ Arrived a ∷ []))
     ⊎ ((1 ≤ length (end_here packets)) × (lines1.sent ≡ front_of packets + 1))
@@ -339,31 +356,42 @@ pub finishes : (session : List ℕ) (window given : ℕ) (packets : List Input) 
     (front_of packets) (min lines1.sent (front_of (packets ++ Arrived a ∷ []))))
     book0 book1 out0 out1
     → PutsReady (packets ++ Arrived a ∷ []) slots lines1 lines2 book1 book2 out1 out2
-    → Finishes packets (packets ++ Arrived a ∷ []) book0 book2 out0 out2
-finishes session window given packets a slots lines1 lines2 book0 book1 book2 out0 out1 out2
-    none outcome fits from within ended first ready =
+    → Finishes opening packets (packets ++ Arrived a ∷ []) book0 book2 out0 out2
+finishes opening session window given packets a slots lines1 lines2 book0 book1 book2 out0 out1 out2
+    low none outcome fits from within ended first ready =
+    let number = opening.number in
+    let one = low.0 in
+    let least = low.1 in
+    let F = put_first opening in
     let after = packets ++ Arrived a ∷ [] in
     let f = front_of packets in
     let g = front_of after in
     let grows = front_grows packets (Arrived a) in
-    let none' : has_skip after ≡ false = skip_arrived packets a ∙ none in
+    let none' : has_skip number after ≡ false = skip_arrived number packets a ∙ none in
     let all : PutsMany (f + 1) (messages_between after f g) book0 book2 out0 ready.messages =
     joined after f lines1.sent g book0 book1 book2 out0 out1 ready.messages from grows first
     ready.puts in
-    let messages : messages_brought packets ++ messages_between after f g ≡ messages_brought after =
+    let messages : messages_brought number packets ++ messages_between after f g
+    ≡ messages_brought number after =
     ap (λ (ms : List (List ℕ)). ms ++ messages_between after f g)
-    (sym (messages_stay packets (Arrived a)))
-    ∙ sym (messages_split after f g grows) in
-    let book = subst (λ (ms : List (List ℕ)). FitsEvents book2 (events_of ms)) messages
-    (all.fits (messages_brought packets) fits) in
-    let made : (was : List Item) → AreMade book0.keys (messages_brought (before_skip packets)) was
-    → AreMade book0.keys (messages_brought (before_skip after)) (was ++ all.items) =
-    λ was made. subst (λ (xs : List Input). AreMade book0.keys (messages_brought xs)
-    (was ++ all.items)) (sym (before_all after none'))
-    (subst (λ (ms : List (List ℕ)). AreMade book0.keys ms (was ++ all.items)) messages
-    (all.made (messages_brought packets) was fits
-    (subst (λ (xs : List Input). AreMade book0.keys (messages_brought xs) was)
-    (before_all packets none) made))) in
+    (sym (messages_stay number packets (Arrived a) one))
+    ∙ sym (messages_split number after f g least grows) in
+    let book = subst (λ (ms : List (List ℕ)). FitsEvents book2 (events_of ms))
+    (append_assoc opening.messages (messages_brought number packets) (messages_between after f g)
+    ∙ ap (λ (ms : List (List ℕ)). opening.messages ++ ms) messages)
+    (all.fits (opening.messages ++ messages_brought number packets) fits) in
+    let made : (was : List Item)
+    → AreMade book0.keys opening.messages
+    (messages_brought number (before_skip number packets)) was
+    → AreMade book0.keys opening.messages
+    (messages_brought number (before_skip number after)) (was ++ all.items) =
+    λ was made. subst (λ (xs : List Input). AreMade book0.keys opening.messages
+    (messages_brought number xs) (was ++ all.items)) (sym (before_all number after none'))
+    (subst (λ (ms : List (List ℕ)). AreMade book0.keys opening.messages ms (was ++ all.items))
+    messages
+    (all.made opening.messages (messages_brought number packets) was fits
+    (subst (λ (xs : List Input). AreMade book0.keys opening.messages (messages_brought number xs)
+    was) (before_all number packets none) made))) in
     let E = (if nat_le lines1.sent g then end_here after else []) in
     let appended : out2 ≡ out0 ++ (numbered_from (f + 1) all.items ++ E) =
     ready.end ∙ ap (λ (xs : List Numbered). xs ++ E) all.appended
@@ -406,28 +434,34 @@ finishes session window given packets a slots lines1 lines2 book0 book1 book2 ou
         more = numbered_from (f + 1) all.items ++ E;
         appended = appended;
         whole = λ output is. record {
+          one = is.one;
           items = is.items ++ all.items;
           made = made is.items is.made;
           is =
-              let len = length-map-range_with_len (message_at packets) 1 f in
-              let count : length is.items ≡ f = is.made.count
-              ∙ ap (λ (xs : List Input). length (messages_brought xs)) (before_all packets none)
+              let len = length-map-range_with_len (message_at packets) number
+              (front_of packets + 1 - number) in
+              let count : length is.items ≡ f + 1 - number = is.made.count
+              ∙ ap (λ (xs : List Input). length (messages_brought number xs))
+              (before_all number packets none)
               ∙ len in
               ap (λ (xs : List Numbered). xs ++ (numbered_from (f + 1) all.items ++ E))
-              (is.is ∙ ap (λ (xs : List Numbered). numbered_from 1 is.items ++ xs)
-              (end_open packets none))
-              ∙ append_assoc (numbered_from 1 is.items) (end_here packets)
+              (is.is ∙ ap (λ (xs : List Numbered). F ++ (numbered_from number is.items ++ xs))
+              (end_open number packets none))
+              ∙ append_assoc F (numbered_from number is.items ++ end_here packets)
               (numbered_from (f + 1) all.items ++ E)
-              ∙ ap (λ (xs : List Numbered). numbered_from 1 is.items ++ xs) ends
-              ∙ sym (append_assoc (numbered_from 1 is.items) (numbered_from (f + 1) all.items)
-              (end_here after))
-              ∙ ap (λ (k : ℕ). (numbered_from 1 is.items ++ numbered_from k all.items)
+              ∙ ap (λ (xs : List Numbered). F ++ xs)
+              (append_assoc (numbered_from number is.items) (end_here packets)
+              (numbered_from (f + 1) all.items ++ E)
+              ∙ ap (λ (xs : List Numbered). numbered_from number is.items ++ xs) ends
+              ∙ sym (append_assoc (numbered_from number is.items)
+              (numbered_from (f + 1) all.items) (end_here after))
+              ∙ ap (λ (k : ℕ). (numbered_from number is.items ++ numbered_from k all.items)
               ++ end_here after)
-              (let k : f + 1 ≡ 1 + length is.items = omega arith in k)
+              (let k : f + 1 ≡ number + length is.items = omega arith in k)
               ∙ ap (λ (xs : List Numbered). xs ++ end_here after)
-              (sym (numbered_append 1 is.items all.items))
-              ∙ ap (λ (xs : List Numbered). numbered_from 1 (is.items ++ all.items) ++ xs)
-              (sym (end_open after none'));
+              (sym (numbered_append number is.items all.items))
+              ∙ ap (λ (xs : List Numbered). numbered_from number (is.items ++ all.items) ++ xs)
+              (sym (end_open number after none')));
         };
       };
       keys = all.keys;
@@ -514,29 +548,28 @@ went_past session window sent packets a taken all one next =
 
 -- ---- what a packet brings, where no gap was given up
 
-sent_is : (s : NormaliserState) (packets : List Input) → FitsPackets s packets
-    → s.has_given_up ≡ false
+sent_is : (s : NormaliserState) (opening : Opening) (packets : List Input)
+    → FitsPackets s opening packets
     → s.lines.sent ≡ front_of packets + length (end_here packets)
-sent_is s packets fits going =
-    all_sent_is packets s.lines.sent (sym fits.given_up ∙ going) fits.all_sent
+sent_is s opening packets fits = all_sent_is packets s.lines.sent fits.all_sent
 
 between_none : (packets : List Input) (f n : ℕ) → n ≤ f → messages_between packets f n ≡ []
 between_none packets f n le =
     ap (λ (k : ℕ). map (message_at packets) (range_with_len (f + 1) k))
     (let k : n - f ≡ 0 = omega arith in k)
 
-pub brings_next : (session : List ℕ) (window : ℕ) (packets : List Input) (a : Arrival)
+pub brings_next : (session : List ℕ) (window : ℕ) (opening : Opening) (packets : List Input) (a : Arrival)
     (old new : NormaliserState) (out0 out1 : List Numbered)
-    → FitsPackets old packets → old.has_given_up ≡ false → is_taken a.answer ≡ true
+    → FitsPackets old opening packets → old.has_given_up ≡ false → is_taken a.answer ≡ true
     → 1 ≤ a.packet.number
     → IsNextPacket session window old.lines.sent packets a.packet
     → new.lines.sent ≡ last_number a.packet → new.slots ≡ old.slots
     → PutsMany a.packet.number a.packet.messages old.book new.book out0 out1
     → BringsMessages packets (packets ++ Arrived a ∷ []) old new out0 out1
-brings_next session window packets a old new out0 out1 fits going taken one next moved slots puts =
+brings_next session window opening packets a old new out0 out1 fits going taken one next moved slots puts =
     let after = packets ++ Arrived a ∷ [] in
     let f = front_of packets in
-    let sent = sent_is old packets fits going in
+    let sent = sent_is old opening packets fits in
     let first = next.next in
     let none : length (end_here packets) ≡ 0 = elim (cases_lt 0 (length (end_here packets))) [
       | inr le ↦ omega arith
@@ -564,18 +597,18 @@ brings_next session window packets a old new out0 out1 fits going taken one next
           (let n : a.packet.number ≡ f + 1 = omega arith in n) puts));
     }
 
-pub brings_other : (session : List ℕ) (window : ℕ) (packets : List Input) (a : Arrival)
+pub brings_other : (session : List ℕ) (window : ℕ) (opening : Opening) (packets : List Input) (a : Arrival)
     (old new : NormaliserState) (out0 out1 : List Numbered)
-    → FitsPackets old packets → old.has_given_up ≡ false
+    → FitsPackets old opening packets → old.has_given_up ≡ false
     → IsOutcome session window old.lines.sent packets a.packet a.answer
     → new.lines.sent ≡ old.lines.sent
     → KeepsTaken new.slots old.lines.sent (packets ++ Arrived a ∷ [])
     → new.book ≡ old.book → out1 ≡ out0
     → BringsMessages packets (packets ++ Arrived a ∷ []) old new out0 out1
-brings_other session window packets a old new out0 out1 fits going outcome same keeps book out =
+brings_other session window opening packets a old new out0 out1 fits going outcome same keeps book out =
     let after = packets ++ Arrived a ∷ [] in
     let f = front_of packets in
-    let sent = sent_is old packets fits going in
+    let sent = sent_is old opening packets fits in
     let grows = front_grows packets (Arrived a) in
     let most = end_most (end_of packets) (f + 1) in
     let low : min new.lines.sent (front_of after) ≤ f =
@@ -603,29 +636,31 @@ brings_other session window packets a old new out0 out1 fits going outcome same 
 
 -- ---- a call of take
 
-pub record Takes (packets after : List Input) (old new : NormaliserState)
+pub record Takes (opening : Opening) (packets after : List Input) (old new : NormaliserState)
     (before out : List Numbered) : Type 0 where
-  pub fits : FitsPackets new after
-  pub output : PutsOut old.book.keys packets after before out
+  pub fits : FitsPackets new opening after
+  pub output : PutsOut old.book.keys opening packets after before out
 
 pub takes_open : (line : LineId) (packet : Content) (answer : Result Outcome LineFault)
-    (packets : List Input) (old mid new : NormaliserState) (out0 out1 out2 : List Numbered)
-    → FitsPackets old packets → old.has_given_up ≡ false
+    (opening : Opening) (packets : List Input) (old mid new : NormaliserState) (out0 out1 out2 : List Numbered)
+    → FitsPackets old opening packets → old.has_given_up ≡ false
     → BringsPacket line packet answer packets old mid out0 out1
-    → ((packets : List Input) → Fits mid.lines packets → has_skip packets ≡ false
-    → KeepsTaken mid.slots mid.lines.sent packets
+    → ((packets : List Input) → Fits mid.lines packets → KeepsTaken mid.slots mid.lines.sent packets
     → PutsReady packets mid.slots mid.lines new.lines mid.book new.book out1 out2)
     → new ≡ record mid { lines = new.lines; book = new.book }
-    → Takes packets (packets ++ arrival_of line packet answer ∷ []) old new out0 out2
-takes_open line packet answer packets old mid new out0 out1 out2 fits going brings ready kept =
+    → Takes opening packets (packets ++ arrival_of line packet answer ∷ []) old new out0 out2
+takes_open line packet answer opening packets old mid new out0 out1 out2 fits going brings ready kept =
     let a : Arrival = record { line = line; packet = packet; answer = answer } in
     let after = packets ++ Arrived a ∷ [] in
-    let none : has_skip packets ≡ false = sym fits.given_up ∙ going in
-    let none' : has_skip after ≡ false = skip_arrived packets a ∙ none in
+    let none : has_skip opening.number packets ≡ false = sym fits.given_up ∙ going in
+    let none' : has_skip opening.number after ≡ false =
+    skip_arrived opening.number packets a ∙ none in
     let b = brings.session going in
-    let r = ready after brings.lines none' b.slots in
-    let done = finishes old.lines.session old.lines.window old.lines.sent packets a mid.slots
-    mid.lines new.lines old.book mid.book new.book out0 out1 out2 none brings.outcome
+    let r = ready after brings.lines b.slots in
+    let grows = front_grows packets (Arrived a) in
+    let low = fits.from.1 in
+    let done = finishes opening old.lines.session old.lines.window old.lines.sent packets a mid.slots
+    mid.lines new.lines old.book mid.book new.book out0 out1 out2 fits.from none brings.outcome
     (fits.session going).book b.from b.within b.ended b.puts r in
     let slots : new.slots ≡ mid.slots = ap (λ (s : NormaliserState). s.slots) kept in
     let given : new.has_given_up ≡ mid.has_given_up =
@@ -634,6 +669,7 @@ takes_open line packet answer packets old mid new out0 out1 out2 fits going brin
       fits = record {
         lines = r.lines;
         all_sent = r.all_sent;
+        from = (fits.from.0, omega arith);
         given_up = given ∙ brings.given_up ∙ going ∙ sym none';
         session = λ _. record {
           slots = subst (λ (s : List MessageSlot). KeepsTaken s new.lines.sent after) (sym slots)
@@ -645,20 +681,23 @@ takes_open line packet answer packets old mid new out0 out1 out2 fits going brin
     }
 
 pub takes_over : (line : LineId) (packet : Content) (answer : Result Outcome LineFault)
-    (packets : List Input) (old mid new : NormaliserState) (out0 out1 out2 : List Numbered)
-    → FitsPackets old packets → old.has_given_up ≡ true
+    (opening : Opening) (packets : List Input) (old mid new : NormaliserState) (out0 out1 out2 : List Numbered)
+    → FitsPackets old opening packets → old.has_given_up ≡ true
     → BringsPacket line packet answer packets old mid out0 out1
     → out2 ≡ out1
     → ((packets : List Input) → Fits mid.lines packets
     → Fits new.lines packets × AllSent packets new.lines.sent)
     → new ≡ record mid { lines = new.lines; book = new.book }
-    → Takes packets (packets ++ arrival_of line packet answer ∷ []) old new out0 out2
-takes_over line packet answer packets old mid new out0 out1 out2 fits over brings same dropped
+    → Takes opening packets (packets ++ arrival_of line packet answer ∷ []) old new out0 out2
+takes_over line packet answer opening packets old mid new out0 out1 out2 fits over brings same dropped
     kept =
     let a : Arrival = record { line = line; packet = packet; answer = answer } in
     let after = packets ++ Arrived a ∷ [] in
-    let some : has_skip packets ≡ true = sym fits.given_up ∙ over in
-    let some' : has_skip after ≡ true = skip_stays packets (Arrived a) some in
+    let some : has_skip opening.number packets ≡ true = sym fits.given_up ∙ over in
+    let some' : has_skip opening.number after ≡ true =
+    skip_stays opening.number packets (Arrived a) some in
+    let grows = front_grows packets (Arrived a) in
+    let low = fits.from.1 in
     let both = dropped after brings.lines in
     let given : new.has_given_up ≡ true =
     ap (λ (s : NormaliserState). s.has_given_up) kept ∙ brings.given_up ∙ over in
@@ -666,10 +705,11 @@ takes_over line packet answer packets old mid new out0 out1 out2 fits over bring
       fits = record {
         lines = both.0;
         all_sent = both.1;
+        from = (fits.from.0, omega arith);
         given_up = given ∙ sym some';
         session = λ going. absurd (false≢true (sym going ∙ given));
       };
-      output = puts_nothing old.book.keys packets (Arrived a) out0 out2 some
+      output = puts_nothing old.book.keys opening packets (Arrived a) out0 out2 some
           (same ∙ brings.none over);
     }
 
@@ -678,61 +718,69 @@ both_cases true = inl refl
 both_cases false = inr refl
 
 pub takes : (line : LineId) (packet : Content) (answer : Result Outcome LineFault)
-    (packets : List Input) (old mid new : NormaliserState) (out0 out1 out2 : List Numbered)
-    → FitsPackets old packets
+    (opening : Opening) (packets : List Input) (old mid new : NormaliserState) (out0 out1 out2 : List Numbered)
+    → FitsPackets old opening packets
     → BringsPacket line packet answer packets old mid out0 out1
     → ((packets : List Input) → Fits mid.lines packets → mid.has_given_up ≡ false
-    → has_skip packets ≡ false → KeepsTaken mid.slots mid.lines.sent packets
+    → KeepsTaken mid.slots mid.lines.sent packets
     → PutsReady packets mid.slots mid.lines new.lines mid.book new.book out1 out2)
     → (mid.has_given_up ≡ true → (out2 ≡ out1) × (new.book ≡ mid.book)
     × ((packets : List Input) → Fits mid.lines packets
     → Fits new.lines packets × AllSent packets new.lines.sent))
     → new ≡ record mid { lines = new.lines; book = new.book }
-    → Takes packets (packets ++ arrival_of line packet answer ∷ []) old new out0 out2
-takes line packet answer packets old mid new out0 out1 out2 fits brings ready dropped kept =
+    → Takes opening packets (packets ++ arrival_of line packet answer ∷ []) old new out0 out2
+takes line packet answer opening packets old mid new out0 out1 out2 fits brings ready dropped kept =
     elim (both_cases old.has_given_up) [
       | inl over ↦
           let all = dropped (brings.given_up ∙ over) in
-          takes_over line packet answer packets old mid new out0 out1 out2 fits over brings all.0
+          takes_over line packet answer opening packets old mid new out0 out1 out2 fits over brings all.0
           all.2 kept
       | inr going ↦
-          takes_open line packet answer packets old mid new out0 out1 out2 fits going brings
-          (λ P lines none slots. ready P lines (brings.given_up ∙ going) none slots) kept
+          takes_open line packet answer opening packets old mid new out0 out1 out2 fits going brings
+          (λ P lines slots. ready P lines (brings.given_up ∙ going) slots) kept
     ]
 
 -- ---- a gap is given up
 
-pub skips_fit : (packets : List Input) (n : ℕ) (new : NormaliserState)
+pub skips_fit : (opening : Opening) (packets : List Input) (n : ℕ) (old new : NormaliserState)
+    → FitsPackets old opening packets → MaySkip packets n
     → Fits new.lines (packets ++ Skip n ∷ [])
     → AllSent (packets ++ Skip n ∷ []) new.lines.sent
     → new.has_given_up ≡ true
-    → FitsPackets new (packets ++ Skip n ∷ [])
-skips_fit packets n new lines all given = record {
-  lines = lines;
-  all_sent = all;
-  given_up = given ∙ sym (skip_here packets n);
-  session = λ going. absurd (false≢true (sym going ∙ given));
-}
+    → FitsPackets new opening (packets ++ Skip n ∷ [])
+skips_fit opening packets n old new fits may lines all given =
+    let grows = front_grows packets (Skip n) in
+    let low = fits.from.1 in
+    let past = may.past in
+    record {
+      lines = lines;
+      all_sent = all;
+      from = (fits.from.0, omega arith);
+      given_up = given ∙ sym (skip_here opening.number packets n (omega arith));
+      session = λ going. absurd (false≢true (sym going ∙ given));
+    }
 
-pub skips_output : (packets : List Input) (n : ℕ) (old : NormaliserState)
-    (out0 out1 : List Numbered) → FitsPackets old packets → MaySkip packets n
+pub skips_output : (opening : Opening) (packets : List Input) (n : ℕ) (old : NormaliserState)
+    (out0 out1 : List Numbered) → FitsPackets old opening packets → MaySkip packets n
     → (old.has_given_up ≡ true → out1 ≡ out0)
     → (old.has_given_up ≡ false → out1 ≡ out0 ++ end_item (front_of packets + 1) ∷ [])
-    → PutsOut old.book.keys packets (packets ++ Skip n ∷ []) out0 out1
-skips_output packets n old out0 out1 fits may over ends = elim (both_cases old.has_given_up) [
-  | inl was ↦ puts_nothing old.book.keys packets (Skip n) out0 out1
+    → PutsOut old.book.keys opening packets (packets ++ Skip n ∷ []) out0 out1
+skips_output opening packets n old out0 out1 fits may over ends = elim (both_cases old.has_given_up) [
+  | inl was ↦ puts_nothing old.book.keys opening packets (Skip n) out0 out1
       (sym fits.given_up ∙ was) (over was)
-  | inr going ↦ puts_end old.book.keys packets n out0 out1
+  | inr going ↦ puts_end old.book.keys opening packets n out0 out1 fits.from.1
       (sym fits.given_up ∙ going) may (ends going)
 ]
 
 -- ---- nothing came yet
 
 pub begins : (s : NormaliserState) → Fits s.lines [] → s.lines.sent ≡ 0 → s.has_given_up ≡ false
-    → ((m : ℕ) → 0 < m → stored_at s.slots m ≡ None) → FitsEvents s.book [] → FitsPackets s []
+    → ((m : ℕ) → 0 < m → stored_at s.slots m ≡ None) → FitsEvents s.book []
+    → FitsPackets s from_start []
 begins s lines sent going slots book = record {
   lines = lines;
   all_sent = ap (λ (n : ℕ). n + 1) sent;
+  from = (omega arith, omega arith);
   given_up = going;
   session = λ _. record {
     slots = record {
@@ -745,9 +793,9 @@ begins s lines sent going slots book = record {
 
 -- ---- what taking a packet brings
 
-pub packet_next : (line : LineId) (packet : Content) (packets : List Input)
+pub packet_next : (line : LineId) (packet : Content) (opening : Opening) (packets : List Input)
     (old new : NormaliserState) (out0 out1 : List Numbered)
-    → FitsPackets old packets → old.has_given_up ≡ false → IsContent packet
+    → FitsPackets old opening packets → old.has_given_up ≡ false → IsContent packet
     → IsNextPacket old.lines.session old.lines.window old.lines.sent packets packet
     → IsOutcome old.lines.session old.lines.window old.lines.sent packets packet
     (Ok (outcome_of_next packet))
@@ -756,7 +804,7 @@ pub packet_next : (line : LineId) (packet : Content) (packets : List Input)
     → new ≡ record old { lines = new.lines; book = new.book }
     → PutsMany packet.number packet.messages old.book new.book out0 out1
     → BringsPacket line packet (Ok (outcome_of_next packet)) packets old new out0 out1
-packet_next line packet packets old new out0 out1 fits going content next outcome lines moved kept
+packet_next line packet opening packets old new out0 out1 fits going content next outcome lines moved kept
     puts =
     let a : Arrival = record {
       line = line;
@@ -767,14 +815,14 @@ packet_next line packet packets old new out0 out1 fits going content next outcom
       outcome = outcome;
       lines = lines;
       given_up = ap (λ (s : NormaliserState). s.has_given_up) kept;
-      session = λ _. brings_next old.lines.session old.lines.window packets a old new out0 out1 fits
+      session = λ _. brings_next old.lines.session old.lines.window opening packets a old new out0 out1 fits
           going refl content.from_one next moved (ap (λ (s : NormaliserState). s.slots) kept) puts;
       none = λ over. absurd (false≢true (sym going ∙ over));
     }
 
 pub packet_any : (line : LineId) (packet : Content) (answer : Result Outcome LineFault)
-    (packets : List Input) (old new : NormaliserState) (out0 out1 : List Numbered)
-    → FitsPackets old packets
+    (opening : Opening) (packets : List Input) (old new : NormaliserState)
+    (out0 out1 : List Numbered) → FitsPackets old opening packets
     → IsOutcome old.lines.session old.lines.window old.lines.sent packets packet answer
     → Fits new.lines (packets ++ arrival_of line packet answer ∷ [])
     → new.lines.sent ≡ old.lines.sent
@@ -785,7 +833,7 @@ pub packet_any : (line : LineId) (packet : Content) (answer : Result Outcome Lin
     → new ≡ record old { lines = new.lines; slots = new.slots }
     → out1 ≡ out0
     → BringsPacket line packet answer packets old new out0 out1
-packet_any line packet answer packets old new out0 out1 fits outcome lines same taken others count
+packet_any line packet answer opening packets old new out0 out1 fits outcome lines same taken others count
     wide kept out =
     let a : Arrival = record { line = line; packet = packet; answer = answer } in
     let keeps : old.has_given_up ≡ false
@@ -805,7 +853,7 @@ packet_any line packet answer packets old new out0 out1 fits outcome lines same 
       outcome = outcome;
       lines = lines;
       given_up = ap (λ (s : NormaliserState). s.has_given_up) kept;
-      session = λ going. brings_other old.lines.session old.lines.window packets a old new out0 out1
+      session = λ going. brings_other old.lines.session old.lines.window opening packets a old new out0 out1
           fits going outcome same (keeps going) (ap (λ (s : NormaliserState). s.book) kept) out;
       none = λ _. out;
     }

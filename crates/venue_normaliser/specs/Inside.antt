@@ -43,8 +43,9 @@ pub record PutsMany (number : ℕ) (messages : List (List ℕ)) (old new : Order
   pub keys : new.keys ≡ old.keys
   pub fits : (earlier : List (List ℕ)) → FitsEvents old (events_of earlier)
       → FitsEvents new (events_of (earlier ++ messages))
-  pub made : (earlier : List (List ℕ)) (made : List Item) → FitsEvents old (events_of earlier)
-      → AreMade old.keys earlier made → AreMade old.keys (earlier ++ messages) (made ++ items)
+  pub made : (first earlier : List (List ℕ)) (made : List Item)
+      → FitsEvents old (events_of (first ++ earlier)) → AreMade old.keys first earlier made
+      → AreMade old.keys first (earlier ++ messages) (made ++ items)
 
 -- the messages after one number up to another
 abbrev pub messages_between : List Input → ℕ → ℕ → List (List ℕ)

@@ -1,5 +1,5 @@
 -- A venue's normaliser, and the packets and skips that it was given in the present session.
-use Rattle.std.specs.Prelude.{◌≡◌, ℕ, ◌+◌, Bool, true, false, List, ◌++◌, length}
+use Rattle.std.specs.Prelude.{◌≡◌, ℕ, ◌+◌, ◌≤◌, Bool, true, false, List, ◌++◌, length}
 use Rattle.feed_types.specs.declared.item.Numbered.{Numbered}
 use Rattle.itch_book.specs.Books.{OrderBookState, FitsEvents}
 use Rattle.line_arbiter.specs.Packets.{Input, end_of}
@@ -10,7 +10,7 @@ use Rattle.line_arbiter.specs.Skips.{AllSent}
 use Rattle.venue_normaliser.specs.declared.message_slot.MessageSlot.{MessageSlot}
 use Rattle.venue_normaliser.specs.declared.end_number.EndNumber.{EndNumber}
 use Rattle.venue_normaliser.specs.Brought.{has_skip, messages_brought}
-use Rattle.venue_normaliser.specs.Outputs.{IsPutOut, events_of}
+use Rattle.venue_normaliser.specs.Outputs.{IsPutOut, Opening, events_of}
 use Rattle.venue_normaliser.specs.Slots.{KeepsTaken}
 
 -- the arbiter of the venue's lines, the slots, the orders, whether a gap was given up in the
@@ -22,28 +22,33 @@ pub record NormaliserState : Type 0 where
   pub has_given_up : Bool
   pub end_number : EndNumber
 
--- the orders are those that the messages up to the first gap leave, and the slots have the messages
--- past it
-pub record KeepsSession (s : NormaliserState) (packets : List Input) : Type 0 where
+-- the orders are those that the snapshot and the messages up to the first gap leave, and the slots
+-- have the messages past it
+pub record KeepsSession (s : NormaliserState) (opening : Opening) (packets : List Input)
+    : Type 0 where
   pub slots : KeepsTaken s.slots s.lines.sent packets
-  pub book : FitsEvents s.book (events_of (messages_brought packets))
+  pub book : FitsEvents s.book
+      (events_of (opening.messages ++ messages_brought opening.number packets))
 
--- The state is that after these packets and skips of the present session: all that is ready was put
--- out, and unless a gap was given up, the session is kept.
-pub record FitsPackets (s : NormaliserState) (packets : List Input) : Type 0 where
+-- The state is that after these packets and skips of the present session, which began so: all that
+-- is ready was put out, no message before the opening's number is missing, and unless a gap was
+-- given up, the session is kept.
+pub record FitsPackets (s : NormaliserState) (opening : Opening) (packets : List Input)
+    : Type 0 where
   pub lines : Fits s.lines packets
   pub all_sent : AllSent packets s.lines.sent
-  pub given_up : s.has_given_up ≡ has_skip packets
-  pub session : s.has_given_up ≡ false → KeepsSession s packets
+  pub from : (1 ≤ opening.number) × (opening.number ≤ front_of packets + 1)
+  pub given_up : s.has_given_up ≡ has_skip opening.number packets
+  pub session : s.has_given_up ≡ false → KeepsSession s opening packets
 
 -- What a call puts out: it follows what the caller had there, and with what was put out before it
 -- is what these packets and skips make.
-pub record PutsOut (keys : List ℕ) (before after : List Input) (old new : List Numbered)
-    : Type 0 where
+pub record PutsOut (keys : List ℕ) (opening : Opening) (before after : List Input)
+    (old new : List Numbered) : Type 0 where
   pub more : List Numbered
   pub appended : new ≡ old ++ more
-  pub whole : (output : List Numbered) → IsPutOut keys before output
-      → IsPutOut keys after (output ++ more)
+  pub whole : (output : List Numbered) → IsPutOut keys opening before output
+      → IsPutOut keys opening after (output ++ more)
 
 -- what every call leaves as it is
 pub record KeepsItsBook (old new : NormaliserState) : Type 0 where

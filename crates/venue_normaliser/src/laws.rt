@@ -6,19 +6,21 @@ ghost use Rattle.feed_types.specs.declared.item.Numbered.{Numbered};
 ghost use Rattle.line_arbiter.specs.Packets.{Input};
 ghost use Rattle.line_arbiter.specs.Answered.{AreAnswered};
 ghost use Rattle.line_arbiter.specs.OfSession.{IsInputOfMessages};
-ghost use Rattle.venue_normaliser.specs.Outputs.{GivesItems, IsPutOut};
+ghost use Rattle.venue_normaliser.specs.Outputs.{GivesItems, IsPutOut, Opening, from_start};
 
 /// Nothing is put out of a session of which nothing came.
 pub fn nothing_is_put_out_of_nothing()
-    ensures { (keys : List ℕ) → IsPutOut keys [] [] }
+    ensures { (keys : List ℕ) → IsPutOut keys from_start [] [] }
 {}
 
 /// Where a venue's packets are of a session of messages, what is put out is the session whose item
 /// n is the one that message n makes, up to the first gap.
 pub fn what_is_put_out_is_the_session()
-    ensures { (keys name : List ℕ) (messages : List (List ℕ)) (window : ℕ)
+    ensures { (keys : List ℕ) (opening : Opening) (name : List ℕ)
+        (messages : List (List ℕ)) (window : ℕ)
         (packets : List Input) (output : List Numbered)
         → AreAnswered name window packets
         → AllByRecursion (IsInputOfMessages name messages) packets
-        → IsPutOut keys packets output → GivesItems keys messages packets output }
+        → IsPutOut keys opening packets output
+        → GivesItems keys opening messages packets output }
 {}

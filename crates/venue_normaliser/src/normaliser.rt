@@ -14,7 +14,7 @@ ghost use Rattle.line_arbiter.specs.Skips.{AllSent, IsSkip};
 ghost use Rattle.line_arbiter.specs.Renewals.{IsRenewal};
 ghost use Rattle.line_arbiter.specs.States.{IsRenewed, KeepsItsPlace, KeepsItsSession, ordinal_of};
 ghost use Rattle.venue_normaliser.specs.Brought.{has_skip, messages_brought};
-ghost use Rattle.venue_normaliser.specs.Outputs.{events_of};
+ghost use Rattle.venue_normaliser.specs.Outputs.{Opening, events_of, from_start};
 ghost use Rattle.itch_book.specs.Books.{session_orders_of};
 ghost use Rattle.venue_normaliser.specs.Inside.{BringsPacket, PutsMany, PutsReady};
 ghost use Rattle.venue_normaliser.specs.Slots.{KeepsPacket, KeepsTaken};
@@ -96,7 +96,7 @@ impl VenueNormaliser {
         symbols: &[SymbolName],
         settings: &NormaliserSettings,
     ) -> Result<VenueNormaliser, NormaliserFault>
-        ensures fits { IfOk result (λ n. FitsPackets n []) }
+        ensures fits { IfOk result (λ n. FitsPackets n from_start []) }
         ensures made { IfOk result (λ n. IsNewNormaliser n venue session
             (map key_of symbols.now) settings.now.window settings.now.end_number) }
         ensures bad_window { IsErrOf result NormaliserFault.BadWindow
@@ -188,8 +188,8 @@ impl VenueNormaliser {
         packet: &Packet<'_>,
         out: &mut Vec<Numbered>,
     ) -> Result<Result<Outcome, LineFault>, BookFault>
-        ensures brings { IfOk result (λ answer. (packets : List Input)
-            → FitsPackets self.old packets
+        ensures brings { IfOk result (λ answer. (opening : Opening)
+            (packets : List Input) → FitsPackets self.old opening packets
             → BringsPacket line packet.now answer packets self.old self.new
             out.old.items out.new.items) }
         ensures kept { KeepsItsSession self.old.lines self.new.lines
@@ -206,7 +206,7 @@ impl VenueNormaliser {
     #[inline(always)]
     fn finish(&mut self, out: &mut Vec<Numbered>) -> Result<(), BookFault>
         ensures ready { OnOk result ((packets : List Input) → Fits self.old.lines packets
-            → self.old.has_given_up ≡ false → has_skip packets ≡ false
+            → self.old.has_given_up ≡ false
             → KeepsTaken self.old.slots self.old.lines.sent packets
             → PutsReady packets self.old.slots self.old.lines self.new.lines self.old.book
             self.new.book out.old.items out.new.items) }
@@ -249,16 +249,16 @@ impl VenueNormaliser {
         packet: &Packet<'_>,
         out: &mut Vec<Numbered>,
     ) -> Result<Result<Outcome, LineFault>, BookFault>
-        ensures outcome { IfOk result (λ answer. (packets : List Input)
-            → FitsPackets self.old packets
+        ensures outcome { IfOk result (λ answer. (opening : Opening)
+            (packets : List Input) → FitsPackets self.old opening packets
             → IsOutcome self.old.lines.session self.old.lines.window self.old.lines.sent packets
             packet.now answer) }
-        ensures fits { IfOk result (λ answer. (packets : List Input)
-            → FitsPackets self.old packets
-            → FitsPackets self.new (packets ++ arrival_of line packet.now answer ∷ [])) }
-        ensures output { IfOk result (λ answer. (packets : List Input)
-            → FitsPackets self.old packets
-            → PutsOut self.old.book.keys packets (packets
+        ensures fits { IfOk result (λ answer. (opening : Opening)
+            (packets : List Input) → FitsPackets self.old opening packets
+            → FitsPackets self.new opening (packets ++ arrival_of line packet.now answer ∷ [])) }
+        ensures output { IfOk result (λ answer. (opening : Opening)
+            (packets : List Input) → FitsPackets self.old opening packets
+            → PutsOut self.old.book.keys opening packets (packets
             ++ arrival_of line packet.now answer ∷ [])
             out.old.items out.new.items) }
         ensures kept { OnOk result (KeepsItsSession self.old.lines self.new.lines
@@ -283,17 +283,17 @@ impl VenueNormaliser {
         packet: &Packet<'_>,
         out: &mut Vec<Numbered>,
     ) -> Result<Result<Outcome, LineFault>, BookFault>
-        ensures outcome { IfOk result (λ answer. (packets : List Input)
-            → FitsPackets self.old packets
+        ensures outcome { IfOk result (λ answer. (opening : Opening)
+            (packets : List Input) → FitsPackets self.old opening packets
             → IsOutcome self.old.lines.session self.old.lines.window self.old.lines.sent packets
             (read_as self.old.end_number packet.now) answer) }
-        ensures fits { IfOk result (λ answer. (packets : List Input)
-            → FitsPackets self.old packets
-            → FitsPackets self.new (packets
+        ensures fits { IfOk result (λ answer. (opening : Opening)
+            (packets : List Input) → FitsPackets self.old opening packets
+            → FitsPackets self.new opening (packets
             ++ arrival_of line (read_as self.old.end_number packet.now) answer ∷ [])) }
-        ensures output { IfOk result (λ answer. (packets : List Input)
-            → FitsPackets self.old packets
-            → PutsOut self.old.book.keys packets (packets
+        ensures output { IfOk result (λ answer. (opening : Opening)
+            (packets : List Input) → FitsPackets self.old opening packets
+            → PutsOut self.old.book.keys opening packets (packets
             ++ arrival_of line (read_as self.old.end_number packet.now) answer ∷ [])
             out.old.items out.new.items) }
         ensures kept { OnOk result (KeepsItsSession self.old.lines self.new.lines
@@ -317,14 +317,14 @@ impl VenueNormaliser {
         number: u64,
         out: &mut Vec<Numbered>,
     ) -> Result<Result<(), SkipFault>, BookFault>
-        ensures answer { IfOk result (λ answer. (packets : List Input)
-            → FitsPackets self.old packets → IsSkip packets self.old.lines.sent number answer) }
-        ensures fits { IfOk result (λ answer. (packets : List Input)
-            → FitsPackets self.old packets → OnOk answer
-            (FitsPackets self.new (packets ++ Skip number ∷ []))) }
-        ensures output { IfOk result (λ answer. (packets : List Input)
-            → FitsPackets self.old packets → OnOk answer
-            (PutsOut self.old.book.keys packets (packets ++ Skip number ∷ [])
+        ensures answer { IfOk result (λ answer. (opening : Opening)
+            (packets : List Input) → FitsPackets self.old opening packets → IsSkip packets self.old.lines.sent number answer) }
+        ensures fits { IfOk result (λ answer. (opening : Opening)
+            (packets : List Input) → FitsPackets self.old opening packets → OnOk answer
+            (FitsPackets self.new opening (packets ++ Skip number ∷ []))) }
+        ensures output { IfOk result (λ answer. (opening : Opening)
+            (packets : List Input) → FitsPackets self.old opening packets → OnOk answer
+            (PutsOut self.old.book.keys opening packets (packets ++ Skip number ∷ [])
             out.old.items out.new.items)) }
         ensures refused { IfOk result (λ answer. OnErr answer
             ((self.new ≡ self.old) × (out.new.items ≡ out.old.items))) }
@@ -351,7 +351,7 @@ impl VenueNormaliser {
     ) -> Result<Result<u64, RenewFault>, BookFault>
         ensures answer { IfOk result (λ answer. IsRenewal self.old.lines.sessions
             self.old.lines.end self.old.lines.sent session answer) }
-        ensures fits { IfOk result (λ answer. OnOk answer (FitsPackets self.new [])) }
+        ensures fits { IfOk result (λ answer. OnOk answer (FitsPackets self.new from_start [])) }
         ensures renewed { IfOk result (λ answer. OnOk answer
             (IsRenewed self.old.lines self.new.lines session)) }
         ensures refused { IfOk result (λ answer. OnErr answer (self.new ≡ self.old)) }
@@ -391,15 +391,17 @@ impl VenueNormaliser {
     /// Returns whether a gap of the present session was given up, so that nothing more is put out
     /// of it.
     pub fn has_given_up(&self) -> bool
-        ensures { (packets : List Input) → FitsPackets self.now packets
-            → result ≡ has_skip packets }
+        ensures { (opening : Opening) (packets : List Input)
+            → FitsPackets self.now opening packets
+            → result ≡ has_skip opening.number packets }
     {
         self.has_given_up
     }
 
     /// Returns the cursors of the present session's input.
     pub fn status(&self) -> ArbiterStatus
-        ensures { (packets : List Input) → FitsPackets self.now packets
+        ensures { (opening : Opening) (packets : List Input)
+            → FitsPackets self.now opening packets
             → result ≡ cursors_of self.now.lines.sent packets }
     {
         self.lines.status()
@@ -408,7 +410,8 @@ impl VenueNormaliser {
     /// Returns the run of messages to ask for, as [`Arbiter::gap`] does. `None` where none is
     /// missing.
     pub fn gap(&self) -> Option<Request>
-        ensures { (packets : List Input) → FitsPackets self.now packets
+        ensures { (opening : Opening) (packets : List Input)
+            → FitsPackets self.now opening packets
             → result
             ≡ gap_of self.now.lines.session self.now.lines.window self.now.lines.sent packets }
     {
@@ -425,10 +428,11 @@ impl VenueNormaliser {
     /// Returns the numbers of the session's messages that changed no order, or took more than there
     /// was, up to the first gap.
     pub fn oddities(&self) -> Oddities
-        ensures { (packets : List Input) → FitsPackets self.now packets
+        ensures { (opening : Opening) (packets : List Input)
+            → FitsPackets self.now opening packets
             → self.now.has_given_up ≡ false
             → result ≡ (session_orders_of self.now.book.keys
-            (events_of (messages_brought packets))).oddities }
+            (events_of (opening.messages ++ messages_brought opening.number packets))).oddities }
     {
         self.book.oddities()
     }
