@@ -6,3 +6,6 @@ pub mod Readying
 pub mod Whole
 pub mod Moved
 pub mod OfMessages
+pub mod Opened
+pub mod Numbers
+pub mod Snapshotting

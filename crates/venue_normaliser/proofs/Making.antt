@@ -1,7 +1,7 @@
 -- Items that messages make, one message after another.
 use Rattle.std.proofs.Common.{◌≡◌, ℕ, ◌+◌, ◌<◌, List, [], ◌∷◌, ◌++◌, length, get_or, take, map, refl, sym, ap, subst, ◌∙◌, arith, inl, inr, append_assoc, append-nil, length-append}
 use Rattle.std.proofs.lemmas.Bool.{cases_lt}
-use Rattle.std.proofs.lemmas.List.{map-append, get_or_append_left, take-append-le}
+use Rattle.std.proofs.lemmas.List.{length-take-le, map-append, get_or_append_left, take-append-le, take_more}
 use Rattle.std.proofs.Math.Seq.{get_or-append_seam, take-append_seam}
 use Rattle.feed_types.specs.declared.item.Item.{Item}
 use Rattle.feed_types.specs.declared.item.Numbered.{Numbered}
@@ -207,3 +207,59 @@ makes_item old new events event item was is keys old_rows new_rows told = record
       (record { count = new_rows; each = is.rows });
   told = told;
 }
+
+-- one item more
+pub numbered_more : (first k number : ℕ) (items : List Item) (item : Item) (before : List Numbered)
+    (between after : List Numbered) → k < length items → item ≡ get_or items k item
+    → number ≡ first + k → between ≡ before ++ numbered_from first (take k items)
+    → after ≡ between ++ record { number = number; item = item } ∷ []
+    → after ≡ before ++ numbered_from first (take (k + 1) items)
+numbered_more first k number items item before between after lt is at so more =
+    let len = length-take-le k items (omega arith) in
+    more ∙ ap (λ (xs : List Numbered). xs ++ record { number = number; item = item } ∷ []) so
+    ∙ append_assoc before (numbered_from first (take k items))
+    (record { number = number; item = item } ∷ [])
+    ∙ ap (λ (xs : List Numbered). before ++ xs)
+    (ap (λ (n : ℕ). numbered_from first (take k items)
+    ++ record { number = n; item = item } ∷ [])
+    (let n : number ≡ first + length (take k items) = omega arith in n)
+    ∙ ap (λ (i : Item). numbered_from first (take k items)
+    ++ numbered_from (first + length (take k items)) (i ∷ [])) is
+    ∙ sym (numbered_append first (take k items) (get_or items k item ∷ []))
+    ∙ ap (numbered_from first) (sym (take_more items k item lt)))
+
+-- some of the messages were applied to an empty book, and the others are left
+pub record AreApplied (all left : List (List ℕ)) (old new : OrderBookState) : Type 0 where
+  pub done : List (List ℕ)
+  pub whole : all ≡ done ++ left
+  pub fits : FitsEvents old [] → FitsEvents new (events_of done)
+  pub keys : new.keys ≡ old.keys
+
+pub applied_none : (all left : List (List ℕ)) (book : OrderBookState) → all ≡ left
+    → AreApplied all left book book
+applied_none all left book same =
+    record { done = []; whole = same; fits = λ fits. fits; keys = refl }
+
+pub applied_more : (all left rest : List (List ℕ)) (message : List ℕ) (event : OrderEvent)
+    (old mid new : OrderBookState) → AreApplied all left old mid → left ≡ message ∷ rest
+    → event ≡ order_event_of message
+    → ((events : List OrderEvent) → FitsEvents mid events → FitsEvents new (events ++ event ∷ []))
+    → new.keys ≡ mid.keys → AreApplied all rest old new
+applied_more all left rest message event old mid new so next is fits keys = record {
+  done = so.done ++ message ∷ [];
+  whole = so.whole ∙ ap (λ (xs : List (List ℕ)). so.done ++ xs) next
+      ∙ sym (append_assoc so.done (message ∷ []) rest);
+  fits = λ empty. subst (λ (es : List OrderEvent). FitsEvents new es)
+      (ap (λ (e : OrderEvent). events_of so.done ++ e ∷ []) is
+      ∙ sym (map-append order_event_of so.done (message ∷ [])))
+      (fits (events_of so.done) (so.fits empty));
+  keys = keys ∙ so.keys;
+}
+
+pub applied_all : (all left : List (List ℕ)) (old new : OrderBookState)
+    → AreApplied all left old new → left ≡ [] → FitsEvents old []
+    → FitsEvents new (events_of all)
+applied_all all left old new so none empty =
+    subst (λ (ms : List (List ℕ)). FitsEvents new (events_of ms))
+    (sym (so.whole ∙ ap (λ (xs : List (List ℕ)). so.done ++ xs) none ∙ append-nil so.done))
+    (so.fits empty)

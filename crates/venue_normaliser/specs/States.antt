@@ -1,5 +1,6 @@
 -- A venue's normaliser, and the packets and skips that it was given in the present session.
-use Rattle.std.specs.Prelude.{◌≡◌, ℕ, ◌+◌, ◌≤◌, Bool, true, false, List, ◌++◌, length}
+use Rattle.std.specs.Prelude.{◌≡◌, ℕ, ◌+◌, ◌<◌, ◌≤◌, Bool, true, false, List, ◌++◌, length}
+use Rattle.feed_types.specs.declared.item.Item.{Item}
 use Rattle.feed_types.specs.declared.item.Numbered.{Numbered}
 use Rattle.itch_book.specs.Books.{OrderBookState, FitsEvents}
 use Rattle.line_arbiter.specs.Packets.{Input, end_of}
@@ -10,8 +11,9 @@ use Rattle.line_arbiter.specs.Skips.{AllSent}
 use Rattle.venue_normaliser.specs.declared.message_slot.MessageSlot.{MessageSlot}
 use Rattle.venue_normaliser.specs.declared.end_number.EndNumber.{EndNumber}
 use Rattle.venue_normaliser.specs.Brought.{has_skip, messages_brought}
-use Rattle.venue_normaliser.specs.Outputs.{IsPutOut, Opening, events_of}
+use Rattle.venue_normaliser.specs.Outputs.{AreShown, IsPutOut, Opening, events_of, opened_at, put_first}
 use Rattle.venue_normaliser.specs.Slots.{KeepsTaken}
+use Rattle.venue_normaliser.specs.Snapshots.{SnapshotContent}
 
 -- the arbiter of the venue's lines, the slots, the orders, whether a gap was given up in the
 -- present session, and how an end's number is read
@@ -49,6 +51,31 @@ pub record PutsOut (keys : List ℕ) (opening : Opening) (before after : List In
   pub appended : new ≡ old ++ more
   pub whole : (output : List Numbered) → IsPutOut keys opening before output
       → IsPutOut keys opening after (output ++ more)
+
+-- the beginning of a session at a snapshot, which shows these items
+abbrev pub opening_of : SnapshotContent → List Item → Opening
+opening_of snapshot shown = record {
+  messages = snapshot.messages;
+  number = snapshot.number;
+  shown = shown;
+}
+
+-- A session of which nothing came begins with a snapshot: with the orders that its messages leave,
+-- and at its number, so that nothing before that is missing. What they show is put out at the
+-- numbers just before.
+pub record Resumes (snapshot : SnapshotContent) (old new : NormaliserState)
+    (before after : List Numbered) : Type 0 where
+  pub shown : List Item
+  pub are : AreShown old.book.keys snapshot.messages shown
+  pub places : length shown < snapshot.number
+  pub put : after ≡ before ++ put_first (opening_of snapshot shown)
+  pub fits : FitsPackets new (opening_of snapshot shown) (opened_at snapshot.number)
+
+-- a snapshot shows as many items as its number, or more
+pub record ShowsTooMuch (keys : List ℕ) (snapshot : SnapshotContent) : Type 0 where
+  pub shown : List Item
+  pub are : AreShown keys snapshot.messages shown
+  pub many : snapshot.number ≤ length shown
 
 -- what every call leaves as it is
 pub record KeepsItsBook (old new : NormaliserState) : Type 0 where

@@ -18,11 +18,21 @@ mod message_slot;
 mod message_slots;
 mod normaliser;
 mod normaliser_settings;
+mod opening;
 mod putting_out;
+mod resume_fault;
+mod snapshot;
+mod snapshot_fault;
 
 pub use end_number::EndNumber;
 pub use fault::NormaliserFault;
-pub use laws::{nothing_is_put_out_of_nothing, what_is_put_out_is_the_session};
+pub use laws::{
+    nothing_is_put_out_of_nothing, what_a_snapshot_shows_is_put_out,
+    what_is_put_out_is_the_session,
+};
 pub use message_form::MessageForm;
 pub use normaliser::VenueNormaliser;
 pub use normaliser_settings::NormaliserSettings;
+pub use resume_fault::ResumeFault;
+pub use snapshot::{Snapshot, read_snapshot};
+pub use snapshot_fault::SnapshotFault;

@@ -19,14 +19,17 @@ ghost use Rattle.itch_book.specs.Books.{session_orders_of};
 ghost use Rattle.venue_normaliser.specs.Inside.{BringsPacket, PutsMany, PutsReady};
 ghost use Rattle.venue_normaliser.specs.Slots.{KeepsPacket, KeepsTaken};
 ghost use Rattle.venue_normaliser.specs.Ends.{read_as};
-ghost use Rattle.venue_normaliser.specs.States.{FitsPackets, IsNewNormaliser, KeepsItsBook, PutsOut};
+ghost use Rattle.venue_normaliser.specs.States.{FitsPackets, IsNewNormaliser, KeepsItsBook, PutsOut, Resumes, ShowsTooMuch};
 
 use crate::end_number::{END_BYTES, EndNumber, moved_end};
 use crate::fault::NormaliserFault;
 use crate::message_slot::MessageSlot;
 use crate::message_slots::{clear, empty_slots, keep_packet};
 use crate::normaliser_settings::NormaliserSettings;
+use crate::opening::{apply_all, begin_at, put_items, shown_items};
 use crate::putting_out::{drop_ready, put_out, put_packet, put_ready};
+use crate::resume_fault::ResumeFault;
+use crate::snapshot::Snapshot;
 use feed_types::{Anything, Item, LineId, Numbered, SymbolName, VenueId};
 use itch_book::{BookFault, Oddities, OrderBook};
 use line_arbiter::{
@@ -126,6 +129,44 @@ impl VenueNormaliser {
             }),
             Err(fault) => Err(NormaliserFault::Book(fault)),
         }
+    }
+
+    /// Begins the venue's present session, of which nothing came yet, with a snapshot: with its
+    /// orders, round lots and halts, and at its number. Messages before that aren't missing, and
+    /// what they bring isn't put out. What the snapshot shows, the quotation of each symbol that has
+    /// one and its halt, follows the items in `out`, with the numbers just before the snapshot's.
+    ///
+    /// TooFewNumbers is the answer where those are fewer than what it shows, which no true snapshot
+    /// has: some message of the session made each. After an `Err` the normaliser is to be dropped,
+    /// and what the call added to `out`.
+    pub fn resume(
+        &mut self,
+        alloc: Global,
+        snapshot: &Snapshot<'_>,
+        out: &mut Vec<Numbered>,
+    ) -> Result<(), ResumeFault>
+        ensures resumed { OnOk result (FitsPackets self.old from_start []
+            → Resumes snapshot.now self.old self.new out.old.items out.new.items) }
+        ensures too_few { FitsPackets self.old from_start []
+            → IsErrOf result ResumeFault.TooFewNumbers
+            → ShowsTooMuch self.old.book.keys snapshot.now }
+        ensures begun { FitsPackets self.old from_start []
+            → IsErrOf result ResumeFault.HasBegun → ⊥ }
+        ensures kept { KeepsItsSession self.old.lines self.new.lines
+            × KeepsItsBook self.old self.new }
+    {
+        apply_all(&mut self.book, snapshot)?;
+        let shown = shown_items(alloc, &self.book)?;
+        let count = shown.len() as u64;
+        let number = snapshot.number();
+        if count >= number {
+            return Err(ResumeFault::TooFewNumbers);
+        }
+        if !begin_at(&mut self.lines, number) {
+            return Err(ResumeFault::HasBegun);
+        }
+        put_items(out, number - count, shown.as_slice())?;
+        Ok(())
     }
 
     /// Takes a packet that goes on where nothing is held, and puts out its messages.
