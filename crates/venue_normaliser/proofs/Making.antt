@@ -1,15 +1,17 @@
 -- Items that messages make, one message after another.
-use Rattle.std.proofs.Common.{◌≡◌, ℕ, ◌+◌, ◌<◌, List, [], ◌∷◌, ◌++◌, length, get_or, take, map, refl, sym, ap, subst, ◌∙◌, arith, inl, inr, append_assoc, append-nil, length-append}
+use Rattle.std.proofs.Common.{◌≡◌, ℕ, ◌+◌, ◌<◌, List, [], ◌∷◌, ◌++◌, length, get_or, take, map, refl, sym, ap, subst, ◌∙◌, arith, inl, inr, append_assoc, append-nil, flat_map, length-append, length-take-le, take_all}
 use Rattle.std.proofs.lemmas.Bool.{cases_lt}
-use Rattle.std.proofs.lemmas.List.{length-take-le, map-append, get_or_append_left, take-append-le, take_more}
+use Rattle.std.proofs.lemmas.List.{map-append, get_or_append_left, take-append-le, take_more}
 use Rattle.std.proofs.Math.Seq.{get_or-append_seam, take-append_seam}
 use Rattle.feed_types.specs.declared.item.Item.{Item}
 use Rattle.feed_types.specs.declared.item.Numbered.{Numbered}
 use Rattle.feed_types.specs.Sessions.{numbered_from}
 use Rattle.itch_messages.specs.declared.event.OrderEvent.{OrderEvent}
 use Rattle.itch_messages.specs.Events.{order_event_of}
+use Rattle.std.proofs.lemmas.List.Concat.{flat_map-append}
+use Rattle.itch_book.specs.declared.row.SymbolRow.{SymbolRow}
 use Rattle.itch_book.specs.Books.{OrderBookState, FitsEvents, TellsOfOne}
-use Rattle.venue_normaliser.specs.Outputs.{AreMade, AreSymbolRows, MakesItem, events_of}
+use Rattle.venue_normaliser.specs.Outputs.{AreMadeAfter, AreShown, AreSymbolRows, MakesItem, events_of, row_items}
 use Rattle.venue_normaliser.specs.Inside.{PutsMany, PutsOneItem}
 
 moved : (keys : List ℕ) (a b : List (List ℕ)) (x y : List ℕ) (i j : Item)
@@ -21,16 +23,16 @@ moved keys a b x y i j ab xy ij made =
     (subst (λ (z : List ℕ). MakesItem keys (events_of b) (order_event_of z) i) xy
     (subst (λ (c : List (List ℕ)). MakesItem keys (events_of c) (order_event_of x) i) ab made))
 
-pub made_none : (keys : List ℕ) (before : List (List ℕ)) → AreMade keys before [] []
+pub made_none : (keys : List ℕ) (before : List (List ℕ)) → AreMadeAfter keys before [] []
 made_none keys before = record {
   count = refl;
   each = λ k d lt. let none : k < 0 = lt in absurd (omega arith);
 }
 
 pub made_more : (keys : List ℕ) (before messages : List (List ℕ)) (message : List ℕ)
-    (items : List Item) (item : Item) → AreMade keys before messages items
+    (items : List Item) (item : Item) → AreMadeAfter keys before messages items
     → MakesItem keys (events_of (before ++ messages)) (order_event_of message) item
-    → AreMade keys before (messages ++ message ∷ []) (items ++ item ∷ [])
+    → AreMadeAfter keys before (messages ++ message ∷ []) (items ++ item ∷ [])
 made_more keys before messages message items item made one =
     let count = made.count in
     record {
@@ -85,9 +87,9 @@ many_none n book out = record {
   fits = λ earlier fits. subst (λ (ms : List (List ℕ)). FitsEvents book (events_of ms))
       (sym (append-nil earlier)) fits;
   made = λ first earlier was fits made.
-      subst (λ (ms : List (List ℕ)). AreMade book.keys first ms (was ++ []))
+      subst (λ (ms : List (List ℕ)). AreMadeAfter book.keys first ms (was ++ []))
       (sym (append-nil earlier))
-      (subst (λ (is : List Item). AreMade book.keys first earlier is) (sym (append-nil was)) made);
+      (subst (λ (is : List Item). AreMadeAfter book.keys first earlier is) (sym (append-nil was)) made);
 }
 
 pub many_one : (n : ℕ) (message : List ℕ) (old new : OrderBookState)
@@ -132,16 +134,16 @@ many_join n ms more old mid new before between after a b =
           (append_assoc earlier ms more)
           (b.fits (earlier ++ ms) (a.fits earlier fits));
       made = λ first earlier was fits made.
-          subst (λ (xs : List (List ℕ)). AreMade old.keys first xs (was ++ (a.items ++ b.items)))
+          subst (λ (xs : List (List ℕ)). AreMadeAfter old.keys first xs (was ++ (a.items ++ b.items)))
           (append_assoc earlier ms more)
-          (subst (λ (is : List Item). AreMade old.keys first ((earlier ++ ms) ++ more) is)
+          (subst (λ (is : List Item). AreMadeAfter old.keys first ((earlier ++ ms) ++ more) is)
           (append_assoc was a.items b.items)
-          (subst (λ (keys : List ℕ). AreMade keys first ((earlier ++ ms) ++ more)
+          (subst (λ (keys : List ℕ). AreMadeAfter keys first ((earlier ++ ms) ++ more)
           ((was ++ a.items) ++ b.items)) a.keys
           (b.made first (earlier ++ ms) (was ++ a.items)
           (subst (λ (xs : List (List ℕ)). FitsEvents mid (events_of xs))
           (append_assoc first earlier ms) (a.fits (first ++ earlier) fits))
-          (subst (λ (keys : List ℕ). AreMade keys first (earlier ++ ms) (was ++ a.items))
+          (subst (λ (keys : List ℕ). AreMadeAfter keys first (earlier ++ ms) (was ++ a.items))
           (sym a.keys) (a.made first earlier was fits made)))));
     }
 
@@ -263,3 +265,28 @@ applied_all all left old new so none empty =
     subst (λ (ms : List (List ℕ)). FitsEvents new (events_of ms))
     (sym (so.whole ∙ ap (λ (xs : List (List ℕ)). so.done ++ xs) none ∙ append-nil so.done))
     (so.fits empty)
+
+-- one symbol's row more
+pub row_more : (rows : List SymbolRow) (p : ℕ) (row : SymbolRow) (old new : List Item)
+    → p < length rows → ((d : SymbolRow) → row ≡ get_or rows p d)
+    → old ≡ flat_map row_items (take p rows) → new ≡ old ++ row_items row
+    → new ≡ flat_map row_items (take (p + 1) rows)
+row_more rows p row old new lt is so more =
+    more ∙ ap (λ (xs : List Item). xs ++ row_items row) so
+    ∙ ap (λ (r : SymbolRow). flat_map row_items (take p rows) ++ row_items r) (is row)
+    ∙ ap (λ (xs : List Item). flat_map row_items (take p rows) ++ xs)
+    (sym (append-nil (row_items (get_or rows p row))))
+    ∙ sym (flat_map-append row_items (take p rows) (get_or rows p row ∷ []))
+    ∙ ap (flat_map row_items) (sym (take_more rows p row lt))
+
+-- what all rows show
+pub all_shown : (book : OrderBookState) (count : ℕ) (shown : List Item)
+    → count ≡ length book.keys → count ≡ length book.rows
+    → shown ≡ flat_map row_items (take count book.rows)
+    → (messages : List (List ℕ)) → FitsEvents book (events_of messages)
+    → AreShown book.keys messages shown
+all_shown book count shown keys rows is messages fits = record {
+  rows = book.rows;
+  are = record { count = sym rows ∙ keys; each = fits.rows };
+  is = is ∙ ap (flat_map row_items) (take_all count book.rows (omega arith));
+}

@@ -15,8 +15,8 @@ use Rattle.line_arbiter.specs.Outcomes.{IsOutcome}
 use Rattle.line_arbiter.specs.OfSession.{IsInputOfMessages, IsOfMessages}
 use Rattle.line_arbiter.specs.laws.Bringing.{number_in}
 use Rattle.line_arbiter.specs.laws.Fronts.{front_is}
-use Rattle.venue_normaliser.specs.Brought.{before_skip, message_at, message_brought, messages_brought, taken_message}
-use Rattle.venue_normaliser.specs.Outputs.{AreMade, GivesItems, IsPutOut, Opening}
+use Rattle.venue_normaliser.specs.Brought.{before_skip_past, message_at, message_brought, messages_brought, taken_message}
+use Rattle.venue_normaliser.specs.Outputs.{AreMadeAfter, GivesItemsFrom, IsPutOutFrom, Opening}
 use Rattle.venue_normaliser.proofs.Taken.{some_taken}
 
 not_past : (m n : ℕ) → n ≤ m → nat_lt m n ≡ false
@@ -37,7 +37,7 @@ taken_name name window sent before a (inr here) taken = here.0
 all_taken : (from : ℕ) (name : List ℕ) (messages : List (List ℕ)) (window : ℕ)
     (before rest : List Input) → AreAnsweredAfter name window before rest
     → AllByRecursion (IsInputOfMessages name messages) rest
-    → AllByRecursion (TakenIsOf name messages) (before_skip from rest)
+    → AllByRecursion (TakenIsOf name messages) (before_skip_past from rest)
 all_taken from name messages window before [] all of = tt
 all_taken from name messages window before (Arrived a ∷ rest) all of = (
   λ taken. of.0 (taken_name name window all.0.sent before a all.0.outcome taken),
@@ -47,9 +47,9 @@ all_taken from name messages window before (Skip n ∷ rest) all of =
     by_test (all_taken from name messages window (before ++ Skip n ∷ []) rest all.1 of.1)
     (nat_lt from n)
   where
-    by_test : AllByRecursion (TakenIsOf name messages) (before_skip from rest) → (b : Bool)
+    by_test : AllByRecursion (TakenIsOf name messages) (before_skip_past from rest) → (b : Bool)
         → AllByRecursion (TakenIsOf name messages)
-        (if b then [] else Skip n ∷ before_skip from rest)
+        (if b then [] else Skip n ∷ before_skip_past from rest)
     by_test later true = tt
     by_test later false = (of.0, later)
 
@@ -87,37 +87,37 @@ of_within name messages (Skip n ∷ packets) all m one is =
     ]
 
 of_taken : (from : ℕ) (name : List ℕ) (messages : List (List ℕ)) (packets : List Input)
-    → AllByRecursion (TakenIsOf name messages) (before_skip from packets)
+    → AllByRecursion (TakenIsOf name messages) (before_skip_past from packets)
     → (m : ℕ) (x : List ℕ) → from ≤ m
-    → taken_message (before_skip from packets) m ≡ Some x
+    → taken_message (before_skip_past from packets) m ≡ Some x
     → slice_get messages (m - 1) ≡ Some x
 of_taken from name messages [] all m x low is = absurd cc
 of_taken from name messages (Skip n ∷ packets) all m x low is =
     by_test (λ all. of_taken from name messages packets all m x low) (nat_lt from n) refl all is
   where
-    by_test : (AllByRecursion (TakenIsOf name messages) (before_skip from packets)
-        → taken_message (before_skip from packets) m ≡ Some x
+    by_test : (AllByRecursion (TakenIsOf name messages) (before_skip_past from packets)
+        → taken_message (before_skip_past from packets) m ≡ Some x
         → slice_get messages (m - 1) ≡ Some x)
         → (b : Bool) → nat_lt from n ≡ b
         → AllByRecursion (TakenIsOf name messages)
-        (if b then [] else Skip n ∷ before_skip from packets)
-        → taken_message (if b then [] else Skip n ∷ before_skip from packets) m ≡ Some x
+        (if b then [] else Skip n ∷ before_skip_past from packets)
+        → taken_message (if b then [] else Skip n ∷ before_skip_past from packets) m ≡ Some x
         → slice_get messages (m - 1) ≡ Some x
     by_test later true here all is = absurd cc
     by_test later false here all is =
         let most : n ≤ from = grind (arith, nat_tests) in
         later all.1
         (sym (ap (λ (b : Bool). option_map (λ (y : Input). message_brought y m)
-        (cond b (Some (Skip n)) (find (brings m) (before_skip from packets))))
+        (cond b (Some (Skip n)) (find (brings m) (before_skip_past from packets))))
         (not_past m n (omega arith))) ∙ is)
 of_taken from name messages (Arrived a ∷ packets) all m x low is =
     by_test (λ later. of_taken from name messages packets all.1 m x low later)
     (brings m (Arrived a)) refl is
   where
-    by_test : (taken_message (before_skip from packets) m ≡ Some x
+    by_test : (taken_message (before_skip_past from packets) m ≡ Some x
         → slice_get messages (m - 1) ≡ Some x) → (b : Bool) → brings m (Arrived a) ≡ b
         → option_map (λ (y : Input). message_brought y m)
-        (cond b (Some (Arrived a)) (find (brings m) (before_skip from packets))) ≡ Some x
+        (cond b (Some (Arrived a)) (find (brings m) (before_skip_past from packets))) ≡ Some x
         → slice_get messages (m - 1) ≡ Some x
     by_test later true here is =
         let both = and_parts (is_taken a.answer) (has_number a.packet m) here in
@@ -160,39 +160,39 @@ get_past (suc n) k (x ∷ xs) =
 session_at : (from : ℕ) (name : List ℕ) (messages : List (List ℕ)) (window : ℕ)
     (packets : List Input) → 1 ≤ from → AreAnswered name window packets
     → AllByRecursion (IsInputOfMessages name messages) packets
-    → (k : ℕ) → k < front_of (before_skip from packets) + 1 - from
+    → (k : ℕ) → k < front_of (before_skip_past from packets) + 1 - from
     → slice_get (drop (from - 1) messages) k
-    ≡ Some (message_at (before_skip from packets) (from + k))
+    ≡ Some (message_at (before_skip_past from packets) (from + k))
 session_at from name messages window packets one all of k lt =
     get_past (from - 1) k messages
     ∙ ap (slice_get messages) (let n : (from - 1) + k ≡ (from + k) - 1 = omega arith in n)
     ∙ of_taken from name messages packets
     (all_taken from name messages window [] packets all of) (from + k)
-    (message_at (before_skip from packets) (from + k)) (omega arith)
-    (some_of (taken_message (before_skip from packets) (from + k)) []
-    (some_taken (before_skip from packets) (from + k)
-    ((front_is (before_skip from packets)).all (from + k) (omega arith) (omega arith))))
+    (message_at (before_skip_past from packets) (from + k)) (omega arith)
+    (some_of (taken_message (before_skip_past from packets) (from + k)) []
+    (some_taken (before_skip_past from packets) (from + k)
+    ((front_is (before_skip_past from packets)).all (from + k) (omega arith) (omega arith))))
 
 pub gives_items : (keys : List ℕ) (opening : Opening) (name : List ℕ)
     (messages : List (List ℕ)) (window : ℕ)
     (packets : List Input) (output : List Numbered) → AreAnswered name window packets
     → AllByRecursion (IsInputOfMessages name messages) packets
-    → IsPutOut keys opening packets output → GivesItems keys opening messages packets output
+    → IsPutOutFrom keys opening packets output → GivesItemsFrom keys opening messages packets output
 gives_items keys opening name messages window packets output all of out =
     let from = opening.number in
-    let front = front_of (before_skip from packets) in
+    let front = front_of (before_skip_past from packets) in
     let at = session_at from name messages window packets out.one all of in
     record {
       items = out.items;
       within = elim (cases_lt 0 front) [
         | inr le ↦ omega arith
-        | inl lt ↦ of_within name messages (before_skip from packets)
+        | inl lt ↦ of_within name messages (before_skip_past from packets)
             (all_taken from name messages window [] packets all of) front (omega arith)
-            (some_taken (before_skip from packets) front
-            ((front_is (before_skip from packets)).all front (omega arith) (omega arith)))
+            (some_taken (before_skip_past from packets) front
+            ((front_is (before_skip_past from packets)).all front (omega arith) (omega arith)))
       ];
-      made = subst (λ (ms : List (List ℕ)). AreMade keys opening.messages ms out.items)
-          (take_by (message_at (before_skip from packets)) from (front + 1 - from)
+      made = subst (λ (ms : List (List ℕ)). AreMadeAfter keys opening.messages ms out.items)
+          (take_by (message_at (before_skip_past from packets)) from (front + 1 - from)
           (drop (from - 1) messages) at) out.made;
       is = out.is;
     }

@@ -18,11 +18,11 @@ use Rattle.line_arbiter.specs.declared.faults.SkipFault.TheVariants.{ItemsReady,
 use Rattle.line_arbiter.specs.States.{State}
 use Rattle.line_arbiter.specs.laws.Fronts.{IsFront, front_unique, front_is}
 use Rattle.venue_normaliser.specs.declared.message_slot.MessageSlot.{MessageSlot}
-use Rattle.venue_normaliser.specs.Brought.{before_skip, has_skip, kept_bytes, message_at, message_brought, messages_brought, taken_message}
-use Rattle.venue_normaliser.specs.Outputs.{AreMade, AreShown, IsPutOut, Opening, end_put_out, events_of, from_start, opened_at, put_first}
+use Rattle.venue_normaliser.specs.Brought.{before_skip_past, has_skip_past, kept_bytes, message_at, message_brought, messages_brought, taken_message}
+use Rattle.venue_normaliser.specs.Outputs.{AreMadeAfter, AreShown, IsPutOutFrom, Opening, end_put_out_from, events_of, from_start, opened_at, put_first}
 use Rattle.venue_normaliser.specs.Slots.{KeepsTaken, stored_at}
 use Rattle.venue_normaliser.specs.Snapshots.{SnapshotContent}
-use Rattle.venue_normaliser.specs.States.{FitsPackets, NormaliserState, Resumes, opening_of}
+use Rattle.venue_normaliser.specs.States.{FitsSession, NormaliserState, Resumes, opening_of}
 use Rattle.venue_normaliser.proofs.Making.{made_none}
 use Rattle.venue_normaliser.proofs.Readying.{all_sent_is}
 
@@ -86,19 +86,19 @@ opened_end n = elim (cases_lt 1 n) [
 same_number : (n : ℕ) → nat_lt n n ≡ false
 same_number n = grind (arith, nat_tests)
 
-opened_skip : (n : ℕ) → has_skip n (opened_at n) ≡ false
+opened_skip : (n : ℕ) → has_skip_past n (opened_at n) ≡ false
 opened_skip n = elim (cases_lt 1 n) [
-  | inl lt ↦ ap (has_skip n) (opened_some n lt)
+  | inl lt ↦ ap (has_skip_past n) (opened_some n lt)
       ∙ ap (λ (b : Bool). b || false) (same_number n)
-  | inr few ↦ ap (has_skip n) (opened_none n few)
+  | inr few ↦ ap (has_skip_past n) (opened_none n few)
 ]
 
-opened_before : (n : ℕ) → before_skip n (opened_at n) ≡ opened_at n
+opened_before : (n : ℕ) → before_skip_past n (opened_at n) ≡ opened_at n
 opened_before n = elim (cases_lt 1 n) [
-  | inl lt ↦ ap (before_skip n) (opened_some n lt)
+  | inl lt ↦ ap (before_skip_past n) (opened_some n lt)
       ∙ ap (λ (b : Bool). if b then [] else Skip n ∷ []) (same_number n)
       ∙ sym (opened_some n lt)
-  | inr few ↦ ap (before_skip n) (opened_none n few) ∙ sym (opened_none n few)
+  | inr few ↦ ap (before_skip_past n) (opened_none n few) ∙ sym (opened_none n few)
 ]
 
 opened_messages : (n : ℕ) → 1 ≤ n → messages_brought n (opened_at n) ≡ []
@@ -115,7 +115,7 @@ never_refused sent n PastEnd more all past = none_some past.1.1
   where
     none_some : {X : Type 0} {x : X} → None ≡ Some x → ⊥
     none_some e = cc
-never_refused sent n NothingMissing more all none = let few = none.2 in omega arith
+never_refused sent n NothingMissing more all none = let few : n ≤ 1 = none.2 in omega arith
 never_refused sent n HeldBelow more all held = false≢true held.3.3
 
 pub opened_lines : (s : State) (n : ℕ) → 1 < n → Fits s ([] ++ Skip n ∷ [])
@@ -128,18 +128,18 @@ opened_first s n few fits = subst (λ (xs : List Input). Fits s xs) (sym (opened
 -- ---- what is put out then
 
 pub shown_first : (keys : List ℕ) (opening : Opening) → 1 ≤ opening.number
-    → IsPutOut keys opening (opened_at opening.number) (put_first opening)
+    → IsPutOutFrom keys opening (opened_at opening.number) (put_first opening)
 shown_first keys opening one =
     let n = opening.number in
     record {
       one = one;
       items = [];
-      made = subst (λ (ms : List (List ℕ)). AreMade keys opening.messages ms [])
+      made = subst (λ (ms : List (List ℕ)). AreMadeAfter keys opening.messages ms [])
           (sym (ap (messages_brought n) (opened_before n) ∙ opened_messages n one))
           (made_none keys opening.messages);
       is = sym (ap (λ (xs : List Numbered). put_first opening ++ xs)
           (ap (λ (b : Bool). if b
-          then end_item (front_of (before_skip n (opened_at n)) + 1) ∷ []
+          then end_item (front_of (before_skip_past n (opened_at n)) + 1) ∷ []
           else end_at (end_of (opened_at n)) (front_of (opened_at n) + 1))
           (opened_skip n)
           ∙ ap (λ (o : Option ℕ). end_at o (front_of (opened_at n) + 1)) (opened_end n))
@@ -150,7 +150,7 @@ shown_first keys opening one =
 
 pub resumes : (snapshot : SnapshotContent) (old new : NormaliserState) (shown : List Item)
     (before after : List Numbered)
-    → FitsPackets old from_start [] → 1 ≤ snapshot.number → length shown < snapshot.number
+    → FitsSession old from_start [] → 1 ≤ snapshot.number → length shown < snapshot.number
     → Fits new.lines (opened_at snapshot.number)
     → AllSent (opened_at snapshot.number) new.lines.sent
     → FitsEvents new.book (events_of snapshot.messages) → new.book.keys ≡ old.book.keys

@@ -12,7 +12,7 @@ use Rattle.line_arbiter.specs.Streams.{front_of}
 use Rattle.line_arbiter.specs.laws.Options.{IsSome-or, map_or, or_none, picked}
 use Rattle.line_arbiter.specs.laws.Bringing.{carried-push}
 use Rattle.line_arbiter.specs.laws.Fronts.{front_greatest, front_is}
-use Rattle.venue_normaliser.specs.Brought.{has_skip, before_skip, message_at, message_brought, messages_brought, messages_to, taken_message}
+use Rattle.venue_normaliser.specs.Brought.{has_skip_past, before_skip_past, message_at, message_brought, messages_brought, messages_to, taken_message}
 use Rattle.venue_normaliser.specs.Inside.{messages_between}
 
 pub taken-push : (packets : List Input) (x : Input) (m : ℕ)
@@ -123,65 +123,65 @@ pub past_number : (from n : ℕ) → from < n → nat_lt from n ≡ true
 past_number from n lt = grind (arith, nat_tests)
 
 pub skip_arrived : (from : ℕ) (packets : List Input) (a : Arrival)
-    → has_skip from (packets ++ Arrived a ∷ []) ≡ has_skip from packets
+    → has_skip_past from (packets ++ Arrived a ∷ []) ≡ has_skip_past from packets
 skip_arrived from [] a = refl
 skip_arrived from (Arrived b ∷ packets) a = skip_arrived from packets a
 skip_arrived from (Skip n ∷ packets) a =
     ap (λ (b : Bool). nat_lt from n || b) (skip_arrived from packets a)
 
 pub skip_here : (from : ℕ) (packets : List Input) (n : ℕ) → from < n
-    → has_skip from (packets ++ Skip n ∷ []) ≡ true
+    → has_skip_past from (packets ++ Skip n ∷ []) ≡ true
 skip_here from [] n lt = ap (λ (b : Bool). b || false) (past_number from n lt)
 skip_here from (Arrived b ∷ packets) n lt = skip_here from packets n lt
 skip_here from (Skip k ∷ packets) n lt =
     ap (λ (b : Bool). nat_lt from k || b) (skip_here from packets n lt) ∙ or_true (nat_lt from k)
 
-pub before_all : (from : ℕ) (packets : List Input) → has_skip from packets ≡ false
-    → before_skip from packets ≡ packets
+pub before_all : (from : ℕ) (packets : List Input) → has_skip_past from packets ≡ false
+    → before_skip_past from packets ≡ packets
 before_all from [] none = refl
 before_all from (Arrived b ∷ packets) none =
     ap (λ (xs : List Input). Arrived b ∷ xs) (before_all from packets none)
 before_all from (Skip k ∷ packets) none =
-    let both = neither (nat_lt from k) (has_skip from packets) none in
-    ap (λ (b : Bool). if b then [] else Skip k ∷ before_skip from packets) both.0
+    let both = neither (nat_lt from k) (has_skip_past from packets) none in
+    ap (λ (b : Bool). if b then [] else Skip k ∷ before_skip_past from packets) both.0
     ∙ ap (λ (xs : List Input). Skip k ∷ xs) (before_all from packets both.1)
 
 pub before_here : (from : ℕ) (packets : List Input) (n : ℕ) → from < n
-    → has_skip from packets ≡ false → before_skip from (packets ++ Skip n ∷ []) ≡ packets
+    → has_skip_past from packets ≡ false → before_skip_past from (packets ++ Skip n ∷ []) ≡ packets
 before_here from [] n lt none =
     ap (λ (b : Bool). if b then [] else Skip n ∷ []) (past_number from n lt)
 before_here from (Arrived b ∷ packets) n lt none =
     ap (λ (xs : List Input). Arrived b ∷ xs) (before_here from packets n lt none)
 before_here from (Skip k ∷ packets) n lt none =
-    let both = neither (nat_lt from k) (has_skip from packets) none in
-    ap (λ (b : Bool). if b then [] else Skip k ∷ before_skip from (packets ++ Skip n ∷ [])) both.0
+    let both = neither (nat_lt from k) (has_skip_past from packets) none in
+    ap (λ (b : Bool). if b then [] else Skip k ∷ before_skip_past from (packets ++ Skip n ∷ [])) both.0
     ∙ ap (λ (xs : List Input). Skip k ∷ xs) (before_here from packets n lt both.1)
 
-pub before_same : (from : ℕ) (packets : List Input) (x : Input) → has_skip from packets ≡ true
-    → before_skip from (packets ++ x ∷ []) ≡ before_skip from packets
+pub before_same : (from : ℕ) (packets : List Input) (x : Input) → has_skip_past from packets ≡ true
+    → before_skip_past from (packets ++ x ∷ []) ≡ before_skip_past from packets
 before_same from [] x some = absurd cc
 before_same from (Arrived b ∷ packets) x some =
     ap (λ (xs : List Input). Arrived b ∷ xs) (before_same from packets x some)
 before_same from (Skip k ∷ packets) x some =
     by_test (λ more. before_same from packets x more) (nat_lt from k) some
   where
-    by_test : (has_skip from packets ≡ true
-        → before_skip from (packets ++ x ∷ []) ≡ before_skip from packets)
-        → (b : Bool) → (b || has_skip from packets) ≡ true
-        → (if b then [] else Skip k ∷ before_skip from (packets ++ x ∷ []))
-        ≡ (if b then [] else Skip k ∷ before_skip from packets)
+    by_test : (has_skip_past from packets ≡ true
+        → before_skip_past from (packets ++ x ∷ []) ≡ before_skip_past from packets)
+        → (b : Bool) → (b || has_skip_past from packets) ≡ true
+        → (if b then [] else Skip k ∷ before_skip_past from (packets ++ x ∷ []))
+        ≡ (if b then [] else Skip k ∷ before_skip_past from packets)
     by_test later true some = refl
     by_test later false some = ap (λ (xs : List Input). Skip k ∷ xs) (later some)
 
-pub skip_stays : (from : ℕ) (packets : List Input) (x : Input) → has_skip from packets ≡ true
-    → has_skip from (packets ++ x ∷ []) ≡ true
+pub skip_stays : (from : ℕ) (packets : List Input) (x : Input) → has_skip_past from packets ≡ true
+    → has_skip_past from (packets ++ x ∷ []) ≡ true
 skip_stays from [] x some = absurd cc
 skip_stays from (Arrived b ∷ packets) x some = skip_stays from packets x some
 skip_stays from (Skip k ∷ packets) x some =
     by_test (λ more. skip_stays from packets x more) (nat_lt from k) some
   where
-    by_test : (has_skip from packets ≡ true → has_skip from (packets ++ x ∷ []) ≡ true)
-        → (b : Bool) → (b || has_skip from packets) ≡ true
-        → (b || has_skip from (packets ++ x ∷ [])) ≡ true
+    by_test : (has_skip_past from packets ≡ true → has_skip_past from (packets ++ x ∷ []) ≡ true)
+        → (b : Bool) → (b || has_skip_past from packets) ≡ true
+        → (b || has_skip_past from (packets ++ x ∷ [])) ≡ true
     by_test later true some = refl
     by_test later false some = later some

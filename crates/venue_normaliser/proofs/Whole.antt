@@ -30,10 +30,10 @@ use Rattle.line_arbiter.specs.laws.Bringing.{carried-push, end_of-push, number_i
 use Rattle.line_arbiter.specs.laws.Fronts.{front_greatest, front_is, not_in, not_none}
 use Rattle.line_arbiter.specs.laws.Lengths.{end_most}
 use Rattle.venue_normaliser.specs.declared.message_slot.MessageSlot.{MessageSlot}
-use Rattle.venue_normaliser.specs.Brought.{before_skip, has_skip, kept_bytes, message_at, message_brought, messages_brought, messages_to, taken_message}
-use Rattle.venue_normaliser.specs.Outputs.{AreMade, IsPutOut, Opening, end_put_out, events_of, from_start, put_first}
+use Rattle.venue_normaliser.specs.Brought.{before_skip_past, has_skip_past, kept_bytes, message_at, message_brought, messages_brought, messages_to, taken_message}
+use Rattle.venue_normaliser.specs.Outputs.{AreMadeAfter, IsPutOutFrom, Opening, end_put_out_from, events_of, from_start, put_first}
 use Rattle.venue_normaliser.specs.Slots.{KeepsPacket, KeepsTaken, kept_of_packet, stored_at}
-use Rattle.venue_normaliser.specs.States.{FitsPackets, NormaliserState, PutsOut}
+use Rattle.venue_normaliser.specs.States.{FitsSession, NormaliserState, PutsOutFrom}
 use Rattle.venue_normaliser.specs.Inside.{BringsMessages, BringsPacket, PutsMany, PutsReady, messages_between}
 use Rattle.venue_normaliser.proofs.Making.{many_join, many_none, numbered_append}
 use Rattle.venue_normaliser.proofs.Taken.{before_all, before_here, before_same, front_grows, messages_split, messages_stay, none_taken, range_join, skip_arrived, skip_here, skip_stays, taken-push}
@@ -187,22 +187,22 @@ ended_stays session window sent packets a outcome ended =
 
 -- ---- a gap was given up
 
-end_given : (from : ℕ) (packets : List Input) → has_skip from packets ≡ true
-    → end_put_out from packets ≡ end_item (front_of (before_skip from packets) + 1) ∷ []
+end_given : (from : ℕ) (packets : List Input) → has_skip_past from packets ≡ true
+    → end_put_out_from from packets ≡ end_item (front_of (before_skip_past from packets) + 1) ∷ []
 end_given from packets some =
-    ap (λ (b : Bool). if b then end_item (front_of (before_skip from packets) + 1) ∷ []
+    ap (λ (b : Bool). if b then end_item (front_of (before_skip_past from packets) + 1) ∷ []
     else end_at (end_of packets) (front_of packets + 1)) some
 
-end_open : (from : ℕ) (packets : List Input) → has_skip from packets ≡ false
-    → end_put_out from packets ≡ end_here packets
+end_open : (from : ℕ) (packets : List Input) → has_skip_past from packets ≡ false
+    → end_put_out_from from packets ≡ end_here packets
 end_open from packets none =
-    ap (λ (b : Bool). if b then end_item (front_of (before_skip from packets) + 1) ∷ []
+    ap (λ (b : Bool). if b then end_item (front_of (before_skip_past from packets) + 1) ∷ []
     else end_at (end_of packets) (front_of packets + 1)) none
 
 -- nothing is put out then
 pub puts_nothing : (keys : List ℕ) (opening : Opening) (packets : List Input) (x : Input)
-    (old new : List Numbered) → has_skip opening.number packets ≡ true → new ≡ old
-    → PutsOut keys opening packets (packets ++ x ∷ []) old new
+    (old new : List Numbered) → has_skip_past opening.number packets ≡ true → new ≡ old
+    → PutsOutFrom keys opening packets (packets ++ x ∷ []) old new
 puts_nothing keys opening packets x old new some same =
     let from = opening.number in
     record {
@@ -211,7 +211,7 @@ puts_nothing keys opening packets x old new some same =
       whole = λ output is. record {
         one = is.one;
         items = is.items;
-        made = subst (λ (xs : List Input). AreMade keys opening.messages
+        made = subst (λ (xs : List Input). AreMadeAfter keys opening.messages
             (messages_brought from xs) is.items)
             (sym (before_same from packets x some)) is.made;
         is = append-nil output ∙ is.is
@@ -226,9 +226,9 @@ puts_nothing keys opening packets x old new some same =
 -- the end at the first missing number
 pub puts_end : (keys : List ℕ) (opening : Opening) (packets : List Input) (n : ℕ)
     (old new : List Numbered) → opening.number ≤ front_of packets + 1
-    → has_skip opening.number packets ≡ false → MaySkip packets n
+    → has_skip_past opening.number packets ≡ false → MaySkip packets n
     → new ≡ old ++ end_item (front_of packets + 1) ∷ []
-    → PutsOut keys opening packets (packets ++ Skip n ∷ []) old new
+    → PutsOutFrom keys opening packets (packets ++ Skip n ∷ []) old new
 puts_end keys opening packets n old new low none may put =
     let from = opening.number in
     let past = may.past in
@@ -245,7 +245,7 @@ puts_end keys opening packets n old new low none may put =
       whole = λ output is. record {
         one = is.one;
         items = is.items;
-        made = subst (λ (xs : List Input). AreMade keys opening.messages
+        made = subst (λ (xs : List Input). AreMadeAfter keys opening.messages
             (messages_brought from xs) is.items)
             (before_all from packets none ∙ sym (before_here from packets n later none)) is.made;
         is = ap (λ (xs : List Numbered). xs ++ end_item (front_of packets + 1) ∷ [])
@@ -334,7 +334,7 @@ joined packets f sent g book0 book1 book2 out0 out1 mid from grows first second 
 -- the whole of what is put out, and the orders after it
 pub record Finishes (opening : Opening) (packets after : List Input) (old new : OrderBookState)
     (before out : List Numbered) : Type 0 where
-  pub output : PutsOut old.keys opening packets after before out
+  pub output : PutsOutFrom old.keys opening packets after before out
   pub keys : new.keys ≡ old.keys
   pub book : FitsEvents new (events_of (opening.messages
       ++ messages_brought opening.number after))
@@ -345,7 +345,7 @@ pub finishes : (opening : Opening) (session : List ℕ) (window given : ℕ)
     (slots : List MessageSlot) (lines1 lines2 : State) (book0 book1 book2 : OrderBookState)
     (out0 out1 out2 : List Numbered)
     → (1 ≤ opening.number) × (opening.number ≤ front_of packets + 1)
-    → has_skip opening.number packets ≡ false
+    → has_skip_past opening.number packets ≡ false
     → IsOutcome session window given packets a.packet a.answer
     → FitsEvents book0 (events_of (opening.messages ++ messages_brought opening.number packets))
     → front_of packets ≤ lines1.sent
@@ -367,7 +367,7 @@ finishes opening session window given packets a slots lines1 lines2 book0 book1 
     let f = front_of packets in
     let g = front_of after in
     let grows = front_grows packets (Arrived a) in
-    let none' : has_skip number after ≡ false = skip_arrived number packets a ∙ none in
+    let none' : has_skip_past number after ≡ false = skip_arrived number packets a ∙ none in
     let all : PutsMany (f + 1) (messages_between after f g) book0 book2 out0 ready.messages =
     joined after f lines1.sent g book0 book1 book2 out0 out1 ready.messages from grows first
     ready.puts in
@@ -381,16 +381,16 @@ finishes opening session window given packets a slots lines1 lines2 book0 book1 
     ∙ ap (λ (ms : List (List ℕ)). opening.messages ++ ms) messages)
     (all.fits (opening.messages ++ messages_brought number packets) fits) in
     let made : (was : List Item)
-    → AreMade book0.keys opening.messages
-    (messages_brought number (before_skip number packets)) was
-    → AreMade book0.keys opening.messages
-    (messages_brought number (before_skip number after)) (was ++ all.items) =
-    λ was made. subst (λ (xs : List Input). AreMade book0.keys opening.messages
+    → AreMadeAfter book0.keys opening.messages
+    (messages_brought number (before_skip_past number packets)) was
+    → AreMadeAfter book0.keys opening.messages
+    (messages_brought number (before_skip_past number after)) (was ++ all.items) =
+    λ was made. subst (λ (xs : List Input). AreMadeAfter book0.keys opening.messages
     (messages_brought number xs) (was ++ all.items)) (sym (before_all number after none'))
-    (subst (λ (ms : List (List ℕ)). AreMade book0.keys opening.messages ms (was ++ all.items))
+    (subst (λ (ms : List (List ℕ)). AreMadeAfter book0.keys opening.messages ms (was ++ all.items))
     messages
     (all.made opening.messages (messages_brought number packets) was fits
-    (subst (λ (xs : List Input). AreMade book0.keys opening.messages (messages_brought number xs)
+    (subst (λ (xs : List Input). AreMadeAfter book0.keys opening.messages (messages_brought number xs)
     was) (before_all number packets none) made))) in
     let E = (if nat_le lines1.sent g then end_here after else []) in
     let appended : out2 ≡ out0 ++ (numbered_from (f + 1) all.items ++ E) =
@@ -549,7 +549,7 @@ went_past session window sent packets a taken all one next =
 -- ---- what a packet brings, where no gap was given up
 
 sent_is : (s : NormaliserState) (opening : Opening) (packets : List Input)
-    → FitsPackets s opening packets
+    → FitsSession s opening packets
     → s.lines.sent ≡ front_of packets + length (end_here packets)
 sent_is s opening packets fits = all_sent_is packets s.lines.sent fits.all_sent
 
@@ -560,7 +560,7 @@ between_none packets f n le =
 
 pub brings_next : (session : List ℕ) (window : ℕ) (opening : Opening) (packets : List Input) (a : Arrival)
     (old new : NormaliserState) (out0 out1 : List Numbered)
-    → FitsPackets old opening packets → old.has_given_up ≡ false → is_taken a.answer ≡ true
+    → FitsSession old opening packets → old.has_given_up ≡ false → is_taken a.answer ≡ true
     → 1 ≤ a.packet.number
     → IsNextPacket session window old.lines.sent packets a.packet
     → new.lines.sent ≡ last_number a.packet → new.slots ≡ old.slots
@@ -599,7 +599,7 @@ brings_next session window opening packets a old new out0 out1 fits going taken 
 
 pub brings_other : (session : List ℕ) (window : ℕ) (opening : Opening) (packets : List Input) (a : Arrival)
     (old new : NormaliserState) (out0 out1 : List Numbered)
-    → FitsPackets old opening packets → old.has_given_up ≡ false
+    → FitsSession old opening packets → old.has_given_up ≡ false
     → IsOutcome session window old.lines.sent packets a.packet a.answer
     → new.lines.sent ≡ old.lines.sent
     → KeepsTaken new.slots old.lines.sent (packets ++ Arrived a ∷ [])
@@ -638,12 +638,12 @@ brings_other session window opening packets a old new out0 out1 fits going outco
 
 pub record Takes (opening : Opening) (packets after : List Input) (old new : NormaliserState)
     (before out : List Numbered) : Type 0 where
-  pub fits : FitsPackets new opening after
-  pub output : PutsOut old.book.keys opening packets after before out
+  pub fits : FitsSession new opening after
+  pub output : PutsOutFrom old.book.keys opening packets after before out
 
 pub takes_open : (line : LineId) (packet : Content) (answer : Result Outcome LineFault)
     (opening : Opening) (packets : List Input) (old mid new : NormaliserState) (out0 out1 out2 : List Numbered)
-    → FitsPackets old opening packets → old.has_given_up ≡ false
+    → FitsSession old opening packets → old.has_given_up ≡ false
     → BringsPacket line packet answer packets old mid out0 out1
     → ((packets : List Input) → Fits mid.lines packets → KeepsTaken mid.slots mid.lines.sent packets
     → PutsReady packets mid.slots mid.lines new.lines mid.book new.book out1 out2)
@@ -652,8 +652,8 @@ pub takes_open : (line : LineId) (packet : Content) (answer : Result Outcome Lin
 takes_open line packet answer opening packets old mid new out0 out1 out2 fits going brings ready kept =
     let a : Arrival = record { line = line; packet = packet; answer = answer } in
     let after = packets ++ Arrived a ∷ [] in
-    let none : has_skip opening.number packets ≡ false = sym fits.given_up ∙ going in
-    let none' : has_skip opening.number after ≡ false =
+    let none : has_skip_past opening.number packets ≡ false = sym fits.given_up ∙ going in
+    let none' : has_skip_past opening.number after ≡ false =
     skip_arrived opening.number packets a ∙ none in
     let b = brings.session going in
     let r = ready after brings.lines b.slots in
@@ -682,7 +682,7 @@ takes_open line packet answer opening packets old mid new out0 out1 out2 fits go
 
 pub takes_over : (line : LineId) (packet : Content) (answer : Result Outcome LineFault)
     (opening : Opening) (packets : List Input) (old mid new : NormaliserState) (out0 out1 out2 : List Numbered)
-    → FitsPackets old opening packets → old.has_given_up ≡ true
+    → FitsSession old opening packets → old.has_given_up ≡ true
     → BringsPacket line packet answer packets old mid out0 out1
     → out2 ≡ out1
     → ((packets : List Input) → Fits mid.lines packets
@@ -693,8 +693,8 @@ takes_over line packet answer opening packets old mid new out0 out1 out2 fits ov
     kept =
     let a : Arrival = record { line = line; packet = packet; answer = answer } in
     let after = packets ++ Arrived a ∷ [] in
-    let some : has_skip opening.number packets ≡ true = sym fits.given_up ∙ over in
-    let some' : has_skip opening.number after ≡ true =
+    let some : has_skip_past opening.number packets ≡ true = sym fits.given_up ∙ over in
+    let some' : has_skip_past opening.number after ≡ true =
     skip_stays opening.number packets (Arrived a) some in
     let grows = front_grows packets (Arrived a) in
     let low = fits.from.1 in
@@ -719,7 +719,7 @@ both_cases false = inr refl
 
 pub takes : (line : LineId) (packet : Content) (answer : Result Outcome LineFault)
     (opening : Opening) (packets : List Input) (old mid new : NormaliserState) (out0 out1 out2 : List Numbered)
-    → FitsPackets old opening packets
+    → FitsSession old opening packets
     → BringsPacket line packet answer packets old mid out0 out1
     → ((packets : List Input) → Fits mid.lines packets → mid.has_given_up ≡ false
     → KeepsTaken mid.slots mid.lines.sent packets
@@ -743,11 +743,11 @@ takes line packet answer opening packets old mid new out0 out1 out2 fits brings 
 -- ---- a gap is given up
 
 pub skips_fit : (opening : Opening) (packets : List Input) (n : ℕ) (old new : NormaliserState)
-    → FitsPackets old opening packets → MaySkip packets n
+    → FitsSession old opening packets → MaySkip packets n
     → Fits new.lines (packets ++ Skip n ∷ [])
     → AllSent (packets ++ Skip n ∷ []) new.lines.sent
     → new.has_given_up ≡ true
-    → FitsPackets new opening (packets ++ Skip n ∷ [])
+    → FitsSession new opening (packets ++ Skip n ∷ [])
 skips_fit opening packets n old new fits may lines all given =
     let grows = front_grows packets (Skip n) in
     let low = fits.from.1 in
@@ -761,10 +761,10 @@ skips_fit opening packets n old new fits may lines all given =
     }
 
 pub skips_output : (opening : Opening) (packets : List Input) (n : ℕ) (old : NormaliserState)
-    (out0 out1 : List Numbered) → FitsPackets old opening packets → MaySkip packets n
+    (out0 out1 : List Numbered) → FitsSession old opening packets → MaySkip packets n
     → (old.has_given_up ≡ true → out1 ≡ out0)
     → (old.has_given_up ≡ false → out1 ≡ out0 ++ end_item (front_of packets + 1) ∷ [])
-    → PutsOut old.book.keys opening packets (packets ++ Skip n ∷ []) out0 out1
+    → PutsOutFrom old.book.keys opening packets (packets ++ Skip n ∷ []) out0 out1
 skips_output opening packets n old out0 out1 fits may over ends = elim (both_cases old.has_given_up) [
   | inl was ↦ puts_nothing old.book.keys opening packets (Skip n) out0 out1
       (sym fits.given_up ∙ was) (over was)
@@ -776,7 +776,7 @@ skips_output opening packets n old out0 out1 fits may over ends = elim (both_cas
 
 pub begins : (s : NormaliserState) → Fits s.lines [] → s.lines.sent ≡ 0 → s.has_given_up ≡ false
     → ((m : ℕ) → 0 < m → stored_at s.slots m ≡ None) → FitsEvents s.book []
-    → FitsPackets s from_start []
+    → FitsSession s from_start []
 begins s lines sent going slots book = record {
   lines = lines;
   all_sent = ap (λ (n : ℕ). n + 1) sent;
@@ -795,7 +795,7 @@ begins s lines sent going slots book = record {
 
 pub packet_next : (line : LineId) (packet : Content) (opening : Opening) (packets : List Input)
     (old new : NormaliserState) (out0 out1 : List Numbered)
-    → FitsPackets old opening packets → old.has_given_up ≡ false → IsContent packet
+    → FitsSession old opening packets → old.has_given_up ≡ false → IsContent packet
     → IsNextPacket old.lines.session old.lines.window old.lines.sent packets packet
     → IsOutcome old.lines.session old.lines.window old.lines.sent packets packet
     (Ok (outcome_of_next packet))
@@ -822,7 +822,7 @@ packet_next line packet opening packets old new out0 out1 fits going content nex
 
 pub packet_any : (line : LineId) (packet : Content) (answer : Result Outcome LineFault)
     (opening : Opening) (packets : List Input) (old new : NormaliserState)
-    (out0 out1 : List Numbered) → FitsPackets old opening packets
+    (out0 out1 : List Numbered) → FitsSession old opening packets
     → IsOutcome old.lines.session old.lines.window old.lines.sent packets packet answer
     → Fits new.lines (packets ++ arrival_of line packet answer ∷ [])
     → new.lines.sent ≡ old.lines.sent

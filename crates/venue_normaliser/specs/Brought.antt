@@ -28,17 +28,24 @@ abbrev pub messages_brought : ℕ → List Input → List (List ℕ)
 messages_brought from packets = messages_to from packets (front_of packets)
 
 -- a gap past this number was given up
-abbrev pub has_skip : ℕ → List Input → Bool
-has_skip from [] = false
-has_skip from (Arrived a ∷ packets) = has_skip from packets
-has_skip from (Skip n ∷ packets) = nat_lt from n || has_skip from packets
+abbrev pub has_skip_past : ℕ → List Input → Bool
+has_skip_past from [] = false
+has_skip_past from (Arrived a ∷ packets) = has_skip_past from packets
+has_skip_past from (Skip n ∷ packets) = nat_lt from n || has_skip_past from packets
 
 -- what came before the first gap past this number that was given up
-abbrev pub before_skip : ℕ → List Input → List Input
-before_skip from [] = []
-before_skip from (Arrived a ∷ packets) = Arrived a ∷ before_skip from packets
-before_skip from (Skip n ∷ packets) =
-    if nat_lt from n then [] else Skip n ∷ before_skip from packets
+abbrev pub before_skip_past : ℕ → List Input → List Input
+before_skip_past from [] = []
+before_skip_past from (Arrived a ∷ packets) = Arrived a ∷ before_skip_past from packets
+before_skip_past from (Skip n ∷ packets) =
+    if nat_lt from n then [] else Skip n ∷ before_skip_past from packets
+
+-- the same of a session that began at its first message
+abbrev pub has_skip : List Input → Bool
+has_skip packets = has_skip_past 1 packets
+
+abbrev pub before_skip : List Input → List Input
+before_skip packets = before_skip_past 1 packets
 
 -- A message as it is kept until it is in sequence: no form has more than 50 bytes, so that a longer
 -- one is kept as an empty one.

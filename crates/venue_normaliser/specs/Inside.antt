@@ -19,8 +19,8 @@ use Rattle.line_arbiter.specs.States.{State, KeepsAllButSent}
 use Rattle.line_arbiter.specs.Fits.{Fits}
 use Rattle.line_arbiter.specs.Skips.{AllSent}
 use Rattle.venue_normaliser.specs.declared.message_slot.MessageSlot.{MessageSlot}
-use Rattle.venue_normaliser.specs.Brought.{has_skip, message_at}
-use Rattle.venue_normaliser.specs.Outputs.{AreMade, MakesItem, events_of}
+use Rattle.venue_normaliser.specs.Brought.{has_skip_past, message_at}
+use Rattle.venue_normaliser.specs.Outputs.{AreMadeAfter, MakesItem, events_of}
 use Rattle.venue_normaliser.specs.Slots.{KeepsTaken}
 use Rattle.venue_normaliser.specs.Snapshots.{is_of_snapshot}
 use Rattle.venue_normaliser.specs.States.{NormaliserState}
@@ -46,8 +46,8 @@ pub record PutsMany (number : ℕ) (messages : List (List ℕ)) (old new : Order
   pub fits : (earlier : List (List ℕ)) → FitsEvents old (events_of earlier)
       → FitsEvents new (events_of (earlier ++ messages))
   pub made : (first earlier : List (List ℕ)) (made : List Item)
-      → FitsEvents old (events_of (first ++ earlier)) → AreMade old.keys first earlier made
-      → AreMade old.keys first (earlier ++ messages) (made ++ items)
+      → FitsEvents old (events_of (first ++ earlier)) → AreMadeAfter old.keys first earlier made
+      → AreMadeAfter old.keys first (earlier ++ messages) (made ++ items)
 
 -- the messages after one number up to another
 abbrev pub messages_between : List Input → ℕ → ℕ → List (List ℕ)

@@ -13,7 +13,7 @@ use Rattle.itch_book.specs.Books.{FitsRow, TellsOfOne}
 use Rattle.itch_book.specs.Rows.{shows_halt}
 use Rattle.line_arbiter.specs.Packets.{Input, Skip, end_of}
 use Rattle.line_arbiter.specs.Streams.{front_of, end_at}
-use Rattle.venue_normaliser.specs.Brought.{messages_brought, has_skip, before_skip}
+use Rattle.venue_normaliser.specs.Brought.{messages_brought, has_skip_past, before_skip_past}
 
 abbrev pub events_of : List (List ℕ) → List OrderEvent
 events_of messages = map order_event_of messages
@@ -68,41 +68,58 @@ abbrev pub put_first : Opening → List Numbered
 put_first opening = numbered_from (opening.number - length opening.shown) opening.shown
 
 -- each item is the one that the message at its place makes, after those before it
-pub record AreMade (keys : List ℕ) (before messages : List (List ℕ)) (items : List Item)
+pub record AreMadeAfter (keys : List ℕ) (before messages : List (List ℕ)) (items : List Item)
     : Type 0 where
   pub count : length items ≡ length messages
   pub each : (k : ℕ) (d : Item) → k < length messages
       → MakesItem keys (events_of (before ++ take k messages))
       (order_event_of (slice_index_or messages k [])) (slice_index_or items k d)
 
+-- after no messages
+abbrev pub AreMade : List ℕ → List (List ℕ) → List Item → Type 0
+AreMade keys messages items = AreMadeAfter keys [] messages items
+
 -- The end of what is put out of a session that is taken from a number on: at the first missing
 -- number, where a gap was given up; else the session's own, where it follows its last message.
-abbrev pub end_put_out : ℕ → List Input → List Numbered
-end_put_out from packets =
-    if has_skip from packets then end_item (front_of (before_skip from packets) + 1) ∷ []
+abbrev pub end_put_out_from : ℕ → List Input → List Numbered
+end_put_out_from from packets =
+    if has_skip_past from packets then end_item (front_of (before_skip_past from packets) + 1) ∷ []
     else end_at (end_of packets) (front_of packets + 1)
+
+-- the same of a session that began at its first message
+abbrev pub end_put_out : List Input → List Numbered
+end_put_out packets = end_put_out_from 1 packets
 
 -- What is put out of a session, of which these packets and skips came: what the snapshot shows, of
 -- the messages from its number up to the first gap one item for each, with its number, and then the
 -- end. Nothing follows a gap that was given up.
-pub record IsPutOut (keys : List ℕ) (opening : Opening) (packets : List Input)
+pub record IsPutOutFrom (keys : List ℕ) (opening : Opening) (packets : List Input)
     (output : List Numbered) : Type 0 where
   pub one : 1 ≤ opening.number
   pub items : List Item
-  pub made : AreMade keys opening.messages
-      (messages_brought opening.number (before_skip opening.number packets)) items
+  pub made : AreMadeAfter keys opening.messages
+      (messages_brought opening.number (before_skip_past opening.number packets)) items
   pub is : output ≡ put_first opening
-      ++ (numbered_from opening.number items ++ end_put_out opening.number packets)
+      ++ (numbered_from opening.number items ++ end_put_out_from opening.number packets)
+
+-- the same of a session that began at its first message
+abbrev pub IsPutOut : List ℕ → List Input → List Numbered → Type 0
+IsPutOut keys packets output = IsPutOutFrom keys from_start packets output
 
 -- What is put out of a session of these messages: what the snapshot shows; from its number on item
 -- n is the one that message n makes after the snapshot's and those before it, up to the first gap;
 -- and then the end.
-pub record GivesItems (keys : List ℕ) (opening : Opening) (messages : List (List ℕ))
+pub record GivesItemsFrom (keys : List ℕ) (opening : Opening) (messages : List (List ℕ))
     (packets : List Input) (output : List Numbered) : Type 0 where
   pub items : List Item
-  pub within : front_of (before_skip opening.number packets) ≤ length messages
-  pub made : AreMade keys opening.messages
-      (take (front_of (before_skip opening.number packets) + 1 - opening.number)
+  pub within : front_of (before_skip_past opening.number packets) ≤ length messages
+  pub made : AreMadeAfter keys opening.messages
+      (take (front_of (before_skip_past opening.number packets) + 1 - opening.number)
       (drop (opening.number - 1) messages)) items
   pub is : output ≡ put_first opening
-      ++ (numbered_from opening.number items ++ end_put_out opening.number packets)
+      ++ (numbered_from opening.number items ++ end_put_out_from opening.number packets)
+
+-- the same of a session that began at its first message
+abbrev pub GivesItems : List ℕ → List (List ℕ) → List Input → List Numbered → Type 0
+GivesItems keys messages packets output =
+    GivesItemsFrom keys from_start messages packets output

@@ -10,8 +10,8 @@ use Rattle.line_arbiter.specs.Fits.{Fits}
 use Rattle.line_arbiter.specs.Skips.{AllSent}
 use Rattle.venue_normaliser.specs.declared.message_slot.MessageSlot.{MessageSlot}
 use Rattle.venue_normaliser.specs.declared.end_number.EndNumber.{EndNumber}
-use Rattle.venue_normaliser.specs.Brought.{has_skip, messages_brought}
-use Rattle.venue_normaliser.specs.Outputs.{AreShown, IsPutOut, Opening, events_of, opened_at, put_first}
+use Rattle.venue_normaliser.specs.Brought.{has_skip_past, messages_brought}
+use Rattle.venue_normaliser.specs.Outputs.{AreShown, IsPutOutFrom, Opening, events_of, from_start, opened_at, put_first}
 use Rattle.venue_normaliser.specs.Slots.{KeepsTaken}
 use Rattle.venue_normaliser.specs.Snapshots.{SnapshotContent}
 
@@ -35,22 +35,30 @@ pub record KeepsSession (s : NormaliserState) (opening : Opening) (packets : Lis
 -- The state is that after these packets and skips of the present session, which began so: all that
 -- is ready was put out, no message before the opening's number is missing, and unless a gap was
 -- given up, the session is kept.
-pub record FitsPackets (s : NormaliserState) (opening : Opening) (packets : List Input)
+pub record FitsSession (s : NormaliserState) (opening : Opening) (packets : List Input)
     : Type 0 where
   pub lines : Fits s.lines packets
   pub all_sent : AllSent packets s.lines.sent
   pub from : (1 ≤ opening.number) × (opening.number ≤ front_of packets + 1)
-  pub given_up : s.has_given_up ≡ has_skip opening.number packets
+  pub given_up : s.has_given_up ≡ has_skip_past opening.number packets
   pub session : s.has_given_up ≡ false → KeepsSession s opening packets
+
+-- the same of a session that began at its first message
+abbrev pub FitsPackets : NormaliserState → List Input → Type 0
+FitsPackets s packets = FitsSession s from_start packets
 
 -- What a call puts out: it follows what the caller had there, and with what was put out before it
 -- is what these packets and skips make.
-pub record PutsOut (keys : List ℕ) (opening : Opening) (before after : List Input)
+pub record PutsOutFrom (keys : List ℕ) (opening : Opening) (before after : List Input)
     (old new : List Numbered) : Type 0 where
   pub more : List Numbered
   pub appended : new ≡ old ++ more
-  pub whole : (output : List Numbered) → IsPutOut keys opening before output
-      → IsPutOut keys opening after (output ++ more)
+  pub whole : (output : List Numbered) → IsPutOutFrom keys opening before output
+      → IsPutOutFrom keys opening after (output ++ more)
+
+-- the same of a session that began at its first message
+abbrev pub PutsOut : List ℕ → List Input → List Input → List Numbered → List Numbered → Type 0
+PutsOut keys before after old new = PutsOutFrom keys from_start before after old new
 
 -- the beginning of a session at a snapshot, which shows these items
 abbrev pub opening_of : SnapshotContent → List Item → Opening
@@ -69,7 +77,7 @@ pub record Resumes (snapshot : SnapshotContent) (old new : NormaliserState)
   pub are : AreShown old.book.keys snapshot.messages shown
   pub places : length shown < snapshot.number
   pub put : after ≡ before ++ put_first (opening_of snapshot shown)
-  pub fits : FitsPackets new (opening_of snapshot shown) (opened_at snapshot.number)
+  pub fits : FitsSession new (opening_of snapshot shown) (opened_at snapshot.number)
 
 -- a snapshot shows as many items as its number, or more
 pub record ShowsTooMuch (keys : List ℕ) (snapshot : SnapshotContent) : Type 0 where

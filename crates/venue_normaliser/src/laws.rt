@@ -6,18 +6,18 @@ ghost use Rattle.feed_types.specs.declared.item.Numbered.{Numbered};
 ghost use Rattle.line_arbiter.specs.Packets.{Input};
 ghost use Rattle.line_arbiter.specs.Answered.{AreAnswered};
 ghost use Rattle.line_arbiter.specs.OfSession.{IsInputOfMessages};
-ghost use Rattle.venue_normaliser.specs.Outputs.{GivesItems, IsPutOut, Opening, from_start, opened_at, put_first};
+ghost use Rattle.venue_normaliser.specs.Outputs.{GivesItemsFrom, IsPutOut, IsPutOutFrom, Opening, opened_at, put_first};
 
 /// Nothing is put out of a session of which nothing came.
 pub fn nothing_is_put_out_of_nothing()
-    ensures { (keys : List ℕ) → IsPutOut keys from_start [] [] }
+    ensures { (keys : List ℕ) → IsPutOut keys [] [] }
 {}
 
 /// What a snapshot shows, at the numbers just before its own, is what is put out of the session that
 /// it begins, of which nothing came.
 pub fn what_a_snapshot_shows_is_put_out()
     ensures { (keys : List ℕ) (opening : Opening) → 1 ≤ opening.number
-        → IsPutOut keys opening (opened_at opening.number) (put_first opening) }
+        → IsPutOutFrom keys opening (opened_at opening.number) (put_first opening) }
 {}
 
 /// Where a venue's packets are of a session of messages, what is put out is the session whose item
@@ -28,6 +28,6 @@ pub fn what_is_put_out_is_the_session()
         (packets : List Input) (output : List Numbered)
         → AreAnswered name window packets
         → AllByRecursion (IsInputOfMessages name messages) packets
-        → IsPutOut keys opening packets output
-        → GivesItems keys opening messages packets output }
+        → IsPutOutFrom keys opening packets output
+        → GivesItemsFrom keys opening messages packets output }
 {}

@@ -13,13 +13,13 @@ ghost use Rattle.line_arbiter.specs.Outcomes.{IsOutcome};
 ghost use Rattle.line_arbiter.specs.Skips.{AllSent, IsSkip};
 ghost use Rattle.line_arbiter.specs.Renewals.{IsRenewal};
 ghost use Rattle.line_arbiter.specs.States.{IsRenewed, KeepsItsPlace, KeepsItsSession, ordinal_of};
-ghost use Rattle.venue_normaliser.specs.Brought.{has_skip, messages_brought};
-ghost use Rattle.venue_normaliser.specs.Outputs.{Opening, events_of, from_start};
+ghost use Rattle.venue_normaliser.specs.Brought.{has_skip_past, messages_brought};
+ghost use Rattle.venue_normaliser.specs.Outputs.{Opening, events_of};
 ghost use Rattle.itch_book.specs.Books.{session_orders_of};
 ghost use Rattle.venue_normaliser.specs.Inside.{BringsPacket, PutsMany, PutsReady};
 ghost use Rattle.venue_normaliser.specs.Slots.{KeepsPacket, KeepsTaken};
 ghost use Rattle.venue_normaliser.specs.Ends.{read_as};
-ghost use Rattle.venue_normaliser.specs.States.{FitsPackets, IsNewNormaliser, KeepsItsBook, PutsOut, Resumes, ShowsTooMuch};
+ghost use Rattle.venue_normaliser.specs.States.{FitsPackets, FitsSession, IsNewNormaliser, KeepsItsBook, PutsOutFrom, Resumes, ShowsTooMuch};
 
 use crate::end_number::{END_BYTES, EndNumber, moved_end};
 use crate::fault::NormaliserFault;
@@ -99,7 +99,7 @@ impl VenueNormaliser {
         symbols: &[SymbolName],
         settings: &NormaliserSettings,
     ) -> Result<VenueNormaliser, NormaliserFault>
-        ensures fits { IfOk result (λ n. FitsPackets n from_start []) }
+        ensures fits { IfOk result (λ n. FitsPackets n []) }
         ensures made { IfOk result (λ n. IsNewNormaliser n venue session
             (map key_of symbols.now) settings.now.window settings.now.end_number) }
         ensures bad_window { IsErrOf result NormaliserFault.BadWindow
@@ -145,12 +145,12 @@ impl VenueNormaliser {
         snapshot: &Snapshot<'_>,
         out: &mut Vec<Numbered>,
     ) -> Result<(), ResumeFault>
-        ensures resumed { OnOk result (FitsPackets self.old from_start []
+        ensures resumed { OnOk result (FitsPackets self.old []
             → Resumes snapshot.now self.old self.new out.old.items out.new.items) }
-        ensures too_few { FitsPackets self.old from_start []
+        ensures too_few { FitsPackets self.old []
             → IsErrOf result ResumeFault.TooFewNumbers
             → ShowsTooMuch self.old.book.keys snapshot.now }
-        ensures begun { FitsPackets self.old from_start []
+        ensures begun { FitsPackets self.old []
             → IsErrOf result ResumeFault.HasBegun → ⊥ }
         ensures kept { KeepsItsSession self.old.lines self.new.lines
             × KeepsItsBook self.old self.new }
@@ -230,7 +230,7 @@ impl VenueNormaliser {
         out: &mut Vec<Numbered>,
     ) -> Result<Result<Outcome, LineFault>, BookFault>
         ensures brings { IfOk result (λ answer. (opening : Opening)
-            (packets : List Input) → FitsPackets self.old opening packets
+            (packets : List Input) → FitsSession self.old opening packets
             → BringsPacket line packet.now answer packets self.old self.new
             out.old.items out.new.items) }
         ensures kept { KeepsItsSession self.old.lines self.new.lines
@@ -291,15 +291,15 @@ impl VenueNormaliser {
         out: &mut Vec<Numbered>,
     ) -> Result<Result<Outcome, LineFault>, BookFault>
         ensures outcome { IfOk result (λ answer. (opening : Opening)
-            (packets : List Input) → FitsPackets self.old opening packets
+            (packets : List Input) → FitsSession self.old opening packets
             → IsOutcome self.old.lines.session self.old.lines.window self.old.lines.sent packets
             packet.now answer) }
         ensures fits { IfOk result (λ answer. (opening : Opening)
-            (packets : List Input) → FitsPackets self.old opening packets
-            → FitsPackets self.new opening (packets ++ arrival_of line packet.now answer ∷ [])) }
+            (packets : List Input) → FitsSession self.old opening packets
+            → FitsSession self.new opening (packets ++ arrival_of line packet.now answer ∷ [])) }
         ensures output { IfOk result (λ answer. (opening : Opening)
-            (packets : List Input) → FitsPackets self.old opening packets
-            → PutsOut self.old.book.keys opening packets (packets
+            (packets : List Input) → FitsSession self.old opening packets
+            → PutsOutFrom self.old.book.keys opening packets (packets
             ++ arrival_of line packet.now answer ∷ [])
             out.old.items out.new.items) }
         ensures kept { OnOk result (KeepsItsSession self.old.lines self.new.lines
@@ -325,16 +325,16 @@ impl VenueNormaliser {
         out: &mut Vec<Numbered>,
     ) -> Result<Result<Outcome, LineFault>, BookFault>
         ensures outcome { IfOk result (λ answer. (opening : Opening)
-            (packets : List Input) → FitsPackets self.old opening packets
+            (packets : List Input) → FitsSession self.old opening packets
             → IsOutcome self.old.lines.session self.old.lines.window self.old.lines.sent packets
             (read_as self.old.end_number packet.now) answer) }
         ensures fits { IfOk result (λ answer. (opening : Opening)
-            (packets : List Input) → FitsPackets self.old opening packets
-            → FitsPackets self.new opening (packets
+            (packets : List Input) → FitsSession self.old opening packets
+            → FitsSession self.new opening (packets
             ++ arrival_of line (read_as self.old.end_number packet.now) answer ∷ [])) }
         ensures output { IfOk result (λ answer. (opening : Opening)
-            (packets : List Input) → FitsPackets self.old opening packets
-            → PutsOut self.old.book.keys opening packets (packets
+            (packets : List Input) → FitsSession self.old opening packets
+            → PutsOutFrom self.old.book.keys opening packets (packets
             ++ arrival_of line (read_as self.old.end_number packet.now) answer ∷ [])
             out.old.items out.new.items) }
         ensures kept { OnOk result (KeepsItsSession self.old.lines self.new.lines
@@ -349,8 +349,8 @@ impl VenueNormaliser {
 
     /// Gives up the messages that are missing below `number`, as [`Arbiter::skip_to`] does, and
     /// returns its answer. What is put out of the session ends then, with an end of session at the
-    /// first missing number, after the items in `out`; a session that begins in the middle is such
-    /// a gap, from number 1.
+    /// first missing number, after the items in `out`; a session that begins in the middle without a
+    /// snapshot is such a gap, from number 1.
     ///
     /// An `Err` is a refusal of memory, which ends the run.
     pub fn skip_to(
@@ -359,13 +359,14 @@ impl VenueNormaliser {
         out: &mut Vec<Numbered>,
     ) -> Result<Result<(), SkipFault>, BookFault>
         ensures answer { IfOk result (λ answer. (opening : Opening)
-            (packets : List Input) → FitsPackets self.old opening packets → IsSkip packets self.old.lines.sent number answer) }
+            (packets : List Input) → FitsSession self.old opening packets
+            → IsSkip packets self.old.lines.sent number answer) }
         ensures fits { IfOk result (λ answer. (opening : Opening)
-            (packets : List Input) → FitsPackets self.old opening packets → OnOk answer
-            (FitsPackets self.new opening (packets ++ Skip number ∷ []))) }
+            (packets : List Input) → FitsSession self.old opening packets → OnOk answer
+            (FitsSession self.new opening (packets ++ Skip number ∷ []))) }
         ensures output { IfOk result (λ answer. (opening : Opening)
-            (packets : List Input) → FitsPackets self.old opening packets → OnOk answer
-            (PutsOut self.old.book.keys opening packets (packets ++ Skip number ∷ [])
+            (packets : List Input) → FitsSession self.old opening packets → OnOk answer
+            (PutsOutFrom self.old.book.keys opening packets (packets ++ Skip number ∷ [])
             out.old.items out.new.items)) }
         ensures refused { IfOk result (λ answer. OnErr answer
             ((self.new ≡ self.old) × (out.new.items ≡ out.old.items))) }
@@ -392,7 +393,7 @@ impl VenueNormaliser {
     ) -> Result<Result<u64, RenewFault>, BookFault>
         ensures answer { IfOk result (λ answer. IsRenewal self.old.lines.sessions
             self.old.lines.end self.old.lines.sent session answer) }
-        ensures fits { IfOk result (λ answer. OnOk answer (FitsPackets self.new from_start [])) }
+        ensures fits { IfOk result (λ answer. OnOk answer (FitsPackets self.new [])) }
         ensures renewed { IfOk result (λ answer. OnOk answer
             (IsRenewed self.old.lines self.new.lines session)) }
         ensures refused { IfOk result (λ answer. OnErr answer (self.new ≡ self.old)) }
@@ -433,8 +434,8 @@ impl VenueNormaliser {
     /// of it.
     pub fn has_given_up(&self) -> bool
         ensures { (opening : Opening) (packets : List Input)
-            → FitsPackets self.now opening packets
-            → result ≡ has_skip opening.number packets }
+            → FitsSession self.now opening packets
+            → result ≡ has_skip_past opening.number packets }
     {
         self.has_given_up
     }
@@ -442,7 +443,7 @@ impl VenueNormaliser {
     /// Returns the cursors of the present session's input.
     pub fn status(&self) -> ArbiterStatus
         ensures { (opening : Opening) (packets : List Input)
-            → FitsPackets self.now opening packets
+            → FitsSession self.now opening packets
             → result ≡ cursors_of self.now.lines.sent packets }
     {
         self.lines.status()
@@ -452,7 +453,7 @@ impl VenueNormaliser {
     /// missing.
     pub fn gap(&self) -> Option<Request>
         ensures { (opening : Opening) (packets : List Input)
-            → FitsPackets self.now opening packets
+            → FitsSession self.now opening packets
             → result
             ≡ gap_of self.now.lines.session self.now.lines.window self.now.lines.sent packets }
     {
@@ -470,7 +471,7 @@ impl VenueNormaliser {
     /// was, up to the first gap.
     pub fn oddities(&self) -> Oddities
         ensures { (opening : Opening) (packets : List Input)
-            → FitsPackets self.now opening packets
+            → FitsSession self.now opening packets
             → self.now.has_given_up ≡ false
             → result ≡ (session_orders_of self.now.book.keys
             (events_of (opening.messages ++ messages_brought opening.number packets))).oddities }

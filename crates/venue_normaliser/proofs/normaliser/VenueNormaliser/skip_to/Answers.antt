@@ -5,13 +5,13 @@ use Rattle.line_arbiter.specs.Packets.{Skip}
 use Rattle.line_arbiter.specs.Streams.{front_of}
 use Rattle.line_arbiter.specs.Fits.{Fits}
 use Rattle.line_arbiter.specs.States.{State}
-use Rattle.venue_normaliser.specs.States.{FitsPackets, NormaliserState, PutsOut}
+use Rattle.venue_normaliser.specs.States.{FitsSession, NormaliserState, PutsOutFrom}
 use Rattle.venue_normaliser.proofs.Whole.{skips_fit, skips_output}
 use Rattle.venue_normaliser.proofs.normaliser.VenueNormaliser.skip_to.Goals as goal
 
 pub returns-clause-fits : goal.returns-clause-fits
 returns-clause-fits c = λ O P fits.
-    let g = subst (λ (s : NormaliserState). FitsPackets s O P) (sym c.self.view_is) fits in
+    let g = subst (λ (s : NormaliserState). FitsSession s O P) (sym c.self.view_is) fits in
     let same = c.self-2.view_is ∙ c.end_output.ensures.kept in
     let lines = subst (λ (s : State). Fits s (P ++ Skip c.args.number ∷ []))
     (sym (ap (λ (s : NormaliserState). s.lines) same)) (c.in_default.ensures.fits P g.lines) in
@@ -21,14 +21,14 @@ returns-clause-fits c = λ O P fits.
 
 pub returns-clause-output : goal.returns-clause-output
 returns-clause-output c = λ O P fits.
-    let g = subst (λ (s : NormaliserState). FitsPackets s O P) (sym c.self.view_is) fits in
+    let g = subst (λ (s : NormaliserState). FitsSession s O P) (sym c.self.view_is) fits in
     let may = (c.in_default.ensures.answer P g.lines).1 in
     let front = ap (λ (s : ArbiterStatus). s.front) (c.status.ensures.packets P g.lines) in
     let small = c.ranges.number.fits in
     let past = may.past in
     let sum = c.saturating_add-first_missing.ensures in
     let first : c.saturating_add-first_missing.result ≡ front_of P + 1 = omega arith in
-    subst (λ (s : NormaliserState). PutsOut s.book.keys O P (P ++ Skip c.args.number ∷ [])
+    subst (λ (s : NormaliserState). PutsOutFrom s.book.keys O P (P ++ Skip c.args.number ∷ [])
     c.args.out.now.items c.end_output.new.out.items) c.self.view_is
     (skips_output O P c.args.number _ c.args.out.now.items c.end_output.new.out.items g may
     c.in_ok-end_output.ensures.over

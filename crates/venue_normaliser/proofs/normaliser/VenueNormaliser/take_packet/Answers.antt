@@ -5,7 +5,7 @@ use Rattle.line_arbiter.specs.Fits.{Fits}
 use Rattle.line_arbiter.specs.InOrder.{IsNextPacket, outcome_of_next}
 use Rattle.line_arbiter.specs.Outcomes.{IsOutcome}
 use Rattle.venue_normaliser.specs.Inside.{BringsPacket}
-use Rattle.venue_normaliser.specs.States.{FitsPackets, NormaliserState}
+use Rattle.venue_normaliser.specs.States.{FitsSession, NormaliserState}
 use Rattle.venue_normaliser.proofs.Whole.{packet_any, packet_next}
 use Rattle.venue_normaliser.proofs.normaliser.VenueNormaliser.take_packet.Goals as goal
 
@@ -17,7 +17,7 @@ returns-clause-brings c = λ O P fits. packet_any _ _ _ O P _ _ _ _ fits (c.take
 
 pub returns-then-is_next-clause-brings : goal.returns-then-is_next-clause-brings
 returns-then-is_next-clause-brings c = λ O P fits.
-    let g = subst (λ (s : NormaliserState). FitsPackets s O P) (sym c.self.view_is) fits in
+    let g = subst (λ (s : NormaliserState). FitsSession s O P) (sym c.self.view_is) fits in
     let going : c.self.inside.has_given_up ≡ false = grind (arith, c.if-not-self.true) in
     let next = subst (λ (s : NormaliserState). IsNextPacket s.lines.session s.lines.window
     s.lines.sent P c.args.packet.now) c.self.view_is (c.if-is_next.ensures.exact P g.lines) in
