@@ -1,6 +1,6 @@
 -- What is put out more is in a row.
-use Rattle.std.proofs.Common.{◌≡◌, ◌⊎◌, ℕ, zero, suc, ◌+◌, ◌<◌, List, [], ◌∷◌, ◌++◌, Bool, true, false, length, get_or, take, drop, refl, sym, ap, subst, ◌∙◌, inl, inr, arith}
-use Rattle.std.specs.Prelude.{Option, Some, None, slice_index_or, ◌==◌, if◌then◌else◌}
+use Rattle.std.proofs.Common.{◌≡◌, ◌⊎◌, ℕ, zero, suc, ◌+◌, ◌-◌, ◌<◌, List, [], ◌∷◌, ◌++◌, Bool, true, false, length, get_or, take, drop, refl, sym, ap, subst, ◌∙◌, inl, inr, arith}
+use Rattle.std.specs.Prelude.{Option, Some, None, slice_index_or, ◌==◌, ◌||◌, nat_lt, if◌then◌else◌}
 use Rattle.std.specs.List.{AllByRecursion}
 use Rattle.std.proofs.lemmas.List.FromFn.{length-map-range_with_len}
 use Rattle.feed_types.specs.declared.item.Item.{Item}
@@ -196,11 +196,18 @@ made_items keys messages its d m = each_of its (λ k x lt.
     (order_event_of (slice_index_or messages k [])) (slice_index_or its k x) d
     (m.each k x (omega (arith, m.count))))
 
+neither : (b c : Bool) → (b || c) ≡ false → (b ≡ false) × (c ≡ false)
+neither true c e = absurd cc
+neither false c e = (refl, e)
+
 before_all : (packets : List Input) → has_skip packets ≡ false → before_skip packets ≡ packets
 before_all [] none = refl
 before_all (Arrived b ∷ packets) none =
     ap (λ (xs : List Input). Arrived b ∷ xs) (before_all packets none)
-before_all (Skip k ∷ packets) none = absurd cc
+before_all (Skip k ∷ packets) none =
+    let both = neither (nat_lt 1 k) (has_skip packets) none in
+    ap (λ (b : Bool). if b then [] else Skip k ∷ before_skip packets) both.0
+    ∙ ap (λ (xs : List Input). Skip k ∷ xs) (before_all packets both.1)
 
 pub ended : (packets : List Input) (its : List Item) → length its ≡ front_of (before_skip packets)
     → (end_put_out packets ≡ []) ⊎ (end_put_out packets ≡ end_item (1 + length its) ∷ [])
@@ -245,7 +252,9 @@ put_out_runs keys packets output d p = record {
   is = p.is;
   end = ended packets p.items
       (p.made.count ∙ length-map-range_with_len (message_at (before_skip packets)) 1
-      (front_of (before_skip packets)));
+      (front_of (before_skip packets) + 1 - 1)
+      ∙ (let n : front_of (before_skip packets) + 1 - 1 ≡ front_of (before_skip packets) =
+      omega arith in n));
 }
 
 -- what follows what was put out is a row from the next number on

@@ -3,6 +3,7 @@ use Rattle.std.specs.Prelude.{Err, Ok}
 use Rattle.std.proofs.lemmas.Result.{err_from_is_err_and}
 use Rattle.capture_records.specs.Capture.{skip_record}
 use Rattle.line_arbiter.specs.Packets.{Skip, known_of}
+use Rattle.venue_normaliser.specs.Outputs.{from_start}
 use Rattle.normalising.specs.Normalised.{inputs_of}
 use Rattle.normalising.proofs.Venue.{given_row, given_takes, no_skip, skip_at, skip_given}
 use Rattle.normalising.proofs.normalised_venue.NormalisedVenue.skip_to.Goals as goal
@@ -17,7 +18,8 @@ returns-in-Err-clause-skips g c = λ feed place h follows form_is.
     no_skip (record { adds = g.W.TextOut.adds; failures = g.W.TextOut.failures })
     g.met.W.TextOut.adds_none feed c.args.time place c.args.number h c.args.self.now.normaliser
     c.skip_to.new.self _ c.args.writer.now c.args.output.now.page.page _ follows
-    (rw c.in-Err.is at (c.in_ok-skip_to.ensures.answer (inputs_of h) follows.fits))
+    (rw c.in-Err.is at (c.in_ok-skip_to.ensures.answer from_start (inputs_of h)
+    follows.fits))
     (rw c.in-Err.is at c.in_ok-skip_to.ensures.refused).0
 
 pub returns-in_err-write_ready-in-Ok-clause-skips : goal.returns-in_err-write_ready-in-Ok-clause-skips
@@ -29,13 +31,13 @@ returns-in_err-write_ready-in-Ok-clause-skips g c =
     let w = skip_given feed place c.args.output.now.page.form h c.args.self.now.normaliser
     c.skip_to.new.self c.write_ready-in-Ok.new.self.normaliser c.args.number c.clear.new.self.items
     c.skip_to.new.out.items follows form_is c.clear.ensures.items said.kept.0 said.kept.1
-    c.in_err-write_ready-in-Ok.ensures.same (rw c.in-Ok.is at (said.fits _ follows.fits))
-    (rw c.in-Ok.is at (said.output _ follows.fits)) in
+    c.in_err-write_ready-in-Ok.ensures.same (rw c.in-Ok.is at (said.fits from_start _ follows.fits))
+    (rw c.in-Ok.is at (said.output from_start _ follows.fits)) in
     given_takes w c.args.time (record { adds = g.W.TextOut.adds; failures = g.W.TextOut.failures })
     (skip_record place c.args.number) c.args.writer.now c.write_ready-in-Ok.new.writer
     c.args.output.now.page.page c.write_ready-in-Ok.new.output.page.page
     (skip_at feed c.args.time place c.args.number h c.args.self.now.normaliser _ follows
-    (rw c.in-Ok.is at (said.answer _ follows.fits)))
+    (rw c.in-Ok.is at (said.answer from_start _ follows.fits)))
     (Err c.in_err-write_ready-in-Ok.field-0.0) tt
     (c.in_err-write_ready-in-Ok.ensures.stopped _ _ (omega arith) (given_row w)))
 
@@ -45,11 +47,11 @@ returns-in_ok-write_ready-in-Ok-clause-skips g c = λ feed place h follows form_
     let w = skip_given feed place c.args.output.now.page.form h c.args.self.now.normaliser
     c.skip_to.new.self c.write_ready-in-Ok.new.self.normaliser c.args.number c.clear.new.self.items
     c.skip_to.new.out.items follows form_is c.clear.ensures.items said.kept.0 said.kept.1
-    c.in_ok-write_ready-in-Ok.ensures.same (rw c.in-Ok.is at (said.fits _ follows.fits))
-    (rw c.in-Ok.is at (said.output _ follows.fits)) in
+    c.in_ok-write_ready-in-Ok.ensures.same (rw c.in-Ok.is at (said.fits from_start _ follows.fits))
+    (rw c.in-Ok.is at (said.output from_start _ follows.fits)) in
     given_takes w c.args.time (record { adds = g.W.TextOut.adds; failures = g.W.TextOut.failures })
     (skip_record place c.args.number) c.args.writer.now c.write_ready-in-Ok.new.writer
     c.args.output.now.page.page c.write_ready-in-Ok.new.output.page.page
     (skip_at feed c.args.time place c.args.number h c.args.self.now.normaliser _ follows
-    (rw c.in-Ok.is at (said.answer _ follows.fits)))
+    (rw c.in-Ok.is at (said.answer from_start _ follows.fits)))
     (Ok _) (c.in_ok-write_ready-in-Ok.ensures.put _ _ (omega arith) (given_row w)) tt

@@ -2,6 +2,7 @@ use Rattle.std.proofs.Common.{refl}
 use Rattle.std.proofs.lemmas.Result.{err_from_is_err_and, on_ok_weaker}
 use Rattle.capture_records.specs.Capture.{datagram_record}
 use Rattle.line_arbiter.specs.Packets.{known_of}
+use Rattle.venue_normaliser.specs.Outputs.{from_start}
 use Rattle.normalising.proofs.Packing.{if_err_weaker}
 use Rattle.normalising.proofs.Venue.{given_row, given_takes, packet_at, packet_given}
 use Rattle.normalising.proofs.normalised_venue.NormalisedVenue.take.Goals as goal
@@ -17,12 +18,13 @@ returns-clause-takes g c = λ feed place h bytes more follows spells form_is.
     let w = packet_given feed place c.args.output.now.page.form h c.args.self.now.normaliser
     c.take.new.self c.write_more.new.self.normaliser c.args.line c.args.packet.now
     c.in_ok-answer.answer c.clear.new.self.items c.take.new.out.items follows form_is
-    c.clear.ensures.items said.kept.0 said.kept.1 c.write_more.ensures.same said.fits said.output in
+    c.clear.ensures.items said.kept.0 said.kept.1 c.write_more.ensures.same (said.fits from_start)
+    (said.output from_start) in
     given_takes w c.args.time (record { adds = g.W.TextOut.adds; failures = g.W.TextOut.failures })
     (datagram_record place c.args.line bytes) c.args.writer.now c.write_more.new.writer
     c.args.output.now.page.page c.write_more.new.output.page.page
     (packet_at feed c.args.time place h c.args.self.now.normaliser c.args.line bytes more
-    c.args.packet.now c.in_ok-answer.answer _ follows spells (said.outcome _ follows.fits))
+    c.args.packet.now c.in_ok-answer.answer _ follows spells (said.outcome from_start _ follows.fits))
     c.write_more.result
     (on_ok_weaker c.write_more.result
     (λ put. put _ _ w.fits (omega arith) (given_row w)) c.write_more.ensures.put)
