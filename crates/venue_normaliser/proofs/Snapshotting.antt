@@ -1,8 +1,8 @@
 -- Bytes that are a snapshot, or aren't.
-use Rattle.std.proofs.Common.{◌≡◌, ℕ, ◌+◌, ◌-◌, ◌^◌, ◌<◌, ◌≤◌, Bool, true, false, List, [], ◌∷◌, ◌++◌, length, take, drop, refl, sym, ap, subst, ◌∙◌, arith, inl, inr, append_assoc, append-nil, length-append, IsTrue}
+use Rattle.std.proofs.Common.{◌≡◌, ℕ, zero, suc, ◌+◌, ◌-◌, ◌^◌, ◌<◌, ◌≤◌, Bool, true, false, List, [], ◌∷◌, ◌++◌, length, take, drop, refl, sym, ap, subst, ◌∙◌, arith, inl, inr, append_assoc, append-nil, length-append, IsTrue}
 use Rattle.std.specs.List.{flat_map, AllByRecursion}
-use Rattle.mold_packet.specs.Block.{AreBlocks, HasBlocks, IsCut, IsMessage, block, blocks_at}
-use Rattle.mold_packet.specs.laws.Cutting.{are_blocks, cut_off, one_more}
+use Rattle.mold_packet.specs.Block.{AreBlocks, HasBlocks, IsCut, IsMessage, block, block_len, blocks_at}
+use Rattle.mold_packet.specs.laws.Cutting.{are_blocks, cut_off, first_off, flat_map-first, not_cut, one_more}
 use Rattle.venue_normaliser.specs.declared.snapshot_fault.SnapshotFault.TheVariants.{Cut, NoEnd, NotOfSnapshot, BadNumber, AfterEnd}
 use Rattle.venue_normaliser.specs.Inside.{HasStated}
 use Rattle.venue_normaliser.specs.Snapshots.{BeginsSnapshot, EndsSnapshot, GoesOn, HasSnapshotFault, IsSnapshot, is_end_form, is_of_snapshot}
@@ -140,3 +140,21 @@ pub whole_blocks : (count : ℕ) (bytes rest : List ℕ) (byte : ℕ)
     → AreBlocks count (take byte bytes)
 whole_blocks count bytes rest byte so at =
     subst (λ (n : ℕ). AreBlocks count (take n bytes)) (sym at) (are_blocks so.blocks)
+
+-- ---- the blocks of several messages, one after another
+
+pub some_block : (n : ℕ) (blocks : List ℕ) → AreBlocks n blocks → 0 < n → IsCut blocks → ⊥
+some_block zero blocks all some cut = omega arith
+some_block (suc n) blocks all some cut =
+    let m = take (block_len blocks) (drop 2 blocks) in
+    let rest = blocks_at n (drop (block_len blocks) (drop 2 blocks)) in
+    not_cut m (flat_map block rest ++ []) all.each.0
+    (subst (λ (b : List ℕ). IsCut b) (all.spelled ∙ flat_map-first m rest []) cut)
+
+pub split_list : (n : ℕ) (blocks m rest : List ℕ) → AreBlocks n blocks → 0 < n
+    → blocks ≡ block m ++ rest → IsMessage m → blocks_at n blocks ≡ m ∷ blocks_at (n - 1) rest
+split_list n blocks m rest all some found fits = (first_off n blocks m rest some found fits all).0
+
+pub split_rest : (n : ℕ) (blocks m rest : List ℕ) → AreBlocks n blocks → 0 < n
+    → blocks ≡ block m ++ rest → IsMessage m → AreBlocks (n - 1) rest
+split_rest n blocks m rest all some found fits = (first_off n blocks m rest some found fits all).1

@@ -139,6 +139,7 @@ impl VenueNormaliser {
     /// TooFewNumbers is the answer where those are fewer than what it shows, which no true snapshot
     /// has: some message of the session made each. After an `Err` the normaliser is to be dropped,
     /// and what the call added to `out`.
+    #[tactic(auto, using(crate::proofs::Opened::resumes))]
     pub fn resume(
         &mut self,
         alloc: Global,

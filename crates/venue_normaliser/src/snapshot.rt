@@ -150,6 +150,7 @@ fn after_digits(field: &[u8], from: usize) -> usize
 }
 
 /// Returns from which place to which the digits of a field stand, between spaces.
+#[tactic(auto, using(crate::proofs::Numbers::stops_found, crate::proofs::Numbers::stops_none))]
 fn digits_in(field: &[u8]) -> Option<(usize, usize)>
     ensures found { IfSome result (λ r. HasDigits field.now r.0 r.1) }
     ensures none { IfNone result ((from to : ℕ) → HasDigits field.now from to → ⊥) }
@@ -164,6 +165,7 @@ fn digits_in(field: &[u8]) -> Option<(usize, usize)>
 }
 
 /// Returns the number that digits are; `None` where it is greater than 4,294,967,295.
+#[tactic(auto, using(crate::proofs::Numbers::value_more, crate::proofs::Numbers::value_part))]
 fn value_of(digits: &[u8]) -> Option<u64>
     ensures is { IfSome result (λ value. value ≡ digits_value digits.now) }
     ensures most { IfSome result (λ value. value ≤ 4294967295) }
@@ -181,6 +183,13 @@ fn value_of(digits: &[u8]) -> Option<u64>
 
 /// Returns the number of a field of digits with spaces before and after them, where it is one of 1
 /// to 4,294,967,295.
+#[tactic(
+    auto,
+    using(
+        crate::proofs::Numbers::no_number_great,
+        crate::proofs::Numbers::no_number_zero,
+    )
+)]
 fn number_in(field: &[u8]) -> Option<u64>
     ensures is { IfSome result (λ number. IsNumberField field.now number) }
     ensures one { IfSome result (λ number. 1 ≤ number) }
@@ -207,6 +216,16 @@ fn end_number_of(message: &[u8]) -> Option<u64>
 }
 
 /// Reads what follows the messages of a snapshot and is a message that it has only at its end.
+#[tactic(
+    auto,
+    using(
+        crate::proofs::Snapshotting::fault_other,
+        crate::proofs::Snapshotting::fault_number,
+        crate::proofs::Snapshotting::fault_after,
+        crate::proofs::Snapshotting::whole,
+        crate::proofs::Snapshotting::whole_blocks,
+    )
+)]
 fn read_end<'a>(
     bytes: &'a [u8],
     count: usize,
@@ -241,6 +260,13 @@ fn read_end<'a>(
 }
 
 /// Returns why bytes that have no end are no snapshot, of which `rest` is no whole message.
+#[tactic(
+    auto,
+    using(
+        crate::proofs::Snapshotting::fault_none,
+        crate::proofs::Snapshotting::fault_cut,
+    )
+)]
 fn without_end(bytes: &[u8], count: usize, rest: &[u8]) -> SnapshotFault
     requires stated { HasStated count bytes.now rest.now }
     requires cut { IsCut rest.now }
@@ -263,6 +289,13 @@ fn without_end(bytes: &[u8], count: usize, rest: &[u8]) -> SnapshotFault
 ///
 /// A fault is the first that the bytes have: a message is cut, the end is missing, a message is
 /// none of these, the end's number is none, or bytes follow the end.
+#[tactic(
+    auto,
+    using(
+        crate::proofs::Snapshotting::stated_none,
+        crate::proofs::Snapshotting::stated_more,
+    )
+)]
 pub fn read_snapshot(bytes: &[u8]) -> Result<Snapshot<'_>, SnapshotFault>
     ensures read { IfOk result (λ s. IsSnapshot bytes.now s.messages s.number) }
     ensures fault { IfErr result (HasSnapshotFault bytes.now) }
