@@ -1,5 +1,6 @@
 -- Bytes that are a snapshot, or aren't.
 use Rattle.std.proofs.Common.{◌≡◌, ℕ, zero, suc, ◌+◌, ◌-◌, ◌^◌, ◌<◌, ◌≤◌, Bool, true, false, List, [], ◌∷◌, ◌++◌, length, take, drop, refl, sym, ap, subst, ◌∙◌, arith, inl, inr, append_assoc, append-nil, length-append, IsTrue}
+use Rattle.std.specs.Int.{w16, to_be_bytes}
 use Rattle.std.specs.List.{flat_map, AllByRecursion}
 use Rattle.mold_packet.specs.Block.{AreBlocks, HasBlocks, IsCut, IsMessage, block, block_len, blocks_at}
 use Rattle.mold_packet.specs.laws.Cutting.{are_blocks, cut_off, first_off, flat_map-first, not_cut, one_more}
@@ -158,3 +159,20 @@ split_list n blocks m rest all some found fits = (first_off n blocks m rest some
 pub split_rest : (n : ℕ) (blocks m rest : List ℕ) → AreBlocks n blocks → 0 < n
     → blocks ≡ block m ++ rest → IsMessage m → AreBlocks (n - 1) rest
 split_rest n blocks m rest all some found fits = (first_off n blocks m rest some found fits all).1
+
+pub empty_list : (xs : List ℕ) → length xs ≡ 0 → xs ≡ []
+empty_list [] e = refl
+empty_list (x ∷ xs) e = absurd cc
+
+pub block_longer : (rest m after : List ℕ) → rest ≡ block m ++ after
+    → length after + 1 ≤ length rest
+block_longer rest m after found =
+    let l = ap length found in
+    let two : length (to_be_bytes w16 (length m)) ≡ 2 = refl in
+    omega (
+      arith,
+      l,
+      two,
+      length-append (block m) after,
+      length-append (to_be_bytes w16 (length m)) m,
+    )

@@ -212,7 +212,10 @@ fn end_number_of(message: &[u8]) -> Option<u64>
     ensures ends { IfSome result (λ number. EndsSnapshot message.now number) }
     ensures none { IfNone result ((number : ℕ) → EndsSnapshot message.now number → ⊥) }
 {
-    number_in(&message[1..])
+    match number_in(&message[1..]) {
+        Some(number) => Some(number),
+        None => None,
+    }
 }
 
 /// Reads what follows the messages of a snapshot and is a message that it has only at its end.
