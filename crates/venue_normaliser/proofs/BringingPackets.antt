@@ -20,7 +20,7 @@ use Rattle.venue_normaliser.specs.declared.message_slot.MessageSlot.{MessageSlot
 use Rattle.venue_normaliser.specs.Brought.{message_at, message_brought}
 use Rattle.venue_normaliser.specs.Slots.{KeepsTaken}
 use Rattle.venue_normaliser.specs.Outputs.{Opening}
-use Rattle.venue_normaliser.specs.States.{FitsSession, NormaliserState}
+use Rattle.venue_normaliser.specs.States.{FitsOpened, NormaliserState}
 use Rattle.venue_normaliser.specs.Inside.{BringsMessages, PutsMany, messages_between}
 use Rattle.venue_normaliser.proofs.Making.{many_none}
 use Rattle.venue_normaliser.proofs.Taken.{front_grows, none_taken, taken-push}
@@ -108,7 +108,7 @@ went_past session window sent packets a taken all one next =
 -- ---- what a packet brings, where no gap was given up
 
 sent_is : (s : NormaliserState) (opening : Opening) (packets : List Input)
-    → FitsSession s opening packets
+    → FitsOpened s opening packets
     → s.lines.sent ≡ front_of packets + length (end_here packets)
 sent_is s opening packets fits = all_sent_is packets s.lines.sent fits.all_sent
 
@@ -117,15 +117,17 @@ between_none packets f n le =
     ap (λ (k : ℕ). map (message_at packets) (range_with_len (f + 1) k))
     (let k : n - f ≡ 0 = omega arith in k)
 
-pub brings_next : (session : List ℕ) (window : ℕ) (opening : Opening) (packets : List Input) (a : Arrival)
+pub brings_next : (session : List ℕ) (window : ℕ) (opening : Opening) (packets : List Input) (a :
+    Arrival)
     (old new : NormaliserState) (out0 out1 : List Numbered)
-    → FitsSession old opening packets → old.has_given_up ≡ false → is_taken a.answer ≡ true
+    → FitsOpened old opening packets → old.has_given_up ≡ false → is_taken a.answer ≡ true
     → 1 ≤ a.packet.number
     → IsNextPacket session window old.lines.sent packets a.packet
     → new.lines.sent ≡ last_number a.packet → new.slots ≡ old.slots
     → PutsMany a.packet.number a.packet.messages old.book new.book out0 out1
     → BringsMessages packets (packets ++ Arrived a ∷ []) old new out0 out1
-brings_next session window opening packets a old new out0 out1 fits going taken one next moved slots puts =
+brings_next session window opening packets a old new out0 out1 fits going taken one next moved
+    slots puts =
     let after = packets ++ Arrived a ∷ [] in
     let f = front_of packets in
     let sent = sent_is old opening packets fits in
@@ -156,15 +158,17 @@ brings_next session window opening packets a old new out0 out1 fits going taken 
           (let n : a.packet.number ≡ f + 1 = omega arith in n) puts));
     }
 
-pub brings_other : (session : List ℕ) (window : ℕ) (opening : Opening) (packets : List Input) (a : Arrival)
+pub brings_other : (session : List ℕ) (window : ℕ) (opening : Opening) (packets : List Input) (a :
+    Arrival)
     (old new : NormaliserState) (out0 out1 : List Numbered)
-    → FitsSession old opening packets → old.has_given_up ≡ false
+    → FitsOpened old opening packets → old.has_given_up ≡ false
     → IsOutcome session window old.lines.sent packets a.packet a.answer
     → new.lines.sent ≡ old.lines.sent
     → KeepsTaken new.slots old.lines.sent (packets ++ Arrived a ∷ [])
     → new.book ≡ old.book → out1 ≡ out0
     → BringsMessages packets (packets ++ Arrived a ∷ []) old new out0 out1
-brings_other session window opening packets a old new out0 out1 fits going outcome same keeps book out =
+brings_other session window opening packets a old new out0 out1 fits going outcome same keeps book
+    out =
     let after = packets ++ Arrived a ∷ [] in
     let f = front_of packets in
     let sent = sent_is old opening packets fits in

@@ -89,7 +89,8 @@ many_none n book out = record {
   made = λ first earlier was fits made.
       subst (λ (ms : List (List ℕ)). AreMadeAfter book.keys first ms (was ++ []))
       (sym (append-nil earlier))
-      (subst (λ (is : List Item). AreMadeAfter book.keys first earlier is) (sym (append-nil was)) made);
+      (subst (λ (is : List Item). AreMadeAfter book.keys first earlier is) (sym (append-nil was))
+      made);
 }
 
 pub many_one : (n : ℕ) (message : List ℕ) (old new : OrderBookState)
@@ -134,7 +135,8 @@ many_join n ms more old mid new before between after a b =
           (append_assoc earlier ms more)
           (b.fits (earlier ++ ms) (a.fits earlier fits));
       made = λ first earlier was fits made.
-          subst (λ (xs : List (List ℕ)). AreMadeAfter old.keys first xs (was ++ (a.items ++ b.items)))
+          subst (λ (xs : List (List ℕ)). AreMadeAfter old.keys first xs (was ++ (a.items ++
+          b.items)))
           (append_assoc earlier ms more)
           (subst (λ (is : List Item). AreMadeAfter old.keys first ((earlier ++ ms) ++ more) is)
           (append_assoc was a.items b.items)

@@ -5,7 +5,8 @@ use Rattle.std.proofs.lemmas.Bool.{cases_lt, false≢true, eqb-true}
 use Rattle.std.proofs.lemmas.Bool.Decides.{nat_tests}
 use Rattle.std.proofs.lemmas.List.{take_more, take-append-drop}
 use Rattle.std.proofs.lemmas.List.Sums.{fold-append}
-use Rattle.venue_normaliser.specs.Snapshots.{HasDigits, IsNumberField, digits_value, is_digit, is_space}
+use Rattle.feed_types.specs.Symbols.{is_space}
+use Rattle.venue_normaliser.specs.Snapshots.{HasDigits, IsNumberField, digits_value, is_digit}
 
 abbrev step : ℕ → ℕ → ℕ
 step n byte = n * 10 + (byte - 0x30)

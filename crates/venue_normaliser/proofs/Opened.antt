@@ -22,7 +22,7 @@ use Rattle.venue_normaliser.specs.Brought.{before_skip_past, has_skip_past, kept
 use Rattle.venue_normaliser.specs.Outputs.{AreMadeAfter, AreShown, IsPutOutFrom, Opening, end_put_out_from, events_of, from_start, opened_at, put_first}
 use Rattle.venue_normaliser.specs.Slots.{KeepsTaken, stored_at}
 use Rattle.venue_normaliser.specs.Snapshots.{SnapshotContent}
-use Rattle.venue_normaliser.specs.States.{FitsSession, NormaliserState, Resumes, opening_of}
+use Rattle.venue_normaliser.specs.States.{FitsOpened, NormaliserState, Resumes, opening_of}
 use Rattle.venue_normaliser.proofs.Making.{made_none}
 use Rattle.venue_normaliser.proofs.Readying.{all_sent_is}
 
@@ -150,7 +150,7 @@ shown_first keys opening one =
 
 pub resumes : (snapshot : SnapshotContent) (old new : NormaliserState) (shown : List Item)
     (before after : List Numbered)
-    → FitsSession old from_start [] → 1 ≤ snapshot.number → length shown < snapshot.number
+    → FitsOpened old from_start [] → 1 ≤ snapshot.number → length shown < snapshot.number
     → Fits new.lines (opened_at snapshot.number)
     → AllSent (opened_at snapshot.number) new.lines.sent
     → FitsEvents new.book (events_of snapshot.messages) → new.book.keys ≡ old.book.keys
@@ -158,7 +158,8 @@ pub resumes : (snapshot : SnapshotContent) (old new : NormaliserState) (shown : 
     → new.slots ≡ old.slots → new.has_given_up ≡ old.has_given_up
     → after ≡ before ++ numbered_from (snapshot.number - length shown) shown
     → Resumes snapshot old new before after
-resumes snapshot old new shown before after fits one places lines all book keys are slots given put =
+resumes snapshot old new shown before after fits one places lines all book keys are slots given put
+    =
     let n = snapshot.number in
     let front = opened_front n one in
     let sent = all_sent_is (opened_at n) new.lines.sent all in

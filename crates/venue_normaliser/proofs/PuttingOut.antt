@@ -228,7 +228,8 @@ finishes opening session window given packets a slots lines1 lines2 book0 book1 
     (subst (λ (ms : List (List ℕ)). AreMadeAfter book0.keys opening.messages ms (was ++ all.items))
     messages
     (all.made opening.messages (messages_brought number packets) was fits
-    (subst (λ (xs : List Input). AreMadeAfter book0.keys opening.messages (messages_brought number xs)
+    (subst (λ (xs : List Input). AreMadeAfter book0.keys opening.messages (messages_brought number
+    xs)
     was) (before_all number packets none) made))) in
     let E = (if nat_le lines1.sent g then end_here after else []) in
     let appended : out2 ≡ out0 ++ (numbered_from (f + 1) all.items ++ E) =

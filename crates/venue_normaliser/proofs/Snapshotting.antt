@@ -6,7 +6,7 @@ use Rattle.mold_packet.specs.Block.{AreBlocks, HasBlocks, IsCut, IsMessage, bloc
 use Rattle.mold_packet.specs.laws.Cutting.{are_blocks, cut_off, first_off, flat_map-first, not_cut, one_more}
 use Rattle.venue_normaliser.specs.declared.snapshot_fault.SnapshotFault.TheVariants.{Cut, NoEnd, NotOfSnapshot, BadNumber, AfterEnd}
 use Rattle.venue_normaliser.specs.Inside.{HasStated}
-use Rattle.venue_normaliser.specs.Snapshots.{BeginsSnapshot, EndsSnapshot, GoesOn, HasSnapshotFault, IsSnapshot, is_end_form, is_of_snapshot}
+use Rattle.venue_normaliser.specs.Snapshots.{BeginsSnapshot, EndsSnapshot, StopsWith, HasSnapshotFault, IsSnapshot, is_end_form, is_of_snapshot}
 
 pub stated_none : (bytes : List ℕ) → HasStated 0 bytes bytes
 stated_none bytes = record {
@@ -45,7 +45,7 @@ at_byte count bytes rest byte so is =
 
 goes_on : (count : ℕ) (bytes rest : List ℕ) (byte : ℕ) (is : List ℕ → Type 0)
     → HasStated count bytes rest → byte ≡ length bytes - length rest → is rest
-    → GoesOn bytes byte is
+    → StopsWith bytes byte is
 goes_on count bytes rest byte is so at cause = record {
   messages = so.messages;
   rest = rest;

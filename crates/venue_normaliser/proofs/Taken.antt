@@ -154,7 +154,8 @@ before_here from (Arrived b ∷ packets) n lt none =
     ap (λ (xs : List Input). Arrived b ∷ xs) (before_here from packets n lt none)
 before_here from (Skip k ∷ packets) n lt none =
     let both = neither (nat_lt from k) (has_skip_past from packets) none in
-    ap (λ (b : Bool). if b then [] else Skip k ∷ before_skip_past from (packets ++ Skip n ∷ [])) both.0
+    ap (λ (b : Bool). if b then [] else Skip k ∷ before_skip_past from (packets ++ Skip n ∷ []))
+    both.0
     ∙ ap (λ (xs : List Input). Skip k ∷ xs) (before_here from packets n lt both.1)
 
 pub before_same : (from : ℕ) (packets : List Input) (x : Input) → has_skip_past from packets ≡ true

@@ -19,7 +19,7 @@ use Rattle.venue_normaliser.specs.declared.message_slot.MessageSlot.{MessageSlot
 use Rattle.venue_normaliser.specs.Brought.{has_skip_past}
 use Rattle.venue_normaliser.specs.Outputs.{Opening, from_start}
 use Rattle.venue_normaliser.specs.Slots.{KeepsPacket, KeepsTaken, stored_at}
-use Rattle.venue_normaliser.specs.States.{FitsSession, NormaliserState, PutsOutFrom}
+use Rattle.venue_normaliser.specs.States.{FitsOpened, NormaliserState, PutsOutFrom}
 use Rattle.venue_normaliser.specs.Inside.{BringsPacket, PutsMany, PutsReady}
 use Rattle.venue_normaliser.proofs.Taken.{front_grows, skip_arrived, skip_here, skip_stays}
 use Rattle.venue_normaliser.proofs.Arriving.{arrival_keeps, untaken_keeps, was_taken}
@@ -30,18 +30,20 @@ use Rattle.venue_normaliser.proofs.BringingPackets.{brings_next, brings_other}
 
 pub record Takes (opening : Opening) (packets after : List Input) (old new : NormaliserState)
     (before out : List Numbered) : Type 0 where
-  pub fits : FitsSession new opening after
+  pub fits : FitsOpened new opening after
   pub output : PutsOutFrom old.book.keys opening packets after before out
 
 pub takes_open : (line : LineId) (packet : Content) (answer : Result Outcome LineFault)
-    (opening : Opening) (packets : List Input) (old mid new : NormaliserState) (out0 out1 out2 : List Numbered)
-    → FitsSession old opening packets → old.has_given_up ≡ false
+    (opening : Opening) (packets : List Input) (old mid new : NormaliserState) (out0 out1 out2 :
+    List Numbered)
+    → FitsOpened old opening packets → old.has_given_up ≡ false
     → BringsPacket line packet answer packets old mid out0 out1
     → ((packets : List Input) → Fits mid.lines packets → KeepsTaken mid.slots mid.lines.sent packets
     → PutsReady packets mid.slots mid.lines new.lines mid.book new.book out1 out2)
     → new ≡ record mid { lines = new.lines; book = new.book }
     → Takes opening packets (packets ++ arrival_of line packet answer ∷ []) old new out0 out2
-takes_open line packet answer opening packets old mid new out0 out1 out2 fits going brings ready kept =
+takes_open line packet answer opening packets old mid new out0 out1 out2 fits going brings ready
+    kept =
     let a : Arrival = record { line = line; packet = packet; answer = answer } in
     let after = packets ++ Arrived a ∷ [] in
     let none : has_skip_past opening.number packets ≡ false = sym fits.given_up ∙ going in
@@ -51,7 +53,8 @@ takes_open line packet answer opening packets old mid new out0 out1 out2 fits go
     let r = ready after brings.lines b.slots in
     let grows = front_grows packets (Arrived a) in
     let low = fits.from.1 in
-    let done = finishes opening old.lines.session old.lines.window old.lines.sent packets a mid.slots
+    let done = finishes opening old.lines.session old.lines.window old.lines.sent packets a
+    mid.slots
     mid.lines new.lines old.book mid.book new.book out0 out1 out2 fits.from none brings.outcome
     (fits.session going).book b.from b.within b.ended b.puts r in
     let slots : new.slots ≡ mid.slots = ap (λ (s : NormaliserState). s.slots) kept in
@@ -73,15 +76,17 @@ takes_open line packet answer opening packets old mid new out0 out1 out2 fits go
     }
 
 pub takes_over : (line : LineId) (packet : Content) (answer : Result Outcome LineFault)
-    (opening : Opening) (packets : List Input) (old mid new : NormaliserState) (out0 out1 out2 : List Numbered)
-    → FitsSession old opening packets → old.has_given_up ≡ true
+    (opening : Opening) (packets : List Input) (old mid new : NormaliserState) (out0 out1 out2 :
+    List Numbered)
+    → FitsOpened old opening packets → old.has_given_up ≡ true
     → BringsPacket line packet answer packets old mid out0 out1
     → out2 ≡ out1
     → ((packets : List Input) → Fits mid.lines packets
     → Fits new.lines packets × AllSent packets new.lines.sent)
     → new ≡ record mid { lines = new.lines; book = new.book }
     → Takes opening packets (packets ++ arrival_of line packet answer ∷ []) old new out0 out2
-takes_over line packet answer opening packets old mid new out0 out1 out2 fits over brings same dropped
+takes_over line packet answer opening packets old mid new out0 out1 out2 fits over brings same
+    dropped
     kept =
     let a : Arrival = record { line = line; packet = packet; answer = answer } in
     let after = packets ++ Arrived a ∷ [] in
@@ -110,8 +115,9 @@ both_cases true = inl refl
 both_cases false = inr refl
 
 pub takes : (line : LineId) (packet : Content) (answer : Result Outcome LineFault)
-    (opening : Opening) (packets : List Input) (old mid new : NormaliserState) (out0 out1 out2 : List Numbered)
-    → FitsSession old opening packets
+    (opening : Opening) (packets : List Input) (old mid new : NormaliserState) (out0 out1 out2 :
+    List Numbered)
+    → FitsOpened old opening packets
     → BringsPacket line packet answer packets old mid out0 out1
     → ((packets : List Input) → Fits mid.lines packets → mid.has_given_up ≡ false
     → KeepsTaken mid.slots mid.lines.sent packets
@@ -125,7 +131,8 @@ takes line packet answer opening packets old mid new out0 out1 out2 fits brings 
     elim (both_cases old.has_given_up) [
       | inl over ↦
           let all = dropped (brings.given_up ∙ over) in
-          takes_over line packet answer opening packets old mid new out0 out1 out2 fits over brings all.0
+          takes_over line packet answer opening packets old mid new out0 out1 out2 fits over brings
+          all.0
           all.2 kept
       | inr going ↦
           takes_open line packet answer opening packets old mid new out0 out1 out2 fits going brings
@@ -135,11 +142,11 @@ takes line packet answer opening packets old mid new out0 out1 out2 fits brings 
 -- ---- a gap is given up
 
 pub skips_fit : (opening : Opening) (packets : List Input) (n : ℕ) (old new : NormaliserState)
-    → FitsSession old opening packets → MaySkip packets n
+    → FitsOpened old opening packets → MaySkip packets n
     → Fits new.lines (packets ++ Skip n ∷ [])
     → AllSent (packets ++ Skip n ∷ []) new.lines.sent
     → new.has_given_up ≡ true
-    → FitsSession new opening (packets ++ Skip n ∷ [])
+    → FitsOpened new opening (packets ++ Skip n ∷ [])
 skips_fit opening packets n old new fits may lines all given =
     let grows = front_grows packets (Skip n) in
     let low = fits.from.1 in
@@ -153,11 +160,12 @@ skips_fit opening packets n old new fits may lines all given =
     }
 
 pub skips_output : (opening : Opening) (packets : List Input) (n : ℕ) (old : NormaliserState)
-    (out0 out1 : List Numbered) → FitsSession old opening packets → MaySkip packets n
+    (out0 out1 : List Numbered) → FitsOpened old opening packets → MaySkip packets n
     → (old.has_given_up ≡ true → out1 ≡ out0)
     → (old.has_given_up ≡ false → out1 ≡ out0 ++ end_item (front_of packets + 1) ∷ [])
     → PutsOutFrom old.book.keys opening packets (packets ++ Skip n ∷ []) out0 out1
-skips_output opening packets n old out0 out1 fits may over ends = elim (both_cases old.has_given_up) [
+skips_output opening packets n old out0 out1 fits may over ends = elim (both_cases
+    old.has_given_up) [
   | inl was ↦ puts_nothing old.book.keys opening packets (Skip n) out0 out1
       (sym fits.given_up ∙ was) (over was)
   | inr going ↦ puts_end old.book.keys opening packets n out0 out1 fits.from.1
@@ -168,7 +176,7 @@ skips_output opening packets n old out0 out1 fits may over ends = elim (both_cas
 
 pub begins : (s : NormaliserState) → Fits s.lines [] → s.lines.sent ≡ 0 → s.has_given_up ≡ false
     → ((m : ℕ) → 0 < m → stored_at s.slots m ≡ None) → FitsEvents s.book []
-    → FitsSession s from_start []
+    → FitsOpened s from_start []
 begins s lines sent going slots book = record {
   lines = lines;
   all_sent = ap (λ (n : ℕ). n + 1) sent;
@@ -187,7 +195,7 @@ begins s lines sent going slots book = record {
 
 pub packet_next : (line : LineId) (packet : Content) (opening : Opening) (packets : List Input)
     (old new : NormaliserState) (out0 out1 : List Numbered)
-    → FitsSession old opening packets → old.has_given_up ≡ false → IsContent packet
+    → FitsOpened old opening packets → old.has_given_up ≡ false → IsContent packet
     → IsNextPacket old.lines.session old.lines.window old.lines.sent packets packet
     → IsOutcome old.lines.session old.lines.window old.lines.sent packets packet
     (Ok (outcome_of_next packet))
@@ -196,7 +204,8 @@ pub packet_next : (line : LineId) (packet : Content) (opening : Opening) (packet
     → new ≡ record old { lines = new.lines; book = new.book }
     → PutsMany packet.number packet.messages old.book new.book out0 out1
     → BringsPacket line packet (Ok (outcome_of_next packet)) packets old new out0 out1
-packet_next line packet opening packets old new out0 out1 fits going content next outcome lines moved kept
+packet_next line packet opening packets old new out0 out1 fits going content next outcome lines
+    moved kept
     puts =
     let a : Arrival = record {
       line = line;
@@ -207,14 +216,15 @@ packet_next line packet opening packets old new out0 out1 fits going content nex
       outcome = outcome;
       lines = lines;
       given_up = ap (λ (s : NormaliserState). s.has_given_up) kept;
-      session = λ _. brings_next old.lines.session old.lines.window opening packets a old new out0 out1 fits
+      session = λ _. brings_next old.lines.session old.lines.window opening packets a old new out0
+      out1 fits
           going refl content.from_one next moved (ap (λ (s : NormaliserState). s.slots) kept) puts;
       none = λ over. absurd (false≢true (sym going ∙ over));
     }
 
 pub packet_any : (line : LineId) (packet : Content) (answer : Result Outcome LineFault)
     (opening : Opening) (packets : List Input) (old new : NormaliserState)
-    (out0 out1 : List Numbered) → FitsSession old opening packets
+    (out0 out1 : List Numbered) → FitsOpened old opening packets
     → IsOutcome old.lines.session old.lines.window old.lines.sent packets packet answer
     → Fits new.lines (packets ++ arrival_of line packet answer ∷ [])
     → new.lines.sent ≡ old.lines.sent
@@ -225,7 +235,8 @@ pub packet_any : (line : LineId) (packet : Content) (answer : Result Outcome Lin
     → new ≡ record old { lines = new.lines; slots = new.slots }
     → out1 ≡ out0
     → BringsPacket line packet answer packets old new out0 out1
-packet_any line packet answer opening packets old new out0 out1 fits outcome lines same taken others count
+packet_any line packet answer opening packets old new out0 out1 fits outcome lines same taken
+    others count
     wide kept out =
     let a : Arrival = record { line = line; packet = packet; answer = answer } in
     let keeps : old.has_given_up ≡ false
@@ -245,7 +256,8 @@ packet_any line packet answer opening packets old new out0 out1 fits outcome lin
       outcome = outcome;
       lines = lines;
       given_up = ap (λ (s : NormaliserState). s.has_given_up) kept;
-      session = λ going. brings_other old.lines.session old.lines.window opening packets a old new out0 out1
+      session = λ going. brings_other old.lines.session old.lines.window opening packets a old new
+      out0 out1
           fits going outcome same (keeps going) (ap (λ (s : NormaliserState). s.book) kept) out;
       none = λ _. out;
     }

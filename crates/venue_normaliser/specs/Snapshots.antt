@@ -3,6 +3,7 @@
 -- Glimpse 5.0.
 use Rattle.std.specs.Prelude.{◌≡◌, ℕ, ◌+◌, ◌-◌, ◌*◌, ◌<◌, ◌≤◌, ◌==◌, ◌&&◌, nat_le, Bool, true, false, List, [], ◌++◌, length, fold, take, drop, slice_index, IsTrue}
 use Rattle.std.specs.List.{flat_map, AllByRecursion}
+use Rattle.feed_types.specs.Symbols.{is_space}
 use Rattle.mold_packet.specs.Block.{block, IsCut, IsMessage}
 use Rattle.quote_payload.specs.Payload.{type_at}
 use Rattle.itch_messages.specs.declared.event.OrderEvent.{OrderEvent}
@@ -25,9 +26,6 @@ states message Other = is_one_of silent_forms message
 
 abbrev pub is_of_snapshot : List ℕ → Bool
 is_of_snapshot message = states message (order_event_of message)
-
-abbrev pub is_space : ℕ → Bool
-is_space byte = byte == 0x20
 
 abbrev pub is_digit : ℕ → Bool
 is_digit byte = nat_le 0x30 byte && nat_le byte 0x39
@@ -76,7 +74,7 @@ pub record IsSnapshot (bytes : List ℕ) (messages : List (List ℕ)) (number : 
   pub begins : BeginsSnapshot bytes messages (block end)
 
 -- after messages that a snapshot may have, what begins at this byte is this
-pub record GoesOn (bytes : List ℕ) (byte : ℕ) (is : List ℕ → Type 0) : Type 0 where
+pub record StopsWith (bytes : List ℕ) (byte : ℕ) (is : List ℕ → Type 0) : Type 0 where
   pub messages : List (List ℕ)
   pub rest : List ℕ
   pub begins : BeginsSnapshot bytes messages rest
@@ -119,10 +117,10 @@ pub record GoesPastEnd (bytes : List ℕ) (byte : ℕ) : Type 0 where
 
 -- why bytes are no snapshot, and at which byte, counted from 0
 abbrev pub HasSnapshotFault : List ℕ → SnapshotFault → Type 0
-HasSnapshotFault bytes (NoEnd byte) = GoesOn bytes byte (λ rest. rest ≡ [])
-HasSnapshotFault bytes (Cut byte) = GoesOn bytes byte IsPart
-HasSnapshotFault bytes (NotOfSnapshot byte) = GoesOn bytes byte IsOther
-HasSnapshotFault bytes (BadNumber byte) = GoesOn bytes byte HasNoNumber
+HasSnapshotFault bytes (NoEnd byte) = StopsWith bytes byte (λ rest. rest ≡ [])
+HasSnapshotFault bytes (Cut byte) = StopsWith bytes byte IsPart
+HasSnapshotFault bytes (NotOfSnapshot byte) = StopsWith bytes byte IsOther
+HasSnapshotFault bytes (BadNumber byte) = StopsWith bytes byte HasNoNumber
 HasSnapshotFault bytes (AfterEnd byte) = GoesPastEnd bytes byte
 
 -- the messages of a snapshot before its end, and the number of the session's next message

@@ -35,7 +35,7 @@ pub record KeepsSession (s : NormaliserState) (opening : Opening) (packets : Lis
 -- The state is that after these packets and skips of the present session, which began so: all that
 -- is ready was put out, no message before the opening's number is missing, and unless a gap was
 -- given up, the session is kept.
-pub record FitsSession (s : NormaliserState) (opening : Opening) (packets : List Input)
+pub record FitsOpened (s : NormaliserState) (opening : Opening) (packets : List Input)
     : Type 0 where
   pub lines : Fits s.lines packets
   pub all_sent : AllSent packets s.lines.sent
@@ -45,7 +45,7 @@ pub record FitsSession (s : NormaliserState) (opening : Opening) (packets : List
 
 -- the same of a session that began at its first message
 abbrev pub FitsPackets : NormaliserState → List Input → Type 0
-FitsPackets s packets = FitsSession s from_start packets
+FitsPackets s packets = FitsOpened s from_start packets
 
 -- What a call puts out: it follows what the caller had there, and with what was put out before it
 -- is what these packets and skips make.
@@ -77,7 +77,7 @@ pub record Resumes (snapshot : SnapshotContent) (old new : NormaliserState)
   pub are : AreShown old.book.keys snapshot.messages shown
   pub places : length shown < snapshot.number
   pub put : after ≡ before ++ put_first (opening_of snapshot shown)
-  pub fits : FitsSession new (opening_of snapshot shown) (opened_at snapshot.number)
+  pub fits : FitsOpened new (opening_of snapshot shown) (opened_at snapshot.number)
 
 -- a snapshot shows as many items as its number, or more
 pub record ShowsTooMuch (keys : List ℕ) (snapshot : SnapshotContent) : Type 0 where

@@ -5,12 +5,12 @@
 //! item with its number: the quotation that it changed, a halt, or Other. [`MessageForm`] has the
 //! bytes of an item. A gap that is given up ends what is put out of the session.
 //!
-//! A session that is joined in the middle lacks its orders, unless a [`Snapshot`] brings them:
+//! A session that is joined in the middle misses its orders, unless a [`Snapshot`] brings them:
 //! [`VenueNormaliser::resume`] begins with these, at the snapshot's number.
 //!
-//! Contract: for every list of packets and skips that the normaliser fits (`FitsSession`), a call
-//! puts out what they make (`PutsOutFrom`). Begin at `specs/Outputs.antt`, which has the item of each
-//! message, then `specs/Brought.antt`, which has the messages by their numbers;
+//! Contract: for every list of packets and skips that the normaliser fits (`FitsOpened`), a call
+//! puts out what they make (`PutsOutFrom`). Begin at `specs/Outputs.antt`, which has the item of
+//! each message, then `specs/Brought.antt`, which has the messages by their numbers;
 //! `specs/Snapshots.antt` has what a snapshot is.
 #![tactic(auto)]
 

@@ -19,7 +19,7 @@ ghost use Rattle.itch_book.specs.Books.{session_orders_of};
 ghost use Rattle.venue_normaliser.specs.Inside.{BringsPacket, PutsMany, PutsReady};
 ghost use Rattle.venue_normaliser.specs.Slots.{KeepsPacket, KeepsTaken};
 ghost use Rattle.venue_normaliser.specs.Ends.{read_as};
-ghost use Rattle.venue_normaliser.specs.States.{FitsPackets, FitsSession, IsNewNormaliser, KeepsItsBook, PutsOutFrom, Resumes, ShowsTooMuch};
+ghost use Rattle.venue_normaliser.specs.States.{FitsPackets, FitsOpened, IsNewNormaliser, KeepsItsBook, PutsOutFrom, Resumes, ShowsTooMuch};
 
 use crate::end_number::{END_BYTES, EndNumber, moved_end};
 use crate::fault::NormaliserFault;
@@ -133,8 +133,8 @@ impl VenueNormaliser {
 
     /// Begins the venue's present session, of which nothing came yet, with a snapshot: with its
     /// orders, round lots and halts, and at its number. Messages before that aren't missing, and
-    /// what they bring isn't put out. What the snapshot shows, the quotation of each symbol that has
-    /// one and its halt, follows the items in `out`, with the numbers just before the snapshot's.
+    /// what they bring isn't put out. What the snapshot shows, the quotation of each symbol that
+    /// has one and its halt, follows the items in `out`, with the numbers just before its own.
     ///
     /// TooFewNumbers is the answer where those are fewer than what it shows, which no true snapshot
     /// has: some message of the session made each. After an `Err` the normaliser is to be dropped,
@@ -231,7 +231,7 @@ impl VenueNormaliser {
         out: &mut Vec<Numbered>,
     ) -> Result<Result<Outcome, LineFault>, BookFault>
         ensures brings { IfOk result (λ answer. (opening : Opening)
-            (packets : List Input) → FitsSession self.old opening packets
+            (packets : List Input) → FitsOpened self.old opening packets
             → BringsPacket line packet.now answer packets self.old self.new
             out.old.items out.new.items) }
         ensures kept { KeepsItsSession self.old.lines self.new.lines
@@ -292,14 +292,14 @@ impl VenueNormaliser {
         out: &mut Vec<Numbered>,
     ) -> Result<Result<Outcome, LineFault>, BookFault>
         ensures outcome { IfOk result (λ answer. (opening : Opening)
-            (packets : List Input) → FitsSession self.old opening packets
+            (packets : List Input) → FitsOpened self.old opening packets
             → IsOutcome self.old.lines.session self.old.lines.window self.old.lines.sent packets
             packet.now answer) }
         ensures fits { IfOk result (λ answer. (opening : Opening)
-            (packets : List Input) → FitsSession self.old opening packets
-            → FitsSession self.new opening (packets ++ arrival_of line packet.now answer ∷ [])) }
+            (packets : List Input) → FitsOpened self.old opening packets
+            → FitsOpened self.new opening (packets ++ arrival_of line packet.now answer ∷ [])) }
         ensures output { IfOk result (λ answer. (opening : Opening)
-            (packets : List Input) → FitsSession self.old opening packets
+            (packets : List Input) → FitsOpened self.old opening packets
             → PutsOutFrom self.old.book.keys opening packets (packets
             ++ arrival_of line packet.now answer ∷ [])
             out.old.items out.new.items) }
@@ -326,15 +326,15 @@ impl VenueNormaliser {
         out: &mut Vec<Numbered>,
     ) -> Result<Result<Outcome, LineFault>, BookFault>
         ensures outcome { IfOk result (λ answer. (opening : Opening)
-            (packets : List Input) → FitsSession self.old opening packets
+            (packets : List Input) → FitsOpened self.old opening packets
             → IsOutcome self.old.lines.session self.old.lines.window self.old.lines.sent packets
             (read_as self.old.end_number packet.now) answer) }
         ensures fits { IfOk result (λ answer. (opening : Opening)
-            (packets : List Input) → FitsSession self.old opening packets
-            → FitsSession self.new opening (packets
+            (packets : List Input) → FitsOpened self.old opening packets
+            → FitsOpened self.new opening (packets
             ++ arrival_of line (read_as self.old.end_number packet.now) answer ∷ [])) }
         ensures output { IfOk result (λ answer. (opening : Opening)
-            (packets : List Input) → FitsSession self.old opening packets
+            (packets : List Input) → FitsOpened self.old opening packets
             → PutsOutFrom self.old.book.keys opening packets (packets
             ++ arrival_of line (read_as self.old.end_number packet.now) answer ∷ [])
             out.old.items out.new.items) }
@@ -350,7 +350,8 @@ impl VenueNormaliser {
 
     /// Gives up the messages that are missing below `number`, as [`Arbiter::skip_to`] does, and
     /// returns its answer. What is put out of the session ends then, with an end of session at the
-    /// first missing number, after the items in `out`; a session that begins in the middle without a
+    /// first missing number, after the items in `out`; a session that begins in the middle without
+    /// a
     /// snapshot is such a gap, from number 1.
     ///
     /// An `Err` is a refusal of memory, which ends the run.
@@ -360,13 +361,13 @@ impl VenueNormaliser {
         out: &mut Vec<Numbered>,
     ) -> Result<Result<(), SkipFault>, BookFault>
         ensures answer { IfOk result (λ answer. (opening : Opening)
-            (packets : List Input) → FitsSession self.old opening packets
+            (packets : List Input) → FitsOpened self.old opening packets
             → IsSkip packets self.old.lines.sent number answer) }
         ensures fits { IfOk result (λ answer. (opening : Opening)
-            (packets : List Input) → FitsSession self.old opening packets → OnOk answer
-            (FitsSession self.new opening (packets ++ Skip number ∷ []))) }
+            (packets : List Input) → FitsOpened self.old opening packets → OnOk answer
+            (FitsOpened self.new opening (packets ++ Skip number ∷ []))) }
         ensures output { IfOk result (λ answer. (opening : Opening)
-            (packets : List Input) → FitsSession self.old opening packets → OnOk answer
+            (packets : List Input) → FitsOpened self.old opening packets → OnOk answer
             (PutsOutFrom self.old.book.keys opening packets (packets ++ Skip number ∷ [])
             out.old.items out.new.items)) }
         ensures refused { IfOk result (λ answer. OnErr answer
@@ -435,7 +436,7 @@ impl VenueNormaliser {
     /// of it.
     pub fn has_given_up(&self) -> bool
         ensures { (opening : Opening) (packets : List Input)
-            → FitsSession self.now opening packets
+            → FitsOpened self.now opening packets
             → result ≡ has_skip_past opening.number packets }
     {
         self.has_given_up
@@ -444,7 +445,7 @@ impl VenueNormaliser {
     /// Returns the cursors of the present session's input.
     pub fn status(&self) -> ArbiterStatus
         ensures { (opening : Opening) (packets : List Input)
-            → FitsSession self.now opening packets
+            → FitsOpened self.now opening packets
             → result ≡ cursors_of self.now.lines.sent packets }
     {
         self.lines.status()
@@ -454,7 +455,7 @@ impl VenueNormaliser {
     /// missing.
     pub fn gap(&self) -> Option<Request>
         ensures { (opening : Opening) (packets : List Input)
-            → FitsSession self.now opening packets
+            → FitsOpened self.now opening packets
             → result
             ≡ gap_of self.now.lines.session self.now.lines.window self.now.lines.sent packets }
     {
@@ -472,7 +473,7 @@ impl VenueNormaliser {
     /// was, up to the first gap.
     pub fn oddities(&self) -> Oddities
         ensures { (opening : Opening) (packets : List Input)
-            → FitsSession self.now opening packets
+            → FitsOpened self.now opening packets
             → self.now.has_given_up ≡ false
             → result ≡ (session_orders_of self.now.book.keys
             (events_of (opening.messages ++ messages_brought opening.number packets))).oddities }

@@ -4,7 +4,8 @@ ghost use Rattle.std.specs.Prelude.{◌≡◌, ℕ, ◌<◌, ◌≤◌, ◌++◌
 ghost use Rattle.mold_packet.specs.Block.{IsCut, IsMessage, block};
 ghost use Rattle.itch_messages.specs.Forms.{is_one_of, silent_forms};
 ghost use Rattle.venue_normaliser.specs.Inside.{HasStated};
-ghost use Rattle.venue_normaliser.specs.Snapshots.{EndsSnapshot, HasDigits, HasSnapshotFault, IsNumberField, IsSnapshot, digits_value, is_digit, is_end_form, is_of_snapshot, is_space};
+ghost use Rattle.feed_types.specs.Symbols.{is_space};
+ghost use Rattle.venue_normaliser.specs.Snapshots.{EndsSnapshot, HasDigits, HasSnapshotFault, IsNumberField, IsSnapshot, digits_value, is_digit, is_end_form, is_of_snapshot};
 
 use crate::snapshot_fault::SnapshotFault;
 use itch_messages::{OrderEvent, read_event};

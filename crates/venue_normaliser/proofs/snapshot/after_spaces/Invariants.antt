@@ -1,5 +1,6 @@
 use Rattle.std.proofs.Common.{◌≡◌, ℕ, ◌<◌, ◌≤◌, get_or, true}
-use Rattle.venue_normaliser.specs.Snapshots.{is_space}
+use Rattle.feed_types.specs.Symbols.{is_space}
+
 use Rattle.venue_normaliser.proofs.snapshot.after_spaces.Given as goal
 
 abbrev pub invariant-loop-place : goal.invariant-loop-place

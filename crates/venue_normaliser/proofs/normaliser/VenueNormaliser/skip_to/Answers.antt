@@ -5,23 +5,24 @@ use Rattle.line_arbiter.specs.Packets.{Skip}
 use Rattle.line_arbiter.specs.Streams.{front_of}
 use Rattle.line_arbiter.specs.Fits.{Fits}
 use Rattle.line_arbiter.specs.States.{State}
-use Rattle.venue_normaliser.specs.States.{FitsSession, NormaliserState, PutsOutFrom}
+use Rattle.venue_normaliser.specs.States.{FitsOpened, NormaliserState, PutsOutFrom}
 use Rattle.venue_normaliser.proofs.Whole.{skips_fit, skips_output}
 use Rattle.venue_normaliser.proofs.normaliser.VenueNormaliser.skip_to.Goals as goal
 
 pub returns-clause-fits : goal.returns-clause-fits
 returns-clause-fits c = λ O P fits.
-    let g = subst (λ (s : NormaliserState). FitsSession s O P) (sym c.self.view_is) fits in
+    let g = subst (λ (s : NormaliserState). FitsOpened s O P) (sym c.self.view_is) fits in
     let same = c.self-2.view_is ∙ c.end_output.ensures.kept in
     let lines = subst (λ (s : State). Fits s (P ++ Skip c.args.number ∷ []))
     (sym (ap (λ (s : NormaliserState). s.lines) same)) (c.in_default.ensures.fits P g.lines) in
     let both = c.drop_ready.ensures.fits (P ++ Skip c.args.number ∷ []) lines in
     let may = (c.in_default.ensures.answer P g.lines).1 in
-    skips_fit O P c.args.number _ _ g may both.0 both.1 (ap (λ (s : NormaliserState). s.has_given_up) same)
+    skips_fit O P c.args.number _ _ g may both.0 both.1 (ap (λ (s : NormaliserState).
+    s.has_given_up) same)
 
 pub returns-clause-output : goal.returns-clause-output
 returns-clause-output c = λ O P fits.
-    let g = subst (λ (s : NormaliserState). FitsSession s O P) (sym c.self.view_is) fits in
+    let g = subst (λ (s : NormaliserState). FitsOpened s O P) (sym c.self.view_is) fits in
     let may = (c.in_default.ensures.answer P g.lines).1 in
     let front = ap (λ (s : ArbiterStatus). s.front) (c.status.ensures.packets P g.lines) in
     let small = c.ranges.number.fits in
