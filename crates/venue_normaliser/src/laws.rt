@@ -14,8 +14,7 @@ pub fn nothing_is_put_out_of_nothing()
 {}
 
 /// What a snapshot shows, at the numbers just before its own, is what is put out of the session
-/// that
-/// it begins, of which nothing came.
+/// that it begins, of which nothing came.
 pub fn what_a_snapshot_shows_is_put_out()
     ensures { (keys : List ℕ) (opening : Opening) → 1 ≤ opening.number
         → IsPutOutFrom keys opening (opened_at opening.number) (put_first opening) }
