@@ -12,3 +12,4 @@ pub mod OfMessages
 pub mod Opened
 pub mod Numbers
 pub mod Snapshotting
+pub mod OneSnapshot

@@ -151,3 +151,11 @@ no_number_zero field from to has none number is one =
     ∙ ap (λ (n : ℕ). digits_value (take (n - is.from) (drop is.from field))) same.1
     ∙ sym is.is in
     omega arith
+
+-- a field has one number
+pub one_number : (field : List ℕ) (n k : ℕ) → IsNumberField field n → IsNumberField field k
+    → n ≡ k
+one_number field n k a b =
+    let same = one_span field a.from a.to b.from b.to a.there b.there in
+    a.is ∙ ap (λ (m : ℕ). digits_value (take (a.to - m) (drop m field))) same.0
+    ∙ ap (λ (m : ℕ). digits_value (take (m - b.from) (drop b.from field))) same.1 ∙ sym b.is

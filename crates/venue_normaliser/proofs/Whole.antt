@@ -166,11 +166,11 @@ pub skips_output : (opening : Opening) (packets : List Input) (n : ℕ) (old : N
     → PutsOutFrom old.book.keys opening packets (packets ++ Skip n ∷ []) out0 out1
 skips_output opening packets n old out0 out1 fits may over ends = elim (both_cases
     old.has_given_up) [
-  | inl was ↦ puts_nothing old.book.keys opening packets (Skip n) out0 out1
-      (sym fits.given_up ∙ was) (over was)
-  | inr going ↦ puts_end old.book.keys opening packets n out0 out1 fits.from.1
-      (sym fits.given_up ∙ going) may (ends going)
-]
+      | inl was ↦ puts_nothing old.book.keys opening packets (Skip n) out0 out1
+          (sym fits.given_up ∙ was) (over was)
+      | inr going ↦ puts_end old.book.keys opening packets n out0 out1 fits.from.1
+          (sym fits.given_up ∙ going) may (ends going)
+    ]
 
 -- ---- nothing came yet
 
@@ -217,7 +217,7 @@ packet_next line packet opening packets old new out0 out1 fits going content nex
       lines = lines;
       given_up = ap (λ (s : NormaliserState). s.has_given_up) kept;
       session = λ _. brings_next old.lines.session old.lines.window opening packets a old new out0
-      out1 fits
+          out1 fits
           going refl content.from_one next moved (ap (λ (s : NormaliserState). s.slots) kept) puts;
       none = λ over. absurd (false≢true (sym going ∙ over));
     }
@@ -257,7 +257,7 @@ packet_any line packet answer opening packets old new out0 out1 fits outcome lin
       lines = lines;
       given_up = ap (λ (s : NormaliserState). s.has_given_up) kept;
       session = λ going. brings_other old.lines.session old.lines.window opening packets a old new
-      out0 out1
+          out0 out1
           fits going outcome same (keeps going) (ap (λ (s : NormaliserState). s.book) kept) out;
       none = λ _. out;
     }

@@ -1,12 +1,14 @@
 //! Laws of the definitions.
 
-ghost use Rattle.std.specs.Prelude.{ℕ, ◌≤◌, List, []};
+ghost use Rattle.std.specs.Prelude.{◌≡◌, ℕ, ◌*◌, ◌≤◌, List, []};
 ghost use Rattle.std.specs.List.{AllByRecursion};
 ghost use Rattle.feed_types.specs.declared.item.Numbered.{Numbered};
 ghost use Rattle.line_arbiter.specs.Packets.{Input};
 ghost use Rattle.line_arbiter.specs.Answered.{AreAnswered};
 ghost use Rattle.line_arbiter.specs.OfSession.{IsInputOfMessages};
 ghost use Rattle.venue_normaliser.specs.Outputs.{GivesItemsFrom, IsPutOut, IsPutOutFrom, Opening, opened_at, put_first};
+ghost use Rattle.venue_normaliser.specs.Snapshots.{HasSnapshotFault, IsSnapshot};
+ghost use Rattle.venue_normaliser.specs.declared.snapshot_fault.SnapshotFault.{SnapshotFault};
 
 /// Nothing is put out of a session of which nothing came.
 pub fn nothing_is_put_out_of_nothing()
@@ -30,4 +32,18 @@ pub fn what_is_put_out_is_the_session()
         → AllByRecursion (IsInputOfMessages name messages) packets
         → IsPutOutFrom keys opening packets output
         → GivesItemsFrom keys opening messages packets output }
+{}
+
+/// Bytes are one snapshot, and then have no fault; or they have one fault.
+///
+/// So [`read_snapshot`](crate::read_snapshot) has one right answer.
+pub fn bytes_are_one_snapshot()
+    ensures snapshot { (bytes : List ℕ) (messages others : List (List ℕ)) (number other : ℕ)
+        → IsSnapshot bytes messages number → IsSnapshot bytes others other
+        → (messages ≡ others) × (number ≡ other) }
+    ensures no_fault { (bytes : List ℕ) (messages : List (List ℕ)) (number : ℕ)
+        (fault : SnapshotFault)
+        → IsSnapshot bytes messages number → HasSnapshotFault bytes fault → ⊥ }
+    ensures fault { (bytes : List ℕ) (fault other : SnapshotFault)
+        → HasSnapshotFault bytes fault → HasSnapshotFault bytes other → fault ≡ other }
 {}

@@ -31,7 +31,7 @@ mod snapshot_fault;
 pub use end_number::EndNumber;
 pub use fault::NormaliserFault;
 pub use laws::{
-    nothing_is_put_out_of_nothing, what_a_snapshot_shows_is_put_out,
+    bytes_are_one_snapshot, nothing_is_put_out_of_nothing, what_a_snapshot_shows_is_put_out,
     what_is_put_out_is_the_session,
 };
 pub use message_form::MessageForm;

@@ -1,6 +1,5 @@
 use Rattle.std.proofs.Common.{◌≡◌, ℕ, ◌<◌, ◌≤◌, get_or, true}
 use Rattle.feed_types.specs.Symbols.{is_space}
-
 use Rattle.venue_normaliser.proofs.snapshot.after_spaces.Given as goal
 
 abbrev pub invariant-loop-place : goal.invariant-loop-place
