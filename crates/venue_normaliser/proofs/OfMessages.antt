@@ -1,21 +1,20 @@
 -- Messages that were taken of a session's packets are the session's.
 use Rattle.std.proofs.Common.{◌≡◌, ℕ, zero, suc, ◌+◌, ◌-◌, ◌<◌, ◌≤◌, Bool, true, false, cond, List, [], ◌∷◌, ◌++◌, length, map, take, drop, get_or, Option, Some, None, refl, sym, ap, subst, ◌∙◌, arith, inl, inr}
-use Rattle.std.specs.Prelude.{IsSome, find, nat_lt, slice_get, unwrap_or, ◌&&◌, if◌then◌else◌}
+use Rattle.std.specs.Prelude.{IsSome, find, nat_lt, slice_get, unwrap_or, if◌then◌else◌}
 use Rattle.std.specs.List.{AllByRecursion, range_with_len}
 use Rattle.std.specs.Option.{option_map}
 use Rattle.std.proofs.lemmas.Bool.{and_parts, cases_lt, false≢true}
 use Rattle.std.proofs.lemmas.Bool.Decides.{nat_tests}
 use Rattle.std.proofs.lemmas.Option.{slice_get_within}
 use Rattle.feed_types.specs.declared.item.Numbered.{Numbered}
-use Rattle.mold_packet.specs.Content.{Content}
-use Rattle.line_arbiter.specs.Packets.{Arrival, Input, Arrived, Skip, bringer, brings, has_number, is_taken}
+use Rattle.line_arbiter.specs.Packets.{Arrival, Input, Arrived, Skip, brings, has_number, is_taken}
 use Rattle.line_arbiter.specs.Streams.{front_of}
-use Rattle.line_arbiter.specs.Answered.{AreAnswered, AreAnsweredAfter, IsAnswered}
+use Rattle.line_arbiter.specs.Answered.{AreAnswered, AreAnsweredAfter}
 use Rattle.line_arbiter.specs.Outcomes.{IsOutcome}
 use Rattle.line_arbiter.specs.OfSession.{IsInputOfMessages, IsOfMessages}
 use Rattle.line_arbiter.specs.laws.Bringing.{number_in}
 use Rattle.line_arbiter.specs.laws.Fronts.{front_is}
-use Rattle.venue_normaliser.specs.Brought.{before_skip_past, message_at, message_brought, messages_brought, taken_message}
+use Rattle.venue_normaliser.specs.Brought.{before_skip_past, message_at, message_brought, taken_message}
 use Rattle.venue_normaliser.specs.Outputs.{AreMadeAfter, GivesItemsFrom, IsPutOutFrom, Opening}
 use Rattle.venue_normaliser.proofs.Taken.{some_taken}
 

@@ -1,5 +1,5 @@
 -- Bytes are one snapshot, or have one fault.
-use Rattle.std.proofs.Common.{◌≡◌, ℕ, ◌+◌, ◌<◌, ◌≤◌, Bool, true, false, List, [], ◌∷◌, ◌++◌, length, drop, refl, sym, ap, subst, ◌∙◌, append_assoc, append-nil, arith, length-append, IsTrue}
+use Rattle.std.proofs.Common.{◌≡◌, ℕ, ◌+◌, ◌<◌, true, false, List, [], ◌∷◌, ◌++◌, length, drop, refl, sym, ap, subst, ◌∙◌, append_assoc, append-nil, arith, length-append, IsTrue}
 use Rattle.std.specs.Prelude.{◌==◌}
 use Rattle.std.specs.List.{flat_map, list_any, AllByRecursion}
 use Rattle.std.proofs.lemmas.Bool.{and_parts, eqb-true, false≢true}
@@ -8,13 +8,12 @@ use Rattle.mold_packet.specs.Block.{IsCut, IsMessage, block}
 use Rattle.mold_packet.specs.laws.Cutting.{blocks_at-block, flat_map-first, not_cut}
 use Rattle.mold_packet.specs.Block.{blocks_at}
 use Rattle.quote_payload.specs.Payload.{type_at}
-use Rattle.itch_messages.specs.declared.event.OrderEvent.{OrderEvent}
 use Rattle.itch_messages.specs.declared.event.OrderEvent.TheVariants.{Other}
 use Rattle.itch_messages.specs.Events.{event_by, is_form, order_event_of}
 use Rattle.itch_messages.specs.Forms.{silent_forms}
 use Rattle.venue_normaliser.specs.declared.snapshot_fault.SnapshotFault.{SnapshotFault}
 use Rattle.venue_normaliser.specs.declared.snapshot_fault.SnapshotFault.TheVariants.{Cut, NoEnd, NotOfSnapshot, BadNumber, AfterEnd}
-use Rattle.venue_normaliser.specs.Snapshots.{BeginsSnapshot, EndsSnapshot, GoesPastEnd, HasNoNumber, HasSnapshotFault, IsOther, IsPart, IsSnapshot, StopsWith, is_end_form, is_of_snapshot, states}
+use Rattle.venue_normaliser.specs.Snapshots.{BeginsSnapshot, EndsSnapshot, HasNoNumber, HasSnapshotFault, IsOther, IsPart, IsSnapshot, is_end_form, is_of_snapshot, states}
 use Rattle.venue_normaliser.proofs.Numbers.{one_number}
 use Rattle.venue_normaliser.proofs.Snapshotting.{block_longer}
 

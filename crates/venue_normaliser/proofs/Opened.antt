@@ -1,6 +1,6 @@
 -- A session that begins at a number.
-use Rattle.std.proofs.Common.{◌≡◌, ℕ, zero, suc, ◌+◌, ◌-◌, ◌<◌, ◌≤◌, Bool, true, false, cond, List, [], ◌∷◌, ◌++◌, length, map, Option, Some, None, Err, refl, sym, ap, subst, ◌∙◌, arith, inl, inr, append-nil}
-use Rattle.std.specs.Prelude.{IsSome, find, nat_le, nat_lt, if◌then◌else◌, ◌||◌, ◌⊎◌}
+use Rattle.std.proofs.Common.{◌≡◌, ℕ, ◌+◌, ◌-◌, ◌<◌, ◌≤◌, Bool, true, false, cond, List, [], ◌∷◌, ◌++◌, length, map, Option, Some, None, Err, refl, sym, ap, subst, ◌∙◌, arith, inl, inr, append-nil}
+use Rattle.std.specs.Prelude.{IsSome, find, nat_le, nat_lt, if◌then◌else◌, ◌||◌}
 use Rattle.std.specs.List.{range_with_len}
 use Rattle.std.specs.Option.{option_map}
 use Rattle.std.proofs.lemmas.Bool.{cases_lt, false≢true}
@@ -8,7 +8,7 @@ use Rattle.std.proofs.lemmas.Bool.Decides.{nat_tests}
 use Rattle.feed_types.specs.declared.item.Item.{Item}
 use Rattle.feed_types.specs.declared.item.Numbered.{Numbered}
 use Rattle.feed_types.specs.Sessions.{end_item, numbered_from}
-use Rattle.itch_book.specs.Books.{OrderBookState, FitsEvents}
+use Rattle.itch_book.specs.Books.{FitsEvents}
 use Rattle.line_arbiter.specs.Packets.{Input, Skip, brings, carried, end_of, item_brought}
 use Rattle.line_arbiter.specs.Streams.{front_of, end_at}
 use Rattle.line_arbiter.specs.Fits.{Fits}
@@ -16,13 +16,13 @@ use Rattle.line_arbiter.specs.Skips.{AllSent, IsSkip}
 use Rattle.line_arbiter.specs.declared.faults.SkipFault.{SkipFault}
 use Rattle.line_arbiter.specs.declared.faults.SkipFault.TheVariants.{ItemsReady, PastEnd, NothingMissing, HeldBelow}
 use Rattle.line_arbiter.specs.States.{State}
-use Rattle.line_arbiter.specs.laws.Fronts.{IsFront, front_unique, front_is}
+use Rattle.line_arbiter.specs.laws.Fronts.{front_unique, front_is}
 use Rattle.venue_normaliser.specs.declared.message_slot.MessageSlot.{MessageSlot}
 use Rattle.venue_normaliser.specs.Brought.{before_skip_past, has_skip_past, kept_bytes, message_at, message_brought, messages_brought, taken_message}
-use Rattle.venue_normaliser.specs.Outputs.{AreMadeAfter, AreShown, IsPutOutFrom, Opening, end_put_out_from, events_of, from_start, opened_at, put_first}
-use Rattle.venue_normaliser.specs.Slots.{KeepsTaken, stored_at}
+use Rattle.venue_normaliser.specs.Outputs.{AreMadeAfter, AreShown, IsPutOutFrom, Opening, events_of, from_start, opened_at, put_first}
+use Rattle.venue_normaliser.specs.Slots.{stored_at}
 use Rattle.venue_normaliser.specs.Snapshots.{SnapshotContent}
-use Rattle.venue_normaliser.specs.States.{FitsOpened, NormaliserState, Resumes, opening_of}
+use Rattle.venue_normaliser.specs.States.{FitsOpened, NormaliserState, Resumes}
 use Rattle.venue_normaliser.proofs.Making.{made_none}
 use Rattle.venue_normaliser.proofs.Readying.{all_sent_is}
 

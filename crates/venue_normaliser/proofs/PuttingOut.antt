@@ -15,7 +15,7 @@ use Rattle.line_arbiter.specs.Skips.{MaySkip}
 use Rattle.line_arbiter.specs.States.{State}
 use Rattle.venue_normaliser.specs.declared.message_slot.MessageSlot.{MessageSlot}
 use Rattle.venue_normaliser.specs.Brought.{before_skip_past, has_skip_past, message_at, messages_brought}
-use Rattle.venue_normaliser.specs.Outputs.{AreMadeAfter, IsPutOutFrom, Opening, end_put_out_from, events_of, put_first}
+use Rattle.venue_normaliser.specs.Outputs.{AreMadeAfter, Opening, end_put_out_from, events_of, put_first}
 use Rattle.venue_normaliser.specs.States.{PutsOutFrom}
 use Rattle.venue_normaliser.specs.Inside.{PutsMany, PutsReady, messages_between}
 use Rattle.venue_normaliser.proofs.Making.{many_join, numbered_append}

@@ -1,9 +1,9 @@
 -- What is ready is put out: the messages up to the first gap, and the end where it follows.
-use Rattle.std.proofs.Common.{◌≡◌, ℕ, zero, suc, ◌+◌, ◌-◌, ◌<◌, ◌≤◌, Bool, true, false, cond, List, [], ◌∷◌, ◌++◌, length, map, get_or, Option, Some, None, refl, sym, ap, subst, ◌∙◌, arith, inl, inr, append-nil}
+use Rattle.std.proofs.Common.{◌≡◌, ℕ, ◌+◌, ◌-◌, ◌<◌, ◌≤◌, Bool, true, false, List, [], ◌∷◌, ◌++◌, length, map, Option, Some, None, refl, sym, ap, subst, ◌∙◌, arith, inl, inr, append-nil}
 use Rattle.std.specs.Prelude.{IsSome, nat_le, ◌==◌, ◌⊎◌, unwrap_or, if◌then◌else◌, ◌&&◌}
 use Rattle.std.specs.List.{range_with_len}
 use Rattle.std.specs.Option.{option_map}
-use Rattle.std.proofs.lemmas.Bool.{cases_lt, cases_eq, eq-eqb, ne_eqb, eqb-true, false≢true}
+use Rattle.std.proofs.lemmas.Bool.{cases_lt, cases_eq, eq-eqb, ne_eqb}
 use Rattle.std.proofs.lemmas.Bool.Decides.{nat_tests}
 use Rattle.std.proofs.lemmas.List.FromFn.{map-range_with_len_more, length-map-range_with_len}
 use Rattle.feed_types.specs.declared.item.Item.{Item}
@@ -20,12 +20,11 @@ use Rattle.line_arbiter.specs.Streams.{front_of, opens_of, part_of, end_at}
 use Rattle.line_arbiter.specs.Holding.{held_at}
 use Rattle.line_arbiter.specs.Skips.{AllSent}
 use Rattle.line_arbiter.specs.Renewals.{HasEnded}
-use Rattle.line_arbiter.specs.States.{State, IsAdvanced, KeepsAllButSent, held_of, next_from, next_of}
+use Rattle.line_arbiter.specs.States.{State, KeepsAllButSent, held_of, next_from, next_of}
 use Rattle.line_arbiter.specs.Fits.{Fits}
 use Rattle.line_arbiter.specs.laws.Fronts.{front_greatest, front_is, not_none, opens_most}
 use Rattle.line_arbiter.specs.laws.Genuine.{carried_never_end}
 use Rattle.line_arbiter.specs.laws.Lengths.{end_most, end_one, length-stream}
-use Rattle.line_arbiter.specs.laws.FitsHistory.{keeping_all_but_sent_is_reflexive, keeping_all_but_sent_is_transitive}
 use Rattle.venue_normaliser.specs.declared.message_slot.MessageSlot.{MessageSlot}
 use Rattle.venue_normaliser.specs.Brought.{kept_bytes, message_at, taken_message}
 use Rattle.venue_normaliser.specs.Slots.{KeepsTaken, stored_at}

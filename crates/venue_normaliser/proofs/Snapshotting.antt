@@ -1,8 +1,8 @@
 -- Bytes that are a snapshot, or aren't.
-use Rattle.std.proofs.Common.{◌≡◌, ℕ, zero, suc, ◌+◌, ◌-◌, ◌^◌, ◌<◌, ◌≤◌, Bool, true, false, List, [], ◌∷◌, ◌++◌, length, take, drop, refl, sym, ap, subst, ◌∙◌, arith, inl, inr, append_assoc, append-nil, length-append, IsTrue}
+use Rattle.std.proofs.Common.{◌≡◌, ℕ, zero, suc, ◌+◌, ◌-◌, ◌<◌, ◌≤◌, true, false, List, [], ◌∷◌, ◌++◌, length, take, drop, refl, sym, ap, subst, ◌∙◌, arith, append_assoc, append-nil, length-append, IsTrue}
 use Rattle.std.specs.Int.{w16, to_be_bytes}
 use Rattle.std.specs.List.{flat_map, AllByRecursion}
-use Rattle.mold_packet.specs.Block.{AreBlocks, HasBlocks, IsCut, IsMessage, block, block_len, blocks_at}
+use Rattle.mold_packet.specs.Block.{AreBlocks, IsCut, IsMessage, block, block_len, blocks_at}
 use Rattle.mold_packet.specs.laws.Cutting.{are_blocks, cut_off, first_off, flat_map-first, not_cut, one_more}
 use Rattle.venue_normaliser.specs.declared.snapshot_fault.SnapshotFault.TheVariants.{Cut, NoEnd, NotOfSnapshot, BadNumber, AfterEnd}
 use Rattle.venue_normaliser.specs.Inside.{HasStated}

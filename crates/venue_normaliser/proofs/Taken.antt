@@ -1,15 +1,15 @@
 -- The messages that were taken, when one packet or skip more has come.
-use Rattle.std.proofs.Common.{◌≡◌, ℕ, zero, suc, ◌+◌, ◌-◌, ◌<◌, ◌≤◌, Bool, true, false, cond, List, [], ◌∷◌, ◌++◌, length, map, get_or, drop, Option, Some, None, refl, sym, ap, subst, ◌∙◌, arith, inl, inr}
-use Rattle.std.specs.Prelude.{IsSome, find, nat_lt, unwrap_or, if◌then◌else◌, ◌⊎◌, ◌&&◌, ◌||◌}
+use Rattle.std.proofs.Common.{◌≡◌, ℕ, zero, suc, ◌+◌, ◌-◌, ◌<◌, ◌≤◌, Bool, true, false, List, [], ◌∷◌, ◌++◌, map, Option, Some, None, refl, sym, ap, subst, ◌∙◌, arith}
+use Rattle.std.specs.Prelude.{IsSome, find, nat_lt, unwrap_or, if◌then◌else◌, ◌||◌}
 use Rattle.std.specs.List.{range_with_len}
 use Rattle.std.specs.Option.{option_map, option_or}
-use Rattle.std.proofs.lemmas.Bool.{cases_lt, false≢true}
+use Rattle.std.proofs.lemmas.Bool.{false≢true}
 use Rattle.std.proofs.lemmas.Bool.Decides.{nat_tests}
 use Rattle.std.proofs.lemmas.List.Folds.{find-append}
 use Rattle.feed_types.specs.declared.item.Item.{Item}
-use Rattle.line_arbiter.specs.Packets.{Arrival, Input, Arrived, Skip, bringer, brings, carried, has_number, is_taken, item_brought}
+use Rattle.line_arbiter.specs.Packets.{Arrival, Input, Arrived, Skip, bringer, brings, carried, item_brought}
 use Rattle.line_arbiter.specs.Streams.{front_of}
-use Rattle.line_arbiter.specs.laws.Options.{IsSome-or, map_or, or_none, picked}
+use Rattle.line_arbiter.specs.laws.Options.{IsSome-or, map_or, picked}
 use Rattle.line_arbiter.specs.laws.Bringing.{carried-push}
 use Rattle.line_arbiter.specs.laws.Fronts.{front_greatest, front_is}
 use Rattle.venue_normaliser.specs.Brought.{has_skip_past, before_skip_past, message_at, message_brought, messages_brought, messages_to, taken_message}

@@ -1,7 +1,7 @@
 -- The messages that a venue's lines brought in the present session, by their numbers, up to the
 -- first gap; and what is put out of them where a gap was given up: nothing past it. A session is
 -- taken from a number on: from 1, or from that of a snapshot.
-use Rattle.std.specs.Prelude.{ℕ, ◌+◌, ◌-◌, ◌||◌, Bool, true, false, nat_le, nat_lt, List, [], ◌∷◌, length, map, Option, unwrap_or, slice_index_or, if◌then◌else◌}
+use Rattle.std.specs.Prelude.{ℕ, ◌+◌, ◌-◌, ◌||◌, Bool, false, nat_le, nat_lt, List, [], ◌∷◌, length, map, Option, unwrap_or, slice_index_or, if◌then◌else◌}
 use Rattle.std.specs.List.{range_with_len}
 use Rattle.std.specs.Option.{option_map}
 use Rattle.line_arbiter.specs.Packets.{Input, Arrived, Skip, bringer}

@@ -1,6 +1,6 @@
 -- One message's and several messages' effect on the orders and on what is put out. Cited by private
 -- clauses alone.
-use Rattle.std.specs.Prelude.{◌≡◌, ℕ, ◌+◌, ◌-◌, ◌≤◌, ◌*◌, ◌⊎◌, false, nat_le, List, [], ◌∷◌, ◌++◌, length, map, min, Result, IsTrue, true, if◌then◌else◌}
+use Rattle.std.specs.Prelude.{◌≡◌, ℕ, ◌+◌, ◌-◌, ◌≤◌, ◌⊎◌, false, nat_le, List, [], ◌∷◌, ◌++◌, length, map, min, Result, IsTrue, true, if◌then◌else◌}
 use Rattle.std.specs.List.{AllByRecursion, range_with_len}
 use Rattle.feed_types.specs.declared.item.Item.{Item}
 use Rattle.feed_types.specs.declared.item.Numbered.{Numbered}
@@ -19,7 +19,7 @@ use Rattle.line_arbiter.specs.States.{State, KeepsAllButSent}
 use Rattle.line_arbiter.specs.Fits.{Fits}
 use Rattle.line_arbiter.specs.Skips.{AllSent}
 use Rattle.venue_normaliser.specs.declared.message_slot.MessageSlot.{MessageSlot}
-use Rattle.venue_normaliser.specs.Brought.{has_skip_past, message_at}
+use Rattle.venue_normaliser.specs.Brought.{message_at}
 use Rattle.venue_normaliser.specs.Outputs.{AreMadeAfter, MakesItem, events_of}
 use Rattle.venue_normaliser.specs.Slots.{KeepsTaken}
 use Rattle.venue_normaliser.specs.Snapshots.{is_of_snapshot}

@@ -1,7 +1,7 @@
 -- A snapshot of a venue's live orders: messages of ITCH, each in a block as MoldUDP64 has them, and
 -- at its end the message End of Snapshot, which has the number of the session's next message:
 -- Glimpse 5.0.
-use Rattle.std.specs.Prelude.{◌≡◌, ℕ, ◌+◌, ◌-◌, ◌*◌, ◌<◌, ◌≤◌, ◌==◌, ◌&&◌, nat_le, Bool, true, false, List, [], ◌++◌, length, fold, take, drop, slice_index, IsTrue}
+use Rattle.std.specs.Prelude.{◌≡◌, ℕ, ◌+◌, ◌-◌, ◌*◌, ◌<◌, ◌≤◌, ◌&&◌, nat_le, Bool, true, false, List, [], ◌++◌, length, fold, take, drop, slice_index, IsTrue}
 use Rattle.std.specs.List.{flat_map, AllByRecursion}
 use Rattle.feed_types.specs.Symbols.{is_space}
 use Rattle.mold_packet.specs.Block.{block, IsCut, IsMessage}

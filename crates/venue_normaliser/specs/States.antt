@@ -1,10 +1,10 @@
 -- A venue's normaliser, and the packets and skips that it was given in the present session.
-use Rattle.std.specs.Prelude.{◌≡◌, ℕ, ◌+◌, ◌<◌, ◌≤◌, Bool, true, false, List, ◌++◌, length}
+use Rattle.std.specs.Prelude.{◌≡◌, ℕ, ◌+◌, ◌<◌, ◌≤◌, Bool, false, List, ◌++◌, length}
 use Rattle.feed_types.specs.declared.item.Item.{Item}
 use Rattle.feed_types.specs.declared.item.Numbered.{Numbered}
 use Rattle.itch_book.specs.Books.{OrderBookState, FitsEvents}
-use Rattle.line_arbiter.specs.Packets.{Input, end_of}
-use Rattle.line_arbiter.specs.Streams.{front_of, end_at}
+use Rattle.line_arbiter.specs.Packets.{Input}
+use Rattle.line_arbiter.specs.Streams.{front_of}
 use Rattle.line_arbiter.specs.States.{State, IsNew}
 use Rattle.line_arbiter.specs.Fits.{Fits}
 use Rattle.line_arbiter.specs.Skips.{AllSent}

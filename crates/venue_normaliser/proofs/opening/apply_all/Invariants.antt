@@ -1,7 +1,4 @@
-use Rattle.std.proofs.Common.{◌≡◌, ◌++◌, [], List, ℕ}
-use Rattle.itch_book.specs.Books.{FitsEvents}
 use Rattle.mold_packet.specs.Block.{AreBlocks, blocks_at}
-use Rattle.venue_normaliser.specs.Outputs.{events_of}
 use Rattle.venue_normaliser.proofs.Making.{AreApplied}
 use Rattle.venue_normaliser.proofs.opening.apply_all.Given as goal
 

@@ -1,4 +1,4 @@
-use Rattle.std.proofs.Common.{◌≡◌, ◌∙◌, Some, None, refl, sym}
+use Rattle.std.proofs.Common.{◌∙◌, refl, sym}
 use Rattle.line_arbiter.specs.laws.FitsHistory.{keeping_all_but_sent_is_reflexive, keeping_all_but_sent_is_transitive}
 use Rattle.venue_normaliser.proofs.Readying.{open_before, up_to_none, up_to_more, ready_end, ready_none}
 use Rattle.venue_normaliser.proofs.putting_out.put_ready.Goals as goal
