@@ -176,3 +176,11 @@ block_longer rest m after found =
       length-append (block m) after,
       length-append (to_be_bytes w16 (length m)) m,
     )
+
+-- ---- what the functions' proofs search in
+
+pub ruleset end_faults = (fault_other, fault_number)
+
+pub ruleset faults_without_end = (fault_none, fault_cut)
+
+pub ruleset splitting = (some_block, split_list, split_rest)

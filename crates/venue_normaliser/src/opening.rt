@@ -18,7 +18,7 @@ use line_arbiter::Arbiter;
 use std::alloc::{AllocError, Global};
 
 /// Returns the first of several messages, and the blocks of the others.
-#[tactic(auto, using(crate::proofs::Snapshotting::some_block, crate::proofs::Snapshotting::split_list, crate::proofs::Snapshotting::split_rest,))]
+#[tactic(auto, using(crate::proofs::Snapshotting::splitting))]
 fn split_first(left: usize, blocks: &[u8]) -> (&[u8], &[u8])
     requires blocks { AreBlocks left blocks.now }
     requires some { 0 < left }
@@ -33,7 +33,7 @@ fn split_first(left: usize, blocks: &[u8]) -> (&[u8], &[u8])
 }
 
 /// Applies the messages of a snapshot to a book.
-#[tactic(auto, using(crate::proofs::Making::applied_none, crate::proofs::Making::applied_more, crate::proofs::Making::applied_all,))]
+#[tactic(auto, using(crate::proofs::Making::applied_none, crate::proofs::Making::applied_all))]
 pub(crate) fn apply_all(book: &mut OrderBook, snapshot: &Snapshot<'_>) -> Result<(), BookFault>
     ensures fits { OnOk result (FitsEvents book.old []
         → FitsEvents book.new (events_of snapshot.now.messages)) }
@@ -101,7 +101,7 @@ pub(crate) fn put_items(
 
 /// Gives up the messages before a number in a session of which nothing came, and returns whether
 /// that could be; there are none before 1.
-#[tactic(auto, using(crate::proofs::Opened::never_refused, crate::proofs::Opened::opened_lines, crate::proofs::Opened::opened_first,))]
+#[tactic(auto, using(crate::proofs::Opened::never_refused, crate::proofs::Opened::opened_first))]
 fn skip_first(lines: &mut Arbiter<Anything>, number: u64) -> bool
     ensures always { Fits lines.old [] → AllSent [] lines.old.sent → result ≡ true }
     ensures fits { IsTrue result → Fits lines.old [] → Fits lines.new (opened_at number) }

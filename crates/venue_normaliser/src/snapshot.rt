@@ -184,7 +184,6 @@ fn value_of(digits: &[u8]) -> Option<u64>
 
 /// Returns the number of a field of digits with spaces before and after them, where it is one of 1
 /// to 4,294,967,295.
-#[tactic(auto, using(crate::proofs::Numbers::no_number_great, crate::proofs::Numbers::no_number_zero,))]
 fn number_in(field: &[u8]) -> Option<u64>
     ensures is { IfSome result (λ number. IsNumberField field.now number) }
     ensures one { IfSome result (λ number. 1 ≤ number) }
@@ -214,7 +213,7 @@ fn end_number_of(message: &[u8]) -> Option<u64>
 }
 
 /// Reads what follows the messages of a snapshot and is a message that it has only at its end.
-#[tactic(auto, using(crate::proofs::Snapshotting::fault_other, crate::proofs::Snapshotting::fault_number, crate::proofs::Snapshotting::fault_after, crate::proofs::Snapshotting::whole, crate::proofs::Snapshotting::whole_blocks,))]
+#[tactic(auto, using(crate::proofs::Snapshotting::end_faults))]
 fn read_end<'a>(
     bytes: &'a [u8],
     count: usize,
@@ -249,7 +248,7 @@ fn read_end<'a>(
 }
 
 /// Returns why bytes that have no end are no snapshot, of which `rest` is no whole message.
-#[tactic(auto, using(crate::proofs::Snapshotting::fault_none, crate::proofs::Snapshotting::fault_cut,))]
+#[tactic(auto, using(crate::proofs::Snapshotting::faults_without_end))]
 fn without_end(bytes: &[u8], count: usize, rest: &[u8]) -> SnapshotFault
     requires stated { HasStated count bytes.now rest.now }
     requires cut { IsCut rest.now }
@@ -272,7 +271,7 @@ fn without_end(bytes: &[u8], count: usize, rest: &[u8]) -> SnapshotFault
 ///
 /// A fault is the first that the bytes have: a message is cut, the end is missing, a message is
 /// none of these, the end's number is none, or bytes follow the end.
-#[tactic(auto, using(crate::proofs::Snapshotting::stated_none, crate::proofs::Snapshotting::stated_more,))]
+#[tactic(auto, using(crate::proofs::Snapshotting::stated_none))]
 pub fn read_snapshot(bytes: &[u8]) -> Result<Snapshot<'_>, SnapshotFault>
     ensures read { IfOk result (λ s. IsSnapshot bytes.now s.messages s.number) }
     ensures fault { IfErr result (HasSnapshotFault bytes.now) }
