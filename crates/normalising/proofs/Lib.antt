@@ -1,6 +1,4 @@
-mod Forms
 mod Packing
-mod Runs
 mod Sent
 mod Taking
 mod Venue

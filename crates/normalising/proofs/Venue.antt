@@ -10,7 +10,7 @@ use Rattle.normalising.specs.Carried.{RunsFrom}
 use Rattle.normalising.specs.Writes.{PutsPackets, WritesMore, origin_of}
 use Rattle.normalising.specs.declared.output_form.OutputForm.{OutputForm}
 use Rattle.normalising.specs.declared.packet_origin.PacketOrigin.{PacketOrigin}
-use Rattle.normalising.proofs.Runs.{more_runs}
+use Rattle.item_packets.specs.laws.Rows.{more_runs}
 
 same_origin : (before after : NormaliserState) (time : ℕ)
     → KeepsItsSession before.lines after.lines → origin_of after time ≡ origin_of before time

@@ -12,13 +12,12 @@
 //! are packets of the session whose item n is the one that message n makes. [`normalise`] itself
 //! has no contract yet: which venue a record goes to, and what a run reads, is tested.
 //!
-//! Begin at `specs/Carried.antt`, then `specs/Writes.antt`; `normalised_venue.rt` has a venue,
+//! Begin at `specs/Carried.antt` and that of `item_packets`, then `specs/Writes.antt`; `normalised_venue.rt` has a venue,
 //! `conversion.rt` a run.
 #![tactic(auto)]
 
 mod conversion;
 mod laws;
-mod message_forms;
 mod normalise_stop;
 mod normalised_feed;
 mod normalised_venue;
@@ -33,7 +32,8 @@ mod venue_report;
 mod venue_stop;
 
 pub use conversion::{Normalised, normalise};
-pub use laws::{packets_carry_on, what_is_written_is_the_session};
+pub use item_packets::packets_carry_on;
+pub use laws::what_is_written_is_the_session;
 pub use normalise_stop::NormaliseStop;
 pub use normalised_feed::NormalisedFeed;
 pub use output_form::OutputForm;

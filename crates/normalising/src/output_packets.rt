@@ -13,7 +13,6 @@ ghost use Rattle.text_out.specs.Devices.{Wrote};
 ghost use Rattle.normalising.specs.Texts.{record_text};
 ghost use Rattle.normalising.specs.Writes.{PutsPackets, PutsText};
 
-use crate::message_forms::{end_number, fill_forms, first_number, lend_all, messages_before_end};
 use crate::output_form::OutputForm;
 use crate::output_page::OutputPage;
 use crate::packet_origin::PacketOrigin;
@@ -22,6 +21,7 @@ use capture_writing::MOST_BYTES;
 use event_sinks::SinkStop;
 use feed_types::{Numbered, VenueId};
 use itch_book::BookFault;
+use item_packets::{end_number, fill_forms, first_number, lend_all, messages_before_end};
 use mold_packet::{Body, write_packet};
 use packet_building::build_packet;
 use std::alloc::{AllocError, Global};

@@ -4,6 +4,7 @@ ghost use Rattle.std.specs.Prelude.{◌≡◌, ◌*◌, vec_len};
 use crate::end_rule::EndRule;
 use crate::feed_settings::FeedSettings;
 use crate::formats::BestFormat;
+use crate::itch_settings::ItchSettings;
 use crate::listen_stats::ListenStats;
 use crate::next_session::NextSession;
 use crate::sender::Senders;
@@ -16,6 +17,8 @@ pub struct ListenSettings {
     pub feed: FeedSettings,
     /// The sessions that follow the venues' first ones, those of a venue in their order.
     pub next: Vec<NextSession>,
+    /// Which venues send ITCH, and how that is read.
+    pub itch: ItchSettings,
     /// The address where each line is received, `None` for a line that isn't there: line A's and
     /// then line B's, those of venue 0 first. Each venue has a line.
     pub lines: Vec<Option<SocketAddr>>,

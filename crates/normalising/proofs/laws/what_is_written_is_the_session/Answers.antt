@@ -1,5 +1,5 @@
 use Rattle.std.proofs.Common.{◌∙◌, take, arith, length-take}
-use Rattle.normalising.proofs.Runs.{made_items, ended, some_row}
+use Rattle.item_packets.specs.laws.Rows.{made_items, ended, some_row}
 use Rattle.normalising.proofs.Sent.{row_sent}
 use Rattle.normalising.proofs.laws.what_is_written_is_the_session.Goals as goal
 use Rattle.line_arbiter.specs.Streams.{front_of}

@@ -6,7 +6,8 @@ use Rattle.mold_packet.specs.Body.{lent_bytes}
 use Rattle.quote_payload.specs.Payload.{item_of}
 use Rattle.normalising.specs.Carried.{IsShortMessage}
 use Rattle.normalising.specs.Writes.{PutsPackets}
-use Rattle.normalising.proofs.Packing.{all_taken, are_messages, fits_one, packet_more, rest_is, short_rest}
+use Rattle.item_packets.specs.laws.Parts.{all_taken, are_messages, fits_one, rest_is, short_rest}
+use Rattle.normalising.proofs.Packing.{packet_more}
 use Rattle.normalising.proofs.Taking.{on_err_any}
 use Rattle.normalising.proofs.output_packets.put_messages.Goals as goal
 

@@ -1,5 +1,6 @@
 use Rattle.std.proofs.Common.{refl}
-use Rattle.normalising.proofs.Packing.{items_put, rest_of}
+use Rattle.item_packets.specs.laws.Parts.{rest_of}
+use Rattle.normalising.proofs.Packing.{items_put}
 use Rattle.normalising.proofs.output_packets.OutputPackets.put_items.Goals as goal
 
 pub returns-clause-put : goal.returns-clause-put

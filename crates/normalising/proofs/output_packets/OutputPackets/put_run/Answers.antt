@@ -3,7 +3,7 @@ use Rattle.std.proofs.lemmas.Result.{on_ok_weaker}
 use Rattle.quote_payload.specs.Payload.{item_of}
 use Rattle.venue_normaliser.specs.Forms.{form_bytes}
 use Rattle.normalising.specs.Writes.{PutsPackets}
-use Rattle.normalising.proofs.Packing.{items_each, run_is}
+use Rattle.item_packets.specs.laws.Parts.{items_each, run_is}
 use Rattle.normalising.proofs.output_packets.OutputPackets.put_run.Goals as goal
 
 pub returns-clause-put : goal.returns-clause-put

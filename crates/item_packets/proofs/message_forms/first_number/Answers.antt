@@ -1,7 +1,7 @@
 use Rattle.std.proofs.Common.{◌-◌, length, arith}
-use Rattle.normalising.proofs.Runs.{number_in_row}
-use Rattle.normalising.proofs.message_forms.first_number.Goals.{then-first-eq0-via-then-first-eq0, then-first-eq0-via-else-first-eq0+then-last-first, then-first-eq0-via-else-first-eq0+else-last-first+then-last-first-2}
-use Rattle.normalising.proofs.message_forms.first_number.Goals as goal
+use Rattle.item_packets.specs.laws.Rows.{number_in_row}
+use Rattle.item_packets.proofs.message_forms.first_number.Goals.{then-first-eq0-via-then-first-eq0, then-first-eq0-via-else-first-eq0+then-last-first, then-first-eq0-via-else-first-eq0+else-last-first+then-last-first-2}
+use Rattle.item_packets.proofs.message_forms.first_number.Goals as goal
 
 pub returns-clause-first : goal.returns-clause-first
 returns-clause-first c = λ first its e.

@@ -2,8 +2,8 @@ use Rattle.std.proofs.Common.{◌≡◌, map, take, length}
 use Rattle.std.specs.List.{AllByRecursion}
 use Rattle.quote_payload.specs.Payload.{item_of}
 use Rattle.venue_normaliser.specs.Forms.{form_bytes}
-use Rattle.normalising.specs.Carried.{IsMessageItem, numbered_item}
-use Rattle.normalising.proofs.message_forms.fill_forms.Given as goal
+use Rattle.item_packets.specs.Carried.{IsMessageItem, numbered_item}
+use Rattle.item_packets.proofs.message_forms.fill_forms.Given as goal
 
 abbrev pub invariant-loop-item : goal.invariant-loop-item
 invariant-loop-item l = record {

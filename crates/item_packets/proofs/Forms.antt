@@ -8,7 +8,7 @@ use Rattle.feed_types.specs.declared.item.Numbered.{Numbered}
 use Rattle.quote_payload.specs.Payload.{item_of}
 use Rattle.venue_normaliser.specs.declared.message_form.MessageForm.{MessageForm}
 use Rattle.venue_normaliser.specs.Forms.{form_bytes}
-use Rattle.normalising.specs.Carried.{IsMessageItem, numbered_item}
+use Rattle.item_packets.specs.Carried.{IsMessageItem, numbered_item}
 
 abbrev pub item_read : MessageForm → Item
 item_read f = item_of (form_bytes f)

@@ -1,8 +1,8 @@
 use Rattle.std.proofs.Common.{◌∙◌, [], ◌∷◌, length, map, ap, arith, length-append}
 use Rattle.quote_payload.specs.Payload.{item_of}
 use Rattle.venue_normaliser.specs.Forms.{form_bytes}
-use Rattle.normalising.proofs.Forms.{read_more}
-use Rattle.normalising.proofs.message_forms.fill_forms.Goals as goal
+use Rattle.item_packets.proofs.Forms.{read_more}
+use Rattle.item_packets.proofs.message_forms.fill_forms.Goals as goal
 
 pub loop-item-preserved : goal.loop-item-preserved
 loop-item-preserved c =

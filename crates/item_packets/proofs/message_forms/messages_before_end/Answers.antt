@@ -1,8 +1,8 @@
 use Rattle.std.proofs.Common.{◌≡◌, ◌+◌, ◌-◌, ◌∙◌, ℕ, length, get_or, ap, arith}
 use Rattle.feed_types.specs.Sessions.{end_item}
-use Rattle.normalising.proofs.Runs.{before_end, without_end}
-use Rattle.normalising.proofs.message_forms.messages_before_end.Goals.{else-len-gt0-via-then-len-gt0+else-is_end, else-len-gt0-via-else-len-gt0}
-use Rattle.normalising.proofs.message_forms.messages_before_end.Goals as goal
+use Rattle.item_packets.specs.laws.Rows.{before_end, without_end}
+use Rattle.item_packets.proofs.message_forms.messages_before_end.Goals.{else-len-gt0-via-then-len-gt0+else-is_end, else-len-gt0-via-else-len-gt0}
+use Rattle.item_packets.proofs.message_forms.messages_before_end.Goals as goal
 
 pub returns-then-is_end-clause-count : goal.returns-then-is_end-clause-count
 returns-then-is_end-clause-count c = λ first run.

@@ -2,9 +2,9 @@ use Rattle.std.proofs.Common.{◌≡◌, ◌∙◌, ap₂, ◌++◌, List, refl}
 use Rattle.std.proofs.lemmas.List.Concat.{flat_map-append}
 use Rattle.feed_types.specs.declared.item.Numbered.{Numbered}
 use Rattle.mold_packet.specs.Content.{IsContent}
-use Rattle.normalising.specs.Carried.{items_carried}
-use Rattle.normalising.proofs.Packing.{all_append}
-use Rattle.normalising.proofs.laws.packets_carry_on.Goals as goal
+use Rattle.item_packets.specs.Carried.{items_carried}
+use Rattle.item_packets.specs.laws.Parts.{all_append}
+use Rattle.item_packets.proofs.laws.packets_carry_on.Goals as goal
 
 pub returns-clause-more : goal.returns-clause-more
 returns-clause-more c = λ name before more packets written a b. record {

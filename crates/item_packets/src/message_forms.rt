@@ -6,7 +6,7 @@ ghost use Rattle.feed_types.specs.Sessions.{end_item, numbered_from};
 ghost use Rattle.mold_packet.specs.Body.{lent_bytes};
 ghost use Rattle.quote_payload.specs.Payload.{item_of};
 ghost use Rattle.venue_normaliser.specs.Forms.{form_bytes};
-ghost use Rattle.normalising.specs.Carried.{IsMessageItem, RunsFrom, numbered_item, IsShortMessage};
+ghost use Rattle.item_packets.specs.Carried.{IsMessageItem, RunsFrom, numbered_item, IsShortMessage};
 
 use feed_types::{Item, Numbered};
 use std::alloc::{AllocError, Global};
@@ -20,7 +20,7 @@ fn is_end(item: &Item) -> bool
 }
 
 /// Returns how many messages stand before an end of session, or before the end of the slice.
-pub(crate) fn messages_before_end(items: &[Numbered]) -> usize
+pub fn messages_before_end(items: &[Numbered]) -> usize
     ensures count { (first : ℕ) (run : RunsFrom first items.now) → result ≡ length run.items }
     ensures within { result ≤ length items.now }
 {
@@ -32,7 +32,7 @@ pub(crate) fn messages_before_end(items: &[Numbered]) -> usize
 }
 
 /// Returns the number of the first item, where there is one and the numbers go on from it.
-pub(crate) fn first_number(items: &[Numbered]) -> Option<u64>
+pub fn first_number(items: &[Numbered]) -> Option<u64>
     ensures in_range { IfSome result (λ n. (1 ≤ n) × (n + length items.now ≤ 2 ^ 64)) }
     ensures first { IfSome result (λ n. (first : ℕ) (its : List Item)
         → items.now ≡ numbered_from first its → n ≡ first) }
@@ -52,7 +52,7 @@ pub(crate) fn first_number(items: &[Numbered]) -> Option<u64>
 }
 
 /// Returns the number of the first item, where there is one and it is at least 1.
-pub(crate) fn end_number(ends: &[Numbered]) -> Option<u64>
+pub fn end_number(ends: &[Numbered]) -> Option<u64>
     ensures from_one { IfSome result (λ n. 1 ≤ n) }
     ensures number { IfSome result (λ n. (number : ℕ) → 1 ≤ number
         → (ends.now ≡ []) ⊎ (ends.now ≡ end_item number ∷ []) → ends.now ≡ end_item n ∷ []) }
@@ -70,7 +70,7 @@ pub(crate) fn end_number(ends: &[Numbered]) -> Option<u64>
 }
 
 /// Makes the messages of items.
-pub(crate) fn fill_forms(forms: &mut Vec<MessageForm>, items: &[Numbered]) -> Result<(), AllocError>
+pub fn fill_forms(forms: &mut Vec<MessageForm>, items: &[Numbered]) -> Result<(), AllocError>
     ensures reads { OnOk result (AllByRecursion IsMessageItem (map numbered_item items.now)
         → map (λ f. item_of (form_bytes f)) forms.new.items ≡ map numbered_item items.now) }
     ensures count { OnOk result (length forms.new.items ≡ length items.now) }
@@ -83,10 +83,7 @@ pub(crate) fn fill_forms(forms: &mut Vec<MessageForm>, items: &[Numbered]) -> Re
 }
 
 /// Lends the bytes of messages.
-pub(crate) fn lend_all<'a>(
-    alloc: Global,
-    forms: &'a [MessageForm],
-) -> Result<Vec<&'a [u8]>, AllocError>
+pub fn lend_all<'a>(alloc: Global, forms: &'a [MessageForm]) -> Result<Vec<&'a [u8]>, AllocError>
     ensures bytes { IfOk result (λ v. lent_bytes v.items ≡ map form_bytes forms.now) }
     ensures short { IfOk result (λ v. AllByRecursion IsShortMessage (lent_bytes v.items)) }
 {

@@ -15,7 +15,7 @@ use Rattle.line_arbiter.specs.Packets.{Input, Arrived, Skip, end_of}
 use Rattle.line_arbiter.specs.Streams.{front_of, end_at}
 use Rattle.venue_normaliser.specs.Brought.{before_skip, has_skip, message_at}
 use Rattle.venue_normaliser.specs.Outputs.{AreMade, IsPutOut, MakesItem, end_put_out, events_of}
-use Rattle.normalising.specs.Carried.{IsMessageItem, RunsFrom}
+use Rattle.item_packets.specs.Carried.{IsMessageItem, RunsFrom}
 
 -- ---- a row without a front
 

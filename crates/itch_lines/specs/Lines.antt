@@ -1,0 +1,95 @@
+-- What a line of a venue in ITCH brings.
+use Rattle.std.specs.Prelude.{◌≡◌, ◌⊎◌, ℕ, ◌+◌, Bool, true, false, List, [], ◌∷◌, ◌++◌, flat_map, map}
+use Rattle.std.specs.List.{AllByRecursion}
+use Rattle.feed_types.specs.declared.line.LineId.{LineId}
+use Rattle.line_arbiter.specs.Pacing.{IsPaced}
+use Rattle.venue_lines.specs.declared.source.SourceFault.{SourceFault}
+use Rattle.venue_lines.specs.Sources.{failures_after}
+use Rattle.item_packets.specs.Packed.{bytes_of_each}
+use Rattle.itch_lines.specs.Cells.{HasBeenGiven, ItchState}
+use Rattle.itch_lines.specs.Sections.{BringsEnd, BringsSkip, TakesDatagram}
+use Rattle.itch_lines.specs.declared.itch_line.ItchLine.{ItchLine}
+use Rattle.itch_lines.specs.declared.source_end.SourceEnd.{SourceEnd}
+use Rattle.itch_lines.specs.declared.source_end.SourceEnd.TheVariants.{Open, Ended, Failing, Failed}
+
+-- The section is possible at the venue: there are two states that its lock may keep, and the
+-- datagram of these bytes leads from the one to the other. Outside of the lock nothing is known of
+-- its state, so this says what may be made, and not that these two were the lock's own.
+pub record IsPossibleTaking (venue : ℕ) (line : LineId) (bytes : List ℕ) (made : List (List ℕ))
+    : Type 0 where
+  pub old : ItchState
+  pub was : HasBeenGiven old.normaliser
+  pub venue_is : old.normaliser.lines.venue ≡ venue
+  pub new : ItchState
+  pub is : HasBeenGiven new.normaliser
+  pub takes : TakesDatagram old.names line bytes old.normaliser new.normaliser was.packets was.put
+      made
+
+-- the same of a gap that is given up
+pub record IsPossibleSkip (venue : ℕ) (made : List (List ℕ)) : Type 0 where
+  pub old : ItchState
+  pub was : HasBeenGiven old.normaliser
+  pub venue_is : old.normaliser.lines.venue ≡ venue
+  pub new : ItchState
+  pub is : HasBeenGiven new.normaliser
+  pub number : ℕ
+  pub skips : BringsSkip number old.normaliser new.normaliser was.packets was.put made
+
+-- What became of a datagram of these bytes, or of a gap that was given up, and the datagrams that
+-- were made then; or the venue's normaliser has failed.
+pub data Section : Type 0 where
+  Took : (bytes : List ℕ) → (made : List (List ℕ)) → Section
+  GaveUp : (made : List (List ℕ)) → Section
+  Failing : (received : List (List ℕ)) → (made : List (List ℕ)) → Section
+
+abbrev pub received_in : Section → List (List ℕ)
+received_in (Section.Took bytes made) = bytes ∷ []
+received_in (Section.GaveUp made) = []
+received_in (Section.Failing received made) = received
+
+abbrev pub made_in : Section → List (List ℕ)
+made_in (Section.Took bytes made) = made
+made_in (Section.GaveUp made) = made
+made_in (Section.Failing received made) = made
+
+-- the section is one that the venue's lock may see
+abbrev pub IsPossible : ℕ → LineId → Section → Type 0
+IsPossible venue line (Section.Took bytes made) = IsPossibleTaking venue line bytes made
+IsPossible venue line (Section.GaveUp made) = IsPossibleSkip venue made
+IsPossible venue line (Section.Failing received made) = BringsEnd made
+
+-- the normaliser has not failed in it
+abbrev pub IsSound : Section → Type 0
+IsSound (Section.Took bytes made) = Unit {0}
+IsSound (Section.GaveUp made) = Unit {0}
+IsSound (Section.Failing received made) = ⊥
+
+-- the line ends with a fault, or has
+abbrev pub HasFault : SourceEnd → Type 0
+HasFault Open = ⊥
+HasFault Ended = ⊥
+HasFault (Failing fault) = Unit {0}
+HasFault (Failed fault) = Unit {0}
+
+-- how many calls of a line have failed: one at most, since it ends then
+abbrev pub failures_of : SourceEnd → ℕ
+failures_of Open = 0
+failures_of Ended = 0
+failures_of (Failing fault) = 0
+failures_of (Failed fault) = failures_after 0 fault
+
+-- The datagrams of these bytes are what the line has brought from one state to the other: section
+-- by section what its source's datagrams, and gaps that were given up, have made under the venue's
+-- lock, in order, and what waited before; but for what waits still. Where no fault ends the line,
+-- the normaliser has failed in no section.
+pub record HasNormalised {S C : Type 0} (brings : S → List (List ℕ) → S → Type 0)
+    (old : ItchLine S C) (bytes : List (List ℕ)) (new : ItchLine S C) : Type 0 where
+  pub venue : new.venue ≡ old.venue
+  pub line : new.line ≡ old.line
+  pub sections : List Section
+  pub each : AllByRecursion (IsPossible old.venue old.line) sections
+  pub sound : (HasFault new.end → ⊥) → AllByRecursion IsSound sections
+  pub ended : HasFault old.end → HasFault new.end
+  pub came : brings old.source (flat_map received_in sections) new.source
+  pub all : bytes_of_each old.waiting.items ++ flat_map made_in sections
+      ≡ bytes ++ bytes_of_each new.waiting.items

@@ -1,0 +1,3 @@
+pub mod Carried
+pub mod Packed
+pub mod laws
