@@ -1,13 +1,14 @@
-pub mod CapturedLists
 mod Chains
 mod Following
+mod ItchNaming
 mod Listing
 mod Naming
+mod Spelling
+pub mod CapturedLists
 pub mod OptionReading
 pub mod OptionTables
 pub mod PeriodReading
 pub mod Refusing
-mod Spelling
 pub mod Subcommands
 pub mod TimeReading
 pub mod Windows

@@ -30,7 +30,7 @@ use Rattle.command_words.specs.declared.streams.StreamFiles.{StreamFiles}
 use Rattle.command_words.specs.declared.task.Task.{Task}
 use Rattle.command_words.specs.declared.task.Task.TheVariants.{Run, Convert, Discover, Normalise, Listen}
 use Rattle.command_words.specs.declared.refusal.Refusal.{Refusal}
-use Rattle.command_words.specs.declared.refusal.Refusal.TheVariants.{Shown, Usage, NotText, BadSession, TooManySessions, BadNextSession, BadLines, BadRequest, BadFormat, BadPeriod, EveryWithoutLines, GapsWithEvery, BestsWithoutEvery, SkipAfterWithoutLines, SkipGapsWithSkipAfter, BadTime, ToBeforeFrom, SpanOfLines, SpanWithoutLines, BadTimeStyle, TimesOfText, TimesWithoutLines, BadEnd, KeptUnfollowed, FormatUnfollowed, BadSender, SendersWithFrom, BadRecording, BadMetrics, BadEndNumber, BadInput, BadOutput, BadSymbol, TooManySymbols, DuplicateSymbol, NoMemory}
+use Rattle.command_words.specs.declared.refusal.Refusal.TheVariants.{Shown, Usage, NotText, BadSession, TooManySessions, BadNextSession, BadLines, BadRequest, BadFormat, BadPeriod, EveryWithoutLines, GapsWithEvery, BestsWithoutEvery, SkipAfterWithoutLines, SkipGapsWithSkipAfter, BadTime, ToBeforeFrom, SpanOfLines, SpanWithoutLines, BadTimeStyle, TimesOfText, TimesWithoutLines, BadEnd, KeptUnfollowed, FormatUnfollowed, BadSender, SendersWithFrom, BadRecording, BadMetrics, UnknownItch, ItchTwice, BadEndNumber, BadInput, BadOutput, BadSymbol, TooManySymbols, DuplicateSymbol, NoMemory}
 
 -- a text that was asked for: help, or the version
 abbrev pub IsAsked : ErrorKind → Type 0
@@ -178,6 +178,8 @@ refusal_text BadSender = codes "nbbo: bad sender\n"
 refusal_text SendersWithFrom = codes "nbbo: --senders with --from\n"
 refusal_text BadRecording = codes "nbbo: bad file for --record\n"
 refusal_text BadMetrics = codes "nbbo: bad metrics address\n"
+refusal_text UnknownItch = codes "nbbo: --itch names a session that --sessions doesn't\n"
+refusal_text ItchTwice = codes "nbbo: --itch names a session twice\n"
 refusal_text BadEndNumber = codes "nbbo: bad end number\n"
 refusal_text BadInput = codes "nbbo: bad file for --input\n"
 refusal_text BadOutput = codes "nbbo: bad file for --output\n"

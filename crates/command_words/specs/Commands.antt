@@ -17,6 +17,7 @@ replay_app = with_option_rules (new_app (codes "replay"))
 abbrev pub listen_app : App
 listen_app = with_option_rules (new_app (codes "listen"))
     ((codes "sessions", Required) ∷ (codes "lines", Required)
+    ∷ (codes "itch", Text) ∷ (codes "orders", FromOne) ∷ (codes "end-number", Text)
     ∷ (codes "request", Text) ∷ (codes "request-after", FromZero)
     ∷ (codes "senders", Text) ∷ (codes "from", Text)
     ∷ (codes "most-ahead", FromOne) ∷ (codes "join", Flag) ∷ (codes "skip-after", FromOne)

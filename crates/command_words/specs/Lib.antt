@@ -8,6 +8,7 @@ pub mod EndNumbers
 pub mod EndRules
 pub mod FeedRequests
 pub mod FileNames
+pub mod ItchRequests
 pub mod ListenFormats
 pub mod ListenRequests
 pub mod NextSessions

@@ -1,11 +1,13 @@
 -- The settings that the values of the options of listen give.
 use Rattle.std.specs.Prelude.{◌≡◌, ℕ, List, Bool, true, false, Option, Some, None, Result, Ok, Err, codes, if◌then◌else◌, length, unwrap_or}
 use Rattle.clap.specs.Walk.{Row, first_of, one_of}
+use Rattle.run_settings.specs.declared.itch_settings.ItchSettings.{ItchSettings}
 use Rattle.run_settings.specs.declared.listen_settings.ListenSettings.{ListenSettings}
 use Rattle.command_words.specs.Addresses.{ReadsLines, ReadsMetrics, ReadsRequest}
 use Rattle.command_words.specs.EndRules.{end_rule_in}
 use Rattle.command_words.specs.FeedRequests.{IsFeed}
 use Rattle.command_words.specs.FileNames.{ReadsFileName}
+use Rattle.command_words.specs.ItchRequests.{ReadsItch}
 use Rattle.command_words.specs.ListenFormats.{listen_format_in}
 use Rattle.command_words.specs.NextSessions.{ReadsNextSessions}
 use Rattle.command_words.specs.OptionValues.{is_flag_set, lines_in, list_in, number_given, symbol_words_in}
@@ -100,10 +102,11 @@ ReadsListenOutputs rows =
     × (outputs.record ≡ record_to))))))
 
 -- The settings have these parts.
-pub record HasParts (reception : Reception) (rules : ListenRules) (outputs : ListenOutputs)
-    (settings : ListenSettings) : Type 0 where
+pub record HasParts (reception : Reception) (itch : ItchSettings) (rules : ListenRules)
+    (outputs : ListenOutputs) (settings : ListenSettings) : Type 0 where
   pub feed_is : settings.feed ≡ reception.feed
   pub next_are : settings.next ≡ reception.next
+  pub itch_is : settings.itch ≡ itch
   pub lines_are : settings.lines ≡ reception.lines
   pub request_is : settings.request ≡ reception.request
   pub end_is : settings.end ≡ rules.end
@@ -114,12 +117,13 @@ pub record HasParts (reception : Reception) (rules : ListenRules) (outputs : Lis
   pub format_is : settings.format ≡ outputs.format
   pub record_is : settings.record ≡ outputs.record
 
--- The settings of listen by the values of its options: the feed is looked at first, then the rules,
--- and then the outputs.
+-- The settings of listen by the values of its options: the feed is looked at first, then which
+-- venues are in ITCH, the rules, and then the outputs.
 abbrev pub ReadsListening : List Row → Result ListenSettings Refusal → Type 0
 ReadsListening rows =
     Then (ReadsReception rows)
-    (λ reception. Then (ReadsListenRules rows)
+    (λ reception. Then (ReadsItch rows reception.feed.sessions.items)
+    (λ itch. Then (ReadsListenRules rows)
     (λ rules. Then (ReadsListenOutputs rows)
     (λ outputs. Yields (λ settings. HasListenOptions rows settings
-    × HasParts reception rules outputs settings))))
+    × HasParts reception itch rules outputs settings)))))

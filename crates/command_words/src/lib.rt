@@ -38,6 +38,7 @@ mod explained_lists;
 mod explanation;
 mod feed_words;
 mod file_names;
+mod itch_words;
 mod limits;
 mod listen_command;
 mod listen_format;

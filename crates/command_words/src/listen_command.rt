@@ -89,6 +89,9 @@ Status:
                         they never came, though later ones did: the first that are missing, as far
                         as the window goes. Nothing past them was printed; with --complete the
                         status is 3
+       venue V lacks COUNT messages from NUMBER, and is quoted no more
+                        of --itch: these were given up, and nothing past them was printed of that
+                        session
      and with an option other than --sessions, --lines, --request, --window, --journal and
      --datagrams, or with sessions that follow others:
        line V L lost N datagrams that the system dropped
@@ -136,9 +139,10 @@ Status:
      than a line's); 'bad end': --end is neither any nor own nor none; '--kept without --follow':
      without it all changes are kept; 'bad sender': --senders or --from isn't IP addresses, with or
      without a port; '--senders with --from', which are the same; 'bad file for --record': its name
-     is empty; 'bad metrics address': --metrics isn't an IP address and a port; 'bad format':
-     --stats-format is neither table nor json, or --stats isn't given, or --format is neither text
-     nor csv nor json; '--format without --follow'; 'bad time style': --times is neither seconds nor
+     is empty; 'bad metrics address': --metrics isn't an IP address and a port; '--itch names a
+     session that --sessions doesn't'; '--itch names a session twice'; 'bad end number': --end-number
+     is neither next nor last; 'bad format': --stats-format is neither table nor json, or --stats
+     isn't given, or --format is neither text nor csv nor json; '--format without --follow'; 'bad time style': --times is neither seconds nor
      utc; '--times of lines of text', which have none
   3  with --complete: as 0, and a venue lacks messages
 

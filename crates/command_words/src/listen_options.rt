@@ -34,6 +34,44 @@ joined before: see below. A '-' stands in place of a line that isn't there, of o
 two of a venue; write --lines=LIST where the list begins with it",
 };
 
+/// `--itch NAMES`.
+const ITCH: CommandOption<'static> = CommandOption {
+    name: "itch",
+    value: "NAMES",
+    form: OptionForm::Text,
+    help: "The venues that send TotalView-ITCH 5.0, by their first sessions, parted by commas",
+    long_help: "\
+The venues that send TotalView-ITCH 5.0 in place of this project's own messages, by the names
+of their first sessions in --sessions, parted by commas, each once. Message n of such a venue
+becomes the quotation that it changes, of the orders that messages 1 to n leave, as of
+'nbbo normalise'. Only the symbols of the command line are quoted. A gap that --skip-after gives
+up ends what is quoted of the venue until its next session, and so does a start in the middle,
+which --join doesn't mend. The venue's counts are those of what its lines made: datagrams that
+came late or were refused, and requests, aren't among them",
+};
+
+/// `--orders N` of a command that listens.
+const ORDERS: CommandOption<'static> = CommandOption {
+    name: "orders",
+    value: "N",
+    form: OptionForm::FromOne,
+    help: text!("With --itch: how many live orders a venue may have, 1 to " MAX_COUNT " [default: " DEFAULT_ORDERS "]"),
+    long_help: text!("\
+With --itch: how many live orders of the named symbols a venue may have at once: 1 to " MAX_COUNT ",
+by default " DEFAULT_ORDERS ". A venue that needs more is quoted no more, and its lines fail"),
+};
+
+/// `--end-number RULE` of a command that listens.
+const END_NUMBER: CommandOption<'static> = CommandOption {
+    name: "end-number",
+    value: "RULE",
+    form: OptionForm::Text,
+    help: "With --itch: the number of an end of session: next or last [default: next]",
+    long_help: "\
+With --itch: the number that an end of session has on the lines of such a venue: 'next', one
+more than the last message's, as by default; or 'last', that of the last message",
+};
+
 /// `--request ADDR`.
 const REQUEST: CommandOption<'static> = CommandOption {
     name: "request",
@@ -353,6 +391,9 @@ reach the address can read them. A client has 2 seconds, and holds nothing up",
 pub const LISTEN_OPTIONS: &[CommandOption<'static>] = &[
     SESSIONS,
     LINES,
+    ITCH,
+    ORDERS,
+    END_NUMBER,
     REQUEST,
     REQUEST_AFTER,
     SENDERS,

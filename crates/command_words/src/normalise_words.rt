@@ -46,7 +46,7 @@ fn normalising_skips_of(options: &ArgMatches<'_>) -> Result<SkipRule, Refusal>
 }
 
 /// Returns the rule for the number of an end of session that the option gives.
-fn end_number_of(options: &ArgMatches<'_>) -> Result<EndNumberRule, Refusal>
+pub fn end_number_of(options: &ArgMatches<'_>) -> Result<EndNumberRule, Refusal>
     ensures { result ≡ end_number_in
         (first_of (codes "end-number") (rows_of (found_of options.now))) }
 {

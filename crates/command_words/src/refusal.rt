@@ -12,6 +12,9 @@ const NO_TIMES: &str = "nbbo: --skip-after without --lines: only a packet captur
 const BAD_NEXT_SESSION: &str =
     "nbbo: bad next session: after a slash a name of 1 to 10 characters, each of a venue once\n";
 
+/// The text where a venue in ITCH is named by a session that is no venue's first one.
+const UNKNOWN_ITCH: &str = "nbbo: --itch names a session that --sessions doesn't\n";
+
 /// Why there are no settings.
 #[derive(Debug, Drop)]
 pub enum Refusal {
@@ -76,6 +79,10 @@ pub enum Refusal {
     BadRecording,
     /// The text for the address of metrics is no address.
     BadMetrics,
+    /// A venue in ITCH is named by a session that is no venue's first one.
+    UnknownItch,
+    /// A venue in ITCH is named twice.
+    ItchTwice,
     /// The rule for the number of an end of session is none of those that there are.
     BadEndNumber,
     /// The name of the file that is read in place of standard input is empty.
@@ -112,6 +119,7 @@ impl Refusal {
             Refusal::GapsWithEvery | Refusal::BadEnd | Refusal::KeptUnfollowed => 2,
             Refusal::FormatUnfollowed | Refusal::BadSender | Refusal::BadMetrics => 2,
             Refusal::SendersWithFrom | Refusal::BadRecording => 2,
+            Refusal::UnknownItch | Refusal::ItchTwice => 2,
             Refusal::BadEndNumber | Refusal::BadInput | Refusal::BadOutput => 2,
             Refusal::BadSymbol | Refusal::TooManySymbols | Refusal::DuplicateSymbol => 2,
         }
@@ -151,6 +159,8 @@ impl Refusal {
             Refusal::SendersWithFrom => "nbbo: --senders with --from\n",
             Refusal::BadRecording => "nbbo: bad file for --record\n",
             Refusal::BadMetrics => "nbbo: bad metrics address\n",
+            Refusal::UnknownItch => UNKNOWN_ITCH,
+            Refusal::ItchTwice => "nbbo: --itch names a session twice\n",
             Refusal::BadEndNumber => "nbbo: bad end number\n",
             Refusal::BadInput => "nbbo: bad file for --input\n",
             Refusal::BadOutput => "nbbo: bad file for --output\n",

@@ -1,28 +1,44 @@
 -- The line of a venue of either kind.
-use Rattle.std.specs.Prelude.{ℕ, List, ⊥}
-use Rattle.itch_lines.specs.Lines.{HasNormalised, failures_of}
+use Rattle.std.specs.Prelude.{ℕ, List}
+use Rattle.itch_lines.specs.Lines.{HasNormalised, ItchLineState, failures_of}
 use Rattle.itch_lines.specs.declared.feed_line.FeedLine.{FeedLine}
-use Rattle.itch_lines.specs.declared.feed_line.FeedLine.TheVariants.{Own, Itch}
+use Rattle.itch_lines.specs.declared.feed_line.FeedLine.TheVariants as lines
+
+-- the source of a line of own messages, or a line in ITCH
+pub data FeedLineState (S : Type 0) : Type 0 where
+  Own : S → FeedLineState S
+  Itch : ItchLineState S → FeedLineState S
+
+abbrev pub feed_line_of : {S C : Type 0} → FeedLine S C → FeedLineState S
+feed_line_of (lines.Own source) = FeedLineState.Own source
+feed_line_of (lines.Itch line) = FeedLineState.Itch line
+
+-- it is a line in ITCH
+abbrev pub IsInItch : {S : Type 0} → FeedLineState S → Type 0
+IsInItch (FeedLineState.Own source) = ⊥
+IsInItch (FeedLineState.Itch line) = Unit {0}
 
 -- the source that brings its datagrams
-abbrev pub source_of : {S C : Type 0} → FeedLine S C → S
-source_of (Own source) = source
-source_of (Itch line) = line.source
+abbrev pub source_of : {S : Type 0} → FeedLineState S → S
+source_of (FeedLineState.Own source) = source
+source_of (FeedLineState.Itch line) = line.source
 
 -- the venue whose line it is, where `own` has that of a source
-abbrev pub venue_by : {S C : Type 0} → (own : S → ℕ) → FeedLine S C → ℕ
-venue_by own (Own source) = own source
-venue_by own (Itch line) = line.venue
+abbrev pub venue_by : {S : Type 0} → (own : S → ℕ) → FeedLineState S → ℕ
+venue_by own (FeedLineState.Own source) = own source
+venue_by own (FeedLineState.Itch line) = line.venue
 
 -- how many calls of it have failed
-abbrev pub failures_by : {S C : Type 0} → (own : S → ℕ) → FeedLine S C → ℕ
-failures_by own (Own source) = own source
-failures_by own (Itch line) = failures_of line.end
+abbrev pub failures_by : {S : Type 0} → (own : S → ℕ) → FeedLineState S → ℕ
+failures_by own (FeedLineState.Own source) = own source
+failures_by own (FeedLineState.Itch line) = failures_of line.end
 
 -- it is of the same kind, and brings what that brings
-abbrev pub Brings : {S C : Type 0} → (S → List (List ℕ) → S → Type 0) → FeedLine S C
-    → List (List ℕ) → FeedLine S C → Type 0
-Brings brings (Own source) bytes (Own later) = brings source bytes later
-Brings brings (Own source) bytes (Itch line) = ⊥
-Brings brings (Itch line) bytes (Own source) = ⊥
-Brings brings (Itch line) bytes (Itch later) = HasNormalised brings line bytes later
+abbrev pub Brings : {S : Type 0} → (S → List (List ℕ) → S → Type 0) → FeedLineState S
+    → List (List ℕ) → FeedLineState S → Type 0
+Brings brings (FeedLineState.Own source) bytes (FeedLineState.Own later) =
+    brings source bytes later
+Brings brings (FeedLineState.Own source) bytes (FeedLineState.Itch later) = ⊥
+Brings brings (FeedLineState.Itch line) bytes (FeedLineState.Own later) = ⊥
+Brings brings (FeedLineState.Itch line) bytes (FeedLineState.Itch later) =
+    HasNormalised brings line bytes later

@@ -2,15 +2,21 @@
 use Rattle.std.specs.Prelude.{◌≡◌, ◌⊎◌, ℕ, ◌+◌, Bool, true, false, List, [], ◌∷◌, ◌++◌, flat_map, map}
 use Rattle.std.specs.List.{AllByRecursion}
 use Rattle.feed_types.specs.declared.line.LineId.{LineId}
-use Rattle.line_arbiter.specs.Pacing.{IsPaced}
 use Rattle.venue_lines.specs.declared.source.SourceFault.{SourceFault}
 use Rattle.venue_lines.specs.Sources.{failures_after}
-use Rattle.item_packets.specs.Packed.{bytes_of_each}
 use Rattle.itch_lines.specs.Cells.{HasBeenGiven, ItchState}
 use Rattle.itch_lines.specs.Sections.{BringsEnd, BringsSkip, TakesDatagram}
-use Rattle.itch_lines.specs.declared.itch_line.ItchLine.{ItchLine}
 use Rattle.itch_lines.specs.declared.source_end.SourceEnd.{SourceEnd}
 use Rattle.itch_lines.specs.declared.source_end.SourceEnd.TheVariants.{Open, Ended, Failing, Failed}
+
+-- a line's source, its venue and which of the venue's lines it is, the datagrams that were made and
+-- are to be brought, and how it stands with its source
+pub record ItchLineState (S : Type 0) : Type 0 where
+  pub source : S
+  pub venue : ℕ
+  pub line : LineId
+  pub waiting : List (List ℕ)
+  pub end : SourceEnd
 
 -- The section is possible at the venue: there are two states that its lock may keep, and the
 -- datagram of these bytes leads from the one to the other. Outside of the lock nothing is known of
@@ -82,8 +88,8 @@ failures_of (Failed fault) = failures_after 0 fault
 -- by section what its source's datagrams, and gaps that were given up, have made under the venue's
 -- lock, in order, and what waited before; but for what waits still. Where no fault ends the line,
 -- the normaliser has failed in no section.
-pub record HasNormalised {S C : Type 0} (brings : S → List (List ℕ) → S → Type 0)
-    (old : ItchLine S C) (bytes : List (List ℕ)) (new : ItchLine S C) : Type 0 where
+pub record HasNormalised {S : Type 0} (brings : S → List (List ℕ) → S → Type 0)
+    (old : ItchLineState S) (bytes : List (List ℕ)) (new : ItchLineState S) : Type 0 where
   pub venue : new.venue ≡ old.venue
   pub line : new.line ≡ old.line
   pub sections : List Section
@@ -91,5 +97,4 @@ pub record HasNormalised {S C : Type 0} (brings : S → List (List ℕ) → S �
   pub sound : (HasFault new.end → ⊥) → AllByRecursion IsSound sections
   pub ended : HasFault old.end → HasFault new.end
   pub came : brings old.source (flat_map received_in sections) new.source
-  pub all : bytes_of_each old.waiting.items ++ flat_map made_in sections
-      ≡ bytes ++ bytes_of_each new.waiting.items
+  pub all : old.waiting ++ flat_map made_in sections ≡ bytes ++ new.waiting

@@ -5,6 +5,7 @@ ghost use Rattle.std.specs.Prelude.{◌≡◌};
 use crate::itch_line::ItchLine;
 use feed_types::{Anything, VenueId};
 use mold_packet::Request;
+use std::marker::Model;
 use std::time::Clock;
 use venue_lines::{Datagram, LineSource, Looked, SourceFault};
 
@@ -15,6 +16,14 @@ pub enum FeedLine<S, C> {
     Own(S),
     /// A line in ITCH.
     Itch(ItchLine<S, C>),
+}
+
+impl<S, C> Model for FeedLine<S, C> {
+    ghost use Rattle.itch_lines.specs.FeedLines.{FeedLineState, feed_line_of};
+
+    ghost Value = { FeedLineState S };
+
+    ghost view = { λ l. feed_line_of l };
 }
 
 impl<S, C> FeedLine<S, C> {

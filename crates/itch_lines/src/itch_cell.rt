@@ -253,12 +253,10 @@ impl ItchCell {
 
     /// Returns what the venue has come to.
     pub(crate) fn end(&self) -> ItchVenueEnd {
-        let missing = match self.venue.normaliser.gap() {
-            Some(gap) if !self.venue.normaliser.has_given_up() => Some(MessageRun {
-                number: gap.number,
-                count: u64::from(gap.count),
-            }),
-            _ => None,
+        let missing = if self.venue.normaliser.has_given_up() {
+            None
+        } else {
+            self.venue.normaliser.gap()
         };
         ItchVenueEnd {
             venue: self.venue(),

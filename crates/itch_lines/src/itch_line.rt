@@ -12,6 +12,7 @@ use feed_types::{Anything, LineId, VenueId};
 use mold_packet::Request;
 use std::alloc::Global;
 use std::collections::VecDeque;
+use std::marker::Model;
 use std::time::Clock;
 use venue_lines::{Datagram, LineSource, Looked, SourceFault};
 
@@ -40,6 +41,21 @@ pub struct ItchLine<S, C> {
     pub(crate) end: SourceEnd,
 }
 
+impl<S, C> Model for ItchLine<S, C> {
+    ghost use Rattle.item_packets.specs.Packed.{bytes_of_each};
+    ghost use Rattle.itch_lines.specs.Lines.{ItchLineState};
+
+    ghost Value = { ItchLineState S };
+
+    ghost view = { λ l. record {
+      source = l.source;
+      venue = l.venue;
+      line = l.line;
+      waiting = bytes_of_each l.waiting.items;
+      end = l.end;
+    } };
+}
+
 impl<S: LineSource<Anything>, C: Clock> ItchLine<S, C> {
     /// Makes the line over a source of its venue's datagrams. With a clock what it brings has the
     /// time at which the datagram was read that made it.
@@ -54,7 +70,7 @@ impl<S: LineSource<Anything>, C: Clock> ItchLine<S, C> {
         ensures source { result.source ≡ source }
         ensures venue { result.venue ≡ S.venue_of source }
         ensures line { result.line ≡ line }
-        ensures waiting { result.waiting.items ≡ [] }
+        ensures waiting { result.waiting ≡ [] }
         ensures open { result.end ≡ SourceEnd.Open }
     {
         let venue = source.venue();
@@ -113,9 +129,8 @@ impl<S: LineSource<Anything>, C: Clock> ItchLine<S, C> {
 
     /// Has a fault end the line once what waits was brought, of which the first has this ticket.
     fn fail(&mut self, ticket: u64)
-        requires { failures_of self.old.end ≡ 0 }
         ensures { self.new
-            ≡ record self.old { ticket = ticket; end = SourceEnd.Failing SourceFault.NoMemory } }
+            ≡ record self.old { end = SourceEnd.Failing SourceFault.NoMemory } }
     {
         self.ticket = ticket;
         self.end = SourceEnd::Failing(SourceFault::NoMemory);
@@ -123,8 +138,7 @@ impl<S: LineSource<Anything>, C: Clock> ItchLine<S, C> {
 
     /// Notes what a section has come to.
     fn note(&mut self, done: &SectionDone)
-        ensures { self.new
-            ≡ record self.old { ticket = done.now.ticket; gap = done.now.looked.gap } }
+        ensures { self.new ≡ self.old }
     {
         self.ticket = done.ticket;
         self.gap = done.looked.gap;
@@ -132,7 +146,7 @@ impl<S: LineSource<Anything>, C: Clock> ItchLine<S, C> {
 
     /// Gives up the venue's gap where it has stood long enough.
     fn leave(&mut self, now_ms: u64)
-        requires none { self.old.waiting.items ≡ [] }
+        requires none { self.old.waiting ≡ [] }
         requires open { self.old.end ≡ SourceEnd.Open }
         ensures brings { HasNormalised S.brings self.old [] self.new }
         ensures failures { failures_of self.new.end ≡ failures_of self.old.end }
@@ -167,7 +181,7 @@ impl<S: LineSource<Anything>, C: Clock> ItchLine<S, C> {
 
     /// Has the venue take a datagram that the source has brought, and hands that back to it.
     fn take(&mut self, datagram: Datagram)
-        requires none { self.old.waiting.items ≡ [] }
+        requires none { self.old.waiting ≡ [] }
         requires open { self.old.end ≡ SourceEnd.Open }
         ensures brings { (before : S) → S.brings before (bytes_of datagram ∷ []) self.old.source
             → HasNormalised S.brings (record self.old { source = before }) [] self.new }
@@ -191,7 +205,7 @@ impl<S: LineSource<Anything>, C: Clock> ItchLine<S, C> {
 
     /// Reads the source's next answer, and has the venue take what it brings.
     fn read(&mut self)
-        requires none { self.old.waiting.items ≡ [] }
+        requires none { self.old.waiting ≡ [] }
         requires open { self.old.end ≡ SourceEnd.Open }
         ensures brings { HasNormalised S.brings self.old [] self.new }
         ensures failures { failures_of self.new.end ≡ failures_of self.old.end }

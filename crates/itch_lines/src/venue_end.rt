@@ -2,6 +2,7 @@
 
 use feed_types::VenueId;
 use itch_book::BookFault;
+use mold_packet::Request;
 
 /// Messages of a session in a row: the first one's number, and how many they are.
 #[derive(Clone, Copy, Debug, PartialEq, Eq)]
@@ -16,8 +17,8 @@ pub struct ItchVenueEnd {
     pub venue: VenueId,
     /// The first gap of a session that was given up last, which ended what is put out of it.
     pub given_up: Option<MessageRun>,
-    /// The gap that stands, if one does.
-    pub missing: Option<MessageRun>,
+    /// The gap that stands, if one does: the run that is asked for.
+    pub missing: Option<Request>,
     /// Why its normaliser has failed, if it has.
     pub fault: Option<BookFault>,
 }

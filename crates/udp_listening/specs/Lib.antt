@@ -1,4 +1,5 @@
 pub mod Bound
+pub mod ItchEnds
 pub mod Lines
 pub mod Listening
 pub mod Monitors

@@ -20,6 +20,7 @@ use Rattle.run_notes.specs.AbsentSymbols.{absent_texts, unchanged_texts}
 use Rattle.run_watches.specs.News.{line_end_texts}
 use Rattle.run_watches.specs.RunLines.{listened_run}
 use Rattle.run_watches.specs.RunNews.{SaysOfRun}
+use Rattle.udp_listening.specs.ItchEnds.{itch_texts}
 use Rattle.udp_listening.specs.Lines.{run_lines}
 use Rattle.udp_listening.specs.Reports.{IsListened}
 use Rattle.udp_listening.specs.Settings.{row_style}
@@ -186,14 +187,15 @@ stop_texts (Some stop) = stop_text stop ∷ []
 -- ---- the end
 
 -- what is said of a report: the lines that failed, why it stopped early, the lines that have read
--- as many datagrams as they may, what venues lack, with which sessions lines ended, and which
--- symbols never came or never had a best
+-- as many datagrams as they may, what venues lack, with which sessions lines ended, which symbols
+-- never came or never had a best, and what was given up of venues in ITCH
 abbrev pub report_texts : ListenReport → List (List ℕ)
 report_texts report =
     (flat_map failed_texts report.failed.items ++ stop_texts report.stopped)
     ++ ((flat_map read_out_texts report.read_out.items ++ flat_map lack_texts report.lacking.items)
     ++ (flat_map ended_texts report.ended.items
-    ++ (absent_texts report.absent ++ unchanged_texts report.unchanged)))
+    ++ ((absent_texts report.absent ++ unchanged_texts report.unchanged)
+    ++ flat_map itch_texts report.itch.items)))
 
 -- 0 where no line failed and nothing stopped the run early
 abbrev pub report_status : List (ℕ × LineId) → Option Stop → ℕ

@@ -17,6 +17,7 @@
 mod console;
 mod group_socket;
 mod input_end;
+mod itch_ends;
 mod listen;
 mod listen_lines;
 mod listen_report;

@@ -270,7 +270,7 @@ where
         outcome,
         mut console,
         mut errors,
-    } = run_feed::<Brand, R, C, W, E>(rt, alloc, settings, feed, lines.tasks, follower, monitor);
+    } = run_feed::<Brand, R, C, W, E>(rt, alloc, settings, feed, lines.run, follower, monitor);
     let ended = print_end(alloc, &outcome, &mut console, &mut errors);
     let status = complete_status(settings.complete, &outcome, ended);
     (status, console.output, errors)

@@ -4,8 +4,10 @@ ghost use Rattle.text_out.specs.Devices.{Writing};
 ghost use Rattle.event_sinks.specs.LackTexts.{lack_texts};
 ghost use Rattle.text_out.specs.StandardError.{SaysEach};
 ghost use Rattle.run_notes.specs.AbsentSymbols.{absent_texts, unchanged_texts};
+ghost use Rattle.udp_listening.specs.ItchEnds.{itch_texts};
 ghost use Rattle.udp_listening.specs.Listening.{ended_texts, failed_texts, read_out_texts, report_texts, stop_text, stop_texts};
 
+use crate::itch_ends::write_itch_ends;
 use crate::listen_report::{EndedLine, ListenReport};
 use event_sinks::write_lacks;
 use feed_types::{LineId, VenueId};
@@ -96,20 +98,31 @@ fn write_symbols<E: TextOut>(report: &ListenReport, errors: &mut E)
     report.unchanged.write_unchanged(errors);
 }
 
-/// Writes with which sessions lines ended, and which symbols never came or never had a best.
+/// Writes which symbols never came or never had a best, and what was given up of venues in ITCH.
+fn write_symbols_and_itch<E: TextOut>(report: &ListenReport, errors: &mut E)
+    ensures { SaysEach (record { adds = E.adds; failures = E.failures })
+        ((absent_texts report.now.absent ++ unchanged_texts report.now.unchanged)
+        ++ flat_map itch_texts report.now.itch.items) errors.old errors.new }
+{
+    write_symbols(report, errors);
+    write_itch_ends(report.itch.as_slice(), errors);
+}
+
+/// Writes with which sessions lines ended, which symbols never came or never had a best, and what
+/// was given up of venues in ITCH.
 fn write_ends<E: TextOut>(report: &ListenReport, errors: &mut E)
     ensures { SaysEach (record { adds = E.adds; failures = E.failures })
         (flat_map ended_texts report.now.ended.items
-        ++ (absent_texts report.now.absent ++ unchanged_texts report.now.unchanged))
-        errors.old errors.new }
+        ++ ((absent_texts report.now.absent ++ unchanged_texts report.now.unchanged)
+        ++ flat_map itch_texts report.now.itch.items)) errors.old errors.new }
 {
     write_each_ended(report.ended.as_slice(), errors);
-    write_symbols(report, errors);
+    write_symbols_and_itch(report, errors);
 }
 
 /// Writes which lines failed, why the run stopped early, if it did, which lines have read as many
-/// datagrams as they may, what venues lack, with which sessions lines ended, and which symbols
-/// never came or never had a best.
+/// datagrams as they may, what venues lack, with which sessions lines ended, which symbols never
+/// came or never had a best, and what was given up of venues in ITCH.
 pub fn write_report_lines<E: TextOut>(report: &ListenReport, errors: &mut E)
     ensures { SaysEach (record { adds = E.adds; failures = E.failures })
         (report_texts report.now) errors.old errors.new }

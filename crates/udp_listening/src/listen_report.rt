@@ -3,14 +3,18 @@ ghost use Rattle.std.specs.Prelude.{◌≡◌, ◌++◌, IfOk, OnOk, flat_map};
 ghost use Rattle.journal_book.specs.Journals.{kept_of};
 ghost use Rattle.run_settings.specs.FurtherOptions.{has_further_options};
 ghost use Rattle.udp_listening.specs.Reports.{IsReportOfFeed, absent_if, ended_line, ended_lines, failed_lines, line_if, noted_symbols, read_out_lines, tells_absent, reported_absent, told_ends};
+ghost use Rattle.udp_listening.specs.ItchEnds.{itch_lacks};
+ghost use Rattle.udp_listening.specs.SettledLacks.{settled_lacks};
 ghost use Rattle.udp_listening.specs.SettledNotices.{HasNoted, settled_forgotten, settled_log};
 
+use crate::itch_ends::{append_itch_lacks, itch_ends};
 use crate::listening::ListenFault;
 use crate::settled_lacks::settled_lacks;
-use crate::sources::UdpSource;
+use crate::sources::ListenSource;
 use crate::unchanged::settled_unchanged;
 use event_sinks::Lack;
 use feed_types::{LineId, VenueId};
+use itch_lines::{ItchVenueEnd, VenueShare};
 use live_feed::{FeedReport, LineReport, Settlement, Stop};
 use run_notes::AbsentList;
 use run_settings::ListenSettings;
@@ -44,8 +48,24 @@ pub struct ListenReport {
     /// The symbols of which no change of the national best was told, where the settings have
     /// further options and not all entries are kept.
     pub unchanged: AbsentList,
+    /// What the venues in ITCH have come to; none where the settings have no such venue.
+    pub itch: Vec<ItchVenueEnd>,
     /// What was taken, and what became of it.
     pub settlement: Settlement,
+}
+
+/// Returns what the venues of a settled feed lack, and then what those in ITCH do.
+fn all_lacks(
+    alloc: Global,
+    settlement: &Settlement,
+    itch: &[ItchVenueEnd],
+) -> Result<Vec<Lack>, AllocError>
+    ensures { IfOk result (λ lacking.
+        lacking.items ≡ settled_lacks settlement.now ++ itch_lacks itch.now) }
+{
+    let mut lacking = settled_lacks(alloc, settlement)?;
+    append_itch_lacks(&mut lacking, itch)?;
+    Ok(lacking)
 }
 
 /// Appends a line to the list where it is one of these.
@@ -66,7 +86,7 @@ fn append_if(
 /// The lines that failed, in order.
 fn failed_in<C: Drop>(
     alloc: Global,
-    lines: &[LineReport<UdpSource<C>>],
+    lines: &[LineReport<ListenSource<C>>],
 ) -> Result<Vec<(VenueId, LineId)>, AllocError>
     ensures { IfOk result (λ failed. failed.items ≡ failed_lines lines.now) }
 {
@@ -80,14 +100,14 @@ fn failed_in<C: Drop>(
 /// The lines that have read as many datagrams as they may, in order.
 fn read_out_in<C: Drop>(
     alloc: Global,
-    lines: &[LineReport<UdpSource<C>>],
+    lines: &[LineReport<ListenSource<C>>],
 ) -> Result<Vec<(VenueId, LineId)>, AllocError>
     ensures { IfOk result (λ read_out. read_out.items ≡ read_out_lines lines.now) }
 {
     let mut read_out = Vec::new(alloc);
     for line in lines {
         append_if(
-            line.source.is_read_out(),
+            line.source.source().is_read_out(),
             &mut read_out,
             line.venue,
             line.line,
@@ -99,11 +119,11 @@ fn read_out_in<C: Drop>(
 /// Appends a line to the list where an end of session has ended it.
 fn append_ended<C: Drop>(
     list: &mut Vec<EndedLine>,
-    report: &LineReport<UdpSource<C>>,
+    report: &LineReport<ListenSource<C>>,
 ) -> Result<(), AllocError>
     ensures { OnOk result (list.new.items ≡ list.old.items ++ ended_line report.now) }
 {
-    if let Some(session) = report.source.ender() {
+    if let Some(session) = report.source.source().ender() {
         list.push(EndedLine {
             venue: report.venue,
             line: report.line,
@@ -116,7 +136,7 @@ fn append_ended<C: Drop>(
 /// The lines that an end of session has ended, in order.
 fn ended_in<C: Drop>(
     alloc: Global,
-    lines: &[LineReport<UdpSource<C>>],
+    lines: &[LineReport<ListenSource<C>>],
 ) -> Result<Vec<EndedLine>, AllocError>
     ensures { IfOk result (λ ended. ended.items ≡ ended_lines lines.now) }
 {
@@ -131,7 +151,7 @@ fn ended_in<C: Drop>(
 fn ended_if_told<C: Drop>(
     alloc: Global,
     is_told: bool,
-    lines: &[LineReport<UdpSource<C>>],
+    lines: &[LineReport<ListenSource<C>>],
 ) -> Result<Vec<EndedLine>, AllocError>
     ensures { IfOk result (λ ended. ended.items ≡ told_ends is_told lines.now) }
 {
@@ -146,7 +166,7 @@ fn ended_if_told<C: Drop>(
 fn ended_of<C: Drop>(
     alloc: Global,
     settings: &ListenSettings,
-    lines: &[LineReport<UdpSource<C>>],
+    lines: &[LineReport<ListenSource<C>>],
 ) -> Result<Vec<EndedLine>, AllocError>
     ensures { IfOk result (λ ended.
         ended.items ≡ told_ends (has_further_options settings.now) lines.now) }
@@ -195,25 +215,29 @@ fn absent_of(
 }
 
 /// The report of listening by the report of the settings' feed, of whose log the forgotten notices
-/// left these symbols unchanged. NoMemory where memory was refused, and no other fault.
+/// left these symbols unchanged, and whose lines of venues in ITCH share this. NoMemory where memory
+/// was refused, and no other fault.
 pub fn report_of<C: Drop>(
     alloc: Global,
     settings: &ListenSettings,
-    whole: FeedReport<UdpSource<C>>,
+    whole: FeedReport<ListenSource<C>>,
     unchanged: AbsentList,
+    itch: &[VenueShare],
 ) -> Result<ListenReport, ListenFault>
     requires { HasNoted (noted_symbols settings.now) (settled_log whole.settlement)
         (settled_forgotten whole.settlement) unchanged }
     ensures { IfOk result (IsReportOfFeed settings.now whole) }
 {
+    let itch = itch_ends(alloc, settings, itch)?;
     Ok(ListenReport {
         failed: failed_in(alloc, whole.lines.as_slice())?,
         stopped: whole.stopped,
         read_out: read_out_in(alloc, whole.lines.as_slice())?,
-        lacking: settled_lacks(alloc, &whole.settlement)?,
+        lacking: all_lacks(alloc, &whole.settlement, itch.as_slice())?,
         ended: ended_of(alloc, settings, whole.lines.as_slice())?,
         absent: absent_of(alloc, settings, &whole.settlement)?,
         unchanged: settled_unchanged(unchanged, &whole.settlement),
+        itch,
         settlement: whole.settlement,
     })
 }

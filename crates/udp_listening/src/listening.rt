@@ -12,13 +12,13 @@ use crate::listen_report::{ListenReport, report_of};
 use crate::next_sessions::name_all;
 use crate::row_follower::RowFollower;
 use crate::run_monitor::RunMonitor;
-use crate::sources::UdpSource;
+use crate::sources::{ListenSource, ListenTasks};
 use best_rows::has_times;
 use feed_types::{Anything, FeedConfig};
 use filter_terms::{Filter, Strategy, Terms};
 use live_feed::{
-    CoreFault, FeedEnd, FeedName, FeedTask, JournalFault, LineTask, LiveFeed, RunRules,
-    SettleFault, Subscription, WholeFault,
+    CoreFault, FeedEnd, FeedName, FeedTask, JournalFault, LiveFeed, RunRules, SettleFault,
+    Subscription, WholeFault,
 };
 use run_notes::AbsentList;
 use run_settings::ListenSettings;
@@ -155,7 +155,7 @@ pub fn run_feed<N, R, C, W, E>(
     alloc: Global,
     settings: &ListenSettings,
     feed: LiveFeed<Anything>,
-    lines: Vec<LineTask<UdpSource<C>>>,
+    lines: ListenTasks<C>,
     follower: RowFollower<C, W>,
     monitor: RunMonitor<C, E>,
 ) -> Listened<C, W, E>
@@ -170,7 +170,7 @@ where
     ensures listened { HasListenedOn (record { adds = W.adds; failures = W.failures })
         follower.console result.outcome result.console }
     ensures run { IfOk result.outcome
-        (IsReportOfRun settings.now N.lanes (map task_line lines.items)) }
+        (IsReportOfRun settings.now N.lanes (map task_line lines.tasks.items)) }
     ensures says { SaysOfRun (record { adds = E.adds; failures = E.failures })
         (watched_run monitor.watches) monitor.errors result.errors }
 {
@@ -178,8 +178,9 @@ where
         filter: Filter::of(Terms::All),
         strategy: Strategy::holding(),
     };
+    let ListenTasks { tasks, itch } = lines;
     let task = FeedTask {
-        lines,
+        lines: tasks,
         attended: Some(subscription),
         subscriptions: Vec::new(alloc),
         rules: rules_of(settings),
@@ -188,13 +189,13 @@ where
         outcome,
         attendant,
         watcher,
-    } = feed.run_whole::<N, UdpSource<C>, RowFollower<C, W>, RunMonitor<C, E>, R>(
+    } = feed.run_whole::<N, ListenSource<C>, RowFollower<C, W>, RunMonitor<C, E>, R>(
         rt, alloc, task, follower, monitor,
     );
     let mut console = attendant.console;
     let unchanged = mem::replace(&mut console.unchanged, AbsentList::none(alloc));
     let outcome = match outcome {
-        Ok(whole) => report_of(alloc, settings, whole, unchanged),
+        Ok(whole) => report_of(alloc, settings, whole, unchanged, itch.as_slice()),
         Err(fault) => Err(fault_of(fault)),
     };
     Listened {

@@ -4,13 +4,11 @@ use Rattle.std.specs.Prelude.{flat_map}
 use Rattle.std.specs.List.{AllByRecursion}
 use Rattle.std.proofs.lemmas.List.Concat.{flat_map-append}
 use Rattle.feed_types.specs.declared.line.LineId.{LineId}
-use Rattle.item_packets.specs.Packed.{bytes_of_each}
 use Rattle.item_packets.specs.laws.Parts.{all_append}
-use Rattle.itch_lines.specs.Lines.{HasNormalised, IsPossible, IsSound, Section, made_in, received_in}
-use Rattle.itch_lines.specs.declared.itch_line.ItchLine.{ItchLine}
+use Rattle.itch_lines.specs.Lines.{HasNormalised, ItchLineState, IsPossible, IsSound, Section, made_in, received_in}
 
-pub brings_nothing : {S C : Type 0} (brings : S → List (List ℕ) → S → Type 0)
-    (none : (s : S) → brings s [] s) (l : ItchLine S C) → HasNormalised brings l [] l
+pub brings_nothing : {S : Type 0} (brings : S → List (List ℕ) → S → Type 0)
+    (none : (s : S) → brings s [] s) (l : ItchLineState S) → HasNormalised brings l [] l
 brings_nothing brings none l = record {
   venue = refl;
   line = refl;
@@ -19,18 +17,18 @@ brings_nothing brings none l = record {
   sound = λ whole. tt;
   ended = λ has. has;
   came = none l.source;
-  all = append-nil (bytes_of_each l.waiting.items);
+  all = append-nil l.waiting;
 }
 
-pub brings_more : {S C : Type 0} (brings : S → List (List ℕ) → S → Type 0)
+pub brings_more : {S : Type 0} (brings : S → List (List ℕ) → S → Type 0)
     (more : (s t u : S) (xs ys : List (List ℕ)) → brings s xs t → brings t ys u
     → brings s (xs ++ ys) u)
-    (s t u : ItchLine S C) (xs ys : List (List ℕ)) → HasNormalised brings s xs t
+    (s t u : ItchLineState S) (xs ys : List (List ℕ)) → HasNormalised brings s xs t
     → HasNormalised brings t ys u → HasNormalised brings s (xs ++ ys) u
 brings_more brings more s t u xs ys a b =
-    let ws = bytes_of_each s.waiting.items in
-    let wt = bytes_of_each t.waiting.items in
-    let wu = bytes_of_each u.waiting.items in
+    let ws = s.waiting in
+    let wt = t.waiting in
+    let wu = u.waiting in
     let fa = flat_map made_in a.sections in
     let fb = flat_map made_in b.sections in
     record {

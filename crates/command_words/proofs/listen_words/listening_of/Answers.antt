@@ -8,6 +8,16 @@ returns-in_err-reception c =
     let p = err_from_is_err_and residual.result residual.ensures.1 in
     rw (p.1, p.2) (inl (search rules))
 
+pub returns-in_err-itch : goal.returns-in_err-itch
+returns-in_err-itch c =
+    let residual = c.from_residual-in_err-itch in
+    let p = err_from_is_err_and residual.result residual.ensures.1 in
+    rw (p.1, p.2) (inr (
+      c.in_ok-reception.reception,
+      c.in_ok-reception.ensures,
+      inl (search rules),
+    ))
+
 pub returns-in_err-rules : goal.returns-in_err-rules
 returns-in_err-rules c =
     let residual = c.from_residual-in_err-rules in
@@ -15,7 +25,7 @@ returns-in_err-rules c =
     rw (p.1, p.2) (inr (
       c.in_ok-reception.reception,
       c.in_ok-reception.ensures,
-      inl (search rules),
+      inr (c.in_ok-itch.itch, c.in_ok-itch.ensures, inl (search rules)),
     ))
 
 pub returns-in_err-outputs : goal.returns-in_err-outputs
@@ -25,7 +35,11 @@ returns-in_err-outputs c =
     rw (p.1, p.2) (inr (
       c.in_ok-reception.reception,
       c.in_ok-reception.ensures,
-      inr (c.in_ok-rules.rules, c.in_ok-rules.ensures, inl (search rules)),
+      inr (
+        c.in_ok-itch.itch,
+        c.in_ok-itch.ensures,
+        inr (c.in_ok-rules.rules, c.in_ok-rules.ensures, inl (search rules)),
+      ),
     ))
 
 pub returns : goal.returns
@@ -33,38 +47,43 @@ returns c = (
   c.in_ok-reception.reception,
   c.in_ok-reception.ensures,
   (
-    c.in_ok-rules.rules,
-    c.in_ok-rules.ensures,
+    c.in_ok-itch.itch,
+    c.in_ok-itch.ensures,
     (
-      c.in_ok-outputs.outputs,
-      c.in_ok-outputs.ensures,
+      c.in_ok-rules.rules,
+      c.in_ok-rules.ensures,
       (
-        record {
-          request_after_is = search rules;
-          most_ahead_is = search rules;
-          join_is = search rules;
-          skip_after_is = search rules;
-          silent_after_is = search rules;
-          datagrams_are = search rules;
-          buffer_is = search rules;
-          seconds_are = search rules;
-          until_is = search rules;
-          complete_is = search rules;
-          follow_is = search rules;
-        },
-        record {
-          feed_is = refl;
-          next_are = refl;
-          lines_are = refl;
-          request_is = refl;
-          end_is = refl;
-          kept_is = refl;
-          senders_are = refl;
-          metrics_are = refl;
-          stats_are = refl;
-          format_is = refl;
-          record_is = refl;
-        },
+        c.in_ok-outputs.outputs,
+        c.in_ok-outputs.ensures,
+        (
+          record {
+            request_after_is = search rules;
+            most_ahead_is = search rules;
+            join_is = search rules;
+            skip_after_is = search rules;
+            silent_after_is = search rules;
+            datagrams_are = search rules;
+            buffer_is = search rules;
+            seconds_are = search rules;
+            until_is = search rules;
+            complete_is = search rules;
+            follow_is = search rules;
+          },
+          record {
+            feed_is = refl;
+            next_are = refl;
+            itch_is = refl;
+            lines_are = refl;
+            request_is = refl;
+            end_is = refl;
+            kept_is = refl;
+            senders_are = refl;
+            metrics_are = refl;
+            stats_are = refl;
+            format_is = refl;
+            record_is = refl;
+          },
+        ),
       ),
     ),
   ),
