@@ -1,17 +1,17 @@
 -- The line of a venue of either kind.
 use Rattle.std.specs.Prelude.{ℕ, List}
 use Rattle.itch_lines.specs.Lines.{HasNormalised, ItchLineState, failures_of}
-use Rattle.itch_lines.specs.declared.feed_line.FeedLine.{FeedLine}
-use Rattle.itch_lines.specs.declared.feed_line.FeedLine.TheVariants as lines
+use Rattle.itch_lines.specs.declared.feed_line.LineKind.{LineKind}
+use Rattle.itch_lines.specs.declared.feed_line.LineKind.TheVariants as kinds
 
 -- the source of a line of own messages, or a line in ITCH
 pub data FeedLineState (S : Type 0) : Type 0 where
   Own : S → FeedLineState S
   Itch : ItchLineState S → FeedLineState S
 
-abbrev pub feed_line_of : {S C : Type 0} → FeedLine S C → FeedLineState S
-feed_line_of (lines.Own source) = FeedLineState.Own source
-feed_line_of (lines.Itch line) = FeedLineState.Itch line
+abbrev pub feed_line_of : {S C : Type 0} → LineKind S C → FeedLineState S
+feed_line_of (kinds.Own source) = FeedLineState.Own source
+feed_line_of (kinds.Itch line) = FeedLineState.Itch line
 
 -- it is a line in ITCH
 abbrev pub IsInItch : {S : Type 0} → FeedLineState S → Type 0

@@ -1,6 +1,6 @@
 //! The line of a venue of either kind.
-ghost use Rattle.itch_lines.specs.FeedLines.{source_of};
 ghost use Rattle.std.specs.Prelude.{◌≡◌};
+ghost use Rattle.itch_lines.specs.FeedLines.{FeedLineState, source_of};
 
 use crate::itch_line::ItchLine;
 use feed_types::{Anything, VenueId};
@@ -9,13 +9,19 @@ use std::marker::Model;
 use std::time::Clock;
 use venue_lines::{Datagram, LineSource, Looked, SourceFault};
 
-/// The line of a venue that sends this project's own messages, or ITCH.
+/// What brings the datagrams of a line.
 #[derive(Drop)]
-pub enum FeedLine<S, C> {
-    /// The source of its datagrams, which are brought as they are.
+enum LineKind<S, C> {
+    /// Its source, as they are.
     Own(S),
     /// A line in ITCH.
     Itch(ItchLine<S, C>),
+}
+
+/// The line of a venue that sends this project's own messages, or ITCH.
+#[derive(Drop)]
+pub struct FeedLine<S, C> {
+    kind: LineKind<S, C>,
 }
 
 impl<S, C> Model for FeedLine<S, C> {
@@ -23,17 +29,35 @@ impl<S, C> Model for FeedLine<S, C> {
 
     ghost Value = { FeedLineState S };
 
-    ghost view = { λ l. feed_line_of l };
+    ghost view = { λ l. feed_line_of l.kind };
 }
 
 impl<S, C> FeedLine<S, C> {
+    /// Makes the line of a venue that sends own messages.
+    pub fn own(source: S) -> FeedLine<S, C>
+        ensures { result ≡ FeedLineState.Own source }
+    {
+        FeedLine {
+            kind: LineKind::Own(source),
+        }
+    }
+
+    /// Makes the line of a venue in ITCH.
+    pub fn itch(line: ItchLine<S, C>) -> FeedLine<S, C>
+        ensures { result ≡ FeedLineState.Itch line }
+    {
+        FeedLine {
+            kind: LineKind::Itch(line),
+        }
+    }
+
     /// Lends the source that brings the line's datagrams.
     pub fn source(&self) -> &S
         ensures { result.now ≡ source_of self.now }
     {
-        match self {
-            FeedLine::Own(source) => source,
-            FeedLine::Itch(line) => &line.source,
+        match &self.kind {
+            LineKind::Own(source) => source,
+            LineKind::Itch(line) => &line.source,
         }
     }
 }
@@ -53,44 +77,44 @@ impl<S: LineSource<Anything>, C: Clock + Drop> LineSource<Anything> for FeedLine
     ghost brings_more = { brings_more S.brings S.brings_more };
 
     fn venue(&self) -> VenueId {
-        match self {
-            FeedLine::Own(source) => source.venue(),
-            FeedLine::Itch(line) => line.venue(),
+        match &self.kind {
+            LineKind::Own(source) => source.venue(),
+            LineKind::Itch(line) => line.venue(),
         }
     }
 
     fn await_next(&mut self) -> bool {
-        match self {
-            FeedLine::Own(source) => source.await_next(),
-            FeedLine::Itch(line) => line.await_next(),
+        match &mut self.kind {
+            LineKind::Own(source) => source.await_next(),
+            LineKind::Itch(line) => line.await_next(),
         }
     }
 
     fn next(&mut self) -> Result<Option<Datagram>, SourceFault> {
-        match self {
-            FeedLine::Own(source) => source.next(),
-            FeedLine::Itch(line) => line.next(),
+        match &mut self.kind {
+            LineKind::Own(source) => source.next(),
+            LineKind::Itch(line) => line.next(),
         }
     }
 
     fn recycle(&mut self, datagram: Datagram, looked: &Looked) {
-        match self {
-            FeedLine::Own(source) => source.recycle(datagram, looked),
-            FeedLine::Itch(line) => line.recycle(datagram, looked),
+        match &mut self.kind {
+            LineKind::Own(source) => source.recycle(datagram, looked),
+            LineKind::Itch(line) => line.recycle(datagram, looked),
         }
     }
 
     fn now_ms(&mut self) -> u64 {
-        match self {
-            FeedLine::Own(source) => source.now_ms(),
-            FeedLine::Itch(line) => line.now_ms(),
+        match &mut self.kind {
+            LineKind::Own(source) => source.now_ms(),
+            LineKind::Itch(line) => line.now_ms(),
         }
     }
 
     fn request(&mut self, request: &Request) -> Result<(), SourceFault> {
-        match self {
-            FeedLine::Own(source) => source.request(request),
-            FeedLine::Itch(line) => line.request(request),
+        match &mut self.kind {
+            LineKind::Own(source) => source.request(request),
+            LineKind::Itch(line) => line.request(request),
         }
     }
 }

@@ -1,2 +1,1 @@
-mod Adding
 mod Forms

@@ -20,12 +20,12 @@ pub record ArePacked (name : List ℕ) (output : List Numbered) (datagrams : Lis
   pub spelled : datagrams ≡ map spelling packets
 
 -- the bytes of each
-abbrev pub bytes_of_each : List (Vec ℕ) → List (List ℕ)
+abbrev pub bytes_of_each : {A : Type 0} → List (Vec ℕ A) → List (List ℕ)
 bytes_of_each datagrams = map (λ datagram. datagram.items) datagrams
 
 -- Datagrams that carry just this output follow those that were there.
-pub record AddsPacked (name : List ℕ) (output : List Numbered) (old new : List (Vec ℕ))
-    : Type 0 where
+pub record AddsPacked {A : Type 0} (name : List ℕ) (output : List Numbered)
+    (old new : List (Vec ℕ A)) : Type 0 where
   pub datagrams : List (List ℕ)
   pub packed : ArePacked name output datagrams
   pub added : bytes_of_each new ≡ bytes_of_each old ++ datagrams

@@ -189,7 +189,8 @@ fn line_over<C: Clock + Clone + Drop>(
     shares: &VenueShares,
     line: LineId,
     source: UdpSource<C>,
-    (alloc, clock): (Global, &C),
+    alloc: Global,
+    clock: &C,
 ) -> Result<ListenSource<C>, AllocError>
     ensures source { IfOk result (λ over. source_of over ≡ source) }
     ensures venue { IfOk result (λ over. venue_of_line over ≡ source.venue) }
@@ -199,7 +200,7 @@ fn line_over<C: Clock + Clone + Drop>(
         → Contains settings.now.itch.venues.items source.venue → ⊥) }
 {
     if !settings.itch.has(source.venue()) {
-        return Ok(FeedLine::Own(source));
+        return Ok(FeedLine::own(source));
     }
     let Some(share) = &shares.itch else {
         return Err(AllocError);
@@ -211,7 +212,7 @@ fn line_over<C: Clock + Clone + Drop>(
     };
     let share = share.share()?;
     let rules = itch_rules(settings);
-    Ok(FeedLine::Itch(ItchLine::new(alloc, source, line, share, rules, clock)))
+    Ok(FeedLine::itch(ItchLine::new(alloc, source, line, share, rules, clock)))
 }
 
 /// Returns what the lines of each venue of the settings share, of which none is made.
@@ -295,7 +296,7 @@ impl<C: Clock + Clone + Drop> LinesMade<C> {
         let silent_after = settings.silence_limit();
         let watch = LineWatch::new(source.venue(), line, progress, address, silent_after);
         self.watches.push(watch)?;
-        let source = line_over(settings, shares, line, source, (alloc, clock))?;
+        let source = line_over(settings, shares, line, source, alloc, clock)?;
         self.tasks.push(LineTask { line, source })?;
         Ok(())
     }

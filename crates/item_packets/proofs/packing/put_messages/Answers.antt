@@ -7,7 +7,7 @@ use Rattle.quote_payload.specs.Payload.{item_of}
 use Rattle.item_packets.specs.Carried.{IsShortMessage}
 use Rattle.item_packets.specs.Packed.{AddsPacked}
 use Rattle.item_packets.specs.laws.Parts.{all_taken, are_messages, fits_one, rest_is, short_rest}
-use Rattle.item_packets.proofs.Adding.{adds_none, packet_more}
+use Rattle.item_packets.specs.laws.Adding.{adds_none, packet_more}
 use Rattle.item_packets.proofs.packing.put_messages.Goals as goal
 
 pub build_packet-requires-clause-each : goal.build_packet-requires-clause-each

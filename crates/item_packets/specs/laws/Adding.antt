@@ -23,14 +23,14 @@ none_packed name = record {
   spelled = refl;
 }
 
-pub adds_none : (name : List ℕ) (old : List (Vec ℕ)) → AddsPacked name [] old old
+pub adds_none : {A : Type 0} (name : List ℕ) (old : List (Vec ℕ A)) → AddsPacked name [] old old
 adds_none name old = record {
   datagrams = [];
   packed = none_packed name;
   added = sym (append-nil (bytes_of_each old));
 }
 
-pub adds_one : (name : List ℕ) (p : Content) (bytes : List ℕ) (old new : List (Vec ℕ))
+pub adds_one : {A : Type 0} (name : List ℕ) (p : Content) (bytes : List ℕ) (old new : List (Vec ℕ A))
     → Spells bytes p [] → p.session ≡ name → (p.kind ≡ kinds.Heartbeat → ⊥)
     → bytes_of_each new ≡ bytes_of_each old ++ bytes ∷ []
     → AddsPacked name (items_carried p) old new
@@ -65,7 +65,7 @@ both_packed name xs ys ds es a b = record {
       ∙ sym (map-append spelling a.packets b.packets);
 }
 
-pub adds_both : (name : List ℕ) (xs ys : List Numbered) (old between new : List (Vec ℕ))
+pub adds_both : {A : Type 0} (name : List ℕ) (xs ys : List Numbered) (old between new : List (Vec ℕ A))
     → AddsPacked name xs old between → AddsPacked name ys between new
     → AddsPacked name (xs ++ ys) old new
 adds_both name xs ys old between new a b = record {
@@ -76,8 +76,8 @@ adds_both name xs ys old between new a b = record {
 }
 
 -- one packet of messages more
-pub packet_more : (name : List ℕ) (number from k : ℕ) (messages rest : List (Bor (List ℕ)))
-    (bytes : List ℕ) (p1 p2 p3 : List (Vec ℕ))
+pub packet_more : {A : Type 0} (name : List ℕ) (number from k : ℕ) (messages rest : List (Bor (List ℕ)))
+    (bytes : List ℕ) (p1 p2 p3 : List (Vec ℕ A))
     → from ≤ length messages → rest ≡ drop from messages
     → AddsPacked name (numbered_from number (map item_of (lent_bytes (take from messages)))) p1 p2
     → Spells bytes (record {
@@ -100,8 +100,8 @@ packet_more name number from k messages rest bytes p1 p2 p3 within is before spe
     (adds_one name _ bytes p2 p3 spelled refl (λ e. absurd cc) added))
 
 -- the messages of a row, and then its end
-pub items_put : (name : List ℕ) (first count : ℕ) (items front rest : List Numbered)
-    (p1 p2 p3 : List (Vec ℕ))
+pub items_put : {A : Type 0} (name : List ℕ) (first count : ℕ) (items front rest : List Numbered)
+    (p1 p2 p3 : List (Vec ℕ A))
     → (run : RunsFrom first items) → 1 ≤ first → count ≡ length run.items
     → front ≡ take count items → rest ≡ drop count items
     → ((first : ℕ) (its : List Item) → 1 ≤ first → front ≡ numbered_from first its
@@ -127,3 +127,10 @@ items_put name first count items front rest p1 p2 p3 run one len fronts rests pu
         → (rest ≡ []) ⊎ (rest ≡ end_item (first + length run.items) ∷ [])
     by_end tail (inl h) = inl (tail ∙ h)
     by_end tail (inr h) = inr (tail ∙ h)
+
+-- datagrams that follow none
+pub packed_alone : {A : Type 0} (name : List ℕ) (output : List Numbered) (old new : List (Vec ℕ A))
+    → old ≡ [] → AddsPacked name output old new → ArePacked name output (bytes_of_each new)
+packed_alone name output old new none a =
+    subst (λ (z : List (List ℕ)). ArePacked name output z)
+    (sym (a.added ∙ ap (λ (z : List (Vec ℕ A)). bytes_of_each z ++ a.datagrams) none)) a.packed

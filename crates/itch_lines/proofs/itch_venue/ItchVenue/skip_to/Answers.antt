@@ -1,0 +1,24 @@
+use Rattle.std.proofs.Common.{◌++◌, [], ◌∷◌, sym, subst, ℕ, List, ◌≤◌}
+use Rattle.line_arbiter.specs.Packets.{Skip}
+use Rattle.venue_normaliser.specs.States.{FitsPackets}
+use Rattle.item_packets.specs.Packed.{ArePacked, bytes_of_each}
+use Rattle.itch_lines.proofs.Bringing.{brings_ready}
+use Rattle.itch_lines.proofs.itch_venue.ItchVenue.skip_to.Goals as goal
+
+pub returns-clause-skips : goal.returns-clause-skips
+returns-clause-skips c = λ packets put fits out.
+    let before = c.args.self.now.normaliser in
+    let later = packets ++ Skip c.args.number ∷ [] in
+    let packed = c.in_ok-pack_ready.ensures.packed in
+    record {
+      may = (rw c.in-Ok.is at (c.in_ok-skip_to.ensures.answer packets fits)).1;
+      fits = subst (λ n. FitsPackets n later) (sym c.in_ok-pack_ready.ensures.normaliser)
+          (rw c.in-Ok.is at (c.in_ok-skip_to.ensures.fits packets fits));
+      brings = brings_ready before.lines.session before.book.keys packets later put
+          c.clear.new.self.items c.skip_to.new.out.items (bytes_of_each c.pack_ready.new.made.items)
+          c.clear.ensures.items (rw c.in-Ok.is at (c.in_ok-skip_to.ensures.output packets fits)) out
+          (λ first one run.
+          subst (λ (name : List ℕ). ArePacked name c.skip_to.new.out.items
+          (bytes_of_each c.pack_ready.new.made.items)) c.in_ok-skip_to.ensures.kept.0.session
+          (packed first one run));
+    }
