@@ -1,6 +1,6 @@
 -- The line of a venue of either kind.
 use Rattle.std.specs.Prelude.{ℕ, List}
-use Rattle.itch_lines.specs.Lines.{HasNormalised, ItchLineState, failures_of}
+use Rattle.itch_lines.specs.Lines.{HasNormalised, ItchLineState, failures_at}
 use Rattle.itch_lines.specs.declared.feed_line.LineKind.{LineKind}
 use Rattle.itch_lines.specs.declared.feed_line.LineKind.TheVariants as kinds
 
@@ -24,14 +24,14 @@ source_of (FeedLineState.Own source) = source
 source_of (FeedLineState.Itch line) = line.source
 
 -- the venue whose line it is, where `own` has that of a source
-abbrev pub venue_by : {S : Type 0} → (own : S → ℕ) → FeedLineState S → ℕ
-venue_by own (FeedLineState.Own source) = own source
-venue_by own (FeedLineState.Itch line) = line.venue
+abbrev pub venue_with : {S : Type 0} → (own : S → ℕ) → FeedLineState S → ℕ
+venue_with own (FeedLineState.Own source) = own source
+venue_with own (FeedLineState.Itch line) = line.venue
 
 -- how many calls of it have failed
 abbrev pub failures_by : {S : Type 0} → (own : S → ℕ) → FeedLineState S → ℕ
 failures_by own (FeedLineState.Own source) = own source
-failures_by own (FeedLineState.Itch line) = failures_of line.end
+failures_by own (FeedLineState.Itch line) = failures_at line.end
 
 -- it is of the same kind, and brings what that brings
 abbrev pub Brings : {S : Type 0} → (S → List (List ℕ) → S → Type 0) → FeedLineState S

@@ -5,7 +5,7 @@ use Rattle.feed_types.specs.declared.line.LineId.{LineId}
 use Rattle.venue_lines.specs.declared.source.SourceFault.{SourceFault}
 use Rattle.venue_lines.specs.Sources.{failures_after}
 use Rattle.itch_lines.specs.Cells.{HasBeenGiven, ItchState}
-use Rattle.itch_lines.specs.Sections.{BringsEnd, BringsSkip, TakesDatagram}
+use Rattle.itch_lines.specs.Sections.{BringsEnd, BringsSkip, NormalisesDatagram}
 use Rattle.itch_lines.specs.declared.source_end.SourceEnd.{SourceEnd}
 use Rattle.itch_lines.specs.declared.source_end.SourceEnd.TheVariants.{Open, Ended, Failing, Failed}
 
@@ -28,7 +28,7 @@ pub record IsPossibleTaking (venue : ℕ) (line : LineId) (bytes : List ℕ) (ma
   pub venue_is : old.normaliser.lines.venue ≡ venue
   pub new : ItchState
   pub is : HasBeenGiven new.normaliser
-  pub takes : TakesDatagram old.names line bytes old.normaliser new.normaliser was.packets was.put
+  pub takes : NormalisesDatagram old.names line bytes old.normaliser new.normaliser was.packets was.put
       made
 
 -- the same of a gap that is given up
@@ -65,24 +65,24 @@ IsPossible venue line (Section.GaveUp made) = IsPossibleSkip venue made
 IsPossible venue line (Section.Failing received made) = BringsEnd made
 
 -- the normaliser has not failed in it
-abbrev pub IsSound : Section → Type 0
-IsSound (Section.Took bytes made) = Unit {0}
-IsSound (Section.GaveUp made) = Unit {0}
-IsSound (Section.Failing received made) = ⊥
+abbrev pub IsUnfailing : Section → Type 0
+IsUnfailing (Section.Took bytes made) = Unit {0}
+IsUnfailing (Section.GaveUp made) = Unit {0}
+IsUnfailing (Section.Failing received made) = ⊥
 
 -- the line ends with a fault, or has
-abbrev pub HasFault : SourceEnd → Type 0
-HasFault Open = ⊥
-HasFault Ended = ⊥
-HasFault (Failing fault) = Unit {0}
-HasFault (Failed fault) = Unit {0}
+abbrev pub EndsInFault : SourceEnd → Type 0
+EndsInFault Open = ⊥
+EndsInFault Ended = ⊥
+EndsInFault (Failing fault) = Unit {0}
+EndsInFault (Failed fault) = Unit {0}
 
 -- how many calls of a line have failed: one at most, since it ends then
-abbrev pub failures_of : SourceEnd → ℕ
-failures_of Open = 0
-failures_of Ended = 0
-failures_of (Failing fault) = 0
-failures_of (Failed fault) = failures_after 0 fault
+abbrev pub failures_at : SourceEnd → ℕ
+failures_at Open = 0
+failures_at Ended = 0
+failures_at (Failing fault) = 0
+failures_at (Failed fault) = failures_after 0 fault
 
 -- The datagrams of these bytes are what the line has brought from one state to the other: section
 -- by section what its source's datagrams, and gaps that were given up, have made under the venue's
@@ -94,7 +94,7 @@ pub record HasNormalised {S : Type 0} (brings : S → List (List ℕ) → S → 
   pub line : new.line ≡ old.line
   pub sections : List Section
   pub each : AllByRecursion (IsPossible old.venue old.line) sections
-  pub sound : (HasFault new.end → ⊥) → AllByRecursion IsSound sections
-  pub ended : HasFault old.end → HasFault new.end
+  pub sound : (EndsInFault new.end → ⊥) → AllByRecursion IsUnfailing sections
+  pub ended : EndsInFault old.end → EndsInFault new.end
   pub came : brings old.source (flat_map received_in sections) new.source
   pub all : old.waiting ++ flat_map made_in sections ≡ bytes ++ new.waiting

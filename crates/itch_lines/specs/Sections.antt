@@ -32,7 +32,7 @@ pub record BringsMore (name keys : List ℕ) (after : List Input) (put : List Nu
 -- A packet came on a line of a venue, to which these packets and skips were given, and of which
 -- `put` was put out: it is answered as it is to be, and the datagrams carry just what is put out
 -- more.
-pub record BringsPacket (line : LineId) (p : Content) (answer : Result Outcome LineFault)
+pub record NormalisesPacket (line : LineId) (p : Content) (answer : Result Outcome LineFault)
     (before after : NormaliserState) (packets : List Input) (put : List Numbered)
     (made : List (List ℕ)) : Type 0 where
   pub outcome : IsOutcome before.lines.session before.lines.window before.lines.sent packets
@@ -54,20 +54,20 @@ pub record BringsSkip (number : ℕ) (before after : NormaliserState) (packets :
 -- ---- the sessions that follow one another
 
 -- the name of the session that follows the present one, if one does
-abbrev pub name_after : List (List ℕ) → NormaliserState → Option (List ℕ)
-name_after names n = slice_get names (ordinal_of n.lines - 1)
+abbrev pub name_following : List (List ℕ) → NormaliserState → Option (List ℕ)
+name_following names n = slice_get names (ordinal_of n.lines - 1)
 
 -- The packet is of the session that follows the present one, which is over, and all of it was sent:
 -- a renewal under this name would begin the one of this ordinal.
-pub record RenewsAt (names : List (List ℕ)) (p : Content) (n : NormaliserState) : Type 0 where
-  pub follows : name_after names n ≡ Some p.session
+pub record FollowsAt (names : List (List ℕ)) (p : Content) (n : NormaliserState) : Type 0 where
+  pub follows : name_following names n ≡ Some p.session
   pub ordinal : ℕ
   pub renews : IsRenewal n.lines.sessions n.lines.end n.lines.sent p.session (Ok ordinal)
 
 -- it has begun, with nothing given
-pub record BeginsNext (names : List (List ℕ)) (p : Content) (before after : NormaliserState)
+pub record BeginsAnew (names : List (List ℕ)) (p : Content) (before after : NormaliserState)
     : Type 0 where
-  pub before_it : RenewsAt names p before
+  pub before_it : FollowsAt names p before
   pub fits : FitsPackets after []
   pub renewed : IsRenewed before.lines after.lines p.session
   pub kept : KeepsItsBook before after
@@ -76,8 +76,8 @@ pub record BeginsNext (names : List (List ℕ)) (p : Content) (before after : No
 -- changes.
 abbrev pub BeginsOrKeeps : List (List ℕ) → Content → (renewed : Bool) → NormaliserState
     → NormaliserState → Type 0
-BeginsOrKeeps names p true before after = BeginsNext names p before after
-BeginsOrKeeps names p false before after = (RenewsAt names p before → ⊥) × (after ≡ before)
+BeginsOrKeeps names p true before after = BeginsAnew names p before after
+BeginsOrKeeps names p false before after = (FollowsAt names p before → ⊥) × (after ≡ before)
 
 -- what was given and put out of the present session, once another one has begun, or none has
 abbrev pub since_begun : {A : Type 0} → (renewed : Bool) → List A → List A
@@ -87,7 +87,7 @@ since_begun false xs = xs
 -- ---- datagrams
 
 -- bytes that are no packet change nothing and bring nothing
-pub record RefusesBytes (bytes : List ℕ) (before after : NormaliserState) (made : List (List ℕ))
+pub record PassesBytesOver (bytes : List ℕ) (before after : NormaliserState) (made : List (List ℕ))
     : Type 0 where
   pub fault : PacketFault
   pub has : HasFault bytes fault
@@ -96,7 +96,7 @@ pub record RefusesBytes (bytes : List ℕ) (before after : NormaliserState) (mad
 
 -- The bytes are a packet: the venue's next session begins where it is due, and then the packet is
 -- taken.
-pub record TakesPacket (names : List (List ℕ)) (line : LineId) (bytes : List ℕ)
+pub record BeginsAndNormalises (names : List (List ℕ)) (line : LineId) (bytes : List ℕ)
     (before after : NormaliserState) (packets : List Input) (put : List Numbered)
     (made : List (List ℕ)) : Type 0 where
   pub packet : Content
@@ -106,16 +106,16 @@ pub record TakesPacket (names : List (List ℕ)) (line : LineId) (bytes : List �
   pub between : NormaliserState
   pub begins : BeginsOrKeeps names packet renewed before between
   pub answer : Result Outcome LineFault
-  pub brings : BringsPacket line packet answer between after (since_begun renewed packets)
+  pub brings : NormalisesPacket line packet answer between after (since_begun renewed packets)
       (since_begun renewed put) made
 
 -- What a datagram brings of a venue, to which these packets and skips were given in the present
 -- session, and of which `put` was put out.
-abbrev pub TakesDatagram : List (List ℕ) → LineId → List ℕ → NormaliserState → NormaliserState
+abbrev pub NormalisesDatagram : List (List ℕ) → LineId → List ℕ → NormaliserState → NormaliserState
     → List Input → List Numbered → List (List ℕ) → Type 0
-TakesDatagram names line bytes before after packets put made =
-    RefusesBytes bytes before after made
-    ⊎ TakesPacket names line bytes before after packets put made
+NormalisesDatagram names line bytes before after packets put made =
+    PassesBytesOver bytes before after made
+    ⊎ BeginsAndNormalises names line bytes before after packets put made
 
 -- where a normaliser fails, an end of session at most
 abbrev pub BringsEnd : List (List ℕ) → Type 0

@@ -63,18 +63,18 @@ impl<S, C> FeedLine<S, C> {
 }
 
 impl<S: LineSource<Anything>, C: Clock + Drop> LineSource<Anything> for FeedLine<S, C> {
-    ghost use Rattle.itch_lines.specs.FeedLines.{Brings, failures_by, venue_by};
-    ghost use Rattle.itch_lines.specs.laws.Either.{brings_more, brings_nothing};
+    ghost use Rattle.itch_lines.specs.FeedLines.{Brings, failures_by, venue_with};
+    ghost use Rattle.itch_lines.specs.laws.Either.{line_brings_more, line_brings_nothing};
 
-    ghost venue_of = { λ l. venue_by S.venue_of l };
+    ghost venue_of = { λ l. venue_with S.venue_of l };
 
     ghost failures = { λ l. failures_by S.failures l };
 
     ghost brings = { λ l bytes m. Brings S.brings l bytes m };
 
-    ghost brings_nothing = { brings_nothing S.brings S.brings_nothing };
+    ghost brings_nothing = { line_brings_nothing S.brings S.brings_nothing };
 
-    ghost brings_more = { brings_more S.brings S.brings_more };
+    ghost brings_more = { line_brings_more S.brings S.brings_more };
 
     fn venue(&self) -> VenueId {
         match &self.kind {

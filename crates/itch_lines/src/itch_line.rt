@@ -2,7 +2,7 @@
 ghost use Rattle.std.specs.Prelude.{◌≡◌, ◌∷◌, [], IfErr, IfOk, Ok};
 ghost use Rattle.venue_lines.specs.Datagrams.{bytes_of};
 ghost use Rattle.venue_lines.specs.Sources.{brought_in, failures_after};
-ghost use Rattle.itch_lines.specs.Lines.{HasNormalised, failures_of};
+ghost use Rattle.itch_lines.specs.Lines.{HasNormalised, failures_at};
 
 use crate::itch_cell::SectionDone;
 use crate::itch_rules::ItchRules;
@@ -114,7 +114,7 @@ impl<S: LineSource<Anything>, C: Clock> ItchLine<S, C> {
     /// Sends the request for what the venue is missing that is due, if any.
     fn ask(&mut self, now_ms: u64)
         ensures brings { HasNormalised S.brings self.old [] self.new }
-        ensures failures { failures_of self.new.end ≡ failures_of self.old.end }
+        ensures failures { failures_at self.new.end ≡ failures_at self.old.end }
         ensures waiting { self.new.waiting ≡ self.old.waiting }
     {
         let Some(request) = self.share.request_due(now_ms, &self.rules) else {
@@ -149,7 +149,7 @@ impl<S: LineSource<Anything>, C: Clock> ItchLine<S, C> {
         requires none { self.old.waiting ≡ [] }
         requires open { self.old.end ≡ SourceEnd.Open }
         ensures brings { HasNormalised S.brings self.old [] self.new }
-        ensures failures { failures_of self.new.end ≡ failures_of self.old.end }
+        ensures failures { failures_at self.new.end ≡ failures_at self.old.end }
     {
         let given = self
             .share
@@ -165,7 +165,7 @@ impl<S: LineSource<Anything>, C: Clock> ItchLine<S, C> {
     /// nothing waits.
     fn look_at_gap(&mut self, asks: bool)
         ensures brings { HasNormalised S.brings self.old [] self.new }
-        ensures failures { failures_of self.new.end ≡ failures_of self.old.end }
+        ensures failures { failures_at self.new.end ≡ failures_at self.old.end }
     {
         if !self.gap {
             return;
@@ -185,7 +185,7 @@ impl<S: LineSource<Anything>, C: Clock> ItchLine<S, C> {
         requires open { self.old.end ≡ SourceEnd.Open }
         ensures brings { (before : S) → S.brings before (bytes_of datagram ∷ []) self.old.source
             → HasNormalised S.brings (record self.old { source = before }) [] self.new }
-        ensures failures { failures_of self.new.end ≡ 0 }
+        ensures failures { failures_at self.new.end ≡ 0 }
     {
         self.time = self.time_now();
         let taken = self
@@ -208,7 +208,7 @@ impl<S: LineSource<Anything>, C: Clock> ItchLine<S, C> {
         requires none { self.old.waiting ≡ [] }
         requires open { self.old.end ≡ SourceEnd.Open }
         ensures brings { HasNormalised S.brings self.old [] self.new }
-        ensures failures { failures_of self.new.end ≡ failures_of self.old.end }
+        ensures failures { failures_at self.new.end ≡ failures_at self.old.end }
     {
         match self.source.next() {
             Ok(Some(datagram)) => {
@@ -223,7 +223,7 @@ impl<S: LineSource<Anything>, C: Clock> ItchLine<S, C> {
     /// Waits a while, and returns whether the next answer is there.
     fn poll(&mut self) -> bool
         ensures brings { HasNormalised S.brings self.old [] self.new }
-        ensures failures { failures_of self.new.end ≡ failures_of self.old.end }
+        ensures failures { failures_at self.new.end ≡ failures_at self.old.end }
     {
         if !self.waiting.is_empty() || self.end != SourceEnd::Open {
             return self.has_answer();
@@ -239,7 +239,7 @@ impl<S: LineSource<Anything>, C: Clock> ItchLine<S, C> {
     /// Waits until the next answer is there.
     fn wait_for_answer(&mut self)
         ensures brings { HasNormalised S.brings self.old [] self.new }
-        ensures failures { failures_of self.new.end ≡ failures_of self.old.end }
+        ensures failures { failures_at self.new.end ≡ failures_at self.old.end }
     {
         for _ in 0..u64::MAX {
             if self.poll() {
@@ -252,9 +252,9 @@ impl<S: LineSource<Anything>, C: Clock> ItchLine<S, C> {
     /// more.
     fn answer(&mut self) -> Result<Option<Datagram>, SourceFault>
         ensures brings { HasNormalised S.brings self.old (brought_in result) self.new }
-        ensures sound { IfOk result (λ _. failures_of self.new.end ≡ failures_of self.old.end) }
-        ensures failed { IfErr result (λ fault. failures_of self.new.end
-            ≡ failures_after (failures_of self.old.end) fault) }
+        ensures sound { IfOk result (λ _. failures_at self.new.end ≡ failures_at self.old.end) }
+        ensures failed { IfErr result (λ fault. failures_at self.new.end
+            ≡ failures_after (failures_at self.old.end) fault) }
     {
         if let Some(bytes) = self.waiting.pop_front() {
             return Ok(Some(Datagram::new(bytes).received_at(self.time)));
@@ -270,18 +270,18 @@ impl<S: LineSource<Anything>, C: Clock> ItchLine<S, C> {
 }
 
 impl<S: LineSource<Anything>, C: Clock + Drop> LineSource<Anything> for ItchLine<S, C> {
-    ghost use Rattle.itch_lines.specs.Lines.{HasNormalised, failures_of};
-    ghost use Rattle.itch_lines.specs.laws.Normalised.{brings_more, brings_nothing};
+    ghost use Rattle.itch_lines.specs.Lines.{HasNormalised, failures_at};
+    ghost use Rattle.itch_lines.specs.laws.Normalised.{normalised_more, normalised_nothing};
 
     ghost venue_of = { λ l. l.venue };
 
-    ghost failures = { λ l. failures_of l.end };
+    ghost failures = { λ l. failures_at l.end };
 
     ghost brings = { λ l bytes m. HasNormalised S.brings l bytes m };
 
-    ghost brings_nothing = { brings_nothing S.brings S.brings_nothing };
+    ghost brings_nothing = { normalised_nothing S.brings S.brings_nothing };
 
-    ghost brings_more = { brings_more S.brings S.brings_more };
+    ghost brings_more = { normalised_more S.brings S.brings_more };
 
     fn venue(&self) -> VenueId {
         self.venue

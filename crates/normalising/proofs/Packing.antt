@@ -15,7 +15,7 @@ use Rattle.mold_packet.specs.Content.{Content, IsContent, Spells, spelling}
 use Rattle.packet_building.specs.Fitting.{IsMost}
 use Rattle.quote_payload.specs.Payload.{item_of}
 use Rattle.normalising.specs.Carried.{BeatsAt, IsMessageItem, IsShortMessage, RunsFrom, end_of_kind, numbered_item, items_carried}
-use Rattle.item_packets.specs.laws.Parts.{all_append, carried_more, row_back, row_front}
+use Rattle.item_packets.specs.laws.Parts.{all_append, items_carried_more, row_back, row_front}
 use Rattle.normalising.specs.Texts.{datagram_text}
 use Rattle.normalising.specs.Writes.{PutsPackets, PutsText, text_of}
 use Rattle.normalising.specs.declared.output_form.OutputForm.{OutputForm}
@@ -116,7 +116,7 @@ packet_more writing adds_more form now origin known number from k messages rest 
     (ap (λ (r : List (Bor (List ℕ))).
     numbered_from number (map item_of (lent_bytes (take from messages)))
     ++ (numbered_from (number + from) (map item_of (lent_bytes (take k r))) ++ [])) is
-    ∙ carried_more messages number from k within)
+    ∙ items_carried_more messages number from k within)
     (puts_both writing form origin known _ _ w1 w2 w3 p1 p2 p3 adds_more before
     (puts_one writing form origin known w2 w3 p2 p3 _ bytes spelled refl (λ e. absurd cc)
     (subst (λ (f : OutputForm).

@@ -60,7 +60,8 @@ fn itch_share(
             EndNumberRule::Last => EndNumber::Last,
         },
     };
-    let first = settings.feed.sessions[venue.index()];
+    let sessions = settings.feed.sessions.as_slice();
+    let first = sessions[venue.index()];
     let symbols = settings.feed.symbols.as_slice();
     let Ok(normaliser) = VenueNormaliser::new(alloc, venue, first, symbols, &of_normaliser) else {
         return Err(AllocError);

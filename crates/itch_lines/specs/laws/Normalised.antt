@@ -5,11 +5,11 @@ use Rattle.std.specs.List.{AllByRecursion}
 use Rattle.std.proofs.lemmas.List.Concat.{flat_map-append}
 use Rattle.feed_types.specs.declared.line.LineId.{LineId}
 use Rattle.item_packets.specs.laws.Parts.{all_append}
-use Rattle.itch_lines.specs.Lines.{HasNormalised, ItchLineState, IsPossible, IsSound, Section, made_in, received_in}
+use Rattle.itch_lines.specs.Lines.{HasNormalised, ItchLineState, IsPossible, IsUnfailing, Section, made_in, received_in}
 
-pub brings_nothing : {S : Type 0} (brings : S → List (List ℕ) → S → Type 0)
+pub normalised_nothing : {S : Type 0} (brings : S → List (List ℕ) → S → Type 0)
     (none : (s : S) → brings s [] s) (l : ItchLineState S) → HasNormalised brings l [] l
-brings_nothing brings none l = record {
+normalised_nothing brings none l = record {
   venue = refl;
   line = refl;
   sections = [];
@@ -20,12 +20,12 @@ brings_nothing brings none l = record {
   all = append-nil l.waiting;
 }
 
-pub brings_more : {S : Type 0} (brings : S → List (List ℕ) → S → Type 0)
+pub normalised_more : {S : Type 0} (brings : S → List (List ℕ) → S → Type 0)
     (more : (s t u : S) (xs ys : List (List ℕ)) → brings s xs t → brings t ys u
     → brings s (xs ++ ys) u)
     (s t u : ItchLineState S) (xs ys : List (List ℕ)) → HasNormalised brings s xs t
     → HasNormalised brings t ys u → HasNormalised brings s (xs ++ ys) u
-brings_more brings more s t u xs ys a b =
+normalised_more brings more s t u xs ys a b =
     let ws = s.waiting in
     let wt = t.waiting in
     let wu = u.waiting in
@@ -38,7 +38,7 @@ brings_more brings more s t u xs ys a b =
       each = all_append (IsPossible s.venue s.line) a.sections b.sections a.each
           (subst (λ (v : ℕ). AllByRecursion (IsPossible v s.line) b.sections) a.venue
           (subst (λ (l : LineId). AllByRecursion (IsPossible t.venue l) b.sections) a.line b.each));
-      sound = λ whole. all_append IsSound a.sections b.sections
+      sound = λ whole. all_append IsUnfailing a.sections b.sections
           (a.sound (λ has. whole (b.ended has))) (b.sound whole);
       ended = λ has. b.ended (a.ended has);
       came = subst (λ (z : List (List ℕ)). brings s.source z u.source)

@@ -13,7 +13,7 @@ use Rattle.mold_packet.specs.Content.{Content, IsContent, Spells, spelling}
 use Rattle.quote_payload.specs.Payload.{item_of}
 use Rattle.item_packets.specs.Carried.{IsMessageItem, RunsFrom, items_carried}
 use Rattle.item_packets.specs.Packed.{AddsPacked, ArePacked, IsNoHeartbeat, bytes_of_each}
-use Rattle.item_packets.specs.laws.Parts.{all_append, carried_more, row_back, row_front}
+use Rattle.item_packets.specs.laws.Parts.{all_append, items_carried_more, row_back, row_front}
 
 pub none_packed : (name : List ℕ) → ArePacked name [] []
 none_packed name = record {
@@ -95,12 +95,12 @@ packet_more name number from k messages rest bytes p1 p2 p3 within is before spe
     (ap (λ (r : List (Bor (List ℕ))).
     numbered_from number (map item_of (lent_bytes (take from messages)))
     ++ (numbered_from (number + from) (map item_of (lent_bytes (take k r))) ++ [])) is
-    ∙ carried_more messages number from k within)
+    ∙ items_carried_more messages number from k within)
     (adds_both name _ _ p1 p2 p3 before
     (adds_one name _ bytes p2 p3 spelled refl (λ e. absurd cc) added))
 
 -- the messages of a row, and then its end
-pub items_put : {A : Type 0} (name : List ℕ) (first count : ℕ) (items front rest : List Numbered)
+pub row_added : {A : Type 0} (name : List ℕ) (first count : ℕ) (items front rest : List Numbered)
     (p1 p2 p3 : List (Vec ℕ A))
     → (run : RunsFrom first items) → 1 ≤ first → count ≡ length run.items
     → front ≡ take count items → rest ≡ drop count items
@@ -109,7 +109,7 @@ pub items_put : {A : Type 0} (name : List ℕ) (first count : ℕ) (items front 
     → ((number : ℕ) → 1 ≤ number → (rest ≡ []) ⊎ (rest ≡ end_item number ∷ [])
     → AddsPacked name rest p2 p3)
     → AddsPacked name items p1 p3
-items_put name first count items front rest p1 p2 p3 run one len fronts rests puts ends =
+row_added name first count items front rest p1 p2 p3 run one len fronts rests puts ends =
     let row : front ≡ numbered_from first run.items =
     fronts ∙ ap₂ (λ (n : ℕ) (z : List Numbered). take n z) len run.is
     ∙ row_front first run.items run.ends in

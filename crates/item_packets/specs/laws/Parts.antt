@@ -30,9 +30,9 @@ pub items_numbered : (n : ℕ) (its : List Item) → map numbered_item (numbered
 items_numbered n [] = refl
 items_numbered n (x ∷ xs) = ap (λ (rest : List Item). x ∷ rest) (items_numbered (n + 1) xs)
 
-pub length-numbered : (n : ℕ) (its : List Item) → length (numbered_from n its) ≡ length its
-length-numbered n [] = refl
-length-numbered n (x ∷ xs) = ap suc (length-numbered (n + 1) xs)
+pub length-of-row : (n : ℕ) (its : List Item) → length (numbered_from n its) ≡ length its
+length-of-row n [] = refl
+length-of-row n (x ∷ xs) = ap suc (length-of-row (n + 1) xs)
 
 pub length-map-of : {A B : Type 0} (f : A → B) (xs : List A) → length (map f xs) ≡ length xs
 length-map-of f [] = refl
@@ -63,12 +63,12 @@ are_messages [] each = tt
 are_messages (m ∷ ms) each = (let short = each.0 in omega (arith, short), are_messages ms each.1)
 
 -- what the messages up to a place carry, and those of one more packet
-pub carried_more : (messages : List (Bor (List ℕ))) (number from k : ℕ) → from ≤ length messages
+pub items_carried_more : (messages : List (Bor (List ℕ))) (number from k : ℕ) → from ≤ length messages
     → numbered_from number (map item_of (lent_bytes (take from messages)))
     ++ (numbered_from (number + from)
     (map item_of (lent_bytes (take k (drop from messages)))) ++ [])
     ≡ numbered_from number (map item_of (lent_bytes (take (from + k) messages)))
-carried_more messages number from k within =
+items_carried_more messages number from k within =
     let front = take from messages in
     let more = take k (drop from messages) in
     let its : List Item = map item_of (lent_bytes front) in
@@ -98,8 +98,8 @@ all_taken messages from past = take_all from messages past
 
 -- ---- items in a row
 
-pub rest_of : {A : Type 0} (xs : List A) (n : ℕ) → take (length xs - n) (drop n xs) ≡ drop n xs
-rest_of xs n = take_all (length xs - n) (drop n xs)
+pub taken_rest : {A : Type 0} (xs : List A) (n : ℕ) → take (length xs - n) (drop n xs) ≡ drop n xs
+taken_rest xs n = take_all (length xs - n) (drop n xs)
     (let l = length-drop n xs in omega (arith, l))
 
 pub row_front : (first : ℕ) (its : List Item) (ends : List Numbered)
