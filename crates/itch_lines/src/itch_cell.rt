@@ -134,13 +134,13 @@ impl ItchCell {
         }
     }
 
-    /// Ends the venue, whose normaliser has failed: what was put out ends then.
-    fn fail(&mut self, fault: BookFault, made: &mut VecDeque<Vec<u8>>) -> SectionFailed
+    /// Ends what was put out of the venue, whose normaliser has failed.
+    fn fail(&mut self, made: &mut VecDeque<Vec<u8>>) -> SectionFailed
+        requires { self.old.failed ≡ true }
         ensures end { BringsEnd (bytes_of_each made.new.items) }
         ensures failed { self.new.failed ≡ true }
         ensures venue { self.new.normaliser ≡ self.old.normaliser }
     {
-        self.fault = Some(fault);
         self.venue.end_output(made);
         let done = self.done(None, made.len());
         SectionFailed {
@@ -184,7 +184,10 @@ impl ItchCell {
         }
         match self.venue.take(line, bytes, made) {
             Ok(taken) => Ok(self.done(taken.begun, made.len())),
-            Err(fault) => Err(self.fail(fault, made)),
+            Err(fault) => {
+                self.fault = Some(fault);
+                Err(self.fail(made))
+            }
         }
     }
 
@@ -247,7 +250,10 @@ impl ItchCell {
         match self.venue.skip_to(left.number.saturating_add(count), made) {
             Ok(Ok(())) => Ok(Some(self.done(None, made.len()))),
             Ok(Err(_)) => Ok(None),
-            Err(fault) => Err(self.fail(fault, made)),
+            Err(fault) => {
+                self.fault = Some(fault);
+                Err(self.fail(made))
+            }
         }
     }
 
