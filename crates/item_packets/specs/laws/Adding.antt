@@ -131,6 +131,6 @@ row_added name first count items front rest p1 p2 p3 run one len fronts rests pu
 -- datagrams that follow none
 pub packed_alone : {A : Type 0} (name : List ℕ) (output : List Numbered) (old new : List (Vec ℕ A))
     → old ≡ [] → AddsPacked name output old new → ArePacked name output (bytes_of_each new)
-packed_alone name output old new none a =
+packed_alone {A = A} name output old new none a =
     subst (λ (z : List (List ℕ)). ArePacked name output z)
     (sym (a.added ∙ ap (λ (z : List (Vec ℕ A)). bytes_of_each z ++ a.datagrams) none)) a.packed
