@@ -11,8 +11,8 @@ use Rattle.itch_lines.specs.Cells.{HasBeenGiven}
 use Rattle.itch_lines.specs.Sections.{BeginsOrKeeps, BringsSkip, NormalisesDatagram}
 
 -- the symbols are the same where the next session begins, or doesn't
-begun_keys : (names : List (List ℕ)) (p : Content) (renewed : Bool) (before between : NormaliserState)
-    → BeginsOrKeeps names p renewed before between → between.book.keys ≡ before.book.keys
+begun_keys : (names : List (List ℕ)) (p : Content) (renewed : Bool)
+    (before between : NormaliserState) → BeginsOrKeeps names p renewed before between → between.book.keys ≡ before.book.keys
 begun_keys names p true before between b = b.kept.keys
 begun_keys names p false before between b = ap (λ (n : NormaliserState). n.book.keys) b.1
 

@@ -1,7 +1,7 @@
 -- What a line has brought, call by call.
 use Rattle.std.proofs.Common.{◌≡◌, ◌∙◌, ℕ, List, [], ◌∷◌, ◌++◌, refl, sym, ap, subst, append-nil}
 use Rattle.feed_types.specs.declared.line.LineId.{LineId}
-use Rattle.itch_lines.specs.Lines.{EndsInFault, HasNormalised, IsPossible, IsPossibleSkip, IsPossibleTaking, ItchLineState, Section, made_in}
+use Rattle.itch_lines.specs.Lines.{EndsInFault, HasNormalised, IsPossible, IsPossibleSkip, IsPossibleTaking, ItchLineState, Section, FailedIn, GaveUp, Took, made_in}
 use Rattle.itch_lines.specs.Sections.{BringsEnd}
 
 module _ {S : Type 0} (brings : S → List (List ℕ) → S → Type 0) (old new : ItchLineState S)
@@ -47,12 +47,12 @@ module _ {S : Type 0} (brings : S → List (List ℕ) → S → Type 0) (old new
   has_taken bytes came none taken = record {
     venue = venue;
     line = line;
-    sections = Section.Took bytes new.waiting ∷ [];
+    sections = Took bytes new.waiting ∷ [];
     each = (taken, tt);
     sound = λ whole. (tt, tt);
     ended = ended;
     came = came;
-    all = made_all (Section.Took bytes new.waiting) none refl;
+    all = made_all (Took bytes new.waiting) none refl;
   }
 
   pub has_given_up : brings old.source [] new.source → old.waiting ≡ []
@@ -60,12 +60,12 @@ module _ {S : Type 0} (brings : S → List (List ℕ) → S → Type 0) (old new
   has_given_up came none skips = record {
     venue = venue;
     line = line;
-    sections = Section.GaveUp new.waiting ∷ [];
+    sections = GaveUp new.waiting ∷ [];
     each = (skips, tt);
     sound = λ whole. (tt, tt);
     ended = ended;
     came = came;
-    all = made_all (Section.GaveUp new.waiting) none refl;
+    all = made_all (GaveUp new.waiting) none refl;
   }
 
   pub has_failed : (received : List (List ℕ)) → brings old.source (received ++ []) new.source
@@ -74,10 +74,10 @@ module _ {S : Type 0} (brings : S → List (List ℕ) → S → Type 0) (old new
   has_failed received came none end failed = record {
     venue = venue;
     line = line;
-    sections = Section.Failing received new.waiting ∷ [];
+    sections = FailedIn received new.waiting ∷ [];
     each = (end, tt);
     sound = λ whole. absurd (whole failed);
     ended = ended;
     came = came;
-    all = made_all (Section.Failing received new.waiting) none refl;
+    all = made_all (FailedIn received new.waiting) none refl;
   }

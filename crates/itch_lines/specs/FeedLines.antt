@@ -10,35 +10,35 @@ pub data FeedLineState (S : Type 0) : Type 0 where
   Itch : ItchLineState S → FeedLineState S
 
 abbrev pub feed_line_of : {S C : Type 0} → LineKind S C → FeedLineState S
-feed_line_of (kinds.Own source) = FeedLineState.Own source
-feed_line_of (kinds.Itch line) = FeedLineState.Itch line
+feed_line_of (kinds.Own source) = Own source
+feed_line_of (kinds.Itch line) = Itch line
 
 -- it is a line in ITCH
 abbrev pub IsInItch : {S : Type 0} → FeedLineState S → Type 0
-IsInItch (FeedLineState.Own source) = ⊥
-IsInItch (FeedLineState.Itch line) = Unit {0}
+IsInItch (Own source) = ⊥
+IsInItch (Itch line) = Unit {0}
 
 -- the source that brings its datagrams
 abbrev pub source_of : {S : Type 0} → FeedLineState S → S
-source_of (FeedLineState.Own source) = source
-source_of (FeedLineState.Itch line) = line.source
+source_of (Own source) = source
+source_of (Itch line) = line.source
 
 -- the venue whose line it is, where `own` has that of a source
 abbrev pub venue_with : {S : Type 0} → (own : S → ℕ) → FeedLineState S → ℕ
-venue_with own (FeedLineState.Own source) = own source
-venue_with own (FeedLineState.Itch line) = line.venue
+venue_with own (Own source) = own source
+venue_with own (Itch line) = line.venue
 
 -- how many calls of it have failed
 abbrev pub failures_by : {S : Type 0} → (own : S → ℕ) → FeedLineState S → ℕ
-failures_by own (FeedLineState.Own source) = own source
-failures_by own (FeedLineState.Itch line) = failures_at line.end
+failures_by own (Own source) = own source
+failures_by own (Itch line) = failures_at line.end
 
 -- it is of the same kind, and brings what that brings
 abbrev pub Brings : {S : Type 0} → (S → List (List ℕ) → S → Type 0) → FeedLineState S
     → List (List ℕ) → FeedLineState S → Type 0
-Brings brings (FeedLineState.Own source) bytes (FeedLineState.Own later) =
+Brings brings (Own source) bytes (Own later) =
     brings source bytes later
-Brings brings (FeedLineState.Own source) bytes (FeedLineState.Itch later) = ⊥
-Brings brings (FeedLineState.Itch line) bytes (FeedLineState.Own later) = ⊥
-Brings brings (FeedLineState.Itch line) bytes (FeedLineState.Itch later) =
+Brings brings (Own source) bytes (Itch later) = ⊥
+Brings brings (Itch line) bytes (Own later) = ⊥
+Brings brings (Itch line) bytes (Itch later) =
     HasNormalised brings line bytes later

@@ -28,8 +28,8 @@ pub record IsPossibleTaking (venue : ℕ) (line : LineId) (bytes : List ℕ) (ma
   pub venue_is : old.normaliser.lines.venue ≡ venue
   pub new : ItchState
   pub is : HasBeenGiven new.normaliser
-  pub takes : NormalisesDatagram old.names line bytes old.normaliser new.normaliser was.packets was.put
-      made
+  pub takes : NormalisesDatagram old.names line bytes old.normaliser new.normaliser was.packets
+      was.put made
 
 -- the same of a gap that is given up
 pub record IsPossibleSkip (venue : ℕ) (made : List (List ℕ)) : Type 0 where
@@ -46,29 +46,29 @@ pub record IsPossibleSkip (venue : ℕ) (made : List (List ℕ)) : Type 0 where
 pub data Section : Type 0 where
   Took : (bytes : List ℕ) → (made : List (List ℕ)) → Section
   GaveUp : (made : List (List ℕ)) → Section
-  Failing : (received : List (List ℕ)) → (made : List (List ℕ)) → Section
+  FailedIn : (received : List (List ℕ)) → (made : List (List ℕ)) → Section
 
 abbrev pub received_in : Section → List (List ℕ)
-received_in (Section.Took bytes made) = bytes ∷ []
-received_in (Section.GaveUp made) = []
-received_in (Section.Failing received made) = received
+received_in (Took bytes made) = bytes ∷ []
+received_in (GaveUp made) = []
+received_in (FailedIn received made) = received
 
 abbrev pub made_in : Section → List (List ℕ)
-made_in (Section.Took bytes made) = made
-made_in (Section.GaveUp made) = made
-made_in (Section.Failing received made) = made
+made_in (Took bytes made) = made
+made_in (GaveUp made) = made
+made_in (FailedIn received made) = made
 
 -- the section is one that the venue's lock may see
 abbrev pub IsPossible : ℕ → LineId → Section → Type 0
-IsPossible venue line (Section.Took bytes made) = IsPossibleTaking venue line bytes made
-IsPossible venue line (Section.GaveUp made) = IsPossibleSkip venue made
-IsPossible venue line (Section.Failing received made) = BringsEnd made
+IsPossible venue line (Took bytes made) = IsPossibleTaking venue line bytes made
+IsPossible venue line (GaveUp made) = IsPossibleSkip venue made
+IsPossible venue line (FailedIn received made) = BringsEnd made
 
 -- the normaliser has not failed in it
 abbrev pub IsUnfailing : Section → Type 0
-IsUnfailing (Section.Took bytes made) = Unit {0}
-IsUnfailing (Section.GaveUp made) = Unit {0}
-IsUnfailing (Section.Failing received made) = ⊥
+IsUnfailing (Took bytes made) = Unit {0}
+IsUnfailing (GaveUp made) = Unit {0}
+IsUnfailing (FailedIn received made) = ⊥
 
 -- the line ends with a fault, or has
 abbrev pub EndsInFault : SourceEnd → Type 0

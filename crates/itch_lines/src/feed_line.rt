@@ -1,6 +1,6 @@
 //! The line of a venue of either kind.
 ghost use Rattle.std.specs.Prelude.{◌≡◌};
-ghost use Rattle.itch_lines.specs.FeedLines.{FeedLineState, source_of};
+ghost use Rattle.itch_lines.specs.FeedLines.{Itch, Own, source_of};
 
 use crate::itch_line::ItchLine;
 use feed_types::{Anything, VenueId};
@@ -35,7 +35,7 @@ impl<S, C> Model for FeedLine<S, C> {
 impl<S, C> FeedLine<S, C> {
     /// Makes the line of a venue that sends own messages.
     pub fn own(source: S) -> FeedLine<S, C>
-        ensures { result ≡ FeedLineState.Own source }
+        ensures { result ≡ Own source }
     {
         FeedLine {
             kind: LineKind::Own(source),
@@ -44,7 +44,7 @@ impl<S, C> FeedLine<S, C> {
 
     /// Makes the line of a venue in ITCH.
     pub fn itch(line: ItchLine<S, C>) -> FeedLine<S, C>
-        ensures { result ≡ FeedLineState.Itch line }
+        ensures { result ≡ Itch line }
     {
         FeedLine {
             kind: LineKind::Itch(line),

@@ -162,8 +162,8 @@ impl ItchCell {
         ensures took { OnOk result ((packets : List Input) (put : List Numbered)
             → FitsPackets self.old.normaliser packets
             → IsPutOut self.old.normaliser.book.keys packets put
-            → NormalisesDatagram self.old.names line bytes.now self.old.normaliser self.new.normaliser
-            packets put (bytes_of_each made.new.items)) }
+            → NormalisesDatagram self.old.names line bytes.now self.old.normaliser
+            self.new.normaliser packets put (bytes_of_each made.new.items)) }
         ensures sound { OnOk result ((self.old.failed ≡ false) × (self.new.failed ≡ false)) }
         ensures venue { OnOk result
             (self.new.normaliser.lines.venue ≡ self.old.normaliser.lines.venue) }

@@ -121,8 +121,8 @@ impl ItchVenue {
         ensures takes { IfOk result (λ answer. (packets : List Input) (put : List Numbered)
             → FitsPackets self.old.normaliser packets
             → IsPutOut self.old.normaliser.book.keys packets put
-            → NormalisesPacket line packet.now answer self.old.normaliser self.new.normaliser packets
-            put (bytes_of_each made.new.items)) }
+            → NormalisesPacket line packet.now answer self.old.normaliser self.new.normaliser
+            packets put (bytes_of_each made.new.items)) }
         ensures kept { OnOk result
             (KeepsItsSession self.old.normaliser.lines self.new.normaliser.lines
             × KeepsItsBook self.old.normaliser self.new.normaliser) }

@@ -58,7 +58,8 @@ failed_lines lines = flat_map (λ r. line_if (is_some r.fault) (reported_line r)
 
 -- the lines that have read as many datagrams as they may
 abbrev pub read_out_lines : List (LineReport LineState) → List (ℕ × LineId)
-read_out_lines lines = flat_map (λ r. line_if (is_read_out (source_of r.source)) (reported_line r)) lines
+read_out_lines lines =
+    flat_map (λ r. line_if (is_read_out (source_of r.source)) (reported_line r)) lines
 
 abbrev pub ended_if : ℕ × LineId → Option (List ℕ) → List EndedLine
 ended_if line None = []

@@ -215,8 +215,8 @@ fn absent_of(
 }
 
 /// The report of listening by the report of the settings' feed, of whose log the forgotten notices
-/// left these symbols unchanged, and whose lines of venues in ITCH share this. NoMemory where memory
-/// was refused, and no other fault.
+/// left these symbols unchanged, and whose lines of venues in ITCH share this. NoMemory where
+/// memory was refused, and no other fault.
 pub fn report_of<C: Drop>(
     alloc: Global,
     settings: &ListenSettings,

@@ -30,8 +30,8 @@ adds_none name old = record {
   added = sym (append-nil (bytes_of_each old));
 }
 
-pub adds_one : {A : Type 0} (name : List ℕ) (p : Content) (bytes : List ℕ) (old new : List (Vec ℕ A))
-    → Spells bytes p [] → p.session ≡ name → (p.kind ≡ kinds.Heartbeat → ⊥)
+pub adds_one : {A : Type 0} (name : List ℕ) (p : Content) (bytes : List ℕ)
+    (old new : List (Vec ℕ A)) → Spells bytes p [] → p.session ≡ name → (p.kind ≡ kinds.Heartbeat → ⊥)
     → bytes_of_each new ≡ bytes_of_each old ++ bytes ∷ []
     → AddsPacked name (items_carried p) old new
 adds_one name p bytes old new s is telling added = record {
@@ -65,8 +65,8 @@ both_packed name xs ys ds es a b = record {
       ∙ sym (map-append spelling a.packets b.packets);
 }
 
-pub adds_both : {A : Type 0} (name : List ℕ) (xs ys : List Numbered) (old between new : List (Vec ℕ A))
-    → AddsPacked name xs old between → AddsPacked name ys between new
+pub adds_both : {A : Type 0} (name : List ℕ) (xs ys : List Numbered)
+    (old between new : List (Vec ℕ A)) → AddsPacked name xs old between → AddsPacked name ys between new
     → AddsPacked name (xs ++ ys) old new
 adds_both name xs ys old between new a b = record {
   datagrams = a.datagrams ++ b.datagrams;
@@ -76,8 +76,8 @@ adds_both name xs ys old between new a b = record {
 }
 
 -- one packet of messages more
-pub packet_more : {A : Type 0} (name : List ℕ) (number from k : ℕ) (messages rest : List (Bor (List ℕ)))
-    (bytes : List ℕ) (p1 p2 p3 : List (Vec ℕ A))
+pub packet_more : {A : Type 0} (name : List ℕ) (number from k : ℕ)
+    (messages rest : List (Bor (List ℕ))) (bytes : List ℕ) (p1 p2 p3 : List (Vec ℕ A))
     → from ≤ length messages → rest ≡ drop from messages
     → AddsPacked name (numbered_from number (map item_of (lent_bytes (take from messages)))) p1 p2
     → Spells bytes (record {

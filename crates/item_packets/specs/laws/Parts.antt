@@ -63,7 +63,8 @@ are_messages [] each = tt
 are_messages (m ∷ ms) each = (let short = each.0 in omega (arith, short), are_messages ms each.1)
 
 -- what the messages up to a place carry, and those of one more packet
-pub items_carried_more : (messages : List (Bor (List ℕ))) (number from k : ℕ) → from ≤ length messages
+pub items_carried_more : (messages : List (Bor (List ℕ))) (number from k : ℕ)
+    → from ≤ length messages
     → numbered_from number (map item_of (lent_bytes (take from messages)))
     ++ (numbered_from (number + from)
     (map item_of (lent_bytes (take k (drop from messages)))) ++ [])
