@@ -40,11 +40,6 @@ pub(crate) struct DatagramTaken {
     pub(crate) begun: Option<[u8; 10]>,
 }
 
-/// Returns that memory was refused.
-fn no_memory(_error: AllocError) -> BookFault {
-    BookFault::NoMemory
-}
-
 /// Returns the name at this place, if there is one.
 fn name_at(names: &[[u8; 10]], place: usize) -> Option<[u8; 10]>
     ensures { result ≡ slice_get names.now place }
@@ -100,14 +95,9 @@ impl ItchVenue {
         ensures names { self.new.names ≡ self.old.names }
     {
         self.note_last();
-        if self.ready.is_empty() {
-            return Ok(());
-        }
         let session = self.normaliser.session();
-        match self.room.pack(&session, self.ready.as_slice(), made) {
-            Ok(()) => Ok(()),
-            Err(error) => Err(no_memory(error)),
-        }
+        self.room.pack(&session, self.ready.as_slice(), made)?;
+        Ok(())
     }
 
     /// Takes a packet, and makes the datagrams of what is put out more.
