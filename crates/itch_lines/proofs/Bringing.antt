@@ -12,7 +12,7 @@ use Rattle.venue_normaliser.specs.States.{NormaliserState, PutsOut}
 use Rattle.item_packets.specs.Carried.{RunsFrom}
 use Rattle.item_packets.specs.Packed.{ArePacked}
 use Rattle.item_packets.specs.laws.Rows.{more_runs}
-use Rattle.itch_lines.specs.Sections.{BringsMore, FollowsAt, name_following}
+use Rattle.itch_lines.specs.Sections.{BringsMore, IsDueToRenew, name_following}
 
 -- what was ready was packed
 pub brings_ready : (name keys : List ℕ) (packets later : List Input)

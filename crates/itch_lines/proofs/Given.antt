@@ -8,7 +8,7 @@ use Rattle.venue_normaliser.specs.Ends.{read_as}
 use Rattle.venue_normaliser.specs.Outputs.{IsPutOut}
 use Rattle.venue_normaliser.specs.States.{KeepsItsBook, NormaliserState}
 use Rattle.itch_lines.specs.Cells.{HasBeenGiven}
-use Rattle.itch_lines.specs.Sections.{BeginsOrKeeps, BringsSkip, NormalisesDatagram}
+use Rattle.itch_lines.specs.Sections.{BeginsOrKeeps, BringsSkip, MakesOfDatagram}
 
 -- the symbols are the same where the next session begins, or doesn't
 begun_keys : (names : List (List ℕ)) (p : Content) (renewed : Bool)
@@ -19,7 +19,7 @@ begun_keys names p false before between b = ap (λ (n : NormaliserState). n.book
 pub given_after : (names : List (List ℕ)) (line : LineId) (bytes : List ℕ)
     (before after : NormaliserState) (was : HasBeenGiven before) (made : List (List ℕ))
     → KeepsItsBook before after
-    → NormalisesDatagram names line bytes before after was.packets was.put made
+    → MakesOfDatagram names line bytes before after was.packets was.put made
     → HasBeenGiven after
 given_after names line bytes before after was made kept (inl r) =
     subst (λ (n : NormaliserState). HasBeenGiven n) (sym r.same) was

@@ -1,7 +1,7 @@
 -- What a line has brought, call by call.
 use Rattle.std.proofs.Common.{◌≡◌, ◌∙◌, ℕ, List, [], ◌∷◌, ◌++◌, refl, sym, ap, subst, append-nil}
 use Rattle.feed_types.specs.declared.line.LineId.{LineId}
-use Rattle.itch_lines.specs.Lines.{EndsInFault, HasNormalised, IsPossible, IsPossibleSkip, IsPossibleTaking, ItchLineState, Section, FailedIn, GaveUp, Took, made_in}
+use Rattle.itch_lines.specs.Lines.{EndsInFault, HandsOnMade, IsPossible, IsPossibleSkip, IsPossibleTaking, ItchLineState, Section, FailedIn, GaveUp, Took, made_in}
 use Rattle.itch_lines.specs.Sections.{BringsEnd}
 
 module _ {S : Type 0} (brings : S → List (List ℕ) → S → Type 0) (old new : ItchLineState S)
@@ -9,7 +9,7 @@ module _ {S : Type 0} (brings : S → List (List ℕ) → S → Type 0) (old new
     (ended : EndsInFault old.end → EndsInFault new.end) where
   -- the source alone has gone on
   pub gone_on : brings old.source [] new.source → new.waiting ≡ old.waiting
-      → HasNormalised brings old [] new
+      → HandsOnMade brings old [] new
   gone_on came same = record {
     venue = venue;
     line = line;
@@ -23,7 +23,7 @@ module _ {S : Type 0} (brings : S → List (List ℕ) → S → Type 0) (old new
 
   -- the first datagram that waited is brought
   pub one_brought : (bytes : List ℕ) → brings old.source [] new.source
-      → old.waiting ≡ bytes ∷ new.waiting → HasNormalised brings old (bytes ∷ []) new
+      → old.waiting ≡ bytes ∷ new.waiting → HandsOnMade brings old (bytes ∷ []) new
   one_brought bytes came first = record {
     venue = venue;
     line = line;
@@ -43,7 +43,7 @@ module _ {S : Type 0} (brings : S → List (List ℕ) → S → Type 0) (old new
 
   pub has_taken : (bytes : List ℕ) → brings old.source (bytes ∷ []) new.source
       → old.waiting ≡ [] → IsPossibleTaking old.venue old.line bytes new.waiting
-      → HasNormalised brings old [] new
+      → HandsOnMade brings old [] new
   has_taken bytes came none taken = record {
     venue = venue;
     line = line;
@@ -56,7 +56,7 @@ module _ {S : Type 0} (brings : S → List (List ℕ) → S → Type 0) (old new
   }
 
   pub has_given_up : brings old.source [] new.source → old.waiting ≡ []
-      → IsPossibleSkip old.venue new.waiting → HasNormalised brings old [] new
+      → IsPossibleSkip old.venue new.waiting → HandsOnMade brings old [] new
   has_given_up came none skips = record {
     venue = venue;
     line = line;
@@ -70,7 +70,7 @@ module _ {S : Type 0} (brings : S → List (List ℕ) → S → Type 0) (old new
 
   pub has_failed : (received : List (List ℕ)) → brings old.source (received ++ []) new.source
       → old.waiting ≡ [] → BringsEnd new.waiting → EndsInFault new.end
-      → HasNormalised brings old [] new
+      → HandsOnMade brings old [] new
   has_failed received came none end failed = record {
     venue = venue;
     line = line;

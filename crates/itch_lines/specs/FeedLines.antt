@@ -1,6 +1,6 @@
 -- The line of a venue of either kind.
 use Rattle.std.specs.Prelude.{ℕ, List}
-use Rattle.itch_lines.specs.Lines.{HasNormalised, ItchLineState, failures_at}
+use Rattle.itch_lines.specs.Lines.{HandsOnMade, ItchLineState, failures_at}
 use Rattle.itch_lines.specs.declared.feed_line.LineKind.{LineKind}
 use Rattle.itch_lines.specs.declared.feed_line.LineKind.TheVariants as kinds
 
@@ -41,4 +41,4 @@ Brings brings (Own source) bytes (Own later) =
 Brings brings (Own source) bytes (Itch later) = ⊥
 Brings brings (Itch line) bytes (Own later) = ⊥
 Brings brings (Itch line) bytes (Itch later) =
-    HasNormalised brings line bytes later
+    HandsOnMade brings line bytes later

@@ -5,7 +5,7 @@ use Rattle.feed_types.specs.declared.line.LineId.{LineId}
 use Rattle.venue_lines.specs.declared.source.SourceFault.{SourceFault}
 use Rattle.venue_lines.specs.Sources.{failures_after}
 use Rattle.itch_lines.specs.Cells.{HasBeenGiven, ItchState}
-use Rattle.itch_lines.specs.Sections.{BringsEnd, BringsSkip, NormalisesDatagram}
+use Rattle.itch_lines.specs.Sections.{BringsEnd, BringsSkip, MakesOfDatagram}
 use Rattle.itch_lines.specs.declared.source_end.SourceEnd.{SourceEnd}
 use Rattle.itch_lines.specs.declared.source_end.SourceEnd.TheVariants.{Open, Ended, Failing, Failed}
 
@@ -28,7 +28,7 @@ pub record IsPossibleTaking (venue : ℕ) (line : LineId) (bytes : List ℕ) (ma
   pub venue_is : old.normaliser.lines.venue ≡ venue
   pub new : ItchState
   pub is : HasBeenGiven new.normaliser
-  pub takes : NormalisesDatagram old.names line bytes old.normaliser new.normaliser was.packets
+  pub takes : MakesOfDatagram old.names line bytes old.normaliser new.normaliser was.packets
       was.put made
 
 -- the same of a gap that is given up
@@ -88,7 +88,7 @@ failures_at (Failed fault) = failures_after 0 fault
 -- by section what its source's datagrams, and gaps that were given up, have made under the venue's
 -- lock, in order, and what waited before; but for what waits still. Where no fault ends the line,
 -- the normaliser has failed in no section.
-pub record HasNormalised {S : Type 0} (brings : S → List (List ℕ) → S → Type 0)
+pub record HandsOnMade {S : Type 0} (brings : S → List (List ℕ) → S → Type 0)
     (old : ItchLineState S) (bytes : List (List ℕ)) (new : ItchLineState S) : Type 0 where
   pub venue : new.venue ≡ old.venue
   pub line : new.line ≡ old.line

@@ -32,7 +32,7 @@ pub record BringsMore (name keys : List ℕ) (after : List Input) (put : List Nu
 -- A packet came on a line of a venue, to which these packets and skips were given, and of which
 -- `put` was put out: it is answered as it is to be, and the datagrams carry just what is put out
 -- more.
-pub record NormalisesPacket (line : LineId) (p : Content) (answer : Result Outcome LineFault)
+pub record MakesOfPacket (line : LineId) (p : Content) (answer : Result Outcome LineFault)
     (before after : NormaliserState) (packets : List Input) (put : List Numbered)
     (made : List (List ℕ)) : Type 0 where
   pub outcome : IsOutcome before.lines.session before.lines.window before.lines.sent packets
@@ -59,7 +59,7 @@ name_following names n = slice_get names (ordinal_of n.lines - 1)
 
 -- The packet is of the session that follows the present one, which is over, and all of it was sent:
 -- a renewal under this name would begin the one of this ordinal.
-pub record FollowsAt (names : List (List ℕ)) (p : Content) (n : NormaliserState) : Type 0 where
+pub record IsDueToRenew (names : List (List ℕ)) (p : Content) (n : NormaliserState) : Type 0 where
   pub follows : name_following names n ≡ Some p.session
   pub ordinal : ℕ
   pub renews : IsRenewal n.lines.sessions n.lines.end n.lines.sent p.session (Ok ordinal)
@@ -67,7 +67,7 @@ pub record FollowsAt (names : List (List ℕ)) (p : Content) (n : NormaliserStat
 -- it has begun, with nothing given
 pub record BeginsAnew (names : List (List ℕ)) (p : Content) (before after : NormaliserState)
     : Type 0 where
-  pub before_it : FollowsAt names p before
+  pub before_it : IsDueToRenew names p before
   pub fits : FitsPackets after []
   pub renewed : IsRenewed before.lines after.lines p.session
   pub kept : KeepsItsBook before after
@@ -77,7 +77,7 @@ pub record BeginsAnew (names : List (List ℕ)) (p : Content) (before after : No
 abbrev pub BeginsOrKeeps : List (List ℕ) → Content → (renewed : Bool) → NormaliserState
     → NormaliserState → Type 0
 BeginsOrKeeps names p true before after = BeginsAnew names p before after
-BeginsOrKeeps names p false before after = (FollowsAt names p before → ⊥) × (after ≡ before)
+BeginsOrKeeps names p false before after = (IsDueToRenew names p before → ⊥) × (after ≡ before)
 
 -- what was given and put out of the present session, once another one has begun, or none has
 abbrev pub since_begun : {A : Type 0} → (renewed : Bool) → List A → List A
@@ -106,14 +106,14 @@ pub record BeginsAndNormalises (names : List (List ℕ)) (line : LineId) (bytes 
   pub between : NormaliserState
   pub begins : BeginsOrKeeps names packet renewed before between
   pub answer : Result Outcome LineFault
-  pub brings : NormalisesPacket line packet answer between after (since_begun renewed packets)
+  pub brings : MakesOfPacket line packet answer between after (since_begun renewed packets)
       (since_begun renewed put) made
 
 -- What a datagram brings of a venue, to which these packets and skips were given in the present
 -- session, and of which `put` was put out.
-abbrev pub NormalisesDatagram : List (List ℕ) → LineId → List ℕ → NormaliserState → NormaliserState
+abbrev pub MakesOfDatagram : List (List ℕ) → LineId → List ℕ → NormaliserState → NormaliserState
     → List Input → List Numbered → List (List ℕ) → Type 0
-NormalisesDatagram names line bytes before after packets put made =
+MakesOfDatagram names line bytes before after packets put made =
     PassesBytesOver bytes before after made
     ⊎ BeginsAndNormalises names line bytes before after packets put made
 

@@ -8,7 +8,7 @@ ghost use Rattle.venue_normaliser.specs.Outputs.{IsPutOut};
 ghost use Rattle.venue_normaliser.specs.States.{FitsPackets};
 ghost use Rattle.item_packets.specs.Packed.{bytes_of_each};
 ghost use Rattle.itch_lines.specs.Cells.{HasBeenGiven};
-ghost use Rattle.itch_lines.specs.Sections.{BringsEnd, BringsSkip, NormalisesDatagram, gap_asked};
+ghost use Rattle.itch_lines.specs.Sections.{BringsEnd, BringsSkip, MakesOfDatagram, gap_asked};
 
 use crate::itch_venue::ItchVenue;
 use crate::venue_end::{ItchVenueEnd, MessageRun};
@@ -162,7 +162,7 @@ impl ItchCell {
         ensures took { OnOk result ((packets : List Input) (put : List Numbered)
             → FitsPackets self.old.normaliser packets
             → IsPutOut self.old.normaliser.book.keys packets put
-            → NormalisesDatagram self.old.names line bytes.now self.old.normaliser
+            → MakesOfDatagram self.old.names line bytes.now self.old.normaliser
             self.new.normaliser packets put (bytes_of_each made.new.items)) }
         ensures sound { OnOk result ((self.old.failed ≡ false) × (self.new.failed ≡ false)) }
         ensures venue { OnOk result

@@ -2,7 +2,7 @@
 ghost use Rattle.std.specs.Prelude.{◌≡◌, ◌∷◌, [], IfErr, IfOk, Ok};
 ghost use Rattle.venue_lines.specs.Datagrams.{bytes_of};
 ghost use Rattle.venue_lines.specs.Sources.{brought_in, failures_after};
-ghost use Rattle.itch_lines.specs.Lines.{HasNormalised, failures_at};
+ghost use Rattle.itch_lines.specs.Lines.{HandsOnMade, failures_at};
 
 use crate::itch_cell::SectionDone;
 use crate::itch_rules::ItchRules;
@@ -113,7 +113,7 @@ impl<S: LineSource<Anything>, C: Clock> ItchLine<S, C> {
 
     /// Sends the request for what the venue is missing that is due, if any.
     fn ask(&mut self, now_ms: u64)
-        ensures brings { HasNormalised S.brings self.old [] self.new }
+        ensures brings { HandsOnMade S.brings self.old [] self.new }
         ensures failures { failures_at self.new.end ≡ failures_at self.old.end }
         ensures waiting { self.new.waiting ≡ self.old.waiting }
     {
@@ -148,7 +148,7 @@ impl<S: LineSource<Anything>, C: Clock> ItchLine<S, C> {
     fn leave(&mut self, now_ms: u64)
         requires none { self.old.waiting ≡ [] }
         requires open { self.old.end ≡ SourceEnd.Open }
-        ensures brings { HasNormalised S.brings self.old [] self.new }
+        ensures brings { HandsOnMade S.brings self.old [] self.new }
         ensures failures { failures_at self.new.end ≡ failures_at self.old.end }
     {
         let given = self
@@ -164,7 +164,7 @@ impl<S: LineSource<Anything>, C: Clock> ItchLine<S, C> {
     /// Asks for what is missing, where it asks, and gives up what has stood long enough, where
     /// nothing waits.
     fn look_at_gap(&mut self, asks: bool)
-        ensures brings { HasNormalised S.brings self.old [] self.new }
+        ensures brings { HandsOnMade S.brings self.old [] self.new }
         ensures failures { failures_at self.new.end ≡ failures_at self.old.end }
     {
         if !self.gap {
@@ -184,7 +184,7 @@ impl<S: LineSource<Anything>, C: Clock> ItchLine<S, C> {
         requires none { self.old.waiting ≡ [] }
         requires open { self.old.end ≡ SourceEnd.Open }
         ensures brings { (before : S) → S.brings before (bytes_of datagram ∷ []) self.old.source
-            → HasNormalised S.brings (record self.old { source = before }) [] self.new }
+            → HandsOnMade S.brings (record self.old { source = before }) [] self.new }
         ensures failures { failures_at self.new.end ≡ 0 }
     {
         self.time = self.time_now();
@@ -207,7 +207,7 @@ impl<S: LineSource<Anything>, C: Clock> ItchLine<S, C> {
     fn read(&mut self)
         requires none { self.old.waiting ≡ [] }
         requires open { self.old.end ≡ SourceEnd.Open }
-        ensures brings { HasNormalised S.brings self.old [] self.new }
+        ensures brings { HandsOnMade S.brings self.old [] self.new }
         ensures failures { failures_at self.new.end ≡ failures_at self.old.end }
     {
         match self.source.next() {
@@ -222,7 +222,7 @@ impl<S: LineSource<Anything>, C: Clock> ItchLine<S, C> {
 
     /// Waits a while, and returns whether the next answer is there.
     fn poll(&mut self) -> bool
-        ensures brings { HasNormalised S.brings self.old [] self.new }
+        ensures brings { HandsOnMade S.brings self.old [] self.new }
         ensures failures { failures_at self.new.end ≡ failures_at self.old.end }
     {
         if !self.waiting.is_empty() || self.end != SourceEnd::Open {
@@ -238,7 +238,7 @@ impl<S: LineSource<Anything>, C: Clock> ItchLine<S, C> {
 
     /// Waits until the next answer is there.
     fn wait_for_answer(&mut self)
-        ensures brings { HasNormalised S.brings self.old [] self.new }
+        ensures brings { HandsOnMade S.brings self.old [] self.new }
         ensures failures { failures_at self.new.end ≡ failures_at self.old.end }
     {
         for _ in 0..u64::MAX {
@@ -251,7 +251,7 @@ impl<S: LineSource<Anything>, C: Clock> ItchLine<S, C> {
     /// Returns what is next: the first datagram that waits, else a fault, once, or that there is no
     /// more.
     fn answer(&mut self) -> Result<Option<Datagram>, SourceFault>
-        ensures brings { HasNormalised S.brings self.old (brought_in result) self.new }
+        ensures brings { HandsOnMade S.brings self.old (brought_in result) self.new }
         ensures sound { IfOk result (λ _. failures_at self.new.end ≡ failures_at self.old.end) }
         ensures failed { IfErr result (λ fault. failures_at self.new.end
             ≡ failures_after (failures_at self.old.end) fault) }
@@ -270,14 +270,14 @@ impl<S: LineSource<Anything>, C: Clock> ItchLine<S, C> {
 }
 
 impl<S: LineSource<Anything>, C: Clock + Drop> LineSource<Anything> for ItchLine<S, C> {
-    ghost use Rattle.itch_lines.specs.Lines.{HasNormalised, failures_at};
+    ghost use Rattle.itch_lines.specs.Lines.{HandsOnMade, failures_at};
     ghost use Rattle.itch_lines.specs.laws.Normalised.{normalised_more, normalised_nothing};
 
     ghost venue_of = { λ l. l.venue };
 
     ghost failures = { λ l. failures_at l.end };
 
-    ghost brings = { λ l bytes m. HasNormalised S.brings l bytes m };
+    ghost brings = { λ l bytes m. HandsOnMade S.brings l bytes m };
 
     ghost brings_nothing = { normalised_nothing S.brings S.brings_nothing };
 

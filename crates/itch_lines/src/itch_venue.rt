@@ -7,7 +7,7 @@ ghost use Rattle.venue_normaliser.specs.Outputs.{IsPutOut};
 ghost use Rattle.venue_normaliser.specs.States.{FitsPackets, KeepsItsBook};
 ghost use Rattle.item_packets.specs.Carried.{RunsFrom};
 ghost use Rattle.item_packets.specs.Packed.{ArePacked, bytes_of_each};
-ghost use Rattle.itch_lines.specs.Sections.{BeginsOrKeeps, BringsEnd, NormalisesPacket, BringsSkip, NormalisesDatagram, name_following};
+ghost use Rattle.itch_lines.specs.Sections.{BeginsOrKeeps, BringsEnd, MakesOfPacket, BringsSkip, MakesOfDatagram, name_following};
 
 use feed_types::{Item, LineId, Numbered};
 use itch_book::BookFault;
@@ -111,7 +111,7 @@ impl ItchVenue {
         ensures takes { IfOk result (λ answer. (packets : List Input) (put : List Numbered)
             → FitsPackets self.old.normaliser packets
             → IsPutOut self.old.normaliser.book.keys packets put
-            → NormalisesPacket line packet.now answer self.old.normaliser self.new.normaliser
+            → MakesOfPacket line packet.now answer self.old.normaliser self.new.normaliser
             packets put (bytes_of_each made.new.items)) }
         ensures kept { OnOk result
             (KeepsItsSession self.old.normaliser.lines self.new.normaliser.lines
@@ -188,7 +188,7 @@ impl ItchVenue {
         ensures takes { OnOk result ((packets : List Input) (put : List Numbered)
             → FitsPackets self.old.normaliser packets
             → IsPutOut self.old.normaliser.book.keys packets put
-            → NormalisesDatagram self.old.names.items line bytes.now self.old.normaliser
+            → MakesOfDatagram self.old.names.items line bytes.now self.old.normaliser
             self.new.normaliser packets put (bytes_of_each made.new.items)) }
         ensures kept { OnOk result (KeepsItsBook self.old.normaliser self.new.normaliser
             × (self.new.normaliser.lines.venue ≡ self.old.normaliser.lines.venue)) }

@@ -10,9 +10,9 @@
 //!
 //! Contract: whenever the lock is free there are packets and skips that the normaliser was given
 //! (`HasBeenGiven`), and each section under it brings what they make of the session more, each item
-//! once, in order, with its number (`NormalisesDatagram`, `BringsSkip`). A line has brought exactly
+//! once, in order, with its number (`MakesOfDatagram`, `BringsSkip`). A line has brought exactly
 //! what sections that the lock may see have made of its source's datagrams, in order, but for what
-//! waits (`HasNormalised`).
+//! waits (`HandsOnMade`).
 //!
 //! Begin at `specs/Sections.antt`, then `specs/Lines.antt`; `itch_cell.rt` has the sections,
 //! `itch_line.rt` a line.

@@ -5,10 +5,10 @@ use Rattle.std.specs.List.{AllByRecursion}
 use Rattle.std.proofs.lemmas.List.Concat.{flat_map-append}
 use Rattle.feed_types.specs.declared.line.LineId.{LineId}
 use Rattle.item_packets.specs.laws.Parts.{all_append}
-use Rattle.itch_lines.specs.Lines.{HasNormalised, ItchLineState, IsPossible, IsUnfailing, Section, made_in, received_in}
+use Rattle.itch_lines.specs.Lines.{HandsOnMade, ItchLineState, IsPossible, IsUnfailing, Section, made_in, received_in}
 
 pub normalised_nothing : {S : Type 0} (brings : S → List (List ℕ) → S → Type 0)
-    (none : (s : S) → brings s [] s) (l : ItchLineState S) → HasNormalised brings l [] l
+    (none : (s : S) → brings s [] s) (l : ItchLineState S) → HandsOnMade brings l [] l
 normalised_nothing brings none l = record {
   venue = refl;
   line = refl;
@@ -23,8 +23,8 @@ normalised_nothing brings none l = record {
 pub normalised_more : {S : Type 0} (brings : S → List (List ℕ) → S → Type 0)
     (more : (s t u : S) (xs ys : List (List ℕ)) → brings s xs t → brings t ys u
     → brings s (xs ++ ys) u)
-    (s t u : ItchLineState S) (xs ys : List (List ℕ)) → HasNormalised brings s xs t
-    → HasNormalised brings t ys u → HasNormalised brings s (xs ++ ys) u
+    (s t u : ItchLineState S) (xs ys : List (List ℕ)) → HandsOnMade brings s xs t
+    → HandsOnMade brings t ys u → HandsOnMade brings s (xs ++ ys) u
 normalised_more brings more s t u xs ys a b =
     let ws = s.waiting in
     let wt = t.waiting in
