@@ -1,18 +1,22 @@
 -- What a section brings of a venue.
 use Rattle.std.proofs.Common.{◌≡◌, ◌⊎◌, ℕ, ◌+◌, ◌≤◌, List, [], ◌∷◌, ◌++◌, Bool, true, false, length, sym, ap, subst, ◌∙◌, inl, inr, arith, Ok, Err, Result, refl}
 use Rattle.std.specs.Prelude.{Option, Some, None, slice_get}
+use Rattle.std.proofs.lemmas.Option.{none-some, same_Some}
+use Rattle.feed_types.specs.declared.line.LineId.{LineId}
 use Rattle.feed_types.specs.declared.item.Numbered.{Numbered}
 use Rattle.line_arbiter.specs.Packets.{Input}
 use Rattle.line_arbiter.specs.Renewals.{IsRenewal}
+use Rattle.line_arbiter.specs.declared.outcome.Outcome.{Outcome}
+use Rattle.line_arbiter.specs.declared.outcome.LineFault.{LineFault}
 use Rattle.line_arbiter.specs.declared.faults.RenewFault.{RenewFault}
 use Rattle.line_arbiter.specs.declared.faults.RenewFault.TheVariants.{NotEnded, SessionUsed, TooManySessions}
 use Rattle.mold_packet.specs.Content.{Content}
 use Rattle.venue_normaliser.specs.Outputs.{IsPutOut}
-use Rattle.venue_normaliser.specs.States.{NormaliserState, PutsOut}
+use Rattle.venue_normaliser.specs.States.{FitsPackets, NormaliserState, PutsOut}
 use Rattle.item_packets.specs.Carried.{RunsFrom}
 use Rattle.item_packets.specs.Packed.{ArePacked}
 use Rattle.item_packets.specs.laws.Rows.{more_runs}
-use Rattle.itch_lines.specs.Sections.{BringsMore, IsDueToRenew, name_following}
+use Rattle.itch_lines.specs.Sections.{BeginsOrKeeps, BringsMore, IsDueToRenew, MakesOfPacket, name_following, since_begun}
 
 -- what was ready was packed
 pub brings_ready : (name keys : List ℕ) (packets later : List Input)
@@ -41,3 +45,52 @@ refused_renewal names end sent name NotEnded ordinal refused made = refused made
 refused_renewal names end sent name SessionUsed ordinal refused made = made.1 refused.1
 refused_renewal names end sent name TooManySessions ordinal refused made =
     let few = made.2 in let many = refused.2 in omega (arith, few, many)
+
+-- nothing is put out of nothing
+pub none_put_out : (keys : List ℕ) → IsPutOut keys [] []
+none_put_out keys = record {
+  items = [];
+  made = record {
+    count = refl;
+    each = λ k d lt. let none : k < 0 = lt in absurd (omega arith);
+  };
+  is = refl;
+}
+
+-- no session is due where none follows
+pub none_follows : (names : List (List ℕ)) (p : Content) (n : NormaliserState)
+    → name_following names n ≡ None → IsDueToRenew names p n → ⊥
+none_follows names p n none due = none-some p.session (sym none ∙ due.follows)
+
+-- nor at a packet of another session
+pub other_follows : (names : List (List ℕ)) (p : Content) (n : NormaliserState) (name : List ℕ)
+    → name_following names n ≡ Some name → (p.session ≡ name → ⊥) → IsDueToRenew names p n → ⊥
+other_follows names p n name follows other due =
+    other (same_Some p.session name (sym due.follows ∙ follows))
+
+-- nor where the renewal is refused
+pub refused_follows : (names : List (List ℕ)) (p : Content) (n : NormaliserState)
+    (name : List ℕ) (fault : RenewFault)
+    → IsRenewal n.lines.sessions n.lines.end n.lines.sent name (Err fault) → p.session ≡ name
+    → IsDueToRenew names p n → ⊥
+refused_follows names p n name fault refused is due =
+    refused_renewal n.lines.sessions n.lines.end n.lines.sent name fault due.ordinal refused
+    (subst (λ (z : List ℕ). IsRenewal n.lines.sessions n.lines.end n.lines.sent z (Ok due.ordinal))
+    is due.renews)
+
+-- a packet is taken once the next session has begun, or none has
+pub begun_and_made : (names : List (List ℕ)) (line : LineId) (p : Content) (renewed : Bool)
+    (answer : Result Outcome LineFault) (before between after : NormaliserState)
+    (packets : List Input) (put : List Numbered) (made : List (List ℕ))
+    → BeginsOrKeeps names p renewed before between
+    → ((given : List Input) (out : List Numbered) → FitsPackets between given
+    → IsPutOut between.book.keys given out
+    → MakesOfPacket line p answer between after given out made)
+    → FitsPackets before packets → IsPutOut before.book.keys packets put
+    → MakesOfPacket line p answer between after (since_begun renewed packets)
+    (since_begun renewed put) made
+begun_and_made names line p true answer before between after packets put made b takes fits out =
+    takes [] [] b.fits (none_put_out between.book.keys)
+begun_and_made names line p false answer before between after packets put made b takes fits out =
+    takes packets put (subst (λ (n : NormaliserState). FitsPackets n packets) (sym b.1) fits)
+    (subst (λ (n : NormaliserState). IsPutOut n.book.keys packets put) (sym b.1) out)

@@ -6,9 +6,10 @@ use Rattle.line_arbiter.specs.Packets.{Input, Skip, arrival_of}
 use Rattle.mold_packet.specs.Content.{Content}
 use Rattle.venue_normaliser.specs.Ends.{read_as}
 use Rattle.venue_normaliser.specs.Outputs.{IsPutOut}
-use Rattle.venue_normaliser.specs.States.{KeepsItsBook, NormaliserState}
+use Rattle.venue_normaliser.specs.States.{FitsPackets, KeepsItsBook, NormaliserState}
 use Rattle.itch_lines.specs.Cells.{HasBeenGiven}
 use Rattle.itch_lines.specs.Sections.{BeginsOrKeeps, BringsSkip, MakesOfDatagram}
+use Rattle.itch_lines.proofs.Bringing.{none_put_out}
 
 -- the symbols are the same where the next session begins, or doesn't
 begun_keys : (names : List (List ℕ)) (p : Content) (renewed : Bool)
@@ -41,4 +42,13 @@ given_after_skip number before after was made kept s = record {
   fits = s.fits;
   out = subst (λ (keys : List ℕ). IsPutOut keys (was.packets ++ Skip number ∷ [])
       (was.put ++ s.brings.more)) (sym kept.keys) s.brings.put_out;
+}
+
+-- nothing was put out of a normaliser to which nothing was given
+pub given_nothing : (n : NormaliserState) → FitsPackets n [] → HasBeenGiven n
+given_nothing n fits = record {
+  packets = [];
+  put = [];
+  fits = fits;
+  out = none_put_out n.book.keys;
 }
