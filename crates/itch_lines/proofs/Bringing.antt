@@ -1,7 +1,6 @@
 -- What a section brings of a venue.
 use Rattle.std.proofs.Common.{◌≡◌, ◌⊎◌, ℕ, ◌+◌, ◌≤◌, List, [], ◌∷◌, ◌++◌, Bool, true, false, length, sym, ap, subst, ◌∙◌, inl, inr, arith, Ok, Err, Result, refl}
 use Rattle.std.specs.Prelude.{Option, Some, None, slice_get}
-use Rattle.std.proofs.lemmas.Option.{none-some, same_Some}
 use Rattle.feed_types.specs.declared.line.LineId.{LineId}
 use Rattle.feed_types.specs.declared.item.Numbered.{Numbered}
 use Rattle.line_arbiter.specs.Packets.{Input}
@@ -56,27 +55,6 @@ none_put_out keys = record {
   };
   is = refl;
 }
-
--- no session is due where none follows
-pub none_follows : (names : List (List ℕ)) (p : Content) (n : NormaliserState)
-    → name_following names n ≡ None → IsDueToRenew names p n → ⊥
-none_follows names p n none due = none-some p.session (sym none ∙ due.follows)
-
--- nor at a packet of another session
-pub other_follows : (names : List (List ℕ)) (p : Content) (n : NormaliserState) (name : List ℕ)
-    → name_following names n ≡ Some name → (p.session ≡ name → ⊥) → IsDueToRenew names p n → ⊥
-other_follows names p n name follows other due =
-    other (same_Some p.session name (sym due.follows ∙ follows))
-
--- nor where the renewal is refused
-pub refused_follows : (names : List (List ℕ)) (p : Content) (n : NormaliserState)
-    (name : List ℕ) (fault : RenewFault)
-    → IsRenewal n.lines.sessions n.lines.end n.lines.sent name (Err fault) → p.session ≡ name
-    → IsDueToRenew names p n → ⊥
-refused_follows names p n name fault refused is due =
-    refused_renewal n.lines.sessions n.lines.end n.lines.sent name fault due.ordinal refused
-    (subst (λ (z : List ℕ). IsRenewal n.lines.sessions n.lines.end n.lines.sent z (Ok due.ordinal))
-    is due.renews)
 
 -- a packet is taken once the next session has begun, or none has
 pub begun_and_made : (names : List (List ℕ)) (line : LineId) (p : Content) (renewed : Bool)

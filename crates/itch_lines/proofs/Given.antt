@@ -8,7 +8,7 @@ use Rattle.venue_normaliser.specs.Ends.{read_as}
 use Rattle.venue_normaliser.specs.Outputs.{IsPutOut}
 use Rattle.venue_normaliser.specs.States.{FitsPackets, KeepsItsBook, NormaliserState}
 use Rattle.itch_lines.specs.Cells.{HasBeenGiven}
-use Rattle.itch_lines.specs.Sections.{BeginsOrKeeps, BringsSkip, MakesOfDatagram}
+use Rattle.itch_lines.specs.Sections.{BeginsOrKeeps, BringsSkip, MakesOfDatagram, since_begun}
 use Rattle.itch_lines.proofs.Bringing.{none_put_out}
 
 -- the symbols are the same where the next session begins, or doesn't
@@ -24,14 +24,18 @@ pub given_after : (names : List (List ℕ)) (line : LineId) (bytes : List ℕ)
     → HasBeenGiven after
 given_after names line bytes before after was made kept (inl r) =
     subst (λ (n : NormaliserState). HasBeenGiven n) (sym r.same) was
-given_after names line bytes before after was made kept (inr t) = record {
-  packets = _;
-  put = _;
-  fits = t.brings.fits;
-  out = subst (λ (keys : List ℕ). IsPutOut keys _ _)
-      (begun_keys names t.packet t.renewed before t.between t.begins ∙ sym kept.keys)
-      t.brings.brings.put_out;
-}
+given_after names line bytes before after was made kept (inr t) =
+    let packets : List Input = since_begun t.renewed was.packets
+    ++ arrival_of line (read_as t.between.end_number t.packet) t.answer ∷ [] in
+    let put : List Numbered = since_begun t.renewed was.put ++ t.brings.brings.more in
+    record {
+      packets = packets;
+      put = put;
+      fits = t.brings.fits;
+      out = subst (λ (keys : List ℕ). IsPutOut keys packets put)
+          (begun_keys names t.packet t.renewed before t.between t.begins ∙ sym kept.keys)
+          t.brings.brings.put_out;
+    }
 
 pub given_after_skip : (number : ℕ) (before after : NormaliserState) (was : HasBeenGiven before)
     (made : List (List ℕ)) → KeepsItsBook before after

@@ -312,6 +312,7 @@ impl<S: LineSource<Anything>, C: Clock + Drop> LineSource<Anything> for ItchLine
     fn request(&mut self, request: &Request) -> Result<(), SourceFault>
         ensures taken { result ≡ Ok tt }
         ensures same { self.new ≡ self.old }
+        ensures brings { HandsOnMade S.brings self.old [] self.new }
     {
         let _unused = request;
         Ok(())

@@ -145,11 +145,13 @@ impl ItchVenue {
         ensures names { self.new.names ≡ self.old.names }
     {
         self.ready.clear();
-        if let Err(fault) = self.normaliser.skip_to(number, &mut self.ready)? {
-            return Ok(Err(fault));
+        match self.normaliser.skip_to(number, &mut self.ready)? {
+            Ok(()) => {
+                self.pack_ready(made)?;
+                Ok(Ok(()))
+            }
+            Err(fault) => Ok(Err(fault)),
         }
-        self.pack_ready(made)?;
-        Ok(Ok(()))
     }
 
     /// Begins the session that follows the present one where that is over, all of it was sent, and

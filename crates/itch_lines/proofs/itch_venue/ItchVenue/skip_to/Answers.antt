@@ -5,8 +5,8 @@ use Rattle.item_packets.specs.Packed.{ArePacked, bytes_of_each}
 use Rattle.itch_lines.proofs.Bringing.{brings_ready}
 use Rattle.itch_lines.proofs.itch_venue.ItchVenue.skip_to.Goals as goal
 
-pub returns-clause-skips : goal.returns-clause-skips
-returns-clause-skips c = λ packets put fits out.
+pub returns-in-Ok-clause-skips : goal.returns-in-Ok-clause-skips
+returns-in-Ok-clause-skips c = λ packets put fits out.
     let before = c.args.self.now.normaliser in
     let later = packets ++ Skip c.args.number ∷ [] in
     let packed = c.in_ok-pack_ready.ensures.packed in
