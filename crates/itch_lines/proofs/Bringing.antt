@@ -1,5 +1,5 @@
 -- What a section brings of a venue.
-use Rattle.std.proofs.Common.{◌≡◌, ◌⊎◌, ℕ, ◌+◌, ◌≤◌, List, [], ◌∷◌, ◌++◌, Bool, true, false, length, sym, ap, subst, ◌∙◌, inl, inr, arith, Ok, Err, Result, refl}
+use Rattle.std.proofs.Common.{◌≡◌, ◌⊎◌, ℕ, ◌+◌, ◌<◌, ◌≤◌, List, [], ◌∷◌, ◌++◌, Bool, true, false, length, sym, ap, subst, ◌∙◌, inl, inr, arith, Ok, Err, Result, refl}
 use Rattle.std.specs.Prelude.{Option, Some, None, slice_get}
 use Rattle.feed_types.specs.declared.line.LineId.{LineId}
 use Rattle.feed_types.specs.declared.item.Numbered.{Numbered}
