@@ -1,5 +1,7 @@
 -- What a normaliser was given, section by section.
-use Rattle.std.proofs.Common.{◌≡◌, ◌⊎◌, ℕ, List, [], ◌∷◌, ◌++◌, Bool, true, false, sym, ap, subst, ◌∙◌, inl, inr}
+use Rattle.std.proofs.Common.{◌≡◌, ◌⊎◌, ℕ, List, [], ◌∷◌, ◌++◌, Bool, true, false, not, sym, ap, subst, ◌∙◌, inl, inr, arith}
+use Rattle.std.specs.Prelude.{◌==◌}
+use Rattle.std.proofs.lemmas.Bool.Decides.{nat_tests}
 use Rattle.feed_types.specs.declared.line.LineId.{LineId}
 use Rattle.feed_types.specs.declared.item.Numbered.{Numbered}
 use Rattle.line_arbiter.specs.Packets.{Input, Skip, arrival_of}
@@ -56,3 +58,7 @@ given_nothing n fits = record {
   fits = fits;
   out = none_put_out n.book.keys;
 }
+
+-- two venues that a test finds the same
+pub same_venue : (m n : ℕ) (differ : Bool) → differ ≡ not (m == n) → differ ≡ false → m ≡ n
+same_venue m n differ test none = grind (arith, nat_tests)

@@ -1,4 +1,5 @@
-use Rattle.std.proofs.Common.{rules}
+use Rattle.std.proofs.Common.{◌∙◌, sym}
+use Rattle.itch_lines.proofs.Given.{same_venue}
 use Rattle.itch_lines.proofs.venue_share.take_at.Goals as goal
 
 pub returns-clause-took : goal.returns-clause-took
@@ -8,7 +9,8 @@ returns-clause-took c =
     record {
       old = c.args.cell.now;
       was = was;
-      venue_is = search rules;
+      venue_is = sym c.venue.ensures
+          ∙ same_venue c.venue.result c.args.venue c.ne.result c.ne.ensures c.if-ne.false;
       new = c.take.new.self;
       is = c.show_lock_invariant-2.ensures done.sound.1;
       takes = done.took was.packets was.put was.fits was.out;
