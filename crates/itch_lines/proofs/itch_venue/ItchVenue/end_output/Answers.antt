@@ -8,8 +8,8 @@ use Rattle.item_packets.specs.laws.Adding.{packed_alone}
 use Rattle.itch_lines.proofs.itch_venue.ItchVenue.end_output.Goals as goal
 
 when_ok : (r : Result (Unit {0}) AllocError) {P : Type 0} → is_err r ≡ false → OnOk r P → P
-when_ok (Ok u) no p = p
-when_ok (Err e) no p = absurd (cc)
+when_ok (Ok u) sound p = p
+when_ok (Err e) sound p = absurd (cc)
 
 pub returns-else-is_err-clause-end : goal.returns-else-is_err-clause-end
 returns-else-is_err-clause-end c =
@@ -23,8 +23,8 @@ returns-else-is_err-clause-end c =
       is = refl;
       end = inr (search rules);
     } in
-    inr (c.session-session.result, (number,
+    inr (c.session-session.result, number,
     packed_alone c.session-session.result end c.clear.new.self.items c.pack.new.out.items
     c.clear.ensures.items
     (when_ok c.pack.result (sym c.is_err.ensures.value ∙ c.if-is_err.false) c.pack.ensures
-    number one runs)))
+    number one runs))
