@@ -8,3 +8,23 @@ use Rattle.command_words.proofs.itch_words.venues_by.Goals as goal
 pub returns-then-not-are_names : goal.returns-then-not-are_names
 returns-then-not-are_names c =
     inr (sym (unnamed c.args.names.now c.args.sessions.now (search rules)))
+
+pub returns-then-not-are_among : goal.returns-then-not-are_among
+returns-then-not-are_among c =
+    let filled = c.in_ok-filled.filled.items in
+    let are : list_all (is_among c.args.sessions.now) filled ≡ false =
+    ap (list_all (is_among c.args.sessions.now)) (sym c.as_slice.ensures.value)
+    ∙ sym c.are_among.ensures ∙ search rules in
+    inr (sym (unknown c.args.names.now c.args.sessions.now filled (search rules)
+    c.in_ok-filled.ensures are))
+
+pub returns-then-not-are_once : goal.returns-then-not-are_once
+returns-then-not-are_once c =
+    let filled = c.in_ok-filled.filled.items in
+    let among : list_all (is_among c.args.sessions.now) filled ≡ true =
+    ap (list_all (is_among c.args.sessions.now)) (sym c.as_slice.ensures.value)
+    ∙ sym c.are_among.ensures ∙ search rules in
+    let once : are_once filled ≡ false =
+    ap are_once (sym c.as_slice-2.ensures.value) ∙ sym c.are_once.ensures ∙ search rules in
+    inr (sym (twice c.args.names.now c.args.sessions.now filled (search rules)
+    c.in_ok-filled.ensures among once))
