@@ -45,7 +45,7 @@ pub fn put_row(
     ensures size { memory_of text.old ≤ memory_of text.new }
 {
     let time = RowTime::of(style.timed, time);
-    match style.format {
+    match &style.format {
         BestFormat::Text => put_change(text, number, change),
         BestFormat::Csv(style) => put_csv(text, style, time, number, change),
         BestFormat::Json(style) => put_json(text, style, time, number, change),

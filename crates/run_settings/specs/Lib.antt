@@ -5,3 +5,4 @@ pub mod NextSessions
 pub mod RunInputs
 pub mod Senders
 pub mod TimeSpans
+pub mod VenueNames

@@ -1,5 +1,7 @@
 //! The forms in which what a replay prints is passed on.
 
+use crate::venue_names::VenueNames;
+
 /// How times are written.
 #[derive(Clone, Copy, Debug, PartialEq, Eq)]
 pub enum TimeStyle {
@@ -9,26 +11,33 @@ pub enum TimeStyle {
     Utc,
 }
 
+/// How the values of rows are written.
+#[derive(Clone, Copy, Debug, PartialEq, Eq)]
+pub struct ValueStyle {
+    pub times: TimeStyle,
+    pub venues: VenueNames,
+}
+
 /// The form of the best lines, where they alone are passed on.
 #[derive(Clone, Copy, Debug, PartialEq, Eq)]
 pub enum BestFormat {
     /// The lines as they are.
     Text,
     /// A header line, and then a row of comma-separated values for each.
-    Csv(TimeStyle),
+    Csv(ValueStyle),
     /// A JSON object for each, on a line of its own.
-    Json(TimeStyle),
+    Json(ValueStyle),
 }
 
 /// The form of the statistics of a capture.
 #[derive(Clone, Copy, Debug, PartialEq, Eq)]
 pub enum ReportFormat {
     /// Tables.
-    Table(TimeStyle),
+    Table(ValueStyle),
     /// A header line, and then a row of comma-separated values for each figure.
-    Csv(TimeStyle),
+    Csv(ValueStyle),
     /// One JSON object.
-    Json(TimeStyle),
+    Json(ValueStyle),
 }
 
 /// The form of the lines that a capture has, and of the counts of a run that listens.
@@ -44,7 +53,7 @@ pub enum StatsFormat {
 #[derive(Clone, Copy, Debug, PartialEq, Eq)]
 pub enum RowFormat {
     /// A header line, and then a row of comma-separated values for each.
-    Csv(TimeStyle),
+    Csv(ValueStyle),
     /// A JSON object for each, on a line of its own.
-    Json(TimeStyle),
+    Json(ValueStyle),
 }
