@@ -10,4 +10,5 @@ pub mod Refusing
 mod Spelling
 pub mod Subcommands
 pub mod TimeReading
+mod VenueNaming
 pub mod Windows

@@ -30,7 +30,7 @@ use Rattle.command_words.specs.declared.streams.StreamFiles.{StreamFiles}
 use Rattle.command_words.specs.declared.task.Task.{Task}
 use Rattle.command_words.specs.declared.task.Task.TheVariants.{Run, Convert, Discover, Normalise, Listen}
 use Rattle.command_words.specs.declared.refusal.Refusal.{Refusal}
-use Rattle.command_words.specs.declared.refusal.Refusal.TheVariants.{Shown, Usage, NotText, BadSession, TooManySessions, BadNextSession, BadLines, BadRequest, BadFormat, BadPeriod, EveryWithoutLines, GapsWithEvery, BestsWithoutEvery, SkipAfterWithoutLines, SkipGapsWithSkipAfter, BadTime, ToBeforeFrom, SpanOfLines, SpanWithoutLines, BadTimeStyle, TimesOfText, TimesWithoutLines, BadEnd, KeptUnfollowed, FormatUnfollowed, BadSender, SendersWithFrom, BadRecording, BadMetrics, BadEndNumber, BadInput, BadOutput, BadSymbol, TooManySymbols, DuplicateSymbol, NoMemory}
+use Rattle.command_words.specs.declared.refusal.Refusal.TheVariants.{Shown, Usage, NotText, BadSession, TooManySessions, BadNextSession, BadLines, BadRequest, BadFormat, BadPeriod, EveryWithoutLines, GapsWithEvery, BestsWithoutEvery, SkipAfterWithoutLines, SkipGapsWithSkipAfter, BadTime, ToBeforeFrom, SpanOfLines, SpanWithoutLines, BadTimeStyle, TimesOfText, TimesWithoutLines, BadVenues, VenuesOfText, BadEnd, KeptUnfollowed, FormatUnfollowed, BadSender, SendersWithFrom, BadRecording, BadMetrics, BadEndNumber, BadInput, BadOutput, BadSymbol, TooManySymbols, DuplicateSymbol, NoMemory}
 
 -- a text that was asked for: help, or the version
 abbrev pub IsAsked : ErrorKind → Type 0
@@ -171,6 +171,8 @@ refusal_text SpanWithoutLines = codes "nbbo: --from or --to without --lines\n"
 refusal_text BadTimeStyle = codes "nbbo: bad time style\n"
 refusal_text TimesOfText = codes "nbbo: --times of lines of text, which have none\n"
 refusal_text TimesWithoutLines = codes "nbbo: --times without --lines\n"
+refusal_text BadVenues = codes "nbbo: bad venues\n"
+refusal_text VenuesOfText = codes "nbbo: --venues of lines of text, which have numbers\n"
 refusal_text BadEnd = codes "nbbo: bad end\n"
 refusal_text KeptUnfollowed = codes "nbbo: --kept without --follow\n"
 refusal_text FormatUnfollowed = codes "nbbo: --format without --follow\n"

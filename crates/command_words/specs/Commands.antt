@@ -11,7 +11,7 @@ replay_app = with_option_rules (new_app (codes "replay"))
     ∷ (codes "join", Flag) ∷ (codes "skip-gaps", Flag) ∷ (codes "skip-after", FromOne)
     ∷ (codes "gaps", Flag) ∷ (codes "best-only", Flag)
     ∷ (codes "from", Text) ∷ (codes "to", Text)
-    ∷ (codes "format", Text) ∷ (codes "times", Text)
+    ∷ (codes "format", Text) ∷ (codes "times", Text) ∷ (codes "venues", Text)
     ∷ (codes "input", Text) ∷ (codes "output", Text) ∷ (codes "symbols", Words) ∷ [])
 
 abbrev pub listen_app : App
@@ -40,7 +40,7 @@ stats_app = with_option_rules (new_app (codes "stats"))
     ∷ (codes "window", Window) ∷ (codes "join", Flag) ∷ (codes "skip-gaps", Flag)
     ∷ (codes "skip-after", FromOne) ∷ (codes "gaps", Flag) ∷ (codes "every", Text) ∷ (codes "bests", Flag)
     ∷ (codes "from", Text) ∷ (codes "to", Text)
-    ∷ (codes "format", Text) ∷ (codes "times", Text)
+    ∷ (codes "format", Text) ∷ (codes "times", Text) ∷ (codes "venues", Text)
     ∷ (codes "input", Text) ∷ (codes "output", Text) ∷ (codes "symbols", Words) ∷ [])
 
 abbrev pub normalise_app : App

@@ -27,4 +27,5 @@ pub mod TimeStyles
 pub mod SpanWords
 pub mod StreamNames
 pub mod Symbols
+pub mod VenueLists
 pub mod WordSources

@@ -3,7 +3,9 @@
 //! It is told beside the refusal's own text, and no clause speaks of it.
 
 use crate::command_line::parsed;
-use crate::explained_lists::{lines_explained, next_explained, sessions_explained};
+use crate::explained_lists::{
+    lines_explained, next_explained, sessions_explained, venues_explained,
+};
 use crate::option_values::{flag_of, given_text};
 use crate::quoting::{joined, quoted};
 use crate::refusal::Refusal;
@@ -17,12 +19,13 @@ const COMMANDS: [&str; 6] = ["replay", "stats", "listen", "convert", "normalise"
 
 /// The options of `replay` that have a value, beside those for which the refusal has one line
 /// alone.
-const REPLAY_OPTIONS: [&str; 7] = [
+const REPLAY_OPTIONS: [&str; 8] = [
     "skip-after",
     "from",
     "to",
     "format",
     "times",
+    "venues",
     "input",
     "output",
 ];
@@ -179,6 +182,7 @@ fn explained(
         Refusal::BadSession => sessions_explained(alloc, options),
         Refusal::BadNextSession => next_explained(alloc, options),
         Refusal::BadLines => lines_explained(alloc, command, options),
+        Refusal::BadVenues => venues_explained(alloc, options),
         Refusal::BadSymbol => symbols_explained(alloc, options),
         Refusal::DuplicateSymbol => double_explained(alloc, options),
         Refusal::BadFormat => format_explained(alloc, command, options),

@@ -12,7 +12,7 @@
 //! `specs/StatsOutputs.antt`, `specs/PeriodWords.antt`, `specs/TimeWords.antt`,
 //! `specs/TimeStyles.antt`, `specs/SpanWords.antt`, `specs/SkipRules.antt`, `specs/EndRules.antt`,
 //! `specs/EndNumbers.antt`, `specs/SenderLists.antt`, `specs/Destinations.antt`,
-//! `specs/FileNames.antt`).
+//! `specs/FileNames.antt`, `specs/VenueLists.antt`).
 //!
 //! Beside it, [`stream_files`] returns the files that words name in place of standard input and
 //! standard output (`NamesStreams`, `specs/StreamNames.antt`), and [`words_of_sources`] puts the
@@ -46,6 +46,7 @@ mod listen_outputs;
 mod listen_parts;
 mod listen_rules;
 mod listen_words;
+mod named_output;
 mod next_sessions;
 mod normalise_command;
 mod normalise_words;
@@ -69,6 +70,7 @@ mod symbols;
 mod task;
 mod time_style;
 mod time_words;
+mod venue_list;
 mod word_sources;
 
 pub use command_line::{settings, stream_files};

@@ -147,6 +147,18 @@ of day in UTC with nine places, as RFC 3339 has them: 2026-05-28T20:26:40.000003
 of text have no times",
 };
 
+/// `--venues LIST`.
+pub const VENUES: CommandOption<'static> = CommandOption {
+    name: "venues",
+    value: "LIST",
+    form: OptionForm::Text,
+    help: "The names that stand for the venues' numbers in csv, json and tables",
+    long_help: text!("\
+The names that stand for the venues' numbers in csv, json and tables, as NYSE,ARCA: one for
+each venue in the order of --sessions, parted by commas, each once. A name has 1 to 16
+digits, letters, '-', '.' and '_'. Lines of text and standard error have the numbers"),
+};
+
 /// `--input FILE`.
 pub const INPUT: CommandOption<'static> = CommandOption {
     name: "input",

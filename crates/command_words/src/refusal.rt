@@ -61,6 +61,10 @@ pub enum Refusal {
     TimesOfText,
     /// The style of times is said, and the input has no times.
     TimesWithoutLines,
+    /// The list of venues' names doesn't have one for each venue, each once.
+    BadVenues,
+    /// Venues are named where lines of text are printed, which have numbers.
+    VenuesOfText,
     /// The rule by which an end of session ends a line is none of those that there are.
     BadEnd,
     /// How many changes are kept is said where all are, since best lines aren't printed as they
@@ -109,6 +113,7 @@ impl Refusal {
             Refusal::SpanOfLines | Refusal::SpanWithoutLines => 2,
             Refusal::SkipAfterWithoutLines | Refusal::SkipGapsWithSkipAfter => 2,
             Refusal::BadTimeStyle | Refusal::TimesOfText | Refusal::TimesWithoutLines => 2,
+            Refusal::BadVenues | Refusal::VenuesOfText => 2,
             Refusal::GapsWithEvery | Refusal::BadEnd | Refusal::KeptUnfollowed => 2,
             Refusal::FormatUnfollowed | Refusal::BadSender | Refusal::BadMetrics => 2,
             Refusal::SendersWithFrom | Refusal::BadRecording => 2,
@@ -144,6 +149,8 @@ impl Refusal {
             Refusal::BadTimeStyle => "nbbo: bad time style\n",
             Refusal::TimesOfText => "nbbo: --times of lines of text, which have none\n",
             Refusal::TimesWithoutLines => "nbbo: --times without --lines\n",
+            Refusal::BadVenues => "nbbo: bad venues\n",
+            Refusal::VenuesOfText => "nbbo: --venues of lines of text, which have numbers\n",
             Refusal::BadEnd => "nbbo: bad end\n",
             Refusal::KeptUnfollowed => "nbbo: --kept without --follow\n",
             Refusal::FormatUnfollowed => "nbbo: --format without --follow\n",

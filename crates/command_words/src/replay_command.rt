@@ -9,7 +9,7 @@ use crate::limits::text;
 use crate::option_table::{CommandOption, OptionForm};
 use crate::options::{
     CAPTURED_LINES, FROM_TIME, INPUT, JOIN, JOURNAL, OUTPUT, SESSIONS, SKIP_AFTER, SKIP_GAPS,
-    SYMBOLS, TIMES, TO_TIME, WINDOW,
+    SYMBOLS, TIMES, TO_TIME, VENUES, WINDOW,
 };
 use clap::Command;
 use std::alloc::{AllocError, Global};
@@ -225,6 +225,7 @@ const OPTIONS: &[CommandOption<'static>] = &[
     TO_TIME,
     FORMAT,
     TIMES,
+    VENUES,
     INPUT,
     OUTPUT,
     SYMBOLS,

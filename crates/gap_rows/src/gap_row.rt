@@ -56,7 +56,7 @@ fn gap_cells(venue: VenueId, gap: &EndedGap) -> [Cell<'static>; 9]
     ensures short { AllByRecursion IsShortCell result }
 {
     [
-        Cell::Count(venue.index() as u64),
+        Cell::Venue(venue.index()),
         Cell::Word(line_word(gap.line)),
         Cell::Count(gap.gap.run.first),
         Cell::Count(gap.gap.run.last),

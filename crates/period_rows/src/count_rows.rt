@@ -48,7 +48,7 @@ fn line_cells(
     ensures short { AllByRecursion IsShortCell result }
 {
     let time = Cell::Time(Some(begin));
-    let venue = Cell::Count(place as u64 / 2);
+    let venue = Cell::Venue(place / 2);
     let line = Cell::Word(line_word(place));
     let packets = Cell::Count(figures.packets);
     let bytes = Cell::Count(figures.bytes);

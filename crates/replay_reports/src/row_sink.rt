@@ -60,7 +60,7 @@ impl<W: TextOut> EventSink for BestRows<W> {
         match event {
             Event::Best { number, change } => {
                 self.page.write_full()?;
-                put_row(&mut self.page.text, self.style, time, *number, change);
+                put_row(&mut self.page.text, &self.style, time, *number, change);
                 Ok(())
             }
             _ => Ok(()),

@@ -1,14 +1,19 @@
 -- What stands for a venue in what is printed: its name where venues have names, else its number.
-use Rattle.std.specs.Prelude.{◌≡◌, ℕ, Bool, true, ◌&&◌, ◌||◌, ◌==◌, nat_le, List, [], decimal, map, slice_index_or}
+use Rattle.std.specs.Prelude.{◌≡◌, ℕ, Bool, true, ◌&&◌, ◌||◌, ◌==◌, nat_le, min, List, decimal, replicate, slice_index_or, take}
 use Rattle.std.specs.List.{list_all}
-use Rattle.feed_types.specs.Symbols.{name_of}
 use Rattle.run_settings.specs.declared.venue_names.VenueName.{VenueName}
 use Rattle.run_settings.specs.declared.venue_names.VenueNames.{VenueNames}
 use Rattle.run_settings.specs.declared.venue_names.VenueNames.TheVariants.{Numbers, Named}
 
--- the name in the field of a venue: the bytes before the first space
+abbrev pub text_of_name : VenueName → List ℕ
+text_of_name name = take (min name.len 16) name.bytes
+
+-- an empty one
+abbrev pub no_venue_name : VenueName
+no_venue_name = record { bytes = replicate 16 32; len = 0 }
+
 abbrev pub name_of_venue : List VenueName → ℕ → List ℕ
-name_of_venue names venue = name_of (slice_index_or (map (λ one. one.field) names) venue [])
+name_of_venue names venue = text_of_name (slice_index_or names venue no_venue_name)
 
 abbrev pub venue_text : VenueNames → ℕ → List ℕ
 venue_text Numbers venue = decimal venue

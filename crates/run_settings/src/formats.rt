@@ -1,4 +1,6 @@
 //! The forms in which what a replay prints is passed on.
+ghost use Rattle.std.specs.Prelude.{◌≡◌};
+ghost use Rattle.run_settings.specs.Styles.{all_numbers};
 
 use crate::venue_names::VenueNames;
 
@@ -16,6 +18,18 @@ pub enum TimeStyle {
 pub struct ValueStyle {
     pub times: TimeStyle,
     pub venues: VenueNames,
+}
+
+impl ValueStyle {
+    /// Times as numbers, and venues, too.
+    pub fn numbers() -> ValueStyle
+        ensures { result ≡ all_numbers }
+    {
+        ValueStyle {
+            times: TimeStyle::Seconds,
+            venues: VenueNames::Numbers,
+        }
+    }
 }
 
 /// The form of the best lines, where they alone are passed on.

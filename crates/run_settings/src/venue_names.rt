@@ -1,16 +1,48 @@
 //! The names of venues in what is printed.
+ghost use Rattle.std.specs.Prelude.{◌≡◌, slice_index_or};
+ghost use Rattle.run_settings.specs.VenueNames.{no_venue_name, text_of_name};
 
-/// The name of a venue: up to 16 bytes without a space, kept as a field that is filled with spaces.
+/// The name of a venue: the first `len` of these bytes, all of them where there are no more.
 #[derive(Clone, Copy, Debug, PartialEq, Eq)]
 pub struct VenueName {
-    pub field: [u8; 16],
+    pub bytes: [u8; 16],
+    pub len: u8,
 }
 
-/// How what is printed names venues.
+/// What stands for a venue in what is printed.
 #[derive(Clone, Copy, Debug, PartialEq, Eq)]
 pub enum VenueNames {
-    /// By their numbers.
+    /// Its number.
     Numbers,
-    /// By names, venue 0's first.
+    /// Its name, venue 0's first.
     Named([VenueName; 16]),
+}
+
+impl VenueName {
+    /// A name without bytes.
+    pub fn empty() -> VenueName
+        ensures { result ≡ no_venue_name }
+    {
+        VenueName {
+            bytes: [b' '; 16],
+            len: 0,
+        }
+    }
+
+    /// Returns the name at a place, an empty one where there is none.
+    pub fn at(names: &[VenueName], venue: usize) -> VenueName
+        ensures { result ≡ slice_index_or names.now venue no_venue_name }
+    {
+        if venue < names.len() {
+            return names[venue];
+        }
+        VenueName::empty()
+    }
+
+    /// Returns the bytes of the name.
+    pub fn text(&self) -> &[u8]
+        ensures { result.now ≡ text_of_name self.now }
+    {
+        &self.bytes[..usize::from(self.len).min(16)]
+    }
 }

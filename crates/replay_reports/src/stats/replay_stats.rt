@@ -18,7 +18,7 @@ use event_sinks::{Event, EventSink, SinkStop};
 use feed_types::VenueId;
 use line_gaps::EndedGaps;
 use report_rows::SpannedSink;
-use run_settings::{ReportFormat, TimeStyle};
+use run_settings::{ReportFormat, ValueStyle};
 use std::alloc::{AllocError, Global};
 
 /// A second in nanoseconds.
@@ -189,21 +189,21 @@ fn venue_reports(
 }
 
 /// Returns a report as comma-separated values. Fails where memory is refused.
-fn csv_text(alloc: Global, style: TimeStyle, report: &Report) -> Result<Vec<u8>, AllocError> {
+fn csv_text(alloc: Global, style: &ValueStyle, report: &Report) -> Result<Vec<u8>, AllocError> {
     let mut text = Vec::new(alloc);
     put_csv(alloc, &mut text, style, report)?;
     Ok(text)
 }
 
 /// Returns a report as a JSON object. Fails where memory is refused.
-fn json_text(alloc: Global, style: TimeStyle, report: &Report) -> Result<Vec<u8>, AllocError> {
+fn json_text(alloc: Global, style: &ValueStyle, report: &Report) -> Result<Vec<u8>, AllocError> {
     let mut text = Vec::new(alloc);
     put_json(alloc, &mut text, style, report)?;
     Ok(text)
 }
 
 /// Returns a report as a table. Fails where memory is refused.
-fn table_text(alloc: Global, style: TimeStyle, report: &Report) -> Result<Vec<u8>, AllocError> {
+fn table_text(alloc: Global, style: &ValueStyle, report: &Report) -> Result<Vec<u8>, AllocError> {
     let mut text = Vec::new(alloc);
     put_table(alloc, &mut text, style, report)?;
     Ok(text)
@@ -215,7 +215,7 @@ fn report_text(
     format: ReportFormat,
     report: &Report,
 ) -> Result<Vec<u8>, AllocError> {
-    match format {
+    match &format {
         ReportFormat::Table(style) => table_text(alloc, style, report),
         ReportFormat::Csv(style) => csv_text(alloc, style, report),
         ReportFormat::Json(style) => json_text(alloc, style, report),

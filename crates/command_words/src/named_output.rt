@@ -1,0 +1,93 @@
+//! The output in which venues have names.
+ghost use Rattle.std.specs.Prelude.{◌≡◌, ◌≤◌, option_map};
+ghost use Rattle.command_words.specs.VenueLists.{ReadsVenues, best_format_of, output_of, periods_of, report_format_of, row_format_of};
+
+use crate::refusal::Refusal;
+use crate::venue_list::read_venue_names;
+use run_settings::{
+    BestFormat, PeriodStyle, ReportFormat, RowFormat, RunOutput, ValueStyle, VenueNames,
+};
+use std::alloc::Global;
+
+/// Returns the style with these names.
+fn style_of(names: VenueNames, plain: ValueStyle) -> ValueStyle
+    ensures { result ≡ record plain { venues = names } }
+{
+    ValueStyle {
+        times: plain.times,
+        venues: names,
+    }
+}
+
+/// Returns the format with these names, which lines of text don't have.
+fn best_format_of(names: VenueNames, format: BestFormat) -> Option<BestFormat>
+    ensures { result ≡ best_format_of names format }
+{
+    match format {
+        BestFormat::Csv(plain) => Some(BestFormat::Csv(style_of(names, plain))),
+        BestFormat::Json(plain) => Some(BestFormat::Json(style_of(names, plain))),
+        BestFormat::Text => None,
+    }
+}
+
+/// Returns the format of rows with these names.
+fn row_format_of(names: VenueNames, format: RowFormat) -> RowFormat
+    ensures { result ≡ row_format_of names format }
+{
+    match format {
+        RowFormat::Csv(plain) => RowFormat::Csv(style_of(names, plain)),
+        RowFormat::Json(plain) => RowFormat::Json(style_of(names, plain)),
+    }
+}
+
+/// Returns the format of counts with these names.
+fn report_format_of(names: VenueNames, format: ReportFormat) -> ReportFormat
+    ensures { result ≡ report_format_of names format }
+{
+    match format {
+        ReportFormat::Table(plain) => ReportFormat::Table(style_of(names, plain)),
+        ReportFormat::Csv(plain) => ReportFormat::Csv(style_of(names, plain)),
+        ReportFormat::Json(plain) => ReportFormat::Json(style_of(names, plain)),
+    }
+}
+
+/// Returns the style of periods with these names.
+fn periods_of(names: VenueNames, periods: PeriodStyle) -> PeriodStyle
+    ensures { result ≡ periods_of names periods }
+{
+    PeriodStyle {
+        format: row_format_of(names, periods.format),
+        length: periods.length,
+    }
+}
+
+/// Returns the output with these names, which lines of text don't have.
+fn output_of(names: VenueNames, output: RunOutput) -> Option<RunOutput>
+    ensures { result ≡ output_of names output }
+{
+    match output {
+        RunOutput::Lines => None,
+        RunOutput::Bests(format) => Some(RunOutput::Bests(best_format_of(names, format)?)),
+        RunOutput::Stats(format) => Some(RunOutput::Stats(report_format_of(names, format))),
+        RunOutput::Gaps(format) => Some(RunOutput::Gaps(row_format_of(names, format))),
+        RunOutput::Periods(periods) => Some(RunOutput::Periods(periods_of(names, periods))),
+        RunOutput::BestTimes(periods) => Some(RunOutput::BestTimes(periods_of(names, periods))),
+    }
+}
+
+/// Returns the output with the names of this many venues, 16 at most, if a list names them.
+pub fn read_venues(
+    alloc: Global,
+    plain: RunOutput,
+    list: Option<&str>,
+    venues: usize,
+) -> Result<RunOutput, Refusal>
+    requires { venues ≤ 16 }
+    ensures { ReadsVenues (option_map (λ list. list.now) list.entry) venues plain result }
+{
+    let Some(list) = list else {
+        return Ok(plain);
+    };
+    let names = read_venue_names(alloc, list, venues)?;
+    output_of(names, plain).ok_or(Refusal::VenuesOfText)
+}
