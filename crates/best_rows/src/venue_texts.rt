@@ -34,7 +34,7 @@ pub fn put_venue_value(text: &mut LineBuffer, names: &VenueNames, venue: usize)
     ensures { Appends text.old (json_venue names.now venue) 20 text.new }
 {
     match names {
-        VenueNames::Numbers => put_number(text, venue as u64),
+        VenueNames::Numbers => put_venue(text, names, venue),
         VenueNames::Named(names) => {
             put_bytes(text, *b"\"");
             put_venue_name(text, VenueName::at(names, venue));
