@@ -63,6 +63,10 @@ over_one key mine s =
     (length-append mine (s ∷ [])) in
     let messages = most_more (sum_by (λ (x : Sighting). x.messages) mine) s.messages _
     (summed (λ x. x.messages) mine s) in
+    let own = most_more (sum_by (λ (x : Sighting). x.own) mine) s.own _
+    (summed (λ x. x.own) mine s) in
+    let itch = most_more (sum_by (λ (x : Sighting). x.itch) mine) s.itch _
+    (summed (λ x. x.itch) mine s) in
     let bytes = most_more (sum_by (λ (x : Sighting). x.bytes) mine) s.bytes _
     (summed (λ x. x.bytes) mine s) in
     let numbers = spanned (λ x. x.numbers) mine s in

@@ -9,5 +9,6 @@ pub mod Places
 pub mod SessionWords
 pub mod Standings
 pub mod LineWords
+pub mod Looks
 pub mod KeyedRows
 pub mod KeyedRowLaws

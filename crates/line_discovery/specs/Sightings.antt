@@ -1,10 +1,11 @@
 -- The fates of frames: what a frame shows of the lines of a capture.
-use Rattle.std.specs.Prelude.{◌≡◌, ◌⊎◌, ℕ, Bool, true, ◌&&◌, nat_le, ◌==◌, List, [], ◌∷◌, length, Option, None, Some, if◌then◌else◌}
+use Rattle.std.specs.Prelude.{◌≡◌, ◌⊎◌, ℕ, Bool, true, ◌&&◌, nat_le, ◌==◌, List, [], ◌∷◌, length, count_by, Option, None, Some, if◌then◌else◌}
 use Rattle.std.specs.List.{list_all}
 use Rattle.packet_capture.specs.Datagrams.{DatagramContent, CarriesDatagram}
 use Rattle.packet_capture.specs.FrameFaults.{HasFrameFault}
 use Rattle.packet_capture.specs.Frames.{FrameContent}
 use Rattle.line_captures.specs.Counts.{FrameFate, elsewhere, no_datagram}
+use Rattle.message_forms.specs.Payloads.{is_itch, is_own}
 use Rattle.mold_packet.specs.declared.fault.PacketFault.{PacketFault}
 use Rattle.mold_packet.specs.Content.{Content, Spells, last_number}
 use Rattle.mold_packet.specs.Faults.{HasFault}
@@ -37,6 +38,8 @@ abbrev pub packet_sighting : DatagramContent → Option ℕ → Content → Sigh
 packet_sighting d time p = record {
   key = line_key d (Some p.session);
   messages = length p.messages;
+  own = count_by is_own p.messages;
+  itch = count_by is_itch p.messages;
   bytes = length d.bytes;
   numbers = numbers_of p;
   times = sighting_times time;
@@ -47,6 +50,8 @@ abbrev pub other_sighting : DatagramContent → Option ℕ → Sighting
 other_sighting d time = record {
   key = line_key d None;
   messages = 0;
+  own = 0;
+  itch = 0;
   bytes = length d.bytes;
   numbers = None;
   times = sighting_times time;

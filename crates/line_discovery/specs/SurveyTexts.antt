@@ -12,6 +12,7 @@ use Rattle.line_discovery.specs.declared.line_row.LineRow.{LineRow}
 use Rattle.line_discovery.specs.declared.rest.SurveyRest.{SurveyRest}
 use Rattle.line_discovery.specs.declared.span.Span.{Span}
 use Rattle.line_discovery.specs.LineWords.{words_of}
+use Rattle.line_discovery.specs.Looks.{look_member, look_row}
 pub use Rattle.line_discovery.specs.Places.{other_key, place_text, session_name}
 use Rattle.line_discovery.specs.Tables.{packets_at, rows_of, unlisted_of, up_to_most}
 
@@ -121,11 +122,12 @@ table_rest r =
     ∷ [])
     ++ codes "\n"
 
--- and then the words for the lines that came
+-- and then which sessions look like ITCH, and the words for the lines that came
 abbrev pub table_of : TimeStyle → List LineRow → List LineRow → SurveyRest → List ℕ
 table_of style others rows rest =
     table_head style
-    ++ (flat_map (table_row style others) rows ++ (table_rest rest ++ words_of rows))
+    ++ (flat_map (table_row style others) rows
+    ++ (table_rest rest ++ (flat_map (look_row rows) rows ++ words_of rows)))
 
 -- ---- JSON: an object on a line of its own for each row, and then one of the rest
 
@@ -148,8 +150,8 @@ json_dates Utc r =
     ++ date_member (codes ",\"last_time\":") (high_of r.times)
 
 -- what was counted of it
-abbrev pub json_members : TimeStyle → List LineRow → LineRow → List ℕ
-json_members style others r =
+abbrev pub json_members : TimeStyle → List LineRow → List LineRow → LineRow → List ℕ
+json_members style others rows r =
     cells_text 0 (codes "null") (
     (codes "\",\"packets\":", Some r.packets)
     ∷ (codes ",\"messages\":", Some r.messages)
@@ -160,10 +162,10 @@ json_members style others r =
     ∷ (codes ",\"first_time_ns\":", low_of r.times)
     ∷ (codes ",\"last_time_ns\":", high_of r.times)
     ∷ [])
-    ++ (json_dates style r ++ codes "}\n")
+    ++ (json_dates style r ++ (look_member rows r ++ codes "}\n"))
 
-abbrev pub json_line : TimeStyle → List LineRow → LineRow → List ℕ
-json_line style others r = json_head r.key ++ json_members style others r
+abbrev pub json_line : TimeStyle → List LineRow → List LineRow → LineRow → List ℕ
+json_line style others rows r = json_head r.key ++ json_members style others rows r
 
 abbrev pub json_rest : SurveyRest → List ℕ
 json_rest r =
@@ -177,7 +179,7 @@ json_rest r =
     ++ codes "}\n"
 
 abbrev pub json_of : TimeStyle → List LineRow → List LineRow → SurveyRest → List ℕ
-json_of style others rows rest = flat_map (json_line style others) rows ++ json_rest rest
+json_of style others rows rest = flat_map (json_line style others rows) rows ++ json_rest rest
 
 abbrev pub text_of_survey : StatsFormat → TimeStyle → SurveyCounts → List ℕ
 text_of_survey Table style c =

@@ -6,6 +6,7 @@ ghost use Rattle.line_discovery.specs.Tables.{rows_of};
 use crate::counts::SurveyCounts;
 use crate::line_key::LineKey;
 use crate::line_row::LineRow;
+use crate::look::put_look_member;
 use crate::pieces::{CellStyle, put_cells, put_place};
 use crate::rest::{SurveyRest, rest_of};
 use crate::table::Table;
@@ -77,10 +78,11 @@ fn put_members(
     text: &mut Vec<u8>,
     style: TimeStyle,
     others: &Table,
+    rows: &[LineRow],
     row: &LineRow,
 ) -> Result<(), AllocError>
     ensures { OnOk result (text.new.items
-        ≡ text.old.items ++ json_members style (rows_of others.now) row.now) }
+        ≡ text.old.items ++ json_members style (rows_of others.now) rows.now row.now) }
 {
     let members = [
         ("\",\"packets\":", Some(row.packets)),
@@ -97,6 +99,7 @@ fn put_members(
     ];
     put_cells(text, NUMBERS, &members)?;
     put_dates(alloc, text, style, row)?;
+    put_look_member(text, rows, row)?;
     text.extend_from_slice(b"}\n")
 }
 
@@ -106,13 +109,14 @@ fn put_row(
     text: &mut Vec<u8>,
     style: TimeStyle,
     others: &Table,
+    rows: &[LineRow],
     row: &LineRow,
 ) -> Result<(), AllocError>
     ensures { OnOk result (text.new.items
-        ≡ text.old.items ++ json_line style (rows_of others.now) row.now) }
+        ≡ text.old.items ++ json_line style (rows_of others.now) rows.now row.now) }
 {
     put_head(alloc, text, &row.key)?;
-    put_members(alloc, text, style, others, row)
+    put_members(alloc, text, style, others, rows, row)
 }
 
 /// Appends the rows of lines.
@@ -124,10 +128,10 @@ fn put_rows(
     rows: &[LineRow],
 ) -> Result<(), AllocError>
     ensures { OnOk result (text.new.items
-        ≡ text.old.items ++ flat_map (json_line style (rows_of others.now)) rows.now) }
+        ≡ text.old.items ++ flat_map (json_line style (rows_of others.now) rows.now) rows.now) }
 {
     for row in rows {
-        put_row(alloc, text, style, others, row)?;
+        put_row(alloc, text, style, others, rows, row)?;
     }
     Ok(())
 }

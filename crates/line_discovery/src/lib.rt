@@ -21,6 +21,7 @@ mod fate;
 mod json;
 mod line_key;
 mod line_row;
+mod look;
 mod pieces;
 mod place;
 mod rest;

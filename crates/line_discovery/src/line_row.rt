@@ -14,6 +14,10 @@ pub struct LineRow {
     pub packets: u64,
     /// How many messages they had, each counted as often as it came.
     pub messages: u64,
+    /// How many of these had one of the three forms of this project's own messages.
+    pub own: u64,
+    /// How many had one of the forms of TotalView-ITCH 5.0.
+    pub itch: u64,
     /// How many bytes they had, without the UDP headers.
     pub bytes: u64,
     /// The lowest and the highest number of a message that came.
@@ -31,6 +35,8 @@ impl LineRow {
             key,
             packets: 0,
             messages: 0,
+            own: 0,
+            itch: 0,
             bytes: 0,
             numbers: None,
             times: None,
@@ -43,6 +49,8 @@ impl LineRow {
     {
         self.packets = self.packets.saturating_add(1);
         self.messages = self.messages.saturating_add(sighting.messages);
+        self.own = self.own.saturating_add(sighting.own);
+        self.itch = self.itch.saturating_add(sighting.itch);
         self.bytes = self.bytes.saturating_add(sighting.bytes);
         self.numbers = wider(self.numbers, sighting.numbers);
         self.times = wider(self.times, sighting.times);

@@ -45,7 +45,7 @@ fn is_first_at(rows: &[LineRow], row: &LineRow) -> bool
 }
 
 /// Returns whether two rows are of the same session.
-fn is_of_session(row: &LineRow, one: &LineRow) -> bool
+pub(crate) fn is_of_session(row: &LineRow, one: &LineRow) -> bool
     ensures { result ≡ is_of_session row.now one.now }
 {
     is_same_session(&one.key.session, &row.key.session)

@@ -7,6 +7,7 @@ use crate::counts::SurveyCounts;
 use crate::json::json_text;
 use crate::line_key::LineKey;
 use crate::line_row::LineRow;
+use crate::look::put_looks;
 use crate::pieces::{CellStyle, put_cells, put_place};
 use crate::rest::{SurveyRest, rest_of};
 use crate::span::Span;
@@ -168,6 +169,7 @@ fn put_table(
     put_head(text, style)?;
     put_rows(alloc, text, style, others, rows)?;
     put_rest(text, rest)?;
+    put_looks(text, rows)?;
     put_words(alloc, text, rows)
 }
 

@@ -12,11 +12,13 @@ loop-row-preserved c =
       key = record { address = V4 []; port = 0; session = None };
       packets = 0;
       messages = 0;
+      own = 0;
+      itch = 0;
       bytes = 0;
       numbers = None;
       times = None;
     } in
-    row_put (json_line c.args.style (rows_of c.args.others.now)) c.args.rows.now
+    row_put (json_line c.args.style (rows_of c.args.others.now) c.args.rows.now) c.args.rows.now
     c.loop-row.row-index none c.args.text.now.items c.loop-row.text.items c.put_row.new.text.items
     c.loop-row-test.true
     c.loop-row.invariant c.in_ok-put_row.ensures

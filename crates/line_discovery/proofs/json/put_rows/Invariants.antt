@@ -5,4 +5,4 @@ use Rattle.line_discovery.proofs.json.put_rows.Given as goal
 
 abbrev pub invariant-loop-row : goal.invariant-loop-row
 invariant-loop-row l = l.text.items ≡ l.fn.text.items
-    ++ flat_map (json_line l.style (rows_of l.others)) (take l.row-index l.rows)
+    ++ flat_map (json_line l.style (rows_of l.others) l.rows) (take l.row-index l.rows)

@@ -1,0 +1,3 @@
+pub mod Datagrams
+pub mod Payloads
+pub mod PayloadLaws

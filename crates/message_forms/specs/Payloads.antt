@@ -1,0 +1,40 @@
+-- The payload that messages look like, by their types and lengths.
+use Rattle.std.specs.Prelude.{ℕ, Bool, true, false, ◌||◌, List, [], ◌∷◌, ◌++◌, if◌then◌else◌}
+use Rattle.std.specs.List.{list_any}
+use Rattle.itch_messages.specs.Forms.{is_one_of, silent_forms, telling_forms}
+use Rattle.message_forms.specs.declared.payload.Payload.{Payload}
+use Rattle.message_forms.specs.declared.payload.Payload.TheVariants.{Neither, Itch, Own}
+
+-- the forms of this project's messages: a quotation in either version, and a halt
+abbrev pub own_forms : List (ℕ × ℕ)
+own_forms = (0x51, 26) ∷ (0x71, 34) ∷ (0x48, 10) ∷ []
+
+-- the forms of the standard; none of them is one of this project's
+abbrev pub itch_forms : List (ℕ × ℕ)
+itch_forms = telling_forms ++ silent_forms
+
+abbrev pub is_own : List ℕ → Bool
+is_own message = is_one_of own_forms message
+
+abbrev pub is_itch : List ℕ → Bool
+is_itch message = is_one_of itch_forms message
+
+abbrev pub is_look_own : Payload → Bool
+is_look_own Neither = false
+is_look_own Itch = false
+is_look_own Own = true
+
+abbrev pub is_look_itch : Payload → Bool
+is_look_itch Neither = false
+is_look_itch Itch = true
+is_look_itch Own = false
+
+-- what messages look like that go on with these: one of this project's forms outweighs all others
+abbrev pub look_with : Payload → List (List ℕ) → Payload
+look_with before messages =
+    if is_look_own before || list_any is_own messages then Own
+    else (if is_look_itch before || list_any is_itch messages then Itch else Neither)
+
+-- what messages look like
+abbrev pub look_of : List (List ℕ) → Payload
+look_of messages = look_with Neither messages
