@@ -48,31 +48,31 @@ venue_names_by venues names =
 -- ---- the output
 
 -- the format with these names, which lines of text don't have
-abbrev pub best_format_of : VenueNames → BestFormat → Option BestFormat
-best_format_of names (bests.Csv plain) = Some (bests.Csv (record plain { venues = names }))
-best_format_of names (bests.Json plain) = Some (bests.Json (record plain { venues = names }))
-best_format_of names bests.Text = None
+abbrev pub named_best_format : VenueNames → BestFormat → Option BestFormat
+named_best_format names (bests.Csv plain) = Some (bests.Csv (record plain { venues = names }))
+named_best_format names (bests.Json plain) = Some (bests.Json (record plain { venues = names }))
+named_best_format names bests.Text = None
 
-abbrev pub row_format_of : VenueNames → RowFormat → RowFormat
-row_format_of names (rows.Csv plain) = rows.Csv (record plain { venues = names })
-row_format_of names (rows.Json plain) = rows.Json (record plain { venues = names })
+abbrev pub named_row_format : VenueNames → RowFormat → RowFormat
+named_row_format names (rows.Csv plain) = rows.Csv (record plain { venues = names })
+named_row_format names (rows.Json plain) = rows.Json (record plain { venues = names })
 
-abbrev pub report_format_of : VenueNames → ReportFormat → ReportFormat
-report_format_of names (reports.Table plain) = reports.Table (record plain { venues = names })
-report_format_of names (reports.Csv plain) = reports.Csv (record plain { venues = names })
-report_format_of names (reports.Json plain) = reports.Json (record plain { venues = names })
+abbrev pub named_report_format : VenueNames → ReportFormat → ReportFormat
+named_report_format names (reports.Table plain) = reports.Table (record plain { venues = names })
+named_report_format names (reports.Csv plain) = reports.Csv (record plain { venues = names })
+named_report_format names (reports.Json plain) = reports.Json (record plain { venues = names })
 
-abbrev pub periods_of : VenueNames → PeriodStyle → PeriodStyle
-periods_of names periods = record periods { format = row_format_of names periods.format }
+abbrev pub named_periods : VenueNames → PeriodStyle → PeriodStyle
+named_periods names periods = record periods { format = named_row_format names periods.format }
 
 -- the output with these names, which it has but where it is lines of text
-abbrev pub output_of : VenueNames → RunOutput → Option RunOutput
-output_of names Lines = None
-output_of names (Bests format) = option_map (λ f. Bests f) (best_format_of names format)
-output_of names (Stats format) = Some (Stats (report_format_of names format))
-output_of names (Gaps format) = Some (Gaps (row_format_of names format))
-output_of names (Periods periods) = Some (Periods (periods_of names periods))
-output_of names (BestTimes periods) = Some (BestTimes (periods_of names periods))
+abbrev pub named_output : VenueNames → RunOutput → Option RunOutput
+named_output names Lines = None
+named_output names (Bests format) = option_map (λ f. Bests f) (named_best_format names format)
+named_output names (Stats format) = Some (Stats (named_report_format names format))
+named_output names (Gaps format) = Some (Gaps (named_row_format names format))
+named_output names (Periods periods) = Some (Periods (named_periods names periods))
+named_output names (BestTimes periods) = Some (BestTimes (named_periods names periods))
 
 -- ---- the option
 
@@ -83,4 +83,4 @@ abbrev pub ReadsVenues : Option (List ℕ) → (venues : ℕ) → RunOutput → 
 ReadsVenues None venues plain = Gives (Ok plain)
 ReadsVenues (Some list) venues plain =
     OrNoMemory (Gives (and_then (venue_names_by venues (names_in list))
-    (λ names. ok_or (output_of names plain) VenuesOfText)))
+    (λ names. ok_or (named_output names plain) VenuesOfText)))

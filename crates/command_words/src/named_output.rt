@@ -1,6 +1,6 @@
 //! The output in which venues have names.
 ghost use Rattle.std.specs.Prelude.{◌≡◌, ◌≤◌, option_map};
-ghost use Rattle.command_words.specs.VenueLists.{ReadsVenues, best_format_of, output_of, periods_of, report_format_of, row_format_of};
+ghost use Rattle.command_words.specs.VenueLists.{ReadsVenues, named_best_format, named_output, named_periods, named_report_format, named_row_format};
 
 use crate::refusal::Refusal;
 use crate::venue_list::read_venue_names;
@@ -20,8 +20,8 @@ fn style_of(names: VenueNames, plain: ValueStyle) -> ValueStyle
 }
 
 /// Returns the format with these names, which lines of text don't have.
-fn best_format_of(names: VenueNames, format: BestFormat) -> Option<BestFormat>
-    ensures { result ≡ best_format_of names format }
+fn named_best_format(names: VenueNames, format: BestFormat) -> Option<BestFormat>
+    ensures { result ≡ named_best_format names format }
 {
     match format {
         BestFormat::Csv(plain) => Some(BestFormat::Csv(style_of(names, plain))),
@@ -31,8 +31,8 @@ fn best_format_of(names: VenueNames, format: BestFormat) -> Option<BestFormat>
 }
 
 /// Returns the format of rows with these names.
-fn row_format_of(names: VenueNames, format: RowFormat) -> RowFormat
-    ensures { result ≡ row_format_of names format }
+fn named_row_format(names: VenueNames, format: RowFormat) -> RowFormat
+    ensures { result ≡ named_row_format names format }
 {
     match format {
         RowFormat::Csv(plain) => RowFormat::Csv(style_of(names, plain)),
@@ -41,8 +41,8 @@ fn row_format_of(names: VenueNames, format: RowFormat) -> RowFormat
 }
 
 /// Returns the format of counts with these names.
-fn report_format_of(names: VenueNames, format: ReportFormat) -> ReportFormat
-    ensures { result ≡ report_format_of names format }
+fn named_report_format(names: VenueNames, format: ReportFormat) -> ReportFormat
+    ensures { result ≡ named_report_format names format }
 {
     match format {
         ReportFormat::Table(plain) => ReportFormat::Table(style_of(names, plain)),
@@ -52,26 +52,26 @@ fn report_format_of(names: VenueNames, format: ReportFormat) -> ReportFormat
 }
 
 /// Returns the style of periods with these names.
-fn periods_of(names: VenueNames, periods: PeriodStyle) -> PeriodStyle
-    ensures { result ≡ periods_of names periods }
+fn named_periods(names: VenueNames, periods: PeriodStyle) -> PeriodStyle
+    ensures { result ≡ named_periods names periods }
 {
     PeriodStyle {
-        format: row_format_of(names, periods.format),
+        format: named_row_format(names, periods.format),
         length: periods.length,
     }
 }
 
 /// Returns the output with these names, which lines of text don't have.
-fn output_of(names: VenueNames, output: RunOutput) -> Option<RunOutput>
-    ensures { result ≡ output_of names output }
+fn named_output(names: VenueNames, output: RunOutput) -> Option<RunOutput>
+    ensures { result ≡ named_output names output }
 {
     match output {
         RunOutput::Lines => None,
-        RunOutput::Bests(format) => Some(RunOutput::Bests(best_format_of(names, format)?)),
-        RunOutput::Stats(format) => Some(RunOutput::Stats(report_format_of(names, format))),
-        RunOutput::Gaps(format) => Some(RunOutput::Gaps(row_format_of(names, format))),
-        RunOutput::Periods(periods) => Some(RunOutput::Periods(periods_of(names, periods))),
-        RunOutput::BestTimes(periods) => Some(RunOutput::BestTimes(periods_of(names, periods))),
+        RunOutput::Bests(format) => Some(RunOutput::Bests(named_best_format(names, format)?)),
+        RunOutput::Stats(format) => Some(RunOutput::Stats(named_report_format(names, format))),
+        RunOutput::Gaps(format) => Some(RunOutput::Gaps(named_row_format(names, format))),
+        RunOutput::Periods(periods) => Some(RunOutput::Periods(named_periods(names, periods))),
+        RunOutput::BestTimes(periods) => Some(RunOutput::BestTimes(named_periods(names, periods))),
     }
 }
 
@@ -89,5 +89,5 @@ pub fn read_venues(
         return Ok(plain);
     };
     let names = read_venue_names(alloc, list, venues)?;
-    output_of(names, plain).ok_or(Refusal::VenuesOfText)
+    named_output(names, plain).ok_or(Refusal::VenuesOfText)
 }

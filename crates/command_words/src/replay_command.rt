@@ -20,15 +20,15 @@ const ABOUT: &str = "Replays a capture from standard input and prints what becam
 const LONG_ABOUT: &str = "\
 Replays a capture from standard input and prints what became of it.
 
-A capture is a list of records, one after the other: the venue (1 byte, from 0), a kind (1 byte),
-a length (2 bytes, big-endian) and that many bytes. Kind A, B or R is a MoldUDP64 datagram that
-came on line A, on line B or from recovery. Kind N has ten bytes, the name of the venue's next
-session. Kind K has eight bytes, a number (big-endian): the messages below it that are missing are
-given up. Kind H declares self-help on the venue, which takes its quotations out of the national
-best, and kind W withdraws it; both have length 0.
-
 With --lines the input is a packet capture, pcap or pcapng, as tcpdump and dumpcap write it, and
-what is replayed are the datagrams of its lines, in the order of the capture.";
+what is replayed are the datagrams of its lines, in the order of the capture.
+
+Without it a capture is a list of records, one after the other: the venue (1 byte, from 0), a kind
+(1 byte), a length (2 bytes, big-endian) and that many bytes. Kind A, B or R is a MoldUDP64
+datagram that came on line A, on line B or from recovery. Kind N has ten bytes, the name of the
+venue's next session. Kind K has eight bytes, a number (big-endian): the messages below it that are
+missing are given up. Kind H declares self-help on the venue, which takes its quotations out of the
+national best, and kind W withdraws it; both have length 0.";
 
 /// The usage of `replay`.
 const USAGE: &str = "nbbo replay [OPTIONS] --sessions <LIST> [SYMBOL]... < CAPTURE";
