@@ -129,7 +129,7 @@ impl RowMaker for GapMaker {
         event: &Event<'_>,
     ) -> Result<(), SinkStop> {
         let venue = self.take_event(time, event);
-        write_gaps(page, self.format, venue, self.ended.as_slice())
+        write_gaps(page, &self.format, venue, self.ended.as_slice())
     }
 
     fn pass(&mut self, time: Option<u64>, event: &Event<'_>) {

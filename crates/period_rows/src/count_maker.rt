@@ -104,7 +104,7 @@ impl PeriodCounter {
             ≡ late_by (Some begin) (count_state_of self.old)) }
     {
         let entered = self.periods.enter(begin, &NO_LINES);
-        write_over(page, self.style.format, self.lines, &entered.over)?;
+        write_over(page, &self.style.format, self.lines, &entered.over)?;
         let periods = self.periods.kept.as_mut_slice();
         count_in_period(periods, entered.place, &self.sequences, event);
         Ok(())
