@@ -67,7 +67,8 @@ pub fn put_json(
     change: &Change,
 )
     requires { 359 ≤ text.old.room }
-    ensures { Appends text.old (json_row style.now time (notice_of number change.now)) 359 text.new }
+    ensures { Appends text.old (json_row style.now time (notice_of number change.now)) 359
+        text.new }
 {
     put_bytes(text, *b"{\"notice\":");
     put_number(text, number);

@@ -21,7 +21,8 @@ Names = List (Bor (List ℕ))
 abbrev count_of : Names → List ℕ → ℕ
 count_of names name = count_by (λ (other : Bor (List ℕ)). bytes_eq name other.now) names
 
-count_texts : (name : List ℕ) (names : Names) → count_by (bytes_eq name) (texts names) ≡ count_of names name
+count_texts : (name : List ℕ) (names : Names)
+    → count_by (bytes_eq name) (texts names) ≡ count_of names name
 count_texts name [] = refl
 count_texts name (x ∷ names) = rw (count_texts name names) refl
 

@@ -61,8 +61,8 @@ ReadsStyled rows venues plain =
     Then (Gives (styled_in plain (first_of (codes "times") rows) (first_of (codes "lines") rows)))
     (λ styled. ReadsVenues (first_of (codes "venues") rows) venues styled)
 
--- The run of this feed: the style of times and the names of venues are looked at first, then the list of lines, the span of
--- time, the rule for gaps, and last the sessions that follow others.
+-- The run of this feed: the style of times and the names of venues are looked at first, then the
+-- list of lines, the span of time, the rule for gaps, and last the sessions that follow others.
 abbrev pub ReadsRunOf : List Row → FeedSettings → (gaps : Bool) → (plain : RunOutput)
     → Result RunSettings Refusal → Type 0
 ReadsRunOf rows feed gaps plain =
