@@ -43,6 +43,10 @@ Printed, a row in the order in which each first came, up to 4096 of them:
 and then the other datagrams, how many addresses and ports these went to (up to 4096), the frames
 without a UDP datagram, and the datagrams that are in no row, since there were 4096 already.
 
+A row 'looks like ITCH: SESSION  nbbo normalise turns its messages into quotations' stands for each
+session that had a message of one of the types and lengths of TotalView-ITCH 5.0, and none of this
+project's own (51, 71 and 48 with 26, 34 and 10 bytes), whatever else the messages hold.
+
 A row 'left out of the words: SESSION  WHY' stands for each session that came at one address and
 port, or at more than two, or at one of its two after another session; whose name is all spaces, or
 has a comma or a quotation mark; or that is past the first 16. The last line has the words
@@ -56,8 +60,9 @@ ASCII (bytes 20 to 7e). Datagrams of another kind may look like one, as a heartb
 
 In JSON there is an object for each row, on a line of its own: address session packets messages
 first last bytes other_datagrams first_time_ns last_time_ns, and with --times utc also first_time
-and last_time; and then one of the rest: other_datagrams other_addresses frames_without_datagram,
-and past the first 4096 rows unlisted_packets unlisted_others. null stands where nothing is known.
+and last_time; of a session that looks like ITCH also looks_like, which then is 'itch'. At the end
+one of the rest: other_datagrams other_addresses frames_without_datagram, and past the first 4096
+rows unlisted_packets unlisted_others. null stands where nothing is known.
 
 Examples:
   nbbo lines < day.pcap

@@ -20,7 +20,8 @@ returns c =
     let looks = flat_map (look_row rows) rows in
     let rest = table_rest c.args.rest.now in
     let table = flat_map (table_row style (rows_of c.args.others.now)) rows in
-    put_two r c.args.text.now.items headed new (table_head style) (table ++ (rest ++ (looks ++ words)))
+    put_two r c.args.text.now.items headed new (table_head style)
+    (table ++ (rest ++ (looks ++ words)))
     c.in_ok-put_head.ensures
     (put_two r headed rowed new table (rest ++ (looks ++ words)) c.in_ok-put_rows.ensures
     (put_two r rowed rested new rest (looks ++ words) c.in_ok-put_rest.ensures
