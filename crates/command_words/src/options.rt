@@ -153,10 +153,12 @@ pub const VENUES: CommandOption<'static> = CommandOption {
     value: "LIST",
     form: OptionForm::Text,
     help: "The names that stand for the venues' numbers in csv, json and tables",
-    long_help: text!("\
+    long_help: text!(
+        "\
 The names that stand for the venues' numbers in csv, json and tables, as NYSE,ARCA: one for
 each venue in the order of --sessions, parted by commas, each once. A name has 1 to 16
-digits, letters, '-', '.' and '_'. Lines of text and standard error have the numbers"),
+digits, letters, '-', '.' and '_'. Lines of text and standard error have the numbers"
+    ),
 };
 
 /// `--input FILE`.
