@@ -4,7 +4,7 @@ use Rattle.std.specs.Prelude.{count_by}
 use Rattle.std.specs.Borrow.{Bor}
 use Rattle.std.specs.List.{list_all}
 use Rattle.std.specs.Str.{bytes_eq}
-use Rattle.std.proofs.lemmas.Bool.{ne_eqb, eqb-refl}
+use Rattle.std.proofs.lemmas.Bool.{eq-eqb, ne_eqb}
 use Rattle.std.proofs.lemmas.List.{length-map}
 use Rattle.std.proofs.lemmas.List.Folds.{list_all-map}
 use Rattle.std.proofs.lemmas.Simd.{map-map}
@@ -49,7 +49,7 @@ counted : (venues : ℕ) (names : Names) → length names ≡ venues
     → (length (texts names) == venues) ≡ true
 counted venues names is =
     let len = length-map names (λ (name : Bor (List ℕ)). name.now) in
-    rw (len ∙ is) (eqb-refl venues)
+    eq-eqb (length (texts names)) venues (len ∙ is)
 
 pub misnamed : (venues : ℕ) (names : Names) → length names ≡ venues
     → list_all (λ name. is_venue_name name.now) names ≡ false

@@ -95,7 +95,11 @@ fn sixteen_names(names: &[VenueName]) -> [VenueName; 16]
     requires { length names.now ≤ 16 }
     ensures { result ≡ sixteen_names names.now }
 {
-    let mut sixteen = [VenueName::empty(); 16];
+    let empty = VenueName {
+        bytes: [b' '; NAME_LEN],
+        len: 0,
+    };
+    let mut sixteen = [empty; 16];
     sixteen[..names.len()].copy_from_slice(names);
     sixteen
 }
