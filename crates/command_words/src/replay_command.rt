@@ -93,8 +93,10 @@ At the end of a whole capture standard error says what each venue still lacks: t
 that never came, though later ones did, as far as the window goes; and which symbols never came:
   nbbo: venue V lacks COUNT messages from NUMBER
   nbbo: symbol S never came
-It does where it is a terminal, and where --lines, --best-only, --join, --skip-gaps or --skip-after
-is given.
+  nbbo: venue V's messages look like ITCH; normalise turns them into quotations
+The last one stands where a venue's messages had types and lengths of TotalView-ITCH 5.0 and none of
+this project's own. It says so where it is a terminal, and where --lines, --best-only, --join,
+--skip-gaps or --skip-after is given.
 
 Examples:
   $ nbbo replay --sessions NORTH,SOUTH ACME < capture

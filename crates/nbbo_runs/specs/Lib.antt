@@ -15,5 +15,7 @@ pub mod Sessions
 pub mod Streams
 pub mod SymbolHints
 pub mod Timeless
+pub mod VenueLooks
+pub mod VenueLookLaws
 pub mod Watches
 pub mod WatchLaws

@@ -5,4 +5,4 @@ use Rattle.nbbo_runs.proofs.watched_format.write_venues.Given as goal
 abbrev pub invariant-loop-venue : goal.invariant-loop-venue
 invariant-loop-venue g l =
     SaysEach (record { adds = g.E.TextOut.adds; failures = g.E.TextOut.failures })
-    (first_venues_texts l.input l.venues l.venue) l.fn.errors l.errors
+    (first_venues_texts l.input l.venues l.looks l.venue) l.fn.errors l.errors

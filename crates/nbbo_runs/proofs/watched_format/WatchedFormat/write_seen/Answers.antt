@@ -15,7 +15,7 @@ returns g c =
     let ordinals = c.args.ordinals.now in
     let told = c.write_venues.new.errors in
     let end = c.write_sessions.new.errors in
-    says_each w (first_venues_texts s.input.now s.venues (length s.sessions.now))
+    says_each w (first_venues_texts s.input.now s.venues s.looks (length s.sessions.now))
     (sessions_texts s.next.now ordinals (session_rows s.seen)) c.args.errors.now told end
     c.write_venues.ensures
     (subst (λ (rows : List SessionRow). SaysEach w (sessions_texts s.next.now ordinals rows) told

@@ -1,0 +1,104 @@
+-- The laws of what the messages of each venue look like.
+use Rattle.std.proofs.Common.{◌≡◌, ◌≢◌, ℕ, ◌<◌, ◌≤◌, Bool, true, false, cond, List, [], ◌∷◌, ◌++◌, append-nil, length, set, refl, sym, ap, subst, ◌∙◌}
+use Rattle.std.specs.Prelude.{◌==◌, flat_map}
+use Rattle.std.specs.List.{AllZip, slice_index_or}
+use Rattle.std.proofs.lemmas.Bool.{eqb-false, eqb-true}
+use Rattle.std.proofs.lemmas.Grind.{flat_map-append}
+use Rattle.std.proofs.lemmas.List.{get_or-set_other, get_or-set_same, length-set}
+use Rattle.capture_records.specs.Formats.{TimedRecord}
+use Rattle.message_forms.specs.declared.payload.Payload.{Payload}
+use Rattle.message_forms.specs.declared.payload.Payload.TheVariants.{Neither}
+use Rattle.message_forms.specs.PayloadLaws.{look_more, look_none, own_stays}
+use Rattle.message_forms.specs.Payloads.{is_look_own, look_with}
+use Rattle.nbbo_runs.specs.VenueLooks.{AreLooks, SeesLooks, ShowsMessages, VenueMessages, look_at, came_at, came_of}
+
+zip_both : {A B : Type 0} (R : A → B → Type 0) (xs ys : List A) (us vs : List B)
+    → AllZip R xs us → AllZip R ys vs → AllZip R (xs ++ ys) (us ++ vs)
+zip_both R [] ys [] vs h k = k
+zip_both R [] ys (u ∷ us) vs h k = absurd h
+zip_both R (x ∷ xs) ys [] vs h k = absurd h
+zip_both R (x ∷ xs) ys (u ∷ us) vs h k = (h.0, zip_both R xs ys us vs h.1 k)
+
+-- no record
+pub sees_none : (looks : List Payload) → SeesLooks looks [] looks
+sees_none looks = record {
+  shown = [];
+  shows = tt;
+  are = record { count = refl; each = λ venue less. sym (look_none (look_at looks venue)) };
+}
+
+-- some records, and then others
+pub sees_more : (a b c : List Payload) (rs qs : List TimedRecord) → SeesLooks a rs b
+    → SeesLooks b qs c → SeesLooks a (rs ++ qs) c
+sees_more a b c rs qs x y = record {
+  shown = x.shown ++ y.shown;
+  shows = zip_both ShowsMessages rs qs x.shown y.shown x.shows y.shows;
+  are = record {
+    count = y.are.count ∙ x.are.count;
+    each = λ venue less.
+        let more = y.are.each venue (subst (λ (n : ℕ). venue < n) (sym x.are.count) less) in
+        more
+        ∙ ap (λ (p : Payload). look_with p (came_of venue y.shown)) (x.are.each venue less)
+        ∙ look_more (look_at a venue) (came_of venue x.shown) (came_of venue y.shown)
+        ∙ ap (look_with (look_at a venue))
+        (sym (flat_map-append (came_at venue) x.shown y.shown));
+  };
+}
+
+-- ---- one venue's messages more
+
+-- at this venue, or at another one
+one_at : (looks : List Payload) (shown : VenueMessages) (venue : ℕ) (b : Bool)
+    → (shown.venue == venue) ≡ b
+    → look_with (look_at looks venue) (came_of venue (shown ∷ []))
+    ≡ look_with (look_at looks venue) (cond b shown.messages [])
+one_at looks shown venue b e =
+    ap (look_with (look_at looks venue))
+    (append-nil (came_at venue shown) ∙ ap (λ (x : Bool). cond x shown.messages []) e)
+
+-- they look so
+changed : (looks : List Payload) (shown : VenueMessages) (look : Payload) (venue : ℕ) (b : Bool)
+    → (shown.venue == venue) ≡ b → shown.venue < length looks
+    → look ≡ look_with (look_at looks shown.venue) shown.messages
+    → look_at (set looks shown.venue look) venue
+    ≡ look_with (look_at looks venue) (cond b shown.messages [])
+changed looks shown look venue true e less is =
+    let same = eqb-true shown.venue venue e in
+    ap (look_at (set looks shown.venue look)) (sym same)
+    ∙ get_or-set_same looks shown.venue look Neither less
+    ∙ is ∙ ap (λ (v : ℕ). look_with (look_at looks v) shown.messages) same
+changed looks shown look venue false e less is =
+    get_or-set_other looks shown.venue venue look Neither 
+    (λ same. eqb-false shown.venue venue e (sym same))
+    ∙ sym (look_none (look_at looks venue))
+
+pub looks_set : (looks : List Payload) (shown : VenueMessages) (look : Payload)
+    → shown.venue < length looks → look ≡ look_with (look_at looks shown.venue) shown.messages
+    → AreLooks looks (shown ∷ []) (set looks shown.venue look)
+looks_set looks shown look less is = record {
+  count = length-set looks shown.venue look;
+  each = λ venue within.
+      changed looks shown look venue (shown.venue == venue) refl less is
+      ∙ sym (one_at looks shown venue (shown.venue == venue) refl);
+}
+
+-- they change nothing
+unchanged : (looks : List Payload) (shown : VenueMessages) (venue : ℕ) (b : Bool)
+    → (shown.venue == venue) ≡ b
+    → look_with (look_at looks shown.venue) shown.messages ≡ look_at looks shown.venue
+    → look_at looks venue ≡ look_with (look_at looks venue) (cond b shown.messages [])
+unchanged looks shown venue true e stays =
+    let same = eqb-true shown.venue venue e in
+    sym (ap (λ (v : ℕ). look_with (look_at looks v) shown.messages) (sym same)
+    ∙ stays ∙ ap (look_at looks) same)
+unchanged looks shown venue false e stays = sym (look_none (look_at looks venue))
+
+pub looks_stay : (looks : List Payload) (shown : VenueMessages)
+    → look_with (look_at looks shown.venue) shown.messages ≡ look_at looks shown.venue
+    → AreLooks looks (shown ∷ []) looks
+looks_stay looks shown stays = record {
+  count = refl;
+  each = λ venue within.
+      unchanged looks shown venue (shown.venue == venue) refl stays
+      ∙ sym (one_at looks shown venue (shown.venue == venue) refl);
+}
