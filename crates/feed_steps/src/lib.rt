@@ -10,14 +10,10 @@
 //! Begin at `specs/Steps.antt`.
 #![tactic(auto)]
 
-mod bells;
 mod event;
 mod feed_name;
-mod times;
 mod unsent;
 
-pub use bells::Bells;
 pub use event::{Done, Event};
 pub use feed_name::FeedName;
-pub use times::FeedTimes;
 pub use unsent::Unsent;

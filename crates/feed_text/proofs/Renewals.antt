@@ -12,7 +12,7 @@ use Rattle.feed_text.specs.Following.{ReplayVenue, VenueList, EmitsNext, FollowA
 use Rattle.feed_text.specs.Renewing.{BeginsNextSession, BeginsNone, IsNextName, IsPresentOver, RenewsOrStays}
 use Rattle.feed_text.specs.RenewingVenues.{BeginsAtVenue, RenewsAtVenue, RenewsOne}
 use Rattle.feed_text.specs.ReplayStates.{SinkTaking, ReplayState}
-use Rattle.feed_text.specs.Rules.{names_after}
+use Rattle.run_settings.specs.NextSessions.{names_after}
 use Rattle.feed_text.specs.laws.Lists.{same_set}
 use Rattle.feed_text.proofs.Telling.{emits_next, follow_set, history_at}
 

@@ -15,7 +15,8 @@ use Rattle.capture_records.specs.Capture.{CaptureRecord, datagram_record, renewa
 use Rattle.capture_records.specs.Formats.{TimedRecord, timed_record, what_of}
 use Rattle.feed_text.specs.ReplayEvents.{ReplayEvent}
 use Rattle.feed_text.specs.Emitted.{EmitsRecord, Emits}
-use Rattle.feed_text.specs.Rules.{AreTakenOf, GivesUpOverdue, IsTakenNext, PutsBefore, PutsIn, SkipsBefore, names_after, ReplayPoint, gap_at, point_after, gap_standing_after, stands_then}
+use Rattle.feed_text.specs.Rules.{AreTakenOf, GivesUpOverdue, IsTakenNext, PutsBefore, PutsIn, SkipsBefore, ReplayPoint, gap_at, point_after, gap_standing_after, stands_then}
+use Rattle.run_settings.specs.NextSessions.{names_after}
 use Rattle.feed_text.specs.PuttingIn.{IsPlain, PutNone, PutOne, PutToStop}
 use Rattle.feed_text.specs.Standings.{Awaits, Knows, kept_at}
 use Rattle.feed_text.specs.ReplayStates.{SinkTaking, ReplayState}

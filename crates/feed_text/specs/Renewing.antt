@@ -10,7 +10,8 @@ use Rattle.feed_text.specs.declared.replay_sink.PublishStop.{PublishStop}
 use Rattle.capture_records.specs.Capture.{renewal_record}
 use Rattle.feed_text.specs.Following.{ReplayVenue, EmitsOne, Follows}
 use Rattle.feed_text.specs.ReplayStates.{SinkTaking, ReplayState}
-use Rattle.feed_text.specs.Rules.{RenewsBefore, names_after}
+use Rattle.feed_text.specs.Rules.{RenewsBefore}
+use Rattle.run_settings.specs.NextSessions.{names_after}
 
 -- the present session is over, and all of it was sent
 abbrev pub IsPresentOver : History → Type 0

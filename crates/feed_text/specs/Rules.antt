@@ -20,6 +20,7 @@ use Rattle.line_arbiter.specs.Renewals.{IsRenewal}
 use Rattle.line_arbiter.specs.States.{State}
 use Rattle.line_arbiter.specs.Streams.{front_of, held_count, missing_count}
 use Rattle.run_settings.specs.declared.next_session.NextSession.{NextSession}
+use Rattle.run_settings.specs.NextSessions.{names_after}
 use Rattle.run_settings.specs.declared.skip_rule.SkipRule.{SkipRule}
 use Rattle.run_settings.specs.declared.skip_rule.SkipRule.TheVariants.{Never, Join, Gaps, After}
 use Rattle.feed_text.specs.declared.replay.ReplayConfig.{ReplayConfig}
@@ -168,12 +169,6 @@ SkipsBefore Never window h p number = ⊥
 SkipsBefore Join window h p number = IsJoinedAt h p number
 SkipsBefore Gaps window h p number = IsJoinedAt h p number ⊎ IsPastGap window h p number
 SkipsBefore (After ms) window h p number = IsJoinedAt h p number
-
--- the names of the sessions that follow a venue's first one
-abbrev pub names_after : ℕ → List NextSession → List (List ℕ)
-names_after venue [] = []
-names_after venue (next ∷ others) =
-    if next.venue == venue then next.name ∷ names_after venue others else names_after venue others
 
 -- The packet is of the session that follows the venue's present one, and a renewal would begin it.
 pub record RenewsBefore (next : List NextSession) (venue : ℕ) (h : History) (p : Content)

@@ -4,7 +4,7 @@ ghost use Rattle.line_arbiter.specs.Histories.{History};
 ghost use Rattle.feed_text.specs.Following.{Follows};
 ghost use Rattle.feed_text.specs.ReplayStates.{state_of_replay};
 ghost use Rattle.feed_text.specs.Renewing.{IsNextName, IsPresentOver, RenewsOrStays};
-ghost use Rattle.feed_text.specs.Rules.{names_after};
+ghost use Rattle.run_settings.specs.NextSessions.{names_after};
 
 use crate::joining::is_of_session;
 use crate::replay_sink::{PublishStop, ReplaySink};

@@ -6,27 +6,16 @@ ghost use Rattle.hub_lanes.specs.Batches.{ConsumesBatch};
 ghost use Rattle.hub_lanes.specs.Offers.{LacksSubscriber, Offers, OffersAll, OffersUpTo};
 
 use crate::journal_and_lanes::JournalAndLanes;
-use feed_steps::{Bells, FeedName, FeedTimes, Unsent};
+use feed_steps::{FeedName, Unsent};
 use feed_types::{Genuine, SubscriberId, VenueId};
 use filter_terms::Filter;
 use journal_book::{JournalFault, Unfinished};
+use live_wakeups::{Bells, FeedTimes};
 use std::sync::Wait;
 
 /// The most changes that are looked at for a subscriber in one section, so that nobody waits long
 /// for the lock where one comes late.
 const CHANGES_A_SECTION: usize = 1_024;
-
-/// Notes the time of the venue's item that was journaled last, where times are kept.
-#[inline(always)]
-fn note_item<G: Genuine, N: FeedName>(
-    core: &JournalAndLanes<G, N>,
-    times: &FeedTimes,
-    venue: VenueId,
-) {
-    if times.are_kept() {
-        times.note_item(venue, core.change_count());
-    }
-}
 
 /// Journals the next item of the venue's lane, and returns its position; None where the lane is
 /// empty. A refused call changes nothing. It waits for a sender that stands in the middle of its
@@ -46,7 +35,7 @@ pub fn consume_next<G: Genuine, N: FeedName, W: Wait>(
     }
     let consumed = core.consume(Some(rt), venue);
     if let Ok(Some(_)) = consumed {
-        note_item(core, times, venue);
+        core.note_item(times, venue);
     }
     consumed
 }
@@ -73,7 +62,7 @@ pub fn consume_some<G: Genuine, N: FeedName, W: Wait>(
     }
     for count in 0..most {
         match core.consume(rt, venue) {
-            Ok(Some(_)) => note_item(core, times, venue),
+            Ok(Some(_)) => core.note_item(times, venue),
             Ok(None) => return Ok(count),
             Err(fault) => return if count == 0 { Err(fault) } else { Ok(count) },
         }

@@ -11,6 +11,7 @@ use feed_types::{Genuine, Notice, Numbered, SubscriberId, VenueId};
 use fifo_lane::{Receiver, RisingNotices, Sender, VenueItems};
 use filter_terms::{Filter, Terms};
 use journal_book::{Journal, JournalFault, Unfinished};
+use live_wakeups::{FeedTimes, NotedTimes};
 use std::collections::VecDeque;
 use std::marker::{Model, PhantomData};
 use std::sync::Wait;
@@ -33,6 +34,7 @@ pub struct JournalAndLanes<G: Genuine, N: FeedName> {
     from_venues: Vec<Receiver<Numbered, VenueItems<G>>>,
     to_subscribers: Vec<Sender<Notice, RisingNotices>>,
     spare_lanes: VecDeque<SpareLane>,
+    noted: NotedTimes,
     feed: PhantomData<N>,
 }
 
@@ -87,6 +89,7 @@ impl<G: Genuine, N: FeedName> JournalAndLanes<G, N> {
             from_venues: receivers,
             to_subscribers: senders,
             spare_lanes: spare,
+            noted: NotedTimes::nothing(),
             feed: PhantomData,
         }
     }
@@ -102,6 +105,7 @@ impl<G: Genuine, N: FeedName> JournalAndLanes<G, N> {
             from_venues,
             to_subscribers,
             spare_lanes: _,
+            noted: _,
             feed: _,
         } = self;
         (kept, from_venues, to_subscribers)
@@ -196,12 +200,26 @@ impl<G: Genuine, N: FeedName> JournalAndLanes<G, N> {
         Ok(Some(self.kept.record(venue, numbered)))
     }
 
-    /// Declares self-help on the venue, or withdraws it, and returns the entry's position.
+    /// Notes the time of the venue's item that was journaled last, where times are kept.
+    #[inline(always)]
+    pub(crate) fn note_item(&mut self, times: &FeedTimes, venue: VenueId)
+        ensures { self.new ≡ self.old }
+    {
+        if times.are_kept() {
+            let changes = self.kept.change_count();
+            times.note_item(&mut self.noted, venue, changes);
+        }
+    }
+
+    /// Declares self-help on the venue, or withdraws it, and returns the entry's position. The
+    /// changes that it makes have no time: no item caused them.
     pub fn declare(&mut self, venue: VenueId, on: bool) -> Result<u64, JournalFault>
         ensures declares { DeclaresAt venue on result self.old self.new }
         ensures venues { self.old.journal.venues ≡ length N.lanes.venues }
     {
-        self.kept.declare(venue, on)
+        let declared = self.kept.declare(venue, on);
+        self.noted.pass_changes(self.kept.change_count());
+        declared
     }
 
     /// Adds a subscriber of these terms, and returns its id and the receiving end of its lane.

@@ -5,10 +5,11 @@ ghost use Rattle.hub_lanes.specs.Turns.{ConsumesRound, TakesTurn};
 
 use crate::calls::{consume_some, offer_each};
 use crate::journal_and_lanes::JournalAndLanes;
-use feed_steps::{Bells, FeedName, FeedTimes};
-use feed_types::{Genuine, VenueId};
+use feed_steps::FeedName;
+use feed_types::{Genuine, MAX_VENUES, VenueId};
 use filter_terms::Filter;
 use journal_book::JournalFault;
+use live_wakeups::{Bells, FeedTimes};
 use std::sync::Wait;
 
 /// The most items that are journaled in one section, so that nobody waits long for the lock, nor
@@ -21,7 +22,7 @@ pub struct Consolidated {
     /// The number of items that were journaled, of all venues.
     pub consumed: u32,
     /// By the venue's number, whether an item of it was journaled.
-    pub venues: [bool; 16],
+    pub venues: [bool; MAX_VENUES],
     /// The number of notices that were offered, to all subscribers.
     pub offered: u64,
     /// Whether changes are left that weren't looked at for a subscriber. The next turn goes on
@@ -39,7 +40,7 @@ impl Consolidated {
     {
         Consolidated {
             consumed: 0,
-            venues: [false; 16],
+            venues: [false; MAX_VENUES],
             offered: 0,
             unfinished: false,
             refused: None,

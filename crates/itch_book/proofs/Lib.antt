@@ -5,5 +5,8 @@ pub mod BestLaws
 pub mod Sessions
 pub mod Told
 pub mod MapKeys
+pub mod StoredOrders
+pub mod SetSlots
+pub mod StoredBeyond
 pub mod Stored
 pub mod Places

@@ -14,16 +14,18 @@ pub(crate) mod sharing;
 use crate::feed::log_size::LogSize;
 use crate::feed::open_feed::OpenFeed;
 use crate::hub_cell::HubCell;
+use crate::hub_lock::HubLock;
 use crossbeam_utils::CachePadded;
-use feed_steps::{Bells, FeedName, FeedTimes};
+use feed_steps::FeedName;
 use feed_types::{FeedConfig, Genuine, MAX_SUBSCRIBERS, Numbered, VenueId};
 use fifo_lane::{Receiver, VenueItems};
 use hub_lanes::{JournalAndLanes, SpareLane, new_spares};
 use journal_book::{CoreFault, Journal, new_journal, new_keeping_journal};
+use live_wakeups::{Bells, FeedTimes};
 use std::alloc::{AllocError, Global};
 use std::collections::VecDeque;
 use std::marker::Model;
-use std::sync::{Arc, Mutex};
+use std::sync::Arc;
 use venue_lines::{VenueLocks, VenueStart, new_starts};
 
 /// How many items of a venue are neither held nor in its lane, and not journaled: End or what is
@@ -198,7 +200,7 @@ impl<G: Genuine> LiveFeed<G> {
             bells,
         } = self;
         let core = JournalAndLanes::new(kept, from_venues, senders, spare_lanes);
-        let hub = CachePadded::new(Mutex::new(HubCell {
+        let hub = CachePadded::new(HubLock::new(HubCell {
             core,
             filters,
             next: 0,

@@ -1,18 +1,21 @@
 //! What the consolidator's lock guards.
 
-ghost use Rattle.std.specs.Prelude.{◌≡◌, IfOk, IfErr, OnErr};
+ghost use Rattle.std.specs.Prelude.{◌≡◌, ◌≤◌, IfOk, IfErr, OnErr};
 ghost use Rattle.filter_terms.specs.declared.terms.Terms.{Terms};
 ghost use Rattle.filter_terms.specs.Copies.{IsCopy};
 ghost use Rattle.filter_terms.specs.Filters.{terms_of};
 ghost use Rattle.journal_book.specs.Journals.{RefusesSubscribe};
 ghost use Rattle.hub_lanes.specs.Sections.{AddsSubscriber};
+ghost use Rattle.hub_lanes.specs.Turns.{TakesTurn};
 
 use feed_steps::FeedName;
 use feed_types::{Genuine, Notice, SubscriberId};
 use fifo_lane::{Receiver, RisingNotices};
 use filter_terms::Filter;
-use hub_lanes::JournalAndLanes;
+use hub_lanes::{Consolidated, JournalAndLanes, offer_each, take_turn};
 use journal_book::JournalFault;
+use live_wakeups::Bells;
+use std::sync::Wait;
 
 /// The journal and the lanes that meet at it, with the subscribers' filters beside them.
 #[derive(Drop)]
@@ -59,5 +62,29 @@ impl<G: Genuine, N: FeedName> HubCell<G, N> {
             }
             Err((fault, _)) => Err((fault, filter)),
         }
+    }
+
+    /// Journals what is in the venues' lanes, and then offers each subscriber what it wants.
+    pub(crate) fn take_turn<W: Wait>(&mut self, rt: &W, bells: &Bells) -> Consolidated
+        ensures most { result.consumed ≤ 64 }
+        ensures turn { TakesTurn G.Genuine N.lanes result.consumed result.offered
+            result.unfinished result.refused self.old.core self.new.core }
+    {
+        let HubCell {
+            core,
+            filters,
+            next,
+        } = self;
+        take_turn(rt, core, filters.as_slice(), next, bells)
+    }
+
+    /// Offers each subscriber what it wants, and journals nothing.
+    pub(crate) fn offer_alone<W: Wait>(&mut self, rt: &W, bells: &Bells) -> Consolidated {
+        let HubCell { core, filters, .. } = self;
+        let offers = offer_each(rt, core, filters.as_slice(), bells);
+        let mut done = Consolidated::nothing();
+        done.offered = offers.pushed;
+        done.unfinished = offers.unfinished;
+        done
     }
 }

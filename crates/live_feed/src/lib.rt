@@ -28,6 +28,7 @@
 
 mod feed;
 mod hub_cell;
+mod hub_lock;
 mod laws;
 mod lists;
 mod run;

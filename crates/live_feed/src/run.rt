@@ -7,6 +7,7 @@ ghost use Rattle.live_feed.specs.run.Runs.{Pairwise, HasTaken, LineHasEnded, Has
 pub(crate) mod attendant;
 mod consolidating;
 mod idle;
+pub(crate) mod kept_lock;
 pub(crate) mod line;
 mod line_threads;
 mod line_work;

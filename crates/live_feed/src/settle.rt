@@ -18,6 +18,7 @@ mod venue_lane;
 use crate::feed::log_size::LogSize;
 use crate::feed::open_feed::OpenFeed;
 use crate::hub_cell::HubCell;
+use crate::hub_lock::HubLock;
 use crate::lists::{made_of_each, made_of_three};
 use crate::settle::agreeing::{all_agree, are_in_order, has_its_seats};
 use crate::settle::fault::SettleFault;
@@ -30,8 +31,9 @@ use crate::settle::venue_end::VenueEnd;
 use crate::settle::venue_lane::settle_venue;
 use crate::subscriber::Subscriber;
 use crossbeam_utils::CachePadded;
-use feed_steps::{Bells, FeedName};
+use feed_steps::FeedName;
 use feed_types::Genuine;
+use live_wakeups::Bells;
 use std::alloc::Global;
 use std::sync::{Arc, Mutex, Wait};
 use venue_lines::{LineSeat, LockedVenue, VenueLock, VenueLocks};
@@ -101,7 +103,7 @@ fn relock<G: Genuine, N: FeedName>(unlocked: Unlocked<G, N>) -> OpenFeed<G, N>
     );
     OpenFeed {
         venues: VenueLocks::new(locks, bells),
-        hub: CachePadded::new(Mutex::new(hub)),
+        hub: CachePadded::new(HubLock::new(hub)),
         log_size,
     }
 }

@@ -417,8 +417,8 @@ where
     };
     let venues = record_lines(rt.alloc(), venues, sockets).ok()?;
     let file = StreamOut::new(file, counts.file);
-    let told = StreamOut::new(rt.stderr(), counts.told);
-    let state = start_recording(rt, threads, venues, file, told)?;
+    let errors = StreamOut::new(rt.stderr(), counts.told);
+    let state = start_recording(rt, threads, venues, file, errors)?;
     Some(Some(state))
 }
 

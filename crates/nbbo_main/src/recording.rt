@@ -26,29 +26,30 @@ pub fn open_recording(rt: &HostRuntime, name: &str) -> io::Result<File> {
         .open(rt, name)
 }
 
-/// Starts the thread that writes what came of these venues into the file, and returns how far it
-/// is. None where memory or the thread was refused.
-pub fn start_recording<H, F, T>(
+/// Starts the thread that writes what comes of these venues into the file, and reports on `errors`
+/// where a write fails. Returns the state of the recording, by which its end is awaited; None where
+/// memory or the thread was refused.
+pub fn start_recording<H, F, E>(
     rt: &HostRuntime,
     threads: &H,
     venues: Vec<VenueRecords>,
     file: StreamOut<File, F>,
-    told: StreamOut<Stderr, T>,
+    errors: StreamOut<Stderr, E>,
 ) -> Option<RecordingState>
 where
     H: Threads,
     F: Ledger + Send + 'static,
-    T: Ledger + Send + 'static,
+    E: Ledger + Send + 'static,
 {
     let state = RecordingState::new(rt.alloc(), venues.as_slice()).ok()?;
     let shared = state.share().ok()?;
     let recording = Recording::new(rt.alloc(), venues, file, shared).ok()?;
     let clock = rt.clone().ok()?;
     let mut recording = recording;
-    let mut told = told;
+    let mut errors = errors;
     match thread::spawn(
         threads,
-        move || write_recording(&mut recording, &clock, &mut told),
+        move || write_recording(&mut recording, &clock, &mut errors),
     ) {
         Ok(_thread) => Some(state),
         Err(_) => None,

@@ -2,7 +2,7 @@
 use Rattle.std.specs.Prelude.{ℕ, ◌-◌, Bool, List, [], ◌∷◌, drop, replicate, slice_index_or, slice_set, Ok}
 use Rattle.std.specs.List.{list_any}
 use Rattle.std.specs.Str.{bytes_eq}
-use Rattle.feed_text.specs.Rules.{names_after}
+use Rattle.run_settings.specs.NextSessions.{names_after}
 use Rattle.event_sinks.specs.SinkEvents.{SinkEvent, TimedEvent, told_renewal}
 use Rattle.run_settings.specs.declared.next_session.NextSession.{NextSession}
 use Rattle.nbbo_runs.specs.declared.session_row.VenueSession.{VenueSession}

@@ -2,7 +2,7 @@
 ghost use Rattle.std.specs.Prelude.{◌≡◌, ◌-◌, drop, replicate, slice_index_or};
 ghost use Rattle.std.specs.List.{list_any};
 ghost use Rattle.std.specs.Str.{bytes_eq};
-ghost use Rattle.feed_text.specs.Rules.{names_after};
+ghost use Rattle.run_settings.specs.NextSessions.{names_after};
 ghost use Rattle.event_sinks.specs.SinkEvents.{told_by};
 ghost use Rattle.nbbo_runs.specs.NamedSessions.{first_ordinals, never_begins, ordinals_with};
 

@@ -1,4 +1,5 @@
 //! A capture of ITCH lines as one of this project's own messages.
+ghost use Rattle.std.specs.Prelude.{◌≡◌, vec_len};
 
 use crate::config::MAX_TURNS;
 use crate::hints::input_hint;
@@ -162,7 +163,9 @@ fn run_over<R: CaptureIn, F: ToldFormat, W: TextOut, E: TextOut>(
     input: &mut R,
     output: &mut W,
     errors: &mut E,
-) -> u8 {
+) -> u8
+    requires { F.venues format.old ≡ vec_len settings.now.feed.sessions }
+{
     let feed = NormalisedFeed {
         sessions: settings.feed.sessions.as_slice(),
         next_sessions: settings.next_sessions.as_slice(),

@@ -1,6 +1,10 @@
 mod Forms
 mod Packing
+mod Running
 mod Runs
+mod Sendings
 mod Sent
+mod Steps
 mod Taking
 mod Venue
+mod Venues

@@ -1,12 +1,12 @@
 -- Packets that carry items, one after another.
-use Rattle.std.proofs.Common.{◌≡◌, ◌⊎◌, ℕ, zero, suc, ◌+◌, ◌-◌, ◌≤◌, Bor, List, [], ◌∷◌, ◌++◌, length, map, take, drop, refl, sym, ap, ap₂, subst, ◌∙◌, inl, inr, arith, append-nil, length-append, length-drop, length-take, take-add}
+use Rattle.std.proofs.Common.{◌≡◌, ◌⊎◌, ℕ, zero, suc, ◌+◌, ◌-◌, ◌≤◌, Bor, List, [], ◌∷◌, ◌++◌, length, map, take, drop, refl, sym, ap, ap₂, subst, ◌∙◌, inl, inr, arith, Result, Ok, Err, IfErr, OnErr, append-nil, append_assoc, length-append, length-drop, length-take, take-add}
 use Rattle.std.specs.List.{AllByRecursion}
 use Rattle.std.proofs.lemmas.List.{map-append, take_all}
 use Rattle.std.proofs.lemmas.List.Concat.{flat_map-append}
 use Rattle.feed_types.specs.declared.item.Item.{Item}
 use Rattle.feed_types.specs.declared.item.Numbered.{Numbered}
 use Rattle.feed_types.specs.Sessions.{numbered_from, end_item}
-use Rattle.text_out.specs.Devices.{Writing}
+use Rattle.text_out.specs.Devices.{Writing, Wrote}
 use Rattle.mold_packet.specs.declared.packet.Kind.TheVariants as kinds
 use Rattle.mold_packet.specs.Block.{block, IsMessage}
 use Rattle.mold_packet.specs.Body.{body_kind, body_messages, lent_bytes, packet_of}
@@ -14,12 +14,14 @@ use Rattle.mold_packet.specs.declared.body.Body.{Body}
 use Rattle.mold_packet.specs.Content.{Content, IsContent, Spells, spelling}
 use Rattle.packet_building.specs.Fitting.{IsMost}
 use Rattle.quote_payload.specs.Payload.{item_of}
-use Rattle.normalising.specs.Carried.{BeatsAt, IsMessageItem, IsShortMessage, RunsFrom, end_of_kind, numbered_item, items_carried}
+use Rattle.normalising.specs.Carried.{AreWritten, BeatsAt, IsMessageItem, IsShortMessage, RunsFrom, end_of_kind, numbered_item, items_carried}
 use Rattle.normalising.specs.Texts.{datagram_text}
-use Rattle.normalising.specs.Writes.{PutsPackets, PutsText, text_of}
+use Rattle.normalising.specs.Writes.{PutsFront, PutsPackets, PutsText, StopsPut, text_of}
 use Rattle.normalising.specs.declared.output_form.OutputForm.{OutputForm}
 use Rattle.normalising.specs.declared.packet_origin.PacketOrigin.{PacketOrigin}
-use Rattle.normalising.proofs.Taking.{takes_both}
+use Rattle.normalising.specs.declared.venue_stop.VenueStop.{VenueStop}
+use Rattle.normalising.specs.declared.venue_stop.VenueStop.TheVariants.{Book, Sink}
+use Rattle.normalising.proofs.Taking.{takes_both, wrote_after}
 
 -- ---- lists
 
@@ -86,6 +88,23 @@ puts_one writing form origin known from to old new p bytes s name beat t = recor
       (sym (append-nil (datagram_text form origin.venue origin.time bytes))) t;
 }
 
+pub written_both : (name : List ℕ) (known : ℕ) (xs ys : List Numbered) (as bs : List (List ℕ))
+    → AreWritten name known xs as → AreWritten name known ys bs
+    → AreWritten name known (xs ++ ys) (as ++ bs)
+written_both name known xs ys as bs a b = record {
+  packets = a.packets ++ b.packets;
+  carry = record {
+    each = all_append IsContent a.packets b.packets a.carry.each b.carry.each;
+    session = all_append (λ (p : Content). p.session ≡ name) a.packets b.packets
+        a.carry.session b.carry.session;
+    carried = flat_map-append items_carried a.packets b.packets
+        ∙ ap₂ (λ (u v : List Numbered). u ++ v) a.carry.carried b.carry.carried;
+  };
+  heartbeats = all_append (BeatsAt known) a.packets b.packets a.heartbeats b.heartbeats;
+  spelled = ap₂ (λ (u v : List (List ℕ)). u ++ v) a.spelled b.spelled
+      ∙ sym (map-append spelling a.packets b.packets);
+}
+
 pub puts_both : {W : Type 0} (writing : Writing W) (form : OutputForm) (origin : PacketOrigin)
     (known : ℕ) (xs ys : List Numbered) (from mid to : W) (old between new : List ℕ)
     → ((s t u : W) (cs bs : List ℕ) → writing.adds s cs t → writing.adds t bs u
@@ -95,21 +114,7 @@ pub puts_both : {W : Type 0} (writing : Writing W) (form : OutputForm) (origin :
     → PutsPackets writing form origin known (xs ++ ys) from to old new
 puts_both writing form origin known xs ys from mid to old between new adds_more a b = record {
   datagrams = a.datagrams ++ b.datagrams;
-  written = record {
-    packets = a.written.packets ++ b.written.packets;
-    carry = record {
-      each = all_append IsContent a.written.packets b.written.packets a.written.carry.each
-          b.written.carry.each;
-      session = all_append (λ (p : Content). p.session ≡ origin.session) a.written.packets
-          b.written.packets a.written.carry.session b.written.carry.session;
-      carried = flat_map-append items_carried a.written.packets b.written.packets
-          ∙ ap₂ (λ (u v : List Numbered). u ++ v) a.written.carry.carried b.written.carry.carried;
-    };
-    heartbeats = all_append (BeatsAt known) a.written.packets b.written.packets
-        a.written.heartbeats b.written.heartbeats;
-    spelled = ap₂ (λ (u v : List (List ℕ)). u ++ v) a.written.spelled b.written.spelled
-        ∙ sym (map-append spelling a.written.packets b.written.packets);
-  };
+  written = written_both origin.session known xs ys a.datagrams b.datagrams a.written b.written;
   text = subst (λ (z : List ℕ). PutsText writing from to old z new)
       (sym (flat_map-append (datagram_text form origin.venue origin.time) a.datagrams
       b.datagrams))
@@ -255,6 +260,34 @@ items_each items first its is each =
     subst (λ (z : List Item). AllByRecursion IsMessageItem z)
     (sym (ap (map numbered_item) is ∙ items_numbered first its)) each
 
+-- a row is its messages, and then its end
+record IsParted (first count : ℕ) (items front rest : List Numbered) (its : List Item) : Type 0 where
+  row : front ≡ numbered_from first its
+  end : (rest ≡ []) ⊎ (rest ≡ end_item (first + length its) ∷ [])
+  whole : front ++ rest ≡ items
+
+parted : (first count : ℕ) (items front rest : List Numbered) (run : RunsFrom first items)
+    → count ≡ length run.items → front ≡ take count items → rest ≡ drop count items
+    → IsParted first count items front rest run.items
+parted first count items front rest run len fronts rests =
+    let row : front ≡ numbered_from first run.items =
+    fronts ∙ ap₂ (λ (n : ℕ) (z : List Numbered). take n z) len run.is
+    ∙ row_front first run.items run.ends in
+    let tail : rest ≡ run.ends =
+    rests ∙ ap₂ (λ (n : ℕ) (z : List Numbered). drop n z) len run.is
+    ∙ row_back first run.items run.ends in
+    record {
+      row = row;
+      end = by_end tail run.end;
+      whole = ap₂ (λ (a b : List Numbered). a ++ b) row tail ∙ sym run.is;
+    }
+  where
+    by_end : rest ≡ run.ends
+        → (run.ends ≡ []) ⊎ (run.ends ≡ end_item (first + length run.items) ∷ [])
+        → (rest ≡ []) ⊎ (rest ≡ end_item (first + length run.items) ∷ [])
+    by_end tail (inl h) = inl (tail ∙ h)
+    by_end tail (inr h) = inr (tail ∙ h)
+
 -- the messages of a row, and then its end
 pub items_put : {W : Type 0} (writing : Writing W)
     → ((s t u : W) (cs bs : List ℕ) → writing.adds s cs t → writing.adds t bs u
@@ -271,22 +304,148 @@ pub items_put : {W : Type 0} (writing : Writing W)
     → PutsPackets writing form origin known items w1 w3 p1 p3
 items_put writing adds_more form now origin known first count items front rest w1 w2 w3 p1 p2 p3
     same run one len fronts rests puts ends =
-    let row : front ≡ numbered_from first run.items =
-    fronts ∙ ap₂ (λ (n : ℕ) (z : List Numbered). take n z) len run.is
-    ∙ row_front first run.items run.ends in
-    let tail : rest ≡ run.ends =
-    rests ∙ ap₂ (λ (n : ℕ) (z : List Numbered). drop n z) len run.is
-    ∙ row_back first run.items run.ends in
-    let whole : front ++ rest ≡ items =
-    ap₂ (λ (a b : List Numbered). a ++ b) row tail ∙ sym run.is in
-    subst (λ (z : List Numbered). PutsPackets writing form origin known z w1 w3 p1 p3) whole
+    let p = parted first count items front rest run len fronts rests in
+    subst (λ (z : List Numbered). PutsPackets writing form origin known z w1 w3 p1 p3) p.whole
     (puts_both writing form origin known front rest w1 w2 w3 p1 p2 p3 adds_more
-    (puts known first run.items one row run.each)
+    (puts known first run.items one p.row run.each)
     (subst (λ (f : OutputForm). PutsPackets writing f origin known rest w2 w3 p2 p3) same
-    (ends known (first + length run.items) (omega (arith, one)) (by_end tail run.end))))
-  where
-    by_end : rest ≡ run.ends
-        → (run.ends ≡ []) ⊎ (run.ends ≡ end_item (first + length run.items) ∷ [])
-        → (rest ≡ []) ⊎ (rest ≡ end_item (first + length run.items) ∷ [])
-    by_end tail (inl h) = inl (tail ∙ h)
-    by_end tail (inr h) = inr (tail ∙ h)
+    (ends known (first + length run.items) (omega (arith, one)) p.end)))
+
+-- ---- a writer that failed
+
+pub front_none : {W : Type 0} (writing : Writing W) (form : OutputForm) (origin : PacketOrigin)
+    (known : ℕ) (output : List Numbered) (from to : W) (old : List ℕ)
+    → Wrote writing.adds from old to → writing.failures to ≡ writing.failures from + 1
+    → PutsFront writing form origin known output from to old
+front_none writing form origin known output from to old part failed = record {
+  front = [];
+  rest = output;
+  is = refl;
+  datagrams = [];
+  written = record {
+    packets = [];
+    carry = record { each = tt; session = tt; carried = refl };
+    heartbeats = tt;
+    spelled = refl;
+  };
+  wrote = subst (λ (z : List ℕ). Wrote writing.adds from z to) (sym (append-nil old)) part;
+  failed = failed;
+}
+
+-- after packets that were written
+pub front_after : {W : Type 0} (writing : Writing W) (form : OutputForm) (origin : PacketOrigin)
+    (known : ℕ) (xs ys : List Numbered) (from mid to : W) (old between : List ℕ)
+    → ((s t u : W) (cs bs : List ℕ) → writing.adds s cs t → writing.adds t bs u
+    → writing.adds s (cs ++ bs) u)
+    → PutsPackets writing form origin known xs from mid old between
+    → PutsFront writing form origin known ys mid to between
+    → PutsFront writing form origin known (xs ++ ys) from to old
+front_after writing form origin known xs ys from mid to old between adds_more a b = record {
+  front = xs ++ b.front;
+  rest = b.rest;
+  is = ap (λ (z : List Numbered). xs ++ z) b.is ∙ sym (append_assoc xs b.front b.rest);
+  datagrams = a.datagrams ++ b.datagrams;
+  written = written_both origin.session known xs b.front a.datagrams b.datagrams a.written
+      b.written;
+  wrote = subst (λ (z : List ℕ). Wrote writing.adds from (old ++ z) to)
+      (sym (flat_map-append (datagram_text form origin.venue origin.time) a.datagrams
+      b.datagrams))
+      (wrote_after writing.adds adds_more from mid to old (text_of form origin a.datagrams)
+      between (text_of form origin b.datagrams) a.text.shown a.text.wrote a.text.all b.wrote);
+  failed = b.failed ∙ ap (λ (n : ℕ). n + 1) a.text.kept;
+}
+
+-- a front of the first is one of both
+pub front_longer : {W : Type 0} (writing : Writing W) (form : OutputForm) (origin : PacketOrigin)
+    (known : ℕ) (xs ys : List Numbered) (from to : W) (old : List ℕ)
+    → PutsFront writing form origin known xs from to old
+    → PutsFront writing form origin known (xs ++ ys) from to old
+front_longer writing form origin known xs ys from to old a = record {
+  front = a.front;
+  rest = a.rest ++ ys;
+  is = ap (λ (z : List Numbered). z ++ ys) a.is ∙ append_assoc a.front a.rest ys;
+  datagrams = a.datagrams;
+  written = a.written;
+  wrote = a.wrote;
+  failed = a.failed;
+}
+
+-- the messages up to a place, and those from there on
+pub carried_split : (messages : List (Bor (List ℕ))) (number from : ℕ) → from ≤ length messages
+    → numbered_from number (map item_of (lent_bytes (take from messages)))
+    ++ numbered_from (number + from) (map item_of (lent_bytes (drop from messages)))
+    ≡ numbered_from number (map item_of (lent_bytes messages))
+carried_split messages number from within =
+    let back = drop from messages in
+    ap (λ (r : List (Bor (List ℕ))).
+    numbered_from number (map item_of (lent_bytes (take from messages)))
+    ++ numbered_from (number + from) (map item_of (lent_bytes r)))
+    (sym (take_all (length messages) back (let l = length-drop from messages in omega (arith, l))))
+    ∙ ap (λ (z : List Numbered).
+    numbered_from number (map item_of (lent_bytes (take from messages))) ++ z)
+    (sym (append-nil (numbered_from (number + from)
+    (map item_of (lent_bytes (take (length messages) back))))))
+    ∙ carried_more messages number from (length messages) within
+    ∙ ap (λ (r : List (Bor (List ℕ))). numbered_from number (map item_of (lent_bytes r)))
+    (take_all (from + length messages) messages (omega arith))
+
+pub front_on_err : {W A E : Type 0} (writing : Writing W) (form : OutputForm)
+    (origin : PacketOrigin) (output : List Numbered) (from to : W) (old : List ℕ)
+    (r : Result A E) → OnErr r (Wrote writing.adds from old to)
+    → OnErr r (writing.failures to ≡ writing.failures from + 1)
+    → OnErr r ((known : ℕ) → PutsFront writing form origin known output from to old)
+front_on_err writing form origin output from to old (Ok x) part failed = tt
+front_on_err writing form origin output from to old (Err e) part failed = λ known.
+    front_none writing form origin known output from to old part failed
+
+pub if_err_weaker : {A E : Type 0} {P Q : E → Type 0} (r : Result A E)
+    → ((e : E) → P e → Q e) → IfErr r P → IfErr r Q
+if_err_weaker (Ok x) f p = tt
+if_err_weaker (Err e) f p = f e p
+
+pub on_err_weaker_of : {A E P Q : Type 0} (r : Result A E) → (P → Q) → OnErr r P → OnErr r Q
+on_err_weaker_of (Ok x) f p = tt
+on_err_weaker_of (Err e) f p = f p
+
+-- what stopped the messages of a row stopped the row
+pub run_stopped : {W : Type 0} (writing : Writing W) (form : OutputForm) (origin : PacketOrigin)
+    (known first count : ℕ) (items front rest : List Numbered) (w1 w2 : W) (p1 p2 : List ℕ)
+    (stop : VenueStop) → (run : RunsFrom first items) → 1 ≤ first → count ≡ length run.items
+    → front ≡ take count items → rest ≡ drop count items
+    → ((known first : ℕ) (its : List Item) → 1 ≤ first → front ≡ numbered_from first its
+    → AllByRecursion IsMessageItem its
+    → StopsPut writing form origin known front w1 w2 p1 p2 stop)
+    → StopsPut writing form origin known items w1 w2 p1 p2 stop
+run_stopped writing form origin known first count items front rest w1 w2 p1 p2 (Sink stop) run one
+    len fronts rests stopped =
+    let p = parted first count items front rest run len fronts rests in
+    subst (λ (z : List Numbered). PutsFront writing form origin known z w1 w2 p1) p.whole
+    (front_longer writing form origin known front rest w1 w2 p1
+    (stopped known first run.items one p.row run.each))
+run_stopped writing form origin known first count items front rest w1 w2 p1 p2 (Book fault) run one
+    len fronts rests stopped =
+    let p = parted first count items front rest run len fronts rests in
+    stopped known first run.items one p.row run.each
+
+-- the writer failed at the end of a row
+pub end_stopped : {W : Type 0} (writing : Writing W)
+    → ((s t u : W) (cs bs : List ℕ) → writing.adds s cs t → writing.adds t bs u
+    → writing.adds s (cs ++ bs) u)
+    → (form now : OutputForm) (origin : PacketOrigin) (known first count : ℕ)
+    (items front rest : List Numbered) (w1 w2 w3 : W) (p1 p2 : List ℕ)
+    → now ≡ form → (run : RunsFrom first items) → 1 ≤ first → count ≡ length run.items
+    → front ≡ take count items → rest ≡ drop count items
+    → ((known first : ℕ) (its : List Item) → 1 ≤ first → front ≡ numbered_from first its
+    → AllByRecursion IsMessageItem its
+    → PutsPackets writing form origin known front w1 w2 p1 p2)
+    → ((known number : ℕ) → 1 ≤ number → (rest ≡ []) ⊎ (rest ≡ end_item number ∷ [])
+    → PutsFront writing now origin known rest w2 w3 p2)
+    → PutsFront writing form origin known items w1 w3 p1
+end_stopped writing adds_more form now origin known first count items front rest w1 w2 w3 p1 p2
+    same run one len fronts rests puts ends =
+    let p = parted first count items front rest run len fronts rests in
+    subst (λ (z : List Numbered). PutsFront writing form origin known z w1 w3 p1) p.whole
+    (front_after writing form origin known front rest w1 w2 w3 p1 p2 adds_more
+    (puts known first run.items one p.row run.each)
+    (subst (λ (f : OutputForm). PutsFront writing f origin known rest w2 w3 p2) same
+    (ends known (first + length run.items) (omega (arith, one)) p.end)))

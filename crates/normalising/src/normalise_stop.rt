@@ -1,4 +1,7 @@
 //! The reasons why a run ends early.
+ghost use Rattle.std.specs.Prelude.{◌≡◌};
+ghost use Rattle.event_sinks.specs.declared.replay_stop.ReplayStop.TheVariants.{SinkFailed};
+ghost use Rattle.normalising.specs.declared.normalise_stop.NormaliseStop.TheVariants.{Replay};
 
 use event_sinks::{ReplayStop, SinkStop};
 use feed_types::VenueId;
@@ -17,6 +20,8 @@ pub enum NormaliseStop<F> {
 }
 
 impl<F> From<SinkStop> for NormaliseStop<F> {
+    ghost from_gives = { λ _ e. e ≡ Replay SinkFailed };
+
     fn from(_stop: SinkStop) -> NormaliseStop<F> {
         NormaliseStop::Replay(ReplayStop::SinkFailed)
     }

@@ -1,11 +1,14 @@
 //! A venue whose lines are normalised.
-ghost use Rattle.std.specs.Prelude.{◌≡◌, ℕ, ◌≤◌, true, false, List, [], IfOk, MatchBool, OnOk};
-ghost use Rattle.feed_types.specs.declared.item.Numbered.{Numbered};
+ghost use Rattle.std.specs.Prelude.{◌≡◌, ℕ, ◌≤◌, List, [], IfErr, IfOk, MatchBool, OnOk};
+ghost use Rattle.capture_records.specs.Capture.{datagram_record, renewal_record, skip_record};
 ghost use Rattle.line_arbiter.specs.Packets.{Input, known_of};
-ghost use Rattle.venue_normaliser.specs.Outputs.{IsPutOut};
+ghost use Rattle.mold_packet.specs.Content.{Spells};
 ghost use Rattle.venue_normaliser.specs.States.{FitsPackets};
 ghost use Rattle.normalising.specs.Carried.{RunsFrom};
-ghost use Rattle.normalising.specs.Writes.{PutsPackets, WritesPacket, WritesSkip, origin_of};
+ghost use Rattle.normalising.specs.Keeping.{FollowsVenue, TakesAtVenue};
+ghost use Rattle.normalising.specs.Normalised.{NormalisedHistory};
+ghost use Rattle.normalising.specs.Writes.{PutsPackets, StopsPut, origin_of};
+ghost use Rattle.normalising.specs.declared.normalised_feed.NormalisedFeed.{NormalisedFeed};
 
 use crate::output_packets::OutputPackets;
 use crate::packet_counts::PacketCounts;
@@ -124,6 +127,11 @@ impl NormalisedVenue {
             (record { adds = W.adds; failures = W.failures }) output.old.page.form
             (origin_of self.old.normaliser time) known self.old.ready.items
             writer.old writer.new output.old.page.page output.new.page.page) }
+        ensures stopped { IfErr result (λ stop. (known first : ℕ) → 1 ≤ first
+            → RunsFrom first self.old.ready.items → StopsPut
+            (record { adds = W.adds; failures = W.failures }) output.old.page.form
+            (origin_of self.old.normaliser time) known self.old.ready.items
+            writer.old writer.new output.old.page.page output.new.page.page stop) }
         ensures form { output.new.page.form ≡ output.old.page.form }
         ensures same { self.new.normaliser ≡ self.old.normaliser }
     {
@@ -146,6 +154,11 @@ impl NormalisedVenue {
             → PutsPackets (record { adds = W.adds; failures = W.failures }) output.old.page.form
             (origin_of self.old.normaliser time) (known_of packets) []
             writer.old writer.new output.old.page.page output.new.page.page) }
+        ensures stopped { IfErr result (λ stop. (packets : List Input)
+            → FitsPackets self.old.normaliser packets
+            → StopsPut (record { adds = W.adds; failures = W.failures }) output.old.page.form
+            (origin_of self.old.normaliser time) (known_of packets) []
+            writer.old writer.new output.old.page.page output.new.page.page stop) }
         ensures form { output.new.page.form ≡ output.old.page.form }
         ensures same { self.new.normaliser ≡ self.old.normaliser }
     {
@@ -182,6 +195,12 @@ impl NormalisedVenue {
             (record { adds = W.adds; failures = W.failures }) output.old.page.form
             (origin_of self.old.normaliser time) (known_of packets) self.old.ready.items
             writer.old writer.new output.old.page.page output.new.page.page) }
+        ensures stopped { IfErr result (λ stop. (packets : List Input) (first : ℕ)
+            → FitsPackets self.old.normaliser packets → 1 ≤ first
+            → RunsFrom first self.old.ready.items → StopsPut
+            (record { adds = W.adds; failures = W.failures }) output.old.page.form
+            (origin_of self.old.normaliser time) (known_of packets) self.old.ready.items
+            writer.old writer.new output.old.page.page output.new.page.page stop) }
         ensures form { output.new.page.form ≡ output.old.page.form }
         ensures same { self.new.normaliser ≡ self.old.normaliser }
     {
@@ -200,12 +219,12 @@ impl NormalisedVenue {
         output: &mut OutputPackets<'_>,
         writer: &mut W,
     ) -> Result<(), VenueStop>
-        ensures takes { OnOk result ((packets : List Input) (put : List Numbered)
-            → FitsPackets self.old.normaliser packets
-            → IsPutOut self.old.normaliser.book.keys packets put
-            → WritesPacket (record { adds = W.adds; failures = W.failures }) output.old.page.form
-            time line packet.now self.old.normaliser self.new.normaliser packets put
-            writer.old writer.new output.old.page.page output.new.page.page) }
+        ensures takes { (feed : NormalisedFeed) (place : ℕ) (h : NormalisedHistory)
+            (bytes more : List ℕ) → FollowsVenue feed place self.old.normaliser h
+            → Spells bytes packet.now more → output.old.page.form ≡ feed.form
+            → TakesAtVenue (record { adds = W.adds; failures = W.failures }) feed time place
+            (datagram_record place line bytes) h self.new.normaliser writer.old writer.new
+            output.old.page.page output.new.page.page result }
         ensures form { output.new.page.form ≡ output.old.page.form }
     {
         self.counts.count_packet(packet);
@@ -215,12 +234,11 @@ impl NormalisedVenue {
         self.write_more(is_heartbeat(&answer), time, output, writer)
     }
 
-    /// Returns whether a packet lies past the window.
-    fn would_be_ahead(&self, packet: &Packet<'_>) -> bool {
-        let status = self.normaliser.status();
-        packet.kind() == Kind::Messages
-            && packet.session() == self.normaliser.session()
-            && packet.last_number() > status.sent.saturating_add(u64::from(self.window))
+    /// Counts a datagram that is no packet.
+    pub(crate) fn count_bad(&mut self)
+        ensures { self.new.normaliser ≡ self.old.normaliser }
+    {
+        self.counts.count_bad();
     }
 
     /// Gives up what is missing below a number, where something is, and writes the end. Returns
@@ -232,16 +250,11 @@ impl NormalisedVenue {
         output: &mut OutputPackets<'_>,
         writer: &mut W,
     ) -> Result<bool, VenueStop>
-        ensures skips { IfOk result (λ skipped. skipped ≡ true
-            → (packets : List Input) (put : List Numbered)
-            → FitsPackets self.old.normaliser packets
-            → IsPutOut self.old.normaliser.book.keys packets put
-            → WritesSkip (record { adds = W.adds; failures = W.failures }) output.old.page.form
-            time number self.old.normaliser self.new.normaliser packets put
-            writer.old writer.new output.old.page.page output.new.page.page) }
-        ensures refused { IfOk result (λ skipped. skipped ≡ false
-            → (self.new.normaliser ≡ self.old.normaliser) × (writer.new ≡ writer.old)
-            × (output.new ≡ output.old)) }
+        ensures skips { (feed : NormalisedFeed) (place : ℕ) (h : NormalisedHistory)
+            → FollowsVenue feed place self.old.normaliser h → output.old.page.form ≡ feed.form
+            → TakesAtVenue (record { adds = W.adds; failures = W.failures }) feed time place
+            (skip_record place number) h self.new.normaliser writer.old writer.new
+            output.old.page.page output.new.page.page result }
         ensures form { output.new.page.form ≡ output.old.page.form }
     {
         self.ready.clear();
@@ -262,7 +275,14 @@ impl NormalisedVenue {
         time: CaptureTime,
         output: &mut OutputPackets<'_>,
         writer: &mut W,
-    ) -> Result<Option<GivenUp>, VenueStop> {
+    ) -> Result<Option<GivenUp>, VenueStop>
+        ensures skips { (feed : NormalisedFeed) (place : ℕ) (h : NormalisedHistory)
+            → FollowsVenue feed place self.old.normaliser h → output.old.page.form ≡ feed.form
+            → TakesAtVenue (record { adds = W.adds; failures = W.failures }) feed time place
+            (skip_record place number) h self.new.normaliser writer.old writer.new
+            output.old.page.page output.new.page.page result }
+        ensures form { output.new.page.form ≡ output.old.page.form }
+    {
         let first = self.normaliser.status().front.saturating_add(1);
         let was_quoted = !self.normaliser.has_given_up();
         if self.skip_to(number, time, output, writer)? && was_quoted {
@@ -275,32 +295,27 @@ impl NormalisedVenue {
         Ok(None)
     }
 
-    /// Gives up the gaps at the front until a packet has room in the window, and returns the first
-    /// one of the session.
-    pub(crate) fn make_room<W: TextOut>(
-        &mut self,
-        packet: &Packet<'_>,
-        time: CaptureTime,
-        output: &mut OutputPackets<'_>,
-        writer: &mut W,
-    ) -> Result<Option<GivenUp>, VenueStop> {
-        let mut given_up = None;
-        for _ in 0..self.window {
-            if !self.would_be_ahead(packet) {
-                break;
-            }
-            let to = match self.normaliser.gap() {
-                Some(gap) if self.normaliser.status().held > 0 => {
-                    gap.number.saturating_add(u64::from(gap.count))
-                }
-                _ => packet.number(),
-            };
-            let skipped = self.give_up(to.min(packet.number()), time, output, writer)?;
-            if skipped.is_some() {
-                given_up = skipped;
-            }
+    /// Returns whether a packet lies past the window.
+    fn would_be_ahead(&self, packet: &Packet<'_>) -> bool {
+        let status = self.normaliser.status();
+        packet.kind() == Kind::Messages
+            && packet.session() == self.normaliser.session()
+            && packet.last_number() > status.sent.saturating_add(u64::from(self.window))
+    }
+
+    /// Returns the number to go on from before a packet that lies past the window: the first one
+    /// past the gap at the front that has come, or the packet's.
+    pub(crate) fn gap_before(&self, packet: &Packet<'_>) -> Option<u64> {
+        if !self.would_be_ahead(packet) {
+            return None;
         }
-        Ok(given_up)
+        let to = match self.normaliser.gap() {
+            Some(gap) if self.normaliser.status().held > 0 => {
+                gap.number.saturating_add(u64::from(gap.count))
+            }
+            _ => packet.number(),
+        };
+        Some(to.min(packet.number()))
     }
 
     /// Notes since when a gap stands.
@@ -321,17 +336,30 @@ impl NormalisedVenue {
         gap.number.checked_add(u64::from(gap.count))
     }
 
-    /// Begins the venue's next session, and returns whether it began.
-    pub(crate) fn renew(&mut self, alloc: Global, session: [u8; 10]) -> Result<bool, BookFault>
-        ensures fits { IfOk result (λ began. began ≡ true → FitsPackets self.new.normaliser []) }
-        ensures refused { IfOk result (λ began. began ≡ false
-            → self.new.normaliser ≡ self.old.normaliser) }
+    /// Begins the venue's next session, where it may begin, and writes that. Returns whether it
+    /// began.
+    pub(crate) fn renew<W: TextOut>(
+        &mut self,
+        alloc: Global,
+        session: [u8; 10],
+        output: &mut OutputPackets<'_>,
+        writer: &mut W,
+    ) -> Result<bool, VenueStop>
+        ensures renews { (feed : NormalisedFeed) (time place : ℕ) (h : NormalisedHistory)
+            → FollowsVenue feed place self.old.normaliser h → output.old.page.form ≡ feed.form
+            → TakesAtVenue (record { adds = W.adds; failures = W.failures }) feed time place
+            (renewal_record place session) h self.new.normaliser writer.old writer.new
+            output.old.page.page output.new.page.page result }
+        ensures form { output.new.page.form ≡ output.old.page.form }
     {
-        let began = self.normaliser.renew(alloc, session)?.is_ok();
-        if began {
-            self.told = 0;
-            self.standing = None;
+        match self.normaliser.renew(alloc, session)? {
+            Err(_) => Ok(false),
+            Ok(_) => {
+                self.told = 0;
+                self.standing = None;
+                output.put_renewal(self.normaliser.venue(), &session, writer)?;
+                Ok(true)
+            }
         }
-        Ok(began)
     }
 }

@@ -1,5 +1,5 @@
 //! Items as packets.
-ghost use Rattle.std.specs.Prelude.{◌≡◌, ◌⊎◌, ℕ, ◌+◌, ◌^◌, ◌≤◌, List, [], ◌∷◌, length, map, IfOk, OnErr, OnOk};
+ghost use Rattle.std.specs.Prelude.{◌≡◌, ◌⊎◌, ℕ, ◌+◌, ◌^◌, ◌≤◌, List, [], ◌∷◌, length, map, IfErr, IfOk, OnErr, OnOk};
 ghost use Rattle.std.specs.List.{AllByRecursion};
 ghost use Rattle.feed_types.specs.declared.item.Item.{Item};
 ghost use Rattle.feed_types.specs.Sessions.{end_item, numbered_from};
@@ -10,8 +10,8 @@ ghost use Rattle.venue_normaliser.specs.Forms.{form_bytes};
 ghost use Rattle.normalising.specs.Carried.{IsMessageItem, IsShortMessage, RunsFrom, end_of_kind};
 ghost use Rattle.capture_records.specs.Capture.{renewal_record, self_help_record};
 ghost use Rattle.text_out.specs.Devices.{Wrote};
-ghost use Rattle.normalising.specs.Texts.{record_text};
-ghost use Rattle.normalising.specs.Writes.{PutsPackets, PutsText};
+ghost use Rattle.normalising.specs.Texts.{begun_text, record_text};
+ghost use Rattle.normalising.specs.Writes.{PutsFront, PutsPackets, PutsText, StopsPut};
 
 use crate::message_forms::{end_number, fill_forms, first_number, lend_all, messages_before_end};
 use crate::output_form::OutputForm;
@@ -55,8 +55,10 @@ fn put_messages<W: TextOut>(
         (record { adds = W.adds; failures = W.failures }) page.old.form origin.now known
         (numbered_from number (map item_of (lent_bytes messages.now)))
         writer.old writer.new page.old.page page.new.page) }
-    ensures kept { OnOk result (W.failures writer.new ≡ W.failures writer.old) }
-    ensures failed { OnErr result (W.failures writer.new ≡ W.failures writer.old + 1) }
+    ensures front { OnErr result ((known : ℕ) → PutsFront
+        (record { adds = W.adds; failures = W.failures }) page.old.form origin.now known
+        (numbered_from number (map item_of (lent_bytes messages.now)))
+        writer.old writer.new page.old.page) }
     ensures form { page.new.form ≡ page.old.form }
     ensures room { length packet.new ≡ 65507 }
 {
@@ -92,8 +94,10 @@ fn put_without_messages<W: TextOut>(
         → PutsPackets (record { adds = W.adds; failures = W.failures })
         page.old.form origin.now known (end_of_kind (body_kind body.entry) number)
         writer.old writer.new page.old.page page.new.page) }
-    ensures kept { OnOk result (W.failures writer.new ≡ W.failures writer.old) }
-    ensures failed { OnErr result (W.failures writer.new ≡ W.failures writer.old + 1) }
+    ensures front { OnErr result ((known : ℕ)
+        → PutsFront (record { adds = W.adds; failures = W.failures })
+        page.old.form origin.now known (end_of_kind (body_kind body.entry) number)
+        writer.old writer.new page.old.page) }
     ensures form { page.new.form ≡ page.old.form }
     ensures room { length packet.new ≡ 65507 }
 {
@@ -106,7 +110,8 @@ fn put_without_messages<W: TextOut>(
 impl<'a> OutputPackets<'a> {
     /// Takes the memory, and begins the file.
     pub(crate) fn new(alloc: Global, form: OutputForm<'a>) -> Result<OutputPackets<'a>, AllocError>
-        ensures { IfOk result (λ p. p.page.form ≡ form.entry) }
+        ensures form { IfOk result (λ p. p.page.form ≡ form.entry) }
+        ensures begun { IfOk result (λ p. p.page.page ≡ begun_text form.entry) }
     {
         let page = OutputPage::new(alloc, form)?;
         let packet = vec![in alloc; 0u8; MOST_BYTES]?;
@@ -143,6 +148,8 @@ impl<'a> OutputPackets<'a> {
             (record { adds = W.adds; failures = W.failures }) writer.old writer.new
             self.old.page.page (record_text self.old.page.form (renewal_record venue session.now))
             self.new.page.page) }
+        ensures part { OnErr result (Wrote W.adds writer.old self.old.page.page writer.new) }
+        ensures failed { OnErr result (W.failures writer.new ≡ W.failures writer.old + 1) }
         ensures form { self.new.page.form ≡ self.old.page.form }
     {
         self.page.put_renewal(venue, session, writer)
@@ -159,6 +166,8 @@ impl<'a> OutputPackets<'a> {
             (record { adds = W.adds; failures = W.failures }) writer.old writer.new
             self.old.page.page (record_text self.old.page.form (self_help_record venue on))
             self.new.page.page) }
+        ensures part { OnErr result (Wrote W.adds writer.old self.old.page.page writer.new) }
+        ensures failed { OnErr result (W.failures writer.new ≡ W.failures writer.old + 1) }
         ensures form { self.new.page.form ≡ self.old.page.form }
     {
         self.page.put_self_help(venue, on, writer)
@@ -180,8 +189,10 @@ impl<'a> OutputPackets<'a> {
             → PutsPackets (record { adds = W.adds; failures = W.failures })
             self.old.page.form origin.now known (end_of_kind (body_kind body.entry) number)
             writer.old writer.new self.old.page.page self.new.page.page) }
-        ensures kept { OnOk result (W.failures writer.new ≡ W.failures writer.old) }
-        ensures failed { OnErr result (W.failures writer.new ≡ W.failures writer.old + 1) }
+        ensures front { OnErr result ((known : ℕ)
+            → PutsFront (record { adds = W.adds; failures = W.failures })
+            self.old.page.form origin.now known (end_of_kind (body_kind body.entry) number)
+            writer.old writer.new self.old.page.page) }
         ensures form { self.new.page.form ≡ self.old.page.form }
     {
         let packet = self.packet.as_mut_slice();
@@ -201,6 +212,10 @@ impl<'a> OutputPackets<'a> {
             (record { adds = W.adds; failures = W.failures }) self.old.page.form origin.now known
             (numbered_from number (map (λ f. item_of (form_bytes f)) self.old.forms.items))
             writer.old writer.new self.old.page.page self.new.page.page) }
+        ensures stopped { IfErr result (λ stop. (known : ℕ) → StopsPut
+            (record { adds = W.adds; failures = W.failures }) self.old.page.form origin.now known
+            (numbered_from number (map (λ f. item_of (form_bytes f)) self.old.forms.items))
+            writer.old writer.new self.old.page.page self.new.page.page stop) }
         ensures form { self.new.page.form ≡ self.old.page.form }
     {
         let messages = match lend_all(self.alloc, self.forms.as_slice()) {
@@ -231,6 +246,11 @@ impl<'a> OutputPackets<'a> {
             → AllByRecursion IsMessageItem its → PutsPackets
             (record { adds = W.adds; failures = W.failures }) self.old.page.form origin.now known
             items.now writer.old writer.new self.old.page.page self.new.page.page) }
+        ensures stopped { IfErr result (λ stop. (known first : ℕ) (its : List Item)
+            → 1 ≤ first → items.now ≡ numbered_from first its
+            → AllByRecursion IsMessageItem its → StopsPut
+            (record { adds = W.adds; failures = W.failures }) self.old.page.form origin.now known
+            items.now writer.old writer.new self.old.page.page self.new.page.page stop) }
         ensures form { self.new.page.form ≡ self.old.page.form }
     {
         let Some(number) = first_number(items) else {
@@ -253,6 +273,10 @@ impl<'a> OutputPackets<'a> {
             → (ends.now ≡ []) ⊎ (ends.now ≡ end_item number ∷ []) → PutsPackets
             (record { adds = W.adds; failures = W.failures }) self.old.page.form origin.now known
             ends.now writer.old writer.new self.old.page.page self.new.page.page) }
+        ensures front { OnErr result ((known number : ℕ) → 1 ≤ number
+            → (ends.now ≡ []) ⊎ (ends.now ≡ end_item number ∷ []) → PutsFront
+            (record { adds = W.adds; failures = W.failures }) self.old.page.form origin.now known
+            ends.now writer.old writer.new self.old.page.page) }
         ensures form { self.new.page.form ≡ self.old.page.form }
     {
         let Some(number) = end_number(ends) else {
@@ -272,6 +296,10 @@ impl<'a> OutputPackets<'a> {
             → RunsFrom first items.now → PutsPackets
             (record { adds = W.adds; failures = W.failures }) self.old.page.form origin.now known
             items.now writer.old writer.new self.old.page.page self.new.page.page) }
+        ensures stopped { IfErr result (λ stop. (known first : ℕ) → 1 ≤ first
+            → RunsFrom first items.now → StopsPut
+            (record { adds = W.adds; failures = W.failures }) self.old.page.form origin.now known
+            items.now writer.old writer.new self.old.page.page self.new.page.page stop) }
         ensures form { self.new.page.form ≡ self.old.page.form }
     {
         let count = messages_before_end(items);

@@ -3,7 +3,7 @@ ghost use Rattle.std.specs.Prelude.{◌≡◌, ◌+◌, ◌≤◌, ◌++◌, ◌
 ghost use Rattle.capture_writing.specs.Frames.{file_header};
 ghost use Rattle.capture_records.specs.Capture.{bytes_of_record, datagram_record, renewal_record, self_help_record};
 ghost use Rattle.text_out.specs.Devices.{Wrote};
-ghost use Rattle.normalising.specs.Texts.{datagram_text, nowhere, record_text};
+ghost use Rattle.normalising.specs.Texts.{datagram_text, begun_text, nowhere, record_text};
 ghost use Rattle.normalising.specs.Writes.{PutsText};
 
 use crate::output_form::OutputForm;
@@ -65,7 +65,8 @@ fn put_own(page: &mut ReadBuffer<PAGE>, venue: VenueId, kind: u8, payload: &[u8]
 impl<'a> OutputPage<'a> {
     /// Takes the memory, and begins the file.
     pub(crate) fn new(alloc: Global, form: OutputForm<'a>) -> Result<OutputPage<'a>, AllocError>
-        ensures { IfOk result (λ p. p.form ≡ form.entry) }
+        ensures form { IfOk result (λ p. p.form ≡ form.entry) }
+        ensures begun { IfOk result (λ p. p.page ≡ begun_text form.entry) }
     {
         let mut page = ReadBuffer::new(alloc)?;
         if let OutputForm::Capture(_) = form {
@@ -151,6 +152,8 @@ impl<'a> OutputPage<'a> {
             (record { adds = W.adds; failures = W.failures }) writer.old writer.new
             self.old.page (record_text self.old.form (renewal_record venue session.now))
             self.new.page) }
+        ensures part { OnErr result (Wrote W.adds writer.old self.old.page writer.new) }
+        ensures failed { OnErr result (W.failures writer.new ≡ W.failures writer.old + 1) }
         ensures form { self.new.form ≡ self.old.form }
     {
         self.make_room(writer)?;
@@ -171,6 +174,8 @@ impl<'a> OutputPage<'a> {
             (record { adds = W.adds; failures = W.failures }) writer.old writer.new
             self.old.page (record_text self.old.form (self_help_record venue on))
             self.new.page) }
+        ensures part { OnErr result (Wrote W.adds writer.old self.old.page writer.new) }
+        ensures failed { OnErr result (W.failures writer.new ≡ W.failures writer.old + 1) }
         ensures form { self.new.form ≡ self.old.form }
     {
         self.make_room(writer)?;

@@ -17,19 +17,16 @@
 
 mod counts_json;
 mod counts_text;
-mod drop_table;
 mod errors_progress;
 mod gap_news;
 mod gap_rule;
 mod gap_watch;
 mod gap_watches;
-mod group_table;
 mod line_figures;
 mod line_news;
 mod line_silence;
 mod line_watch;
 mod listen_counts;
-mod metrics_client;
 mod metrics_server;
 mod moment;
 mod output_news;
@@ -37,7 +34,6 @@ mod output_watch;
 mod row_progress;
 mod run_watches;
 mod session_news;
-mod socket_tables;
 mod unheld_errors;
 mod venue_statuses;
 
@@ -51,6 +47,5 @@ pub use moment::Moment;
 pub use output_watch::OutputWatch;
 pub use row_progress::RowProgress;
 pub use run_watches::RunWatches;
-pub use socket_tables::SocketTables;
 pub use unheld_errors::UnheldErrors;
 pub use venue_statuses::VenueStatuses;

@@ -7,15 +7,14 @@ ghost use Rattle.run_watches.specs.News.{SaysNotes, SaysTotals, line_end_texts, 
 ghost use Rattle.run_watches.specs.RunLines.{watched, watched_lines};
 ghost use Rattle.run_watches.specs.RunNews.{IsNewsOfLine, IsNewsOfLines, IsTold, SaysNews};
 
-use crate::drop_table::DropTable;
 use crate::line_news::{
     LineChange, LineCounted, LineNews, LineTotal, write_line_end, write_news, write_total,
 };
 use crate::line_silence::{LineSilence, Silence};
 use crate::moment::Moment;
-use crate::socket_tables::SocketTables;
 use feed_types::{LineId, VenueId};
 use run_metrics::{LineEnd, LineState, UNKNOWN_STATE, VenueFigures};
+use socket_tables::{DropTable, SocketTables};
 use std::net::SocketAddr;
 use text_out::TextOut;
 use udp_lines::LineProgress;

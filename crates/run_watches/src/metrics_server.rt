@@ -1,24 +1,17 @@
 //! The counts of a run, served to clients that ask for them by HTTP.
 
-use crate::drop_table::DropTable;
 use crate::gap_watches::GapWatches;
 use crate::line_watch::LineWatches;
-use crate::metrics_client::MetricsClient;
 use crate::output_watch::OutputWatch;
 use feed_types::{MAX_VENUES, VenueId};
-use run_metrics::{Reply, RunFigures, VenueFigures, answer};
+use run_metrics::{MetricsClients, Reply, RunFigures, VenueFigures, answer};
+use socket_tables::DropTable;
 use std::alloc::{AllocError, Global};
 use std::net::TcpListener;
 use venue_lines::VenueStatus;
 
-/// How many milliseconds are between two looks at the clients at least.
-const LOOK_MS: u64 = 20;
-
 /// How many milliseconds are between two reads of the system's tables at least.
 const DROPS_MS: u64 = 1_000;
-
-/// The most clients at a time; others wait until one is gone.
-const MOST_CLIENTS: usize = 16;
 
 /// What the system had dropped when its tables were last read.
 #[derive(Drop)]
@@ -40,16 +33,12 @@ impl LastDrops {
     }
 }
 
-/// The server of a run's metrics. It waits for nobody: a look takes what has come, and gives each
-/// client what it takes.
+/// The server of a run's metrics. It waits for nobody.
 #[derive(Drop)]
 pub struct MetricsServer {
     alloc: Global,
-    listener: TcpListener,
-    clients: Vec<MetricsClient>,
+    clients: MetricsClients,
     drops: LastDrops,
-    /// How many milliseconds after the beginning of the run the next look is due.
-    due_ms: u64,
 }
 
 /// What is seen of a run that is served.
@@ -118,28 +107,13 @@ impl MetricsServer {
         match listener {
             Some(listener) => Some(MetricsServer {
                 alloc,
-                listener,
-                clients: Vec::new(alloc),
+                clients: MetricsClients::new(alloc, listener),
                 drops: LastDrops {
                     table: None,
                     due_ms: 0,
                 },
-                due_ms: 0,
             }),
             None => None,
-        }
-    }
-
-    /// Takes the clients that have connected, as many as there is room for. One for which memory is
-    /// refused is gone.
-    fn accept(&mut self, elapsed_ms: u64) {
-        for _ in self.clients.len()..MOST_CLIENTS {
-            let Ok((stream, _)) = self.listener.accept() else {
-                return;
-            };
-            if let Some(client) = MetricsClient::new(self.alloc, stream, elapsed_ms) {
-                let _ = self.clients.push(client);
-            }
         }
     }
 
@@ -149,15 +123,12 @@ impl MetricsServer {
         S: Fn(VenueId) -> Option<VenueStatus>,
         requires { S.IsAlwaysCallable status }
     {
-        let alloc = self.alloc;
-        let Some(client) = self.clients.get_mut(place) else {
-            return;
-        };
-        if let Some(reply) = client.read_request() {
+        if let Some(reply) = self.clients.read_request(place) {
             let drops = self.drops.at(seen.elapsed_ms, seen.lines);
-            client.give(answer_by(alloc, reply, seen, drops, status));
+            self.clients
+                .give(place, answer_by(self.alloc, reply, seen, drops, status));
         }
-        client.go_on(seen.elapsed_ms);
+        self.clients.go_on(place, seen.elapsed_ms);
     }
 
     /// Looks at the clients, unless it has done so just before: takes new ones, reads what they
@@ -168,14 +139,9 @@ impl MetricsServer {
         S: Fn(VenueId) -> Option<VenueStatus>,
         requires { S.IsAlwaysCallable status }
     {
-        if seen.elapsed_ms < self.due_ms {
-            return;
-        }
-        self.due_ms = seen.elapsed_ms.saturating_add(LOOK_MS);
-        self.accept(seen.elapsed_ms);
-        for place in 0..self.clients.len() {
+        for place in 0..self.clients.look(seen.elapsed_ms) {
             self.go_on_at(place, seen, &status);
         }
-        self.clients.retain(|client| !client.is_gone());
+        self.clients.let_go();
     }
 }

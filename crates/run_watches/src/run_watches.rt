@@ -4,7 +4,6 @@ ghost use Rattle.text_out.specs.Devices.{Writing};
 ghost use Rattle.run_watches.specs.RunLines.{watched_gaps, watched_lines, watched_run};
 ghost use Rattle.run_watches.specs.RunNews.{SaysRunEnd, SaysRunNews};
 
-use crate::drop_table::DropTable;
 use crate::gap_watches::GapWatches;
 use crate::line_watch::LineWatches;
 use crate::listen_counts::ListenCounts;
@@ -13,6 +12,7 @@ use crate::moment::Moment;
 use crate::output_watch::OutputWatch;
 use crate::venue_statuses::{AllFigures, NO_FIGURES, VenueStatuses, statuses_by};
 use feed_types::{MAX_VENUES, VenueId};
+use socket_tables::DropTable;
 use text_out::TextOut;
 use venue_lines::VenueStatus;
 

@@ -5,7 +5,7 @@ use Rattle.feed_types.specs.declared.config.FeedConfig.{FeedConfig}
 use Rattle.feed_types.specs.declared.line.LineId.{LineId}
 use Rattle.feed_types.specs.declared.line.LineId.TheVariants.{A, B, Recovery}
 use Rattle.best_rows.specs.declared.style.RowStyle.{RowStyle}
-use Rattle.feed_text.specs.Rules.{names_after}
+use Rattle.run_settings.specs.NextSessions.{names_after}
 use Rattle.live_feed.specs.Lanes.{FeedSetting}
 use Rattle.run_settings.specs.FurtherOptions.{most_lead}
 use Rattle.run_settings.specs.declared.end_rule.EndRule.{EndRule}

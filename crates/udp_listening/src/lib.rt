@@ -47,6 +47,7 @@ pub use metrics_socket::{bind_metrics, metrics_line};
 pub use output_state::OutputState;
 pub use patient_output::PatientOutput;
 pub use recorders::record_lines;
-pub use run_watches::{ErrorsProgress, SocketTables, UnheldErrors};
+pub use run_watches::{ErrorsProgress, UnheldErrors};
 pub use socket_buffers::enlarge;
+pub use socket_tables::SocketTables;
 pub use sockets::{BindFault, BindRefusal, bind_sockets, listening_line, write_bind_fault};

@@ -2,7 +2,7 @@
 
 use feed_types::{LineId, VenueId};
 use line_recordings::{RecordSender, SkipRecords};
-use run_watches::SocketTables;
+use socket_tables::SocketTables;
 use std::net::{TcpListener, UdpSocket};
 
 /// A line, and the socket that receives it.

@@ -1,7 +1,7 @@
 //! The sessions that follow the venues' first ones in a run.
 ghost use Rattle.std.specs.Prelude.{◌≡◌, ◌∷◌, ◌++◌, [], IfOk, Some};
 ghost use Rattle.std.specs.List.{last_or};
-ghost use Rattle.feed_text.specs.Rules.{names_after};
+ghost use Rattle.run_settings.specs.NextSessions.{names_after};
 ghost use Rattle.udp_listening.specs.Settings.{end_followed};
 
 use feed_types::{Anything, VenueId};

@@ -1,5 +1,7 @@
 pub mod Counting
 pub mod Histories
+pub mod CellPackets
+pub mod CellPushes
 pub mod CellMoves
 pub mod Statuses
 pub mod FirstNumbers

@@ -4,8 +4,9 @@ ghost use Rattle.std.specs.Prelude.{◌≡◌, ◌<◌, ◌↔◌, length, IsSom
 
 use crate::locked_venue::LockedVenue;
 use crossbeam_utils::CachePadded;
-use feed_steps::{Bells, FeedName};
-use feed_types::{Genuine, VenueId};
+use feed_steps::FeedName;
+use feed_types::{Genuine, MAX_VENUES, VenueId};
+use live_wakeups::Bells;
 use std::alloc::{AllocError, Global};
 use std::marker::Model;
 use std::sync::atomic::{AtomicBool, Ordering};
@@ -47,7 +48,7 @@ pub struct VenueLocks<G: Genuine, N: FeedName> {
     /// By venue, whether something may be ready that wasn't pushed. It changes under the
     /// venue's lock alone, and is stored only where it differs. It lies on cache lines of its own,
     /// apart from what each datagram reads.
-    backlogged: CachePadded<[AtomicBool; 16]>,
+    backlogged: CachePadded<[AtomicBool; MAX_VENUES]>,
     bells: Arc<Bells, Global>,
 }
 

@@ -8,10 +8,11 @@ use crate::locked_venue::LockedVenue;
 use crate::locks::{VenueLock, VenueLocks};
 use crate::start::VenueStart;
 use crossbeam_utils::CachePadded;
-use feed_steps::{Bells, FeedName};
+use feed_steps::FeedName;
 use feed_types::{FeedConfig, Genuine, Numbered, PerLine, VenueId};
 use fifo_lane::{Receiver, VenueItems, lane};
 use line_arbiter::Arbiter;
+use live_wakeups::Bells;
 use std::alloc::{AllocError, Global};
 use std::sync::{Arc, Mutex};
 

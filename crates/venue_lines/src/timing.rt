@@ -1,8 +1,9 @@
 //! What the times of a venue's items are known by.
 
 use crate::cell::VenueCell;
-use feed_steps::{FeedName, FeedTimes};
+use feed_steps::FeedName;
 use feed_types::Genuine;
+use live_wakeups::FeedTimes;
 use mold_packet::Packet;
 
 /// The number of the last item of the venue's session that was pushed, or 0.

@@ -3,6 +3,9 @@ pub mod Taken
 pub mod Keeping
 pub mod Sent
 pub mod Readying
+pub mod Arriving
+pub mod PuttingOut
+pub mod BringingPackets
 pub mod Whole
 pub mod Moved
 pub mod OfMessages

@@ -12,18 +12,19 @@ ghost use Rattle.venue_lines.specs.Datagrams.{AreGenuineBytes, AcceptsTheirs, Ta
 
 use crate::feed::log_size::LogSize;
 use crate::hub_cell::HubCell;
+use crate::hub_lock::HubLock;
 use crate::subscriber::Subscriber;
 use crate::subscriber::log::SubscriberLog;
 use crossbeam_utils::CachePadded;
 use feed_steps::FeedName;
 use feed_types::{Genuine, LineId, SubscriberId, VenueId};
 use filter_terms::{Filter, Strategy};
-use hub_lanes::{Consolidated, consume_next, consume_some, offer_some, take_turn};
+use hub_lanes::{Consolidated, consume_next, consume_some, offer_some};
 use journal_book::JournalFault;
 use line_arbiter::Outcome;
 use mold_packet::Request;
 use std::alloc::Global;
-use std::sync::{Mutex, Wait};
+use std::sync::Wait;
 use venue_lines::{
     Datagram, FeedFault, GapFault, LineSeat, Looked, RenewalFault, TakeFault, VenueLocks,
 };
@@ -33,7 +34,7 @@ use venue_lines::{
 #[derive(Drop)]
 pub struct OpenFeed<G: Genuine, N: FeedName> {
     pub(crate) venues: VenueLocks<G, N>,
-    pub(crate) hub: CachePadded<Mutex<HubCell<G, N>>>,
+    pub(crate) hub: CachePadded<HubLock<G, N>>,
     pub(crate) log_size: LogSize<N>,
 }
 
@@ -194,12 +195,7 @@ impl<G: Genuine, N: FeedName> OpenFeed<G, N> {
         let bells = self.venues.bells();
         let mut hub = self.hub.lock(rt);
         hub.core.show_lock_invariant();
-        let HubCell {
-            core,
-            filters,
-            next,
-        } = &mut *hub;
-        let done = take_turn(rt, core, filters.as_slice(), next, bells);
+        let done = hub.take_turn(rt, bells);
         hub.core.show_lock_invariant();
         drop(hub);
         if done.consumed > 0 {
@@ -220,8 +216,6 @@ impl<G: Genuine, N: FeedName> OpenFeed<G, N> {
         let mut hub = self.hub.lock(rt);
         hub.core.show_lock_invariant();
         let declared = hub.core.declare(venue, on);
-        let changes = hub.core.change_count();
-        self.venues.bells().times().pass_changes(changes);
         hub.core.show_lock_invariant();
         drop(hub);
         if declared.is_ok() {

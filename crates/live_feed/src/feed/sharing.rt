@@ -7,6 +7,7 @@ ghost use Rattle.std.specs.Thread.{IsSend, IsSync};
 use crate::feed::log_size::LogSize;
 use crate::feed::open_feed::OpenFeed;
 use crate::hub_cell::HubCell;
+use crate::hub_lock::HubLock;
 use crossbeam_utils::CachePadded;
 use feed_steps::FeedName;
 use feed_types::Genuine;
@@ -29,7 +30,8 @@ impl<G: Genuine + Send + Sync, N: FeedName + Send + Sync> Shareable for OpenFeed
         show_sent::<Vec<Filter>>();
         show_sent::<HubCell<G, N>>();
         show_shared::<Mutex<HubCell<G, N>>>();
-        show_shared::<CachePadded<Mutex<HubCell<G, N>>>>();
+        show_shared::<HubLock<G, N>>();
+        show_shared::<CachePadded<HubLock<G, N>>>();
         show_shared::<VenueLocks<G, N>>();
         show_shared::<LogSize<N>>();
         show_shared_value(self);

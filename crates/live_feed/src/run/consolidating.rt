@@ -2,15 +2,16 @@
 
 use crate::feed::open_feed::OpenFeed;
 use crate::feed::sharing::Shareable;
-use crate::hub_cell::HubCell;
-use crate::run::idle::{back_off, should_sleep};
+use crate::run::idle::{back_off, lets_others_run, should_sleep};
+use crate::run::kept_lock::KeptLock;
 use crate::run::names::name_consolidator;
 use crate::run::report::Stop;
 use crate::run::signals::Signals;
-use feed_steps::{Bells, FeedName};
+use feed_steps::FeedName;
 use feed_types::{Genuine, MAX_SUBSCRIBERS, MAX_VENUES, SubscriberId, VenueId};
-use hub_lanes::{Consolidated, offer_each};
+use hub_lanes::Consolidated;
 use journal_book::JournalFault;
+use live_wakeups::Bells;
 use std::sync::Wait;
 use std::thread::{JoinHandle, Scope, Threads};
 
@@ -22,15 +23,17 @@ const ITEMS_A_SECTION: u64 = 64;
 /// `all` is true, else of those where something was left before and the lane has run empty.
 fn flush_each<G: Genuine, N: FeedName, W: Wait>(
     rt: &W,
-    feed: &OpenFeed<G, N>,
+    hub: &mut KeptLock<'_, G, N>,
     done: &Consolidated,
     all: bool,
 ) -> bool {
+    let venues = &hub.feed.venues;
     let mut moved = false;
-    for place in 0..feed.venues.len().min(MAX_VENUES) {
+    for place in 0..venues.len().min(MAX_VENUES) {
         let venue = VenueId::at(place);
-        if all || (!done.venues[venue.index()] && feed.venues.has_backlog(venue)) {
-            let pushed = feed.venues.flush_some(rt, venue, ITEMS_A_SECTION);
+        if all || (!done.venues[venue.index()] && venues.has_backlog(venue)) {
+            hub.let_go();
+            let pushed = venues.flush_some(rt, venue, ITEMS_A_SECTION);
             moved = moved || pushed > 0;
         }
     }
@@ -80,20 +83,14 @@ fn is_full_lane_polled(bells: &Bells) -> Option<bool> {
 /// that came to.
 fn run_turn<G: Genuine, N: FeedName, W: Wait>(
     rt: &W,
-    feed: &OpenFeed<G, N>,
+    hub: &mut KeptLock<'_, G, N>,
     signals: &Signals,
 ) -> Consolidated {
-    if !signals.is_stopped() {
-        return feed.consolidate(rt);
+    if signals.is_stopped() {
+        hub.offer_alone(rt)
+    } else {
+        hub.take_turn(rt)
     }
-    let mut done = Consolidated::nothing();
-    let mut hub = feed.hub.lock(rt);
-    let HubCell { core, filters, .. } = &mut *hub;
-    let offers = offer_each(rt, core, filters.as_slice(), feed.venues.bells());
-    drop(hub);
-    done.offered = offers.pushed;
-    done.unfinished = offers.unfinished;
-    done
 }
 
 /// Returns what a look came to in which nothing was done, since a subscriber is behind. Whoever is
@@ -121,23 +118,23 @@ fn stop_behind(before: Look, look: Look, signals: &Signals, stopped: &mut Option
 /// `stopped` is why.
 fn work_once<G: Genuine, N: FeedName, W: Wait>(
     rt: &W,
-    feed: &OpenFeed<G, N>,
+    hub: &mut KeptLock<'_, G, N>,
     signals: &Signals,
     all: bool,
     stopped: &mut Option<Stop>,
 ) -> Look {
-    let done = run_turn(rt, feed, signals);
+    let done = run_turn(rt, hub, signals);
     let reason = done.refused.and_then(reason_of);
     if reason.is_some() {
         signals.stop();
         *stopped = reason;
     }
-    let flushed = flush_each(rt, feed, &done, all);
+    let flushed = flush_each(rt, hub, &done, all);
     let is_more = done.unfinished || reason.is_some() || flushed;
     if done.consumed > 0 || done.offered > 0 || is_more {
         Look::Worked
     } else if done.refused.is_some() {
-        look_behind(feed.venues.bells())
+        look_behind(hub.feed.venues.bells())
     } else {
         Look::Idle
     }
@@ -159,8 +156,9 @@ fn is_room_wanted(bells: &Bells) -> bool {
 /// Once the lines have ended, what is ready is pushed in any case. It waits for a subscriber that
 /// is behind, as long as a thread takes its notices: one of the run's or the attendant.
 ///
-/// It sleeps after it has looked in vain for a while. The wait is announced before the last of
-/// these looks, so whatever comes after that look ends the sleep.
+/// It keeps the consolidator's lock from look to look, as long as nobody else wants it. It sleeps
+/// after it has looked in vain for a while. The wait is announced before the last of these looks,
+/// so whatever comes after that look ends the sleep.
 fn run_consolidator<G: Genuine, N: FeedName, W: Wait>(
     rt: &W,
     feed: &OpenFeed<G, N>,
@@ -170,6 +168,7 @@ fn run_consolidator<G: Genuine, N: FeedName, W: Wait>(
         name_consolidator();
     }
     let bells = feed.venues.bells();
+    let mut hub = KeptLock::of(feed);
     let mut stopped = None;
     let mut first = true;
     let mut before = Look::Worked;
@@ -181,16 +180,22 @@ fn run_consolidator<G: Genuine, N: FeedName, W: Wait>(
             None
         };
         let last = signals.have_lines_ended();
-        let look = work_once(rt, feed, signals, first || last, &mut stopped);
+        let look = work_once(rt, &mut hub, signals, first || last, &mut stopped);
         first = false;
         stop_behind(before, look, signals, &mut stopped);
         before = look;
         match look {
             Look::Worked | Look::Unpolled => looks = 0,
             Look::Idle if last && !is_room_wanted(bells) => break,
-            Look::Idle | Look::Behind => looks = back_off(rt, looks, key),
+            Look::Idle | Look::Behind => {
+                if lets_others_run(looks) {
+                    hub.let_go();
+                }
+                looks = back_off(rt, looks, key);
+            }
         }
     }
+    hub.let_go();
     signals.end_offers();
     bells.ring_subscribers();
     stopped

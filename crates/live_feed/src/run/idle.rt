@@ -18,6 +18,11 @@ pub(crate) fn should_sleep(looks: u32) -> bool {
     looks >= LOOKS_AWAKE
 }
 
+/// Returns whether a thread that has looked for work `looks` times lets others run next, or sleeps.
+pub(crate) fn lets_others_run(looks: u32) -> bool {
+    looks >= LOOKS
+}
+
 /// Waits a moment, or until the notification that the key waits for, and returns how often the
 /// thread has looked since it last worked or slept.
 pub(crate) fn back_off<W: Wait>(rt: &W, looks: u32, key: Option<Key<'_>>) -> u32 {
@@ -25,7 +30,7 @@ pub(crate) fn back_off<W: Wait>(rt: &W, looks: u32, key: Option<Key<'_>>) -> u32
         key.wait(rt);
         return 0;
     }
-    if looks < LOOKS {
+    if !lets_others_run(looks) {
         for _ in 0..looks.min(MOST_PAUSES) {
             hint::spin_loop();
         }

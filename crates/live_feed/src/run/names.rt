@@ -13,11 +13,7 @@ fn digits(number: usize) -> [u8; 2]
 
 /// Names the calling thread, as that of the venue's line: "line 0 A".
 pub(crate) fn name_line(venue: VenueId, line: LineId) {
-    let letter = match line {
-        LineId::A => b'A',
-        LineId::B => b'B',
-        LineId::Recovery => b'R',
-    };
+    let letter = line.letter();
     let _named = match digits(venue.index()) {
         [b'0', ones] => os::set_thread_name(&[b'l', b'i', b'n', b'e', b' ', ones, b' ', letter]),
         [tens, ones] => {

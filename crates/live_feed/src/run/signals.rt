@@ -1,7 +1,7 @@
 //! The signals between the threads of a run.
 
 use crate::run::rules::RunRules;
-use feed_types::SubscriberId;
+use feed_types::{MAX_SUBSCRIBERS, SubscriberId};
 use std::array;
 use std::sync::atomic::{AtomicBool, AtomicU64, Ordering};
 
@@ -18,7 +18,7 @@ pub(crate) struct Signals {
     /// Whether everything that can be offered was offered.
     offered: AtomicBool,
     /// By id, whether the subscriber's thread takes notices.
-    polling: [AtomicBool; 32],
+    polling: [AtomicBool; MAX_SUBSCRIBERS],
 }
 
 impl Signals {

@@ -1,6 +1,6 @@
 //! How a run is stopped from outside.
 
-use feed_steps::Bells;
+use live_wakeups::Bells;
 use std::alloc::Global;
 use std::sync::Arc;
 

@@ -1,6 +1,6 @@
 use Rattle.std.proofs.Common.{◌≡◌, drop}
 use Rattle.std.specs.Prelude.{slice_get}
-use Rattle.feed_text.specs.Rules.{names_after}
+use Rattle.run_settings.specs.NextSessions.{names_after}
 use Rattle.feed_text.proofs.renewing.name_after.Given as goal
 
 abbrev pub invariant-loop-session : goal.invariant-loop-session

@@ -1,5 +1,7 @@
-use Rattle.std.proofs.Common.{Ok, rules, arith, inr, subst}
+use Rattle.std.proofs.Common.{◌+◌, Ok, rules, arith, inr, subst, sym}
+use Rattle.hub_lanes.specs.Hubs.{HubState}
 use Rattle.hub_lanes.specs.Sections.{ConsumesOne}
+use Rattle.hub_lanes.specs.Batches.{ConsumesCount}
 use Rattle.hub_lanes.proofs.Batches.{start_count, one_more_item, none_more_item, had_room}
 use Rattle.hub_lanes.proofs.calls.consume_some.Goals as goal
 
@@ -18,8 +20,11 @@ loop-count-preserved g c =
     c.consume.new.self) c.in-Ok-Some.field-0-is e.consume in (
       search rules,
       λ none. absurd (omega arith),
-      one_more_item c.args.venue c.args.core.now c.loop-count.count _ c.loop-count.core
-          c.consume.new.self i.2 one e.kept,
+      subst
+          (λ (s : HubState). ConsumesCount c.args.venue (c.loop-count.count + 1) c.args.core.now s)
+          (sym c.note_item.ensures)
+          (one_more_item c.args.venue c.args.core.now c.loop-count.count _ c.loop-count.core
+          c.consume.new.self i.2 one e.kept),
     )
 
 pub returns-in-Ok-None-clause-batch : goal.returns-in-Ok-None-clause-batch

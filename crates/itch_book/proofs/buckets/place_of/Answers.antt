@@ -1,4 +1,4 @@
-use Rattle.itch_book.proofs.Stored.{held_nowhere}
+use Rattle.itch_book.proofs.StoredOrders.{held_nowhere}
 use Rattle.itch_book.proofs.buckets.place_of.Goals as goal
 
 pub returns : goal.returns

@@ -1,7 +1,7 @@
 use Rattle.std.proofs.Common.{◌≡◌, drop}
 use Rattle.std.specs.List.{list_any}
 use Rattle.std.specs.Str.{bytes_eq}
-use Rattle.feed_text.specs.Rules.{names_after}
+use Rattle.run_settings.specs.NextSessions.{names_after}
 use Rattle.nbbo_runs.proofs.named_sessions.is_left.Given as goal
 
 abbrev pub invariant-loop-one : goal.invariant-loop-one

@@ -5,8 +5,8 @@ use Rattle.mold_packet.specs.Block.{IsMessage}
 use Rattle.mold_packet.specs.Body.{lent_bytes}
 use Rattle.quote_payload.specs.Payload.{item_of}
 use Rattle.normalising.specs.Carried.{IsShortMessage}
-use Rattle.normalising.specs.Writes.{PutsPackets}
-use Rattle.normalising.proofs.Packing.{all_taken, are_messages, fits_one, packet_more, rest_is, short_rest}
+use Rattle.normalising.specs.Writes.{PutsFront, PutsPackets}
+use Rattle.normalising.proofs.Packing.{all_taken, are_messages, carried_split, fits_one, front_after, front_none, packet_more, rest_is, short_rest}
 use Rattle.normalising.proofs.Taking.{on_err_any}
 use Rattle.normalising.proofs.output_packets.put_messages.Goals as goal
 
@@ -48,14 +48,19 @@ packets-preserved g c =
           c.in_ok-put_datagram-in-Some.ensures.taken;
     }
 
-pub returns-in_err-put_datagram-in-Some-clause-failed :
-    goal.returns-in_err-put_datagram-in-Some-clause-failed
-returns-in_err-put_datagram-in-Some-clause-failed g c = on_err_any c.from_residual.result
-    (c.in_err-put_datagram-in-Some.ensures.failed
-    ∙ ap (λ n. n + 1) (c.packets.invariant.puts 0).text.kept)
-
-pub returns-clause-kept : goal.returns-clause-kept
-returns-clause-kept g c = (c.packets.invariant.puts 0).text.kept
+pub returns-in_err-put_datagram-in-Some-clause-front :
+    goal.returns-in_err-put_datagram-in-Some-clause-front
+returns-in_err-put_datagram-in-Some-clause-front g c = on_err_any c.from_residual.result (λ known.
+    subst (λ ms. PutsFront (record { adds = g.W.TextOut.adds; failures = g.W.TextOut.failures })
+    c.args.page.now.form c.args.origin.now known ms
+    c.args.writer.now c.put_datagram.new.writer c.args.page.now.page)
+    (carried_split c.args.messages.now c.args.number c.packets.from c.packets.invariant.within)
+    (front_after (record { adds = g.W.TextOut.adds; failures = g.W.TextOut.failures })
+    c.args.page.now.form c.args.origin.now known _ _ _ c.packets.writer _ _ c.packets.page.page
+    g.met.W.TextOut.adds_more (c.packets.invariant.puts known)
+    (front_none (record { adds = g.W.TextOut.adds; failures = g.W.TextOut.failures })
+    c.args.page.now.form c.args.origin.now known _ _ _ _
+    c.in_err-put_datagram-in-Some.ensures.part c.in_err-put_datagram-in-Some.ensures.failed)))
 
 pub returns-clause-put : goal.returns-clause-put
 returns-clause-put g c = λ known.

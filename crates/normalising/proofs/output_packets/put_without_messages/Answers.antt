@@ -1,4 +1,4 @@
-use Rattle.normalising.proofs.Packing.{empty_packet}
+use Rattle.normalising.proofs.Packing.{empty_packet, front_on_err}
 use Rattle.std.proofs.lemmas.Result.{on_ok_weaker}
 use Rattle.normalising.proofs.output_packets.put_without_messages.Goals as goal
 
@@ -8,3 +8,8 @@ returns-clause-put g c = on_ok_weaker c.put_datagram.result
     (record { adds = g.W.TextOut.adds; failures = g.W.TextOut.failures })
     c.args.page.now.form c.args.origin.now known c.args.number c.args.body _ _ _ _ _
     c.requires.empty c.in-Ok.ensures.spelled taken beat) c.put_datagram.ensures.taken
+
+pub returns-clause-front : goal.returns-clause-front
+returns-clause-front g c = front_on_err
+    (record { adds = g.W.TextOut.adds; failures = g.W.TextOut.failures }) _ _ _ _ _ _
+    c.put_datagram.result c.put_datagram.ensures.part c.put_datagram.ensures.failed

@@ -1,5 +1,5 @@
 use Rattle.std.proofs.Common.{◌≡◌, ◌++◌, drop}
-use Rattle.feed_text.specs.Rules.{names_after}
+use Rattle.run_settings.specs.NextSessions.{names_after}
 use Rattle.udp_listening.proofs.next_sessions.names_after.Given as goal
 
 abbrev pub invariant-loop-session : goal.invariant-loop-session

@@ -1,7 +1,7 @@
 use Rattle.std.proofs.Common.{◌≡◌, ◌-◌, length, ap, sym, ◌∙◌, subst, arith}
 use Rattle.std.specs.Prelude.{slice_get}
 use Rattle.feed_text.specs.Following.{ReplayVenue, Follows}
-use Rattle.feed_text.specs.Rules.{names_after}
+use Rattle.run_settings.specs.NextSessions.{names_after}
 use Rattle.feed_text.proofs.PutInSteps.{names_len}
 use Rattle.feed_text.proofs.Renewals.{name_by}
 use Rattle.feed_text.proofs.venue.VenueReplay.next_name.Goals as goal

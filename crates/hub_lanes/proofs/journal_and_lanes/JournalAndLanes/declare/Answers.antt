@@ -4,5 +4,5 @@ use Rattle.hub_lanes.proofs.journal_and_lanes.JournalAndLanes.declare.Goals as g
 pub invariant_of-self : goal.invariant_of-self
 invariant_of-self g c =
     declare_kept g.G.Genuine g.N.FeedName.lanes _ c.args.venue c.args.on
-    c.declare.result c.declare.new.self
-    c.self.invariant c.declare.ensures.declares
+    c.declare-declared.result c.declare-declared.new.self
+    c.self.invariant c.declare-declared.ensures.declares

@@ -1,5 +1,7 @@
 use Rattle.std.proofs.Common.{sym, ◌∙◌}
-use Rattle.itch_book.proofs.Stored.{free_slot, none_counted, stored_beyond, stored_held}
+use Rattle.itch_book.proofs.Stored.{free_slot}
+use Rattle.itch_book.proofs.StoredBeyond.{none_counted}
+use Rattle.itch_book.proofs.StoredOrders.{stored_beyond, stored_held}
 use Rattle.itch_book.proofs.buckets.Buckets.get.Goals as goal
 
 pub returns-in-Some : goal.returns-in-Some

@@ -1,7 +1,8 @@
 use Rattle.std.proofs.Common.{List, ◌+◌, length, ap, sym, subst, ◌∙◌, arith}
 use Rattle.itch_book.specs.declared.slot.Slot.{Slot}
 use Rattle.itch_book.specs.Slots.{AreStored, IsPut, stored_orders}
-use Rattle.itch_book.proofs.Stored.{none_beyond, stored_put_beyond}
+use Rattle.itch_book.proofs.StoredOrders.{none_beyond}
+use Rattle.itch_book.proofs.StoredBeyond.{stored_put_beyond}
 use Rattle.itch_book.proofs.buckets.Buckets.put_beyond.Goals as goal
 
 pub put-requires : goal.put-requires

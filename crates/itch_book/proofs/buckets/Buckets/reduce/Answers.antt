@@ -1,6 +1,7 @@
 use Rattle.std.proofs.Common.{ap, sym, ◌∙◌, Some}
 use Rattle.itch_book.specs.declared.order.Order.{Order}
-use Rattle.itch_book.proofs.Stored.{free_slot, stored_held, stored_reduced}
+use Rattle.itch_book.proofs.Stored.{free_slot, stored_reduced}
+use Rattle.itch_book.proofs.StoredOrders.{stored_held}
 use Rattle.itch_book.proofs.buckets.Buckets.reduce.Goals as goal
 
 pub reduce_beyond-requires-clause-apart : goal.reduce_beyond-requires-clause-apart

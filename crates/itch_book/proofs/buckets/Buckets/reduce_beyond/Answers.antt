@@ -1,7 +1,8 @@
 use Rattle.std.proofs.Common.{List, ◌-◌, length, ap, sym, subst, ◌∙◌, arith, refl}
 use Rattle.itch_book.specs.declared.slot.Slot.{Slot}
 use Rattle.itch_book.specs.Slots.{AreStored, IsReduced, stored_orders}
-use Rattle.itch_book.proofs.Stored.{none_counted, reduced_none_beyond, stored_beyond, stored_remove_beyond, stored_set_beyond}
+use Rattle.itch_book.proofs.StoredBeyond.{none_counted, reduced_none_beyond, stored_remove_beyond, stored_set_beyond}
+use Rattle.itch_book.proofs.StoredOrders.{stored_beyond}
 use Rattle.itch_book.proofs.buckets.Buckets.reduce_beyond.Goals as goal
 
 pub returns-then-beyond-eq0-clause-value : goal.returns-then-beyond-eq0-clause-value

@@ -3,7 +3,7 @@ use Rattle.std.specs.Prelude.{slice_get}
 use Rattle.line_arbiter.specs.Histories.{streams_of}
 use Rattle.line_arbiter.specs.laws.Fronts.{none_is}
 use Rattle.venue_lines.specs.Cells.{CellState, CellFitsHistory}
-use Rattle.venue_lines.proofs.CellMoves.{nothing_next}
+use Rattle.venue_lines.proofs.CellPushes.{nothing_next}
 use Rattle.venue_lines.proofs.cell.VenueCell.may_have_ready.Goals as goal
 
 pub returns-else-status : goal.returns-else-status

@@ -6,7 +6,7 @@ use Rattle.feed_steps.specs.Premises.{AreInSequence}
 use Rattle.venue_lines.specs.Cells.{CellState, CellFitsHistory}
 use Rattle.venue_lines.specs.Sections.{PushesOne}
 use Rattle.feed_steps.specs.declared.unsent.Unsent.TheVariants as unsent
-use Rattle.venue_lines.proofs.CellMoves.{may_push, push_fits, push_full, push_kept, push_nothing, pushes}
+use Rattle.venue_lines.proofs.CellPushes.{may_push, push_fits, push_full, push_kept, push_nothing, pushes}
 use Rattle.venue_lines.proofs.cell.VenueCell.push_one.Goals as goal
 
 pub returns-in_default-clause-push : goal.returns-in_default-clause-push

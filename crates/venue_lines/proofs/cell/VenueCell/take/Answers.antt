@@ -4,7 +4,7 @@ use Rattle.feed_steps.specs.Premises.{IsGenuinePacket}
 use Rattle.venue_lines.specs.Cells.{CellState, CellFitsHistory}
 use Rattle.venue_lines.specs.Sections.{AcceptsTheirPacket, HasSkippedPast, TakesPacket}
 use Rattle.venue_lines.proofs.CellAnswers.{accepts, skipped_past}
-use Rattle.venue_lines.proofs.CellMoves.{counted_on, no_more, packet_fits, packet_kept, takes}
+use Rattle.venue_lines.proofs.CellPackets.{counted_on, no_more, packet_fits, packet_kept, takes}
 use Rattle.venue_lines.proofs.cell.VenueCell.take.Goals as goal
 
 pub invariant_of-self : goal.invariant_of-self

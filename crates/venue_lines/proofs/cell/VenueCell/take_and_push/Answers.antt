@@ -7,7 +7,8 @@ use Rattle.feed_steps.specs.Premises.{AreInSequence, IsGenuinePacket}
 use Rattle.venue_lines.specs.Brought.{brought_after}
 use Rattle.venue_lines.specs.Cells.{CellState, CellFitsHistory}
 use Rattle.venue_lines.specs.Sections.{TakesAndPushes}
-use Rattle.venue_lines.proofs.CellMoves.{brings_one, counted_on, first_number, given_after, may_pass, more_kept, pass_fits, passes, sent_one, taken_one}
+use Rattle.venue_lines.proofs.CellPushes.{brings_one, first_number, may_pass, pass_fits, passes, sent_one, taken_one}
+use Rattle.venue_lines.proofs.CellPackets.{counted_on, given_after, more_kept}
 use Rattle.venue_lines.proofs.cell.VenueCell.take_and_push.Given.{Over}
 use Rattle.venue_lines.proofs.cell.VenueCell.take_and_push.Goals as goal
 use Rattle.venue_lines.proofs.cell.VenueCell.take_and_push.Goals.{After-count-2}

@@ -5,7 +5,7 @@ use Rattle.line_arbiter.specs.States.{State, KeepsItsPlace}
 use Rattle.line_arbiter.specs.laws.FitsHistory.{keeping_all_but_sent_is_reflexive}
 use Rattle.venue_lines.specs.Cells.{CellState, CellFitsHistory}
 use Rattle.venue_lines.specs.Sections.{TakesPacket}
-use Rattle.venue_lines.proofs.CellMoves.{counted_on, packet_fits, packet_kept, takes}
+use Rattle.venue_lines.proofs.CellPackets.{counted_on, packet_fits, packet_kept, takes}
 use Rattle.venue_lines.proofs.cell.VenueCell.take_repeat.Goals as goal
 
 stays : (s : State) → KeepsItsPlace s s

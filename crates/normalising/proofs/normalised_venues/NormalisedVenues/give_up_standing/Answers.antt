@@ -1,0 +1,28 @@
+use Rattle.std.proofs.Common.{refl, Ok}
+use Rattle.std.proofs.lemmas.Result.{err_from_is_err_and}
+use Rattle.capture_records.specs.Capture.{skip_record}
+use Rattle.normalising.proofs.Venues.{first_none, first_noted, put_in_first}
+use Rattle.normalising.proofs.normalised_venues.NormalisedVenues.give_up_standing.Goals as goal
+
+pub returns-in_default-clause-puts_in : goal.returns-in_default-clause-puts_in
+returns-in_default-clause-puts_in g c = λ r may. first_none
+    (record { adds = g.W.TextOut.adds; failures = g.W.TextOut.failures })
+    g.met.W.TextOut.adds_none r c.args.self.now c.args.writer.now tt
+
+pub returns-in_err-give_up-clause-puts_in : goal.returns-in_err-give_up-clause-puts_in
+returns-in_err-give_up-clause-puts_in g c = λ r may.
+    let p = err_from_is_err_and c.from_residual.result c.from_residual.ensures.1 in
+    rw (p.1, p.2) (put_in_first
+    (record { adds = g.W.TextOut.adds; failures = g.W.TextOut.failures })
+    r (skip_record c.args.venue c.in-Some.number) c.args.self.now c.give_up.new.self
+    c.args.writer.now c.give_up.new.writer _ may c.in_err-give_up.ensures.takes)
+
+pub returns-clause-puts_in : goal.returns-clause-puts_in
+returns-clause-puts_in g c = λ r may. first_noted
+    (record { adds = g.W.TextOut.adds; failures = g.W.TextOut.failures })
+    r c.args.self.now c.give_up.new.self c.note_gap.new.self c.args.writer.now
+    c.give_up.new.writer tt tt c.note_gap.ensures
+    (put_in_first
+    (record { adds = g.W.TextOut.adds; failures = g.W.TextOut.failures })
+    r (skip_record c.args.venue c.in-Some.number) c.args.self.now c.give_up.new.self
+    c.args.writer.now c.give_up.new.writer (Ok tt) may c.in_ok-give_up.ensures.takes)
