@@ -5,8 +5,9 @@
 //! prints lines, rows of best lines, statistics or rows of gaps (`specs/Printing.antt`), or lists
 //! the lines of a packet capture (`specs/Discovery.antt`); at its end standard error says what
 //! venues lack (`specs/Lacks.antt`), which symbols never came (`specs/AbsentSymbols.antt`), which
-//! lines had no datagram, which sessions nothing names and which named ones never began
-//! (`specs/Watches.antt`, `specs/Sessions.antt`), and what is to be said of the capture and of the
+//! lines had no datagram, which venues' messages look like ITCH, which sessions nothing names and
+//! which named ones never began (`specs/Watches.antt`, `specs/VenueLooks.antt`,
+//! `specs/Sessions.antt`), and what is to be said of the capture and of the
 //! outcome (`specs/CaptureTexts.antt`, `specs/Ending.antt`).
 //!
 //! Outside of it stand hints (`hints.rt`), which are made of the values that a run returns, and the

@@ -269,8 +269,8 @@ fn write_venues<E: TextOut>(
 }
 
 impl<F> WatchedFormat<'_, F> {
-    /// Writes what was watched of the venues' lines and messages, and of sessions, where the venues' last ones
-    /// have these ordinals.
+    /// Writes what was watched of the venues' lines and messages, and of sessions, where the venues'
+    /// last ones have these ordinals.
     fn write_seen<E: TextOut>(&self, ordinals: &[u64], errors: &mut E)
         ensures { SaysEach (record { adds = E.adds; failures = E.failures })
             (seen_texts self.now ordinals.now) errors.old errors.new }
