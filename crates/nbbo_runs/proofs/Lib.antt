@@ -10,3 +10,4 @@ pub mod SinkPrints
 pub mod SinkRuns
 pub mod SpanRuns
 pub mod LateRuns
+pub mod WatchedSteps

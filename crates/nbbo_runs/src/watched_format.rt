@@ -1,9 +1,8 @@
 //! A format of captures whose datagrams are watched.
-ghost use Rattle.std.specs.Prelude.{◌≡◌, ℕ, List, [], ◌∷◌, ◌++◌, IfNone, IfSome, None, Some, length, slice_get, slice_index_or};
+ghost use Rattle.std.specs.Prelude.{◌≡◌, [], ◌∷◌, ◌++◌, IfNone, IfSome, None, Some, length, slice_get, slice_index_or};
 ghost use Rattle.text_out.specs.StandardError.{SaysEach};
 ghost use Rattle.nbbo_runs.specs.Sessions.{datagram_sightings, is_first, name_in, named_sightings, sighted_by, sighting_of};
-ghost use Rattle.message_forms.specs.Datagrams.{HasMessages};
-ghost use Rattle.nbbo_runs.specs.VenueLooks.{AreLooks, LooksBy, look_at, look_texts};
+ghost use Rattle.nbbo_runs.specs.VenueLooks.{LooksBy, LooksWith, step_datagram, look_at, look_texts};
 ghost use Rattle.nbbo_runs.specs.Watches.{IsWatched, WatchedReads, first_venues_texts, seen_texts, silent_texts, unwatched, venue_texts, watch_texts, watched_by, watched_texts};
 ghost use Rattle.nbbo_runs.specs.WatchLaws.{watched_longer, watched_more, watched_none};
 
@@ -64,29 +63,42 @@ fn watch<F>(venues: &mut [VenueWatch], step: &Step<'_, F>)
 /// Notes what the messages of a datagram make those of its venue look like.
 #[inline(always)]
 fn note_look(looks: &mut [Payload], venue: VenueId, bytes: &[u8])
-    ensures { (messages : List (List ℕ)) × HasMessages bytes.now messages
-        × AreLooks looks.old (record { venue = venue; messages = messages } ∷ []) looks.new }
+    ensures { LooksWith looks.old venue bytes.now looks.new }
 {
     let place = venue.index();
-    if place < looks.len() {
-        let before = looks[place];
-        if !before.is_own() {
-            looks[place] = look_after(before, bytes);
-        }
+    if place >= looks.len() {
+        return;
+    }
+    let before = looks[place];
+    if before.is_own() {
+        return;
+    }
+    looks[place] = look_after(before, bytes);
+}
+
+/// Returns the venue and the bytes of a datagram, where one came.
+#[inline(always)]
+fn step_datagram<'b, F>(step: &Step<'b, F>) -> Option<(VenueId, &'b [u8])>
+    ensures found { IfSome result (λ d. step_datagram step.now ≡ Some (d.0, d.1.now)) }
+    ensures none { IfNone result (step_datagram step.now ≡ None) }
+{
+    match step {
+        Step::Came {
+            record: Record::Datagram { venue, bytes, .. },
+            ..
+        } => Some((*venue, *bytes)),
+        _ => None,
     }
 }
 
 /// Notes what a record makes the messages of its venue look like.
 #[inline(always)]
 fn note_looks<F>(looks: &mut [Payload], step: &Step<'_, F>)
-    ensures { LooksBy looks.old step.now looks.new }
+    ensures { LooksBy looks.old (step_datagram step.now) looks.new }
 {
-    match step {
-        Step::Came {
-            record: Record::Datagram { venue, bytes, .. },
-            ..
-        } => note_look(looks, *venue, bytes),
-        _ => {}
+    match step_datagram(step) {
+        Some((venue, bytes)) => note_look(looks, venue, bytes),
+        None => {}
     }
 }
 
