@@ -13,7 +13,7 @@ use Rattle.message_forms.specs.declared.payload.Payload.TheVariants.{Neither}
 use Rattle.message_forms.specs.Datagrams.{HasMessages}
 use Rattle.message_forms.specs.PayloadLaws.{look_more, look_none, messages_are, own_stays}
 use Rattle.message_forms.specs.Payloads.{is_look_own, look_with}
-use Rattle.nbbo_runs.specs.VenueLooks.{AreLooks, LooksBy, LooksWith, RecordShows, SeesLooks, ShowsMessages, VenueMessages, shown_at, shown_of, record_datagram, look_at}
+use Rattle.nbbo_runs.specs.VenueLooks.{AreLooks, LooksBy, LooksWith, RecordShows, SeesLooks, ShowsMessages, VenueMessages, shown_at, venue_messages, record_datagram, look_at}
 
 zip_both : {A B : Type 0} (R : A → B → Type 0) (xs ys : List A) (us vs : List B)
     → AllZip R xs us → AllZip R ys vs → AllZip R (xs ++ ys) (us ++ vs)
@@ -41,8 +41,8 @@ sees_more a b c rs qs x y = record {
     each = λ venue less.
         let more = y.are.each venue (subst (λ (n : ℕ). venue < n) (sym x.are.count) less) in
         more
-        ∙ ap (λ (p : Payload). look_with p (shown_of venue y.shown)) (x.are.each venue less)
-        ∙ look_more (look_at a venue) (shown_of venue x.shown) (shown_of venue y.shown)
+        ∙ ap (λ (p : Payload). look_with p (venue_messages venue y.shown)) (x.are.each venue less)
+        ∙ look_more (look_at a venue) (venue_messages venue x.shown) (venue_messages venue y.shown)
         ∙ ap (look_with (look_at a venue))
         (sym (flat_map-append (shown_at venue) x.shown y.shown));
   };
@@ -53,7 +53,7 @@ sees_more a b c rs qs x y = record {
 -- at this venue, or at another one
 one_at : (looks : List Payload) (shown : VenueMessages) (venue : ℕ) (b : Bool)
     → (shown.venue == venue) ≡ b
-    → look_with (look_at looks venue) (shown_of venue (shown ∷ []))
+    → look_with (look_at looks venue) (venue_messages venue (shown ∷ []))
     ≡ look_with (look_at looks venue) (cond b shown.messages [])
 one_at looks shown venue b e =
     ap (look_with (look_at looks venue))

@@ -30,8 +30,8 @@ ShowsMessages r shown = RecordShows r.what shown
 abbrev pub shown_at : ℕ → VenueMessages → List (List ℕ)
 shown_at venue shown = if shown.venue == venue then shown.messages else []
 
-abbrev pub shown_of : ℕ → List VenueMessages → List (List ℕ)
-shown_of venue shown = flat_map (shown_at venue) shown
+abbrev pub venue_messages : ℕ → List VenueMessages → List (List ℕ)
+venue_messages venue shown = flat_map (shown_at venue) shown
 
 -- ---- what they look like
 
@@ -43,7 +43,7 @@ pub record AreLooks (before : List Payload) (shown : List VenueMessages) (after 
     : Type 0 where
   pub count : length after ≡ length before
   pub each : (venue : ℕ) → venue < length before
-      → look_at after venue ≡ look_with (look_at before venue) (shown_of venue shown)
+      → look_at after venue ≡ look_with (look_at before venue) (venue_messages venue shown)
 
 -- the same, of the messages that records show
 pub record SeesLooks (before : List Payload) (records : List TimedRecord) (after : List Payload)

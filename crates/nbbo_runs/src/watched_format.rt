@@ -69,7 +69,7 @@ fn note_look(looks: &mut [Payload], venue: VenueId, bytes: &[u8])
     if place >= looks.len() {
         return;
     }
-    let before = looks[place];
+    let before = look_at(looks, place);
     if before.is_own() {
         return;
     }
@@ -218,6 +218,7 @@ fn watch_at(venues: &[VenueWatch], place: usize) -> VenueWatch
 }
 
 /// Returns what the messages of the venue at a place look like.
+#[inline(always)]
 fn look_at(looks: &[Payload], place: usize) -> Payload
     ensures { result ≡ look_at looks.now place }
 {
