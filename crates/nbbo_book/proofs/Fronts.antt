@@ -79,6 +79,14 @@ taken_moves [] v at d l own h = absurd (omega (arith, l))
 taken_moves (y ∷ ys) v zero d l own h = after_first y ys v own h
 taken_moves (y ∷ ys) v (suc at) d l own h = stays_first at y
 
+-- where a side was added
+pub added_moves : (xs : List Best) (x : Best) (to : ℕ) → to ≤ length xs → HasNone x.venue xs
+    → nat_eq to 0 ≡ not (is_same_best (best_of_ranks xs) (best_of_ranks (insert xs to x)))
+added_moves [] x zero l h = refl
+added_moves [] x (suc to) l h = absurd (omega (arith, l))
+added_moves (y ∷ ys) x zero l h = ap not (sym (other_venue y x h.0))
+added_moves (y ∷ ys) x (suc to) l h = stays_first to y
+
 -- where a side went from one place to another
 pub moved_moves : (xs : List Best) (x : Best) (from to : ℕ) → from < length xs
     → to ≤ length (remove xs from)

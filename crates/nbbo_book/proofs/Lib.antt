@@ -13,4 +13,5 @@ pub mod BookFits
 pub mod Eligibility
 pub mod LawProofs
 pub mod Places
+pub mod Rooms
 pub mod SetSides

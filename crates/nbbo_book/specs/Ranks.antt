@@ -1,5 +1,5 @@
 -- The ranks of one side of a symbol, best first. Cited by private clauses alone.
-use Rattle.std.specs.Prelude.{◌≡◌, ℕ, ◌<◌, ◌≤◌, ◌+◌, ◌⊎◌, ◌↔◌, nat_lt, ◌==◌, Bool, false, true, List, [], ◌∷◌, length, slice_index_or, slice_set, Option, Some, None, ⊤, if◌then◌else◌}
+use Rattle.std.specs.Prelude.{◌≡◌, ℕ, ◌<◌, ◌≤◌, ◌+◌, ◌⊎◌, ◌↔◌, nat_lt, ◌==◌, Bool, false, true, List, [], ◌∷◌, length, slice_index_or, slice_set, take, Option, Some, None, ⊤, if◌then◌else◌}
 use Rattle.std.specs.List.{AllByRecursion}
 use Rattle.feed_types.specs.declared.line.Side.{Side}
 use Rattle.feed_types.specs.declared.national.Best.{Best}
@@ -91,10 +91,20 @@ AreNoted places ranks =
     (k : ℕ) (x : Best) → k < length ranks
     → slice_index_or places (slice_index_or ranks k x).venue 16 ≡ k
 
+-- the first sides in the room for ranks, as many as are counted
+abbrev pub ranks_in : RankPlaces → List Best → List Best
+ranks_in noted room = take noted.count room
+
 -- the number of the ranks and the place of each are noted
 pub record HasPlaces (noted : RankPlaces) (ranks : List Best) : Type 0 where
   pub count : noted.count ≡ length ranks
   pub places : AreNoted noted.places ranks
+
+-- the room has a place for each venue, and the place of each rank in it is noted
+pub record KeepsRanks (noted : RankPlaces) (room : List Best) : Type 0 where
+  pub full : length room ≡ 16
+  pub few : noted.count ≤ 16
+  pub places : AreNoted noted.places (ranks_in noted room)
 
 -- What code asks before x moves to its rank from this place: with x at it, the places are noted.
 pub record CanMove

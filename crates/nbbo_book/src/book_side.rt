@@ -3,7 +3,7 @@
 
 ghost use Rattle.std.specs.Prelude.{◌≡◌, not, false, None};
 ghost use Rattle.nbbo_book.specs.Changes.{is_same_best};
-ghost use Rattle.nbbo_book.specs.Ranks.{HasPlaces, best_of_ranks};
+ghost use Rattle.nbbo_book.specs.Ranks.{KeepsRanks, best_of_ranks, ranks_in};
 ghost use Rattle.nbbo_book.specs.VenueSides.{sides_in, sides_across, book_side_of};
 ghost use Rattle.nbbo_book.specs.BookSides.{CanRank, ArePast, IsRanked, side_quoted, side_rechecked};
 
@@ -31,15 +31,15 @@ fn update_ranks(
     quoter: &Quoter,
     cause: Cause,
 ) -> bool
-    requires kept { HasPlaces places.old ranks.old.items }
+    requires kept { KeepsRanks places.old ranks.old.items }
     requires ready { CanRank side quoter.now.venue cause
-        (book_side_of side sides.now ranks.old.items) }
-    ensures kept { HasPlaces places.new ranks.new.items }
-    ensures side { book_side_of side sides.now ranks.new.items
+        (book_side_of side sides.now (ranks_in places.old ranks.old.items)) }
+    ensures kept { KeepsRanks places.new ranks.new.items }
+    ensures side { book_side_of side sides.now (ranks_in places.new ranks.new.items)
         ≡ side_rechecked side quoter.now.venue quoter.now.may_rank
-        (book_side_of side sides.now ranks.old.items) }
+        (book_side_of side sides.now (ranks_in places.old ranks.old.items)) }
     ensures moved { result
-        ≡ not (is_same_best (best_of_ranks ranks.old.items) (best_of_ranks ranks.new.items)) }
+        ≡ not (is_same_best (best_of_ranks (ranks_in places.old ranks.old.items)) (best_of_ranks (ranks_in places.new ranks.new.items))) }
 {
     let shown = sides.get(side, quoter.venue);
     let order = Order {
@@ -62,16 +62,16 @@ pub fn set_quote(
     quoter: &Quoter,
     venue_side: VenueSide,
 ) -> bool
-    requires kept { HasPlaces places.old ranks.old.items }
-    requires ranked { IsRanked side (book_side_of side sides.old ranks.old.items) }
+    requires kept { KeepsRanks places.old ranks.old.items }
+    requires ranked { IsRanked side (book_side_of side sides.old (ranks_in places.old ranks.old.items)) }
     requires past { ArePast venue_side.age (sides_in side sides.old) }
-    ensures kept { HasPlaces places.new ranks.new.items }
-    ensures side { book_side_of side sides.new ranks.new.items
+    ensures kept { KeepsRanks places.new ranks.new.items }
+    ensures side { book_side_of side sides.new (ranks_in places.new ranks.new.items)
         ≡ side_quoted side quoter.now.venue venue_side.quote venue_side.age
-        quoter.now.may_rank (book_side_of side sides.old ranks.old.items) }
+        quoter.now.may_rank (book_side_of side sides.old (ranks_in places.old ranks.old.items)) }
     ensures across { sides_across side sides.new ≡ sides_across side sides.old }
     ensures moved { result
-        ≡ not (is_same_best (best_of_ranks ranks.old.items) (best_of_ranks ranks.new.items)) }
+        ≡ not (is_same_best (best_of_ranks (ranks_in places.old ranks.old.items)) (best_of_ranks (ranks_in places.new ranks.new.items))) }
 {
     let shown = sides.get(side, quoter.venue);
     if is_same(shown.quote(), venue_side.quote()) {
@@ -92,15 +92,15 @@ pub fn clear_quote(
     venue: VenueId,
     age: u64,
 ) -> bool
-    requires kept { HasPlaces places.old ranks.old.items }
-    requires ranked { IsRanked side (book_side_of side sides.old ranks.old.items) }
+    requires kept { KeepsRanks places.old ranks.old.items }
+    requires ranked { IsRanked side (book_side_of side sides.old (ranks_in places.old ranks.old.items)) }
     requires past { ArePast age (sides_in side sides.old) }
-    ensures kept { HasPlaces places.new ranks.new.items }
-    ensures side { book_side_of side sides.new ranks.new.items
-        ≡ side_quoted side venue None age false (book_side_of side sides.old ranks.old.items) }
+    ensures kept { KeepsRanks places.new ranks.new.items }
+    ensures side { book_side_of side sides.new (ranks_in places.new ranks.new.items)
+        ≡ side_quoted side venue None age false (book_side_of side sides.old (ranks_in places.old ranks.old.items)) }
     ensures across { sides_across side sides.new ≡ sides_across side sides.old }
     ensures moved { result
-        ≡ not (is_same_best (best_of_ranks ranks.old.items) (best_of_ranks ranks.new.items)) }
+        ≡ not (is_same_best (best_of_ranks (ranks_in places.old ranks.old.items)) (best_of_ranks (ranks_in places.new ranks.new.items))) }
 {
     let quoter = Quoter {
         venue,
@@ -120,14 +120,14 @@ pub fn recheck_eligibility(
     side: Side,
     quoter: &Quoter,
 ) -> bool
-    requires kept { HasPlaces places.old ranks.old.items }
-    requires ready { IsRanked side (book_side_of side sides.now ranks.old.items) }
-    ensures kept { HasPlaces places.new ranks.new.items }
-    ensures side { book_side_of side sides.now ranks.new.items
+    requires kept { KeepsRanks places.old ranks.old.items }
+    requires ready { IsRanked side (book_side_of side sides.now (ranks_in places.old ranks.old.items)) }
+    ensures kept { KeepsRanks places.new ranks.new.items }
+    ensures side { book_side_of side sides.now (ranks_in places.new ranks.new.items)
         ≡ side_rechecked side quoter.now.venue quoter.now.may_rank
-        (book_side_of side sides.now ranks.old.items) }
+        (book_side_of side sides.now (ranks_in places.old ranks.old.items)) }
     ensures moved { result
-        ≡ not (is_same_best (best_of_ranks ranks.old.items) (best_of_ranks ranks.new.items)) }
+        ≡ not (is_same_best (best_of_ranks (ranks_in places.old ranks.old.items)) (best_of_ranks (ranks_in places.new ranks.new.items))) }
 {
     update_ranks(sides, ranks, places, side, quoter, Cause::Rechecked)
 }

@@ -1,10 +1,10 @@
 //! The ranks of one side of a symbol.
 
-ghost use Rattle.std.specs.Prelude.{◌≡◌, ℕ, ◌+◌, ◌*◌, ◌^◌, ◌<◌, ◌≤◌, [], true, false, not, length, slice_index_or, slice_set, insert, remove, IfSome, None, Some};
+ghost use Rattle.std.specs.Prelude.{◌≡◌, ℕ, ◌+◌, ◌*◌, ◌^◌, ◌<◌, ◌≤◌, List, true, false, not, length, slice_index_or, slice_set, insert, remove, IfSome, None, Some};
 ghost use Rattle.nbbo_book.specs.Changes.{is_same_best};
 ghost use Rattle.nbbo_book.specs.Nationals.{is_better as is_better_side, beats as beats_side};
 ghost use Rattle.nbbo_book.specs.VenueSides.{sides_in, age_at};
-ghost use Rattle.nbbo_book.specs.Ranks.{is_ahead as is_ahead_side, ages_in, AreNoted, CanMove, CanUpdate, HasNone, HasPlaces, IsPlace, without, with_rank, placed, best_of_ranks};
+ghost use Rattle.nbbo_book.specs.Ranks.{is_ahead as is_ahead_side, ages_in, AreNoted, CanMove, CanUpdate, HasNone, HasPlaces, KeepsRanks, IsPlace, without, with_rank, placed, best_of_ranks, ranks_in};
 
 use crate::venue_sides::VenueSides;
 use arrayvec::ArrayVec;
@@ -28,11 +28,21 @@ pub struct Order<'a> {
     pub venue_sides: &'a VenueSides,
 }
 
-/// The eligible sides of one side of a symbol, best first; at most one of each venue.
+/// Room for the eligible sides of one side of a symbol. The first, as many as are counted beside the
+/// symbol, are its ranks: best first, at most one of each venue. All places are in use, so that the
+/// vector's own length, which lies in a line past the ranks, is read by nothing.
 pub type Ranks = ArrayVec<Best, MAX_VENUES>;
+
+/// Makes room in which nothing is ranked yet.
+pub fn no_ranks() -> Ranks
+    ensures { length result.items ≡ 16 }
+{
+    ArrayVec::from_array_in((), [Best::default(); MAX_VENUES])
+}
 
 /// Where the ranks of one side of a symbol stand, and how many they are. It lies beside the symbol,
 /// apart from the ranks, so that an entry reads of these those alone that its venue's side passes.
+/// A venue that was never ranked has a place past all ranks, and none of them is read for it.
 #[derive(Clone, Copy)]
 pub struct RankPlaces {
     /// The place of each venue's side, under the venue's number. It counts where the side there is
@@ -221,10 +231,11 @@ fn note_anew(ranks: &[Best], places: &mut [u8; MAX_VENUES], from: usize)
 impl RankPlaces {
     /// Makes the places of no ranks.
     pub fn new() -> RankPlaces
-        ensures { HasPlaces result [] }
+        ensures kept { (kept : List Best) → length kept ≡ 16 → KeepsRanks result kept }
+        ensures none { result.count ≡ 0 }
     {
         RankPlaces {
-            places: [0; MAX_VENUES],
+            places: [u8::MAX; MAX_VENUES],
             count: 0,
         }
     }
@@ -237,11 +248,21 @@ impl RankPlaces {
         usize::from(self.count)
     }
 
+    /// Lends the ranks, best first.
+    #[inline(always)]
+    pub fn lend<'a>(&self, best_first: &'a Ranks) -> &'a [Best]
+        requires { KeepsRanks self.now best_first.now.items }
+        ensures ranks { result.now ≡ ranks_in self.now best_first.now.items }
+        ensures noted { HasPlaces self.now result.now }
+    {
+        &best_first.as_slice()[..self.len()]
+    }
+
     /// Returns the best side.
     #[inline(always)]
     pub fn front(&self, best_first: &Ranks) -> Option<Best>
-        requires { HasPlaces self.now best_first.now.items }
-        ensures { result ≡ best_of_ranks best_first.now.items }
+        requires { KeepsRanks self.now best_first.now.items }
+        ensures { result ≡ best_of_ranks (ranks_in self.now best_first.now.items) }
     {
         if self.count == 0 {
             return None;
@@ -252,47 +273,55 @@ impl RankPlaces {
     /// Ranks the side of a venue that isn't ranked. Returns whether the best side differs then.
     #[inline(always)]
     fn add(&mut self, best_first: &mut Ranks, order: &Order<'_>, x: Best) -> bool
-        requires kept { HasPlaces self.old best_first.old.items }
-        requires ready { CanUpdate order.now x.venue (Some x) best_first.old.items }
-        requires absent { without x.venue best_first.old.items ≡ best_first.old.items }
-        ensures kept { HasPlaces self.new best_first.new.items }
-        ensures ranks { best_first.new.items
-            ≡ with_rank order.now.side (ages_in order.now) x best_first.old.items }
-        ensures moved { result ≡ not (is_same_best (best_of_ranks best_first.old.items)
-            (best_of_ranks best_first.new.items)) }
+        requires kept { KeepsRanks self.old best_first.old.items }
+        requires ready { CanUpdate order.now x.venue (Some x)
+            (ranks_in self.old best_first.old.items) }
+        requires absent { without x.venue (ranks_in self.old best_first.old.items)
+            ≡ ranks_in self.old best_first.old.items }
+        ensures kept { KeepsRanks self.new best_first.new.items }
+        ensures ranks { ranks_in self.new best_first.new.items
+            ≡ with_rank order.now.side (ages_in order.now) x
+            (ranks_in self.old best_first.old.items) }
+        ensures moved { result
+            ≡ not (is_same_best (best_of_ranks (ranks_in self.old best_first.old.items))
+            (best_of_ranks (ranks_in self.new best_first.new.items))) }
     {
         let from = self.len();
-        best_first.push(x);
         self.count = self.count + 1;
         self.places[x.venue.index()] = from as u8;
-        let ranks = best_first.as_mut_slice();
+        let ranks = &mut best_first.as_mut_slice()[..from + 1];
         move_to_rank(order, from + 1, ranks, &mut self.places, from, &x) == 0
     }
 
     /// Takes out the side at this place.
     #[inline(never)]
     fn remove_at(&mut self, best_first: &mut Ranks, at: usize)
-        requires kept { HasPlaces self.old best_first.old.items }
-        requires within { at < length best_first.old.items }
-        ensures kept { HasPlaces self.new best_first.new.items }
-        ensures ranks { best_first.new.items ≡ remove best_first.old.items at }
+        requires kept { KeepsRanks self.old best_first.old.items }
+        requires within { at < self.old.count }
+        ensures kept { KeepsRanks self.new best_first.new.items }
+        ensures ranks { ranks_in self.new best_first.new.items
+            ≡ remove (ranks_in self.old best_first.old.items) at }
     {
-        best_first.remove(at);
+        let out = best_first.remove(at);
+        best_first.push(out);
         self.count = self.count - 1;
-        note_anew(best_first.as_slice(), &mut self.places, at);
+        let ranks = &best_first.as_slice()[..usize::from(self.count)];
+        note_anew(ranks, &mut self.places, at);
     }
 
     /// Takes the venue's side out, where it has one. Returns whether the best side differs then.
     #[inline(always)]
     fn take_out(&mut self, best_first: &mut Ranks, venue: VenueId) -> bool
-        requires kept { HasPlaces self.old best_first.old.items }
-        requires once { HasNone venue (without venue best_first.old.items) }
-        ensures kept { HasPlaces self.new best_first.new.items }
-        ensures ranks { best_first.new.items ≡ without venue best_first.old.items }
-        ensures moved { result ≡ not (is_same_best (best_of_ranks best_first.old.items)
-            (best_of_ranks best_first.new.items)) }
+        requires kept { KeepsRanks self.old best_first.old.items }
+        requires once { HasNone venue (without venue (ranks_in self.old best_first.old.items)) }
+        ensures kept { KeepsRanks self.new best_first.new.items }
+        ensures ranks { ranks_in self.new best_first.new.items
+            ≡ without venue (ranks_in self.old best_first.old.items) }
+        ensures moved { result
+            ≡ not (is_same_best (best_of_ranks (ranks_in self.old best_first.old.items))
+            (best_of_ranks (ranks_in self.new best_first.new.items))) }
     {
-        match place_of(best_first.as_slice(), self, venue) {
+        match place_of(self.lend(best_first), self, venue) {
             Some(at) => {
                 self.remove_at(best_first, at);
                 at == 0
@@ -312,24 +341,27 @@ impl RankPlaces {
         venue: VenueId,
         best: Option<Best>,
     ) -> bool
-        requires kept { HasPlaces self.old best_first.old.items }
-        requires ready { CanUpdate order.now venue best best_first.old.items }
-        ensures kept { HasPlaces self.new best_first.new.items }
-        ensures ranks { best_first.new.items ≡ placed order.now.side (ages_in order.now) best
-            (without venue best_first.old.items) }
-        ensures moved { result ≡ not (is_same_best (best_of_ranks best_first.old.items)
-            (best_of_ranks best_first.new.items)) }
+        requires kept { KeepsRanks self.old best_first.old.items }
+        requires ready { CanUpdate order.now venue best
+            (ranks_in self.old best_first.old.items) }
+        ensures kept { KeepsRanks self.new best_first.new.items }
+        ensures ranks { ranks_in self.new best_first.new.items
+            ≡ placed order.now.side (ages_in order.now) best
+            (without venue (ranks_in self.old best_first.old.items)) }
+        ensures moved { result
+            ≡ not (is_same_best (best_of_ranks (ranks_in self.old best_first.old.items))
+            (best_of_ranks (ranks_in self.new best_first.new.items))) }
     {
         let Some(x) = best else {
             return self.take_out(best_first, venue);
         };
-        let Some(from) = place_of(best_first.as_slice(), self, venue) else {
+        let Some(from) = place_of(self.lend(best_first), self, venue) else {
             return self.add(best_first, order, x);
         };
         match order.cause {
             Cause::Quoted => {
                 let count = self.len();
-                let ranks = best_first.as_mut_slice();
+                let ranks = &mut best_first.as_mut_slice()[..count];
                 let to = move_to_rank(order, count, ranks, &mut self.places, from, &x);
                 (from == 0) | (to == 0)
             }

@@ -8,38 +8,38 @@ ghost use Rattle.nbbo_book.specs.BookSides.{IsRanked};
 ghost use Rattle.nbbo_book.specs.Rows.{IsRowRanked, row_quoted, row_ended, row_halted, row_helped, national_at, side_at, empty_row};
 
 use crate::book_side::{clear_quote, recheck_eligibility, set_quote};
-use crate::ranks::{RankPlaces, Ranks};
+use crate::ranks::{RankPlaces, Ranks, no_ranks};
 use crate::side_quote::{bid_of, offer_of};
 use crate::venue_side::VenueSide;
 use crate::venue_sides::VenueSides;
 use crate::venues::Venues;
-use arrayvec::ArrayVec;
 use feed_types::{Best, MAX_VENUES, National, Quote, Side, SymbolName, VenueId};
 use std::marker::Model;
 
 /// The part of a book for one symbol. A quotation reads a line of 64 bytes from `symbol` to
-/// `offer_places`, one of `sides`, and of the ranks and their vectors' lengths what it needs.
+/// `offer_places`, one of `sides`, and of the ranks those that its venue's sides pass.
 ///
-/// So that its parts keep to lines, a row takes whole ones, and its first part lies 16 bytes past
-/// one, as the C library places what is large.
+/// So that these parts each begin a line, a row takes whole lines, and `symbol` lies 48 bytes past
+/// its start, which is 16 past that of a line, as the C library places what is large.
 #[derive(Drop)]
 pub struct Row {
-    bids: Ranks,
-    between: u64,
-    offers: Ranks,
-    before: [u64; 3],
+    before: [u64; 6],
     symbol: SymbolName,
     /// The venues that halt the symbol.
     halted: [bool; MAX_VENUES],
     bid_places: RankPlaces,
     offer_places: RankPlaces,
+    bids: Ranks,
+    between: [u64; 7],
+    offers: Ranks,
+    behind: [u64; 7],
     sides: VenueSides,
     after: [u64; 2],
 }
 
 impl Model for Row {
     ghost use Rattle.nbbo_book.specs.VenueSides.{RowState, book_side_of};
-    ghost use Rattle.nbbo_book.specs.Ranks.{HasPlaces};
+    ghost use Rattle.nbbo_book.specs.Ranks.{KeepsRanks, ranks_in};
     ghost use Rattle.feed_types.specs.declared.line.Side.TheVariants.{Bid, Offer};
 
     ghost Value = { RowState };
@@ -47,12 +47,12 @@ impl Model for Row {
     ghost view = { λ r. record {
       symbol = r.symbol;
       halted = r.halted;
-      bids = book_side_of Bid r.sides r.bids.items;
-      offers = book_side_of Offer r.sides r.offers.items;
+      bids = book_side_of Bid r.sides (ranks_in r.bid_places r.bids.items);
+      offers = book_side_of Offer r.sides (ranks_in r.offer_places r.offers.items);
     } };
 
-    ghost invariant = { λ r. HasPlaces r.bid_places r.bids.items
-        × HasPlaces r.offer_places r.offers.items };
+    ghost invariant = { λ r. KeepsRanks r.bid_places r.bids.items
+        × KeepsRanks r.offer_places r.offers.items };
 }
 
 impl Row {
@@ -61,14 +61,15 @@ impl Row {
         ensures { result ≡ empty_row symbol }
     {
         Row {
-            bids: ArrayVec::new(),
-            between: 0,
-            offers: ArrayVec::new(),
-            before: [0; 3],
+            before: [0; 6],
             symbol,
             halted: [false; MAX_VENUES],
             bid_places: RankPlaces::new(),
             offer_places: RankPlaces::new(),
+            bids: no_ranks(),
+            between: [0; 7],
+            offers: no_ranks(),
+            behind: [0; 7],
             sides: VenueSides::new(),
             after: [0; 2],
         }
@@ -203,8 +204,8 @@ impl Row {
         ensures { result.now ≡ (side_at side self.now).ranks }
     {
         match side {
-            Side::Bid => self.bids.as_slice(),
-            Side::Offer => self.offers.as_slice(),
+            Side::Bid => self.bid_places.lend(&self.bids),
+            Side::Offer => self.offer_places.lend(&self.offers),
         }
     }
 

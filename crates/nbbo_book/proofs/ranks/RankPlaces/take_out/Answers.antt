@@ -2,7 +2,7 @@ use Rattle.std.proofs.Common.{ℕ, List, ◌≡◌, ◌<◌, ◌∙◌, ap, sym,
 use Rattle.std.specs.List.{remove}
 use Rattle.feed_types.specs.declared.national.Best.{Best}
 use Rattle.nbbo_book.specs.Changes.{is_same_best}
-use Rattle.nbbo_book.specs.Ranks.{HasNone, best_of_ranks, without}
+use Rattle.nbbo_book.specs.Ranks.{HasNone, best_of_ranks, ranks_in, without}
 use Rattle.nbbo_book.proofs.Fronts.{taken_moves}
 use Rattle.nbbo_book.proofs.ranks.RankPlaces.take_out.Goals as goal
 
@@ -10,9 +10,9 @@ pub returns-in-Some-clause-moved : goal.returns-in-Some-clause-moved
 returns-in-Some-clause-moved c =
     let v : ℕ = c.args.venue in
     let at : ℕ = c.in-Some.at in
-    let xs : List Best = c.args.best_first.now.items in
+    let xs : List Best = ranks_in c.args.self.now c.args.best_first.now.items in
     let d : Best = record { venue = 0; price = 0; size = 0 } in
-    let seen : c.as_slice.result.now ≡ xs = c.as_slice.ensures.value in
+    let seen : c.lend.result.now ≡ xs = c.lend.ensures.ranks in
     let found : at < length xs = subst (λ (t : List Best). at < length t) seen
     c.in-Some.ensures.found in
     let own : (get_or xs at d).venue ≡ v =

@@ -1,13 +1,15 @@
-use Rattle.std.proofs.Common.{rules, ℕ, List, ◌≡◌, ◌<◌, ◌∙◌, ap, sym, subst, length, not, get_or, set}
-use Rattle.std.specs.List.{insert, remove}
+use Rattle.std.proofs.Common.{rules, ℕ, List, ◌≡◌, ◌<◌, ◌≤◌, ◌∙◌, ap, sym, subst, arith, length, not, get_or, set, take}
+use Rattle.std.specs.List.{insert, refill, remove}
+use borrow.Rule.Slice.PartMut.{mid_of, put_mid}
 use Rattle.feed_types.specs.declared.national.Best.{Best}
 use Rattle.nbbo_book.specs.declared.ranks.Cause.{Cause}
 use Rattle.nbbo_book.specs.declared.ranks.Order.{Order}
 use Rattle.nbbo_book.specs.Changes.{is_same_best}
-use Rattle.nbbo_book.specs.Ranks.{AreNoted, HasNone, IsCause, IsIn, IsNewest, IsPlace, ages_in, best_of_ranks, placed, with_rank, without}
+use Rattle.nbbo_book.specs.Ranks.{AreNoted, HasNone, IsCause, IsIn, IsNewest, IsPlace, ages_in, best_of_ranks, placed, ranks_in, with_rank, without}
 use Rattle.nbbo_book.proofs.Fronts.{moved_moves}
-use Rattle.nbbo_book.proofs.Moving.{in_at, walked_here, ranked_stays, refill_whole}
+use Rattle.nbbo_book.proofs.Moving.{in_at, walked_here, ranked_stays}
 use Rattle.nbbo_book.proofs.Places.{noted_in_place}
+use Rattle.nbbo_book.proofs.Rooms.{front_written, length_in, long_written}
 use Rattle.nbbo_book.proofs.ranks.RankPlaces.update.Goals as goal
 
 pub returns-in-Quoted-clause-ranks : goal.returns-in-Quoted-clause-ranks
@@ -16,15 +18,21 @@ returns-in-Quoted-clause-ranks c =
     let ages : ℕ → ℕ = ages_in order in
     let x : Best = c.in-Some.x in
     let v : ℕ = c.args.venue in
-    let xs : List Best = c.args.best_first.now.items in
+    let xs : List Best = ranks_in c.args.self.now c.args.best_first.now.items in
     let from : ℕ = c.in-Some-place_of.from in
     let to : ℕ = c.move_to_rank-to.result in
     let there : without v xs ≡ remove xs from =
     subst (λ (t : List Best). without v t ≡ remove t from)
-    c.as_slice.ensures.value
+    c.lend.ensures.ranks
     c.in-Some-place_of.ensures.there in
-    let rest : remove c.as_mut_slice-ranks.result.now from ≡ without v xs =
-    ap (λ (t : List Best). remove t from) c.as_mut_slice-ranks.ensures.value
+    let room : List Best = c.args.best_first.now.items in
+    let n : ℕ = c.len-count.result in
+    let lent : List Best = c.as_mut_slice.result.now in
+    let fits : n ≤ length room = omega (arith, c.len-count.ensures, c.requires.kept.few,
+    c.requires.kept.full) in
+    let rest : remove (mid_of 0 n lent) from ≡ without v xs =
+    ap (λ (t : List Best). remove (mid_of 0 n t) from) c.as_mut_slice.ensures.value
+    ∙ ap (λ (k : ℕ). remove (take k room) from) c.len-count.ensures
     ∙ sym there in
     let place : IsPlace order x (without v xs) to =
     subst (λ (t : List Best). IsPlace order x t to) rest c.move_to_rank-to.ensures.place in
@@ -33,8 +41,10 @@ returns-in-Quoted-clause-ranks c =
     subst (λ (n : ℕ). IsNewest ages x (without n xs)) own
     (subst (λ (u : Cause). IsCause u order.side ages x xs) c.in-Quoted.is
     (c.requires.ready.caused x c.in-Some.is)).0 in
-    refill_whole c.args.best_first.now.items c.move_to_rank-to.new.ranks
-    (c.move_to_rank-to.auto.ranks ∙ ap length c.as_mut_slice-ranks.ensures.value)
+    ap (λ (k : ℕ). take k (refill (length room) room
+    (put_mid 0 n lent c.move_to_rank-to.new.ranks))) (sym c.len-count.ensures)
+    ∙ front_written room lent c.move_to_rank-to.new.ranks n c.as_mut_slice.ensures.value
+    c.move_to_rank-to.auto.ranks fits
     ∙ c.move_to_rank-to.ensures.ranks
     ∙ ap (λ (t : List Best). insert t to x) rest
     ∙ walked_here order.cause order.side ages x (without v xs) to place.within place.before place.at
@@ -47,11 +57,17 @@ returns-in-Quoted-clause-moved c =
     let ages : ℕ → ℕ = ages_in order in
     let x : Best = c.in-Some.x in
     let v : ℕ = c.args.venue in
-    let xs : List Best = c.args.best_first.now.items in
+    let xs : List Best = ranks_in c.args.self.now c.args.best_first.now.items in
     let from : ℕ = c.in-Some-place_of.from in
     let to : ℕ = c.move_to_rank-to.result in
-    let seen : c.as_slice.result.now ≡ xs = c.as_slice.ensures.value in
-    let lent : c.as_mut_slice-ranks.result.now ≡ xs = c.as_mut_slice-ranks.ensures.value in
+    let seen : c.lend.result.now ≡ xs = c.lend.ensures.ranks in
+    let room : List Best = c.args.best_first.now.items in
+    let n : ℕ = c.len-count.result in
+    let fits : n ≤ length room = omega (arith, c.len-count.ensures, c.requires.kept.few,
+    c.requires.kept.full) in
+    let lent : mid_of 0 n c.as_mut_slice.result.now ≡ xs =
+    ap (λ (t : List Best). mid_of 0 n t) c.as_mut_slice.ensures.value
+    ∙ ap (λ (k : ℕ). take k room) c.len-count.ensures in
     let own : x.venue ≡ v = c.requires.ready.own x c.in-Some.is in
     let found : from < length xs = subst (λ (t : List Best). from < length t) seen
     c.in-Some-place_of.ensures.found in
@@ -70,8 +86,10 @@ returns-in-Quoted-clause-moved c =
     (c.requires.ready.caused x c.in-Some.is)).1 in
     moved_moves xs x from to found place.within its none new
     ∙ ap (λ (t : List Best). not (is_same_best (best_of_ranks xs) (best_of_ranks t)))
-    (sym (refill_whole c.args.best_first.now.items c.move_to_rank-to.new.ranks
-    (c.move_to_rank-to.auto.ranks ∙ ap length c.as_mut_slice-ranks.ensures.value)
+    (sym (ap (λ (k : ℕ). take k (refill (length room) room
+    (put_mid 0 n c.as_mut_slice.result.now c.move_to_rank-to.new.ranks))) (sym c.len-count.ensures)
+    ∙ front_written room c.as_mut_slice.result.now c.move_to_rank-to.new.ranks n
+    c.as_mut_slice.ensures.value c.move_to_rank-to.auto.ranks fits
     ∙ c.move_to_rank-to.ensures.ranks ∙ ap (λ (t : List Best). insert (remove t from) to x) lent))
 
 pub returns-in-Rechecked-clause-ranks : goal.returns-in-Rechecked-clause-ranks
@@ -80,9 +98,9 @@ returns-in-Rechecked-clause-ranks c =
     let ages : ℕ → ℕ = ages_in order in
     let x : Best = c.in-Some.x in
     let v : ℕ = c.args.venue in
-    let xs : List Best = c.args.best_first.now.items in
+    let xs : List Best = ranks_in c.args.self.now c.args.best_first.now.items in
     let from : ℕ = c.in-Some-place_of.from in
-    let seen : c.as_slice.result.now ≡ xs = c.as_slice.ensures.value in
+    let seen : c.lend.result.now ≡ xs = c.lend.ensures.ranks in
     let own : x.venue ≡ v = c.requires.ready.own x c.in-Some.is in
     let found : from < length xs = subst (λ (t : List Best). from < length t) seen
     c.in-Some-place_of.ensures.found in
@@ -101,30 +119,45 @@ returns-in-Rechecked-clause-ranks c =
 pub move_to_rank-to-requires-clause-ready : goal.move_to_rank-to-requires-clause-ready
 move_to_rank-to-requires-clause-ready c =
     let x : Best = c.in-Some.x in
-    let xs : List Best = c.args.best_first.now.items in
+    let room : List Best = c.args.best_first.now.items in
+    let xs : List Best = ranks_in c.args.self.now room in
+    let n : ℕ = c.len-count.result in
     let from : ℕ = c.in-Some-place_of.from in
+    let lent : mid_of 0 n c.as_mut_slice.result.now ≡ xs =
+    ap (λ (t : List Best). mid_of 0 n t) c.as_mut_slice.ensures.value
+    ∙ ap (λ (k : ℕ). take k room) c.len-count.ensures in
+    let long : length xs ≡ c.args.self.now.count = length_in c.args.self.now.count room
+    (omega (arith, c.requires.kept.few, c.requires.kept.full)) in
     let found : from < length xs =
-    subst (λ (t : List Best). from < length t) c.as_slice.ensures.value
+    subst (λ (t : List Best). from < length t) c.lend.ensures.ranks
     c.in-Some-place_of.ensures.found in
     let its : (get_or xs from x).venue ≡ x.venue =
-    subst (λ (t : List Best). (get_or t from x).venue ≡ c.args.venue) c.as_slice.ensures.value
+    subst (λ (t : List Best). (get_or t from x).venue ≡ c.args.venue) c.lend.ensures.ranks
     (c.in-Some-place_of.ensures.own x) ∙ sym (c.requires.ready.own x c.in-Some.is) in
     record {
-      below = search rules;
-      few = search rules;
+      below = subst (λ (t : List Best). from < length t) (sym lent) found;
+      few = omega (arith, ap length lent, long, c.requires.kept.few);
       venue = search rules;
       noted = subst (λ (t : List Best). AreNoted c.args.self.now.places (set t from x))
-          (sym c.as_mut_slice-ranks.ensures.value)
+          (sym lent)
           (noted_in_place c.args.self.now.places xs from x found its c.requires.kept.places);
     }
 
 pub returns-in-Quoted-clause-kept : goal.returns-in-Quoted-clause-kept
 returns-in-Quoted-clause-kept c =
-    let whole = refill_whole c.args.best_first.now.items c.move_to_rank-to.new.ranks
-    (c.move_to_rank-to.auto.ranks ∙ ap length c.as_mut_slice-ranks.ensures.value) in
+    let room : List Best = c.args.best_first.now.items in
+    let n : ℕ = c.len-count.result in
+    let lent : List Best = c.as_mut_slice.result.now in
+    let ws : List Best = c.move_to_rank-to.new.ranks in
+    let fits : n ≤ length room = omega (arith, c.len-count.ensures, c.requires.kept.few,
+    c.requires.kept.full) in
+    let front = ap (λ (k : ℕ). take k (refill (length room) room (put_mid 0 n lent ws)))
+    (sym c.len-count.ensures)
+    ∙ front_written room lent ws n c.as_mut_slice.ensures.value c.move_to_rank-to.auto.ranks fits in
     record {
-      count = c.requires.kept.count ∙ sym (ap length whole ∙ c.move_to_rank-to.auto.ranks
-          ∙ ap length c.as_mut_slice-ranks.ensures.value);
-      places = subst (λ (t : List Best). AreNoted c.move_to_rank-to.new.places t) (sym whole)
+      full = long_written room lent ws n c.as_mut_slice.ensures.value
+          c.move_to_rank-to.auto.ranks ∙ c.requires.kept.full;
+      few = c.requires.kept.few;
+      places = subst (λ (t : List Best). AreNoted c.move_to_rank-to.new.places t) (sym front)
           c.move_to_rank-to.ensures.noted;
     }
