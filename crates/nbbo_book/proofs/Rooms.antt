@@ -1,30 +1,24 @@
 -- The ranks at the front of the room that is kept for them.
-use Rattle.std.proofs.Common.{ℕ, zero, suc, ◌<◌, ◌≤◌, ◌≡◌, ◌∙◌, List, [], ◌∷◌, ◌++◌, refl, ap, sym, arith, length, take, drop, set, add-one}
+use Rattle.std.proofs.Common.{ℕ, zero, suc, ◌<◌, ◌≤◌, ◌≡◌, ◌∙◌, List, [], ◌∷◌, ◌++◌, refl, ap, arith, length, take, set}
 use Rattle.std.specs.List.{remove, refill}
 use borrow.Rule.Slice.PartMut.{mid_of, post_of, put_mid, same_len_mid}
 use Rattle.feed_types.specs.declared.national.Best.{Best}
-use Rattle.nbbo_book.specs.declared.ranks.RankPlaces.{RankPlaces}
-use Rattle.nbbo_book.specs.Ranks.{HasPlaces, KeepsRanks, ranks_in}
 use Rattle.nbbo_book.proofs.Moving.{refill_whole}
-
-pub take_none : (xs : List Best) → take 0 xs ≡ []
-take_none [] = refl
-take_none (x ∷ xs) = refl
 
 -- as many as are counted
 pub length_in : (n : ℕ) (room : List Best) → n ≤ length room → length (take n room) ≡ n
-length_in zero room h = ap length (take_none room)
+length_in zero room h = refl
 length_in (suc n) [] h = absurd (omega (arith, h))
 length_in (suc n) (x ∷ room) h = ap suc (length_in n room (omega (arith, h)))
 
 -- the front of a list is that of any longer one
-pub front_kept : (n : ℕ) (xs ys : List Best) → n ≤ length xs → take n (xs ++ ys) ≡ take n xs
-front_kept zero xs ys h = take_none (xs ++ ys) ∙ sym (take_none xs)
+front_kept : (n : ℕ) (xs ys : List Best) → n ≤ length xs → take n (xs ++ ys) ≡ take n xs
+front_kept zero xs ys h = refl
 front_kept (suc n) [] ys h = absurd (omega (arith, h))
 front_kept (suc n) (x ∷ xs) ys h = ap (λ t. x ∷ t) (front_kept n xs ys (omega (arith, h)))
 
-pub front_whole : (n : ℕ) (xs ys : List Best) → length xs ≡ n → take n (xs ++ ys) ≡ xs
-front_whole zero [] ys h = take_none ys
+front_whole : (n : ℕ) (xs ys : List Best) → length xs ≡ n → take n (xs ++ ys) ≡ xs
+front_whole zero [] ys h = refl
 front_whole zero (x ∷ xs) ys h = absurd (omega (arith, h))
 front_whole (suc n) [] ys h = absurd (omega (arith, h))
 front_whole (suc n) (x ∷ xs) ys h = ap (λ t. x ∷ t) (front_whole n xs ys (omega (arith, h)))
@@ -33,14 +27,14 @@ front_whole (suc n) (x ∷ xs) ys h = ap (λ t. x ∷ t) (front_whole n xs ys (o
 pub before_last : (n : ℕ) (room : List Best) → n < length room
     → remove (take (suc n) room) n ≡ take n room
 before_last n [] h = absurd (omega (arith, h))
-before_last zero (x ∷ room) h = take_none room
+before_last zero (x ∷ room) h = refl
 before_last (suc n) (x ∷ room) h = ap (λ t. x ∷ t) (before_last n room (omega (arith, h)))
 
 -- one more than are ranked, with x at the last place
 pub put_last : (n : ℕ) (room : List Best) (x : Best) → n < length room
     → set (take (suc n) room) n x ≡ take n room ++ x ∷ []
 put_last n [] x h = absurd (omega (arith, h))
-put_last zero (y ∷ room) x h = ap (λ t. x ∷ t) (take_none room)
+put_last zero (y ∷ room) x h = refl
 put_last (suc n) (y ∷ room) x h = ap (λ t. y ∷ t) (put_last n room x (omega (arith, h)))
 
 -- one of the ranks is taken out, and put after all others
@@ -52,34 +46,27 @@ kept_out zero (y ∷ room) (suc at) rest l h = absurd (omega (arith, l))
 kept_out (suc m) (y ∷ room) (suc at) rest l h =
     ap (λ t. y ∷ t) (kept_out m room at rest (omega (arith, l)) (omega (arith, h)))
 
--- what the ranks are by their room
-pub ranks_noted : (noted : RankPlaces) (room : List Best) → KeepsRanks noted room
-    → HasPlaces noted (ranks_in noted room)
-ranks_noted noted room kept = record {
-  count = sym (length_in noted.count room (omega (arith, kept.few, kept.full)));
-  places = kept.places;
-}
-
 -- Where the front of the room was lent and left as ws, the rest of the room is as before.
-written : (room lent ws : List Best) (n : ℕ) → lent ≡ room
+written : (room lent ws all : List Best) (n : ℕ) → all ≡ put_mid 0 n lent ws → lent ≡ room
     → length ws ≡ length (mid_of 0 n lent)
-    → refill (length room) room (put_mid 0 n lent ws) ≡ put_mid 0 n room ws
-written room lent ws n same long =
-    ap (λ (t : List Best). refill (length room) room (put_mid 0 n t ws)) same
+    → refill (length room) room all ≡ put_mid 0 n room ws
+written room lent ws all n told same long =
+    ap (refill (length room) room) told
+    ∙ ap (λ (t : List Best). refill (length room) room (put_mid 0 n t ws)) same
     ∙ refill_whole room (put_mid 0 n room ws)
     (same_len_mid 0 n room ws (long ∙ ap (λ (t : List Best). length (mid_of 0 n t)) same))
 
-pub long_written : (room lent ws : List Best) (n : ℕ) → lent ≡ room
-    → length ws ≡ length (mid_of 0 n lent)
-    → length (refill (length room) room (put_mid 0 n lent ws)) ≡ length room
-long_written room lent ws n same long =
-    ap length (written room lent ws n same long)
+pub long_written : (room lent ws all : List Best) (n : ℕ) → all ≡ put_mid 0 n lent ws
+    → lent ≡ room → length ws ≡ length (mid_of 0 n lent)
+    → length (refill (length room) room all) ≡ length room
+long_written room lent ws all n told same long =
+    ap length (written room lent ws all n told same long)
     ∙ same_len_mid 0 n room ws (long ∙ ap (λ (t : List Best). length (mid_of 0 n t)) same)
 
-pub front_written : (room lent ws : List Best) (n : ℕ) → lent ≡ room
-    → length ws ≡ length (mid_of 0 n lent) → n ≤ length room
-    → take n (refill (length room) room (put_mid 0 n lent ws)) ≡ ws
-front_written room lent ws n same long h =
-    ap (take n) (written room lent ws n same long)
+pub front_written : (room lent ws all : List Best) (n : ℕ) → all ≡ put_mid 0 n lent ws
+    → lent ≡ room → length ws ≡ length (mid_of 0 n lent) → n ≤ length room
+    → take n (refill (length room) room all) ≡ ws
+front_written room lent ws all n told same long h =
+    ap (take n) (written room lent ws all n told same long)
     ∙ front_whole n ws (post_of 0 n room)
     (long ∙ ap (λ (t : List Best). length (mid_of 0 n t)) same ∙ length_in n room h)

@@ -39,7 +39,8 @@ fn update_ranks(
         ≡ side_rechecked side quoter.now.venue quoter.now.may_rank
         (book_side_of side sides.now (ranks_in places.old ranks.old.items)) }
     ensures moved { result
-        ≡ not (is_same_best (best_of_ranks (ranks_in places.old ranks.old.items)) (best_of_ranks (ranks_in places.new ranks.new.items))) }
+        ≡ not (is_same_best (best_of_ranks (ranks_in places.old ranks.old.items))
+        (best_of_ranks (ranks_in places.new ranks.new.items))) }
 {
     let shown = sides.get(side, quoter.venue);
     let order = Order {
@@ -63,7 +64,8 @@ pub fn set_quote(
     venue_side: VenueSide,
 ) -> bool
     requires kept { KeepsRanks places.old ranks.old.items }
-    requires ranked { IsRanked side (book_side_of side sides.old (ranks_in places.old ranks.old.items)) }
+    requires ranked { IsRanked side
+        (book_side_of side sides.old (ranks_in places.old ranks.old.items)) }
     requires past { ArePast venue_side.age (sides_in side sides.old) }
     ensures kept { KeepsRanks places.new ranks.new.items }
     ensures side { book_side_of side sides.new (ranks_in places.new ranks.new.items)
@@ -71,7 +73,8 @@ pub fn set_quote(
         quoter.now.may_rank (book_side_of side sides.old (ranks_in places.old ranks.old.items)) }
     ensures across { sides_across side sides.new ≡ sides_across side sides.old }
     ensures moved { result
-        ≡ not (is_same_best (best_of_ranks (ranks_in places.old ranks.old.items)) (best_of_ranks (ranks_in places.new ranks.new.items))) }
+        ≡ not (is_same_best (best_of_ranks (ranks_in places.old ranks.old.items))
+        (best_of_ranks (ranks_in places.new ranks.new.items))) }
 {
     let shown = sides.get(side, quoter.venue);
     if is_same(shown.quote(), venue_side.quote()) {
@@ -93,14 +96,17 @@ pub fn clear_quote(
     age: u64,
 ) -> bool
     requires kept { KeepsRanks places.old ranks.old.items }
-    requires ranked { IsRanked side (book_side_of side sides.old (ranks_in places.old ranks.old.items)) }
+    requires ranked { IsRanked side
+        (book_side_of side sides.old (ranks_in places.old ranks.old.items)) }
     requires past { ArePast age (sides_in side sides.old) }
     ensures kept { KeepsRanks places.new ranks.new.items }
     ensures side { book_side_of side sides.new (ranks_in places.new ranks.new.items)
-        ≡ side_quoted side venue None age false (book_side_of side sides.old (ranks_in places.old ranks.old.items)) }
+        ≡ side_quoted side venue None age false
+        (book_side_of side sides.old (ranks_in places.old ranks.old.items)) }
     ensures across { sides_across side sides.new ≡ sides_across side sides.old }
     ensures moved { result
-        ≡ not (is_same_best (best_of_ranks (ranks_in places.old ranks.old.items)) (best_of_ranks (ranks_in places.new ranks.new.items))) }
+        ≡ not (is_same_best (best_of_ranks (ranks_in places.old ranks.old.items))
+        (best_of_ranks (ranks_in places.new ranks.new.items))) }
 {
     let quoter = Quoter {
         venue,
@@ -121,13 +127,15 @@ pub fn recheck_eligibility(
     quoter: &Quoter,
 ) -> bool
     requires kept { KeepsRanks places.old ranks.old.items }
-    requires ready { IsRanked side (book_side_of side sides.now (ranks_in places.old ranks.old.items)) }
+    requires ready { IsRanked side
+        (book_side_of side sides.now (ranks_in places.old ranks.old.items)) }
     ensures kept { KeepsRanks places.new ranks.new.items }
     ensures side { book_side_of side sides.now (ranks_in places.new ranks.new.items)
         ≡ side_rechecked side quoter.now.venue quoter.now.may_rank
         (book_side_of side sides.now (ranks_in places.old ranks.old.items)) }
     ensures moved { result
-        ≡ not (is_same_best (best_of_ranks (ranks_in places.old ranks.old.items)) (best_of_ranks (ranks_in places.new ranks.new.items))) }
+        ≡ not (is_same_best (best_of_ranks (ranks_in places.old ranks.old.items))
+        (best_of_ranks (ranks_in places.new ranks.new.items))) }
 {
     update_ranks(sides, ranks, places, side, quoter, Cause::Rechecked)
 }

@@ -28,9 +28,9 @@ pub struct Order<'a> {
     pub venue_sides: &'a VenueSides,
 }
 
-/// Room for the eligible sides of one side of a symbol. The first, as many as are counted beside the
-/// symbol, are its ranks: best first, at most one of each venue. All places are in use, so that the
-/// vector's own length, which lies in a line past the ranks, is read by nothing.
+/// Room for the eligible sides of one side of a symbol. The first of it, as many as are counted
+/// beside the symbol, are the ranks: best first, at most one of each venue. All of it is in use, so
+/// that nothing reads the vector's own length, which lies in a line behind all ranks.
 pub type Ranks = ArrayVec<Best, MAX_VENUES>;
 
 /// Makes room in which nothing is ranked yet.

@@ -5,7 +5,8 @@ use Rattle.nbbo_book.proofs.book_side.recheck_eligibility.Goals as goal
 
 pub update_ranks-requires-clause-ready : goal.update_ranks-requires-clause-ready
 update_ranks-requires-clause-ready c =
-    let k : BookSide = book_side_of c.args.side c.args.sides.now (ranks_in c.args.places.now c.args.ranks.now.items) in
+    let k : BookSide = book_side_of c.args.side c.args.sides.now
+    (ranks_in c.args.places.now c.args.ranks.now.items) in
     record {
       others = others_in_order c.args.side k c.args.quoter.now.venue c.requires.ready;
       once = c.requires.ready.once c.args.quoter.now.venue;

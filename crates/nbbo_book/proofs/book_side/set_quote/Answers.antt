@@ -20,7 +20,8 @@ update_ranks-requires-clause-ready c =
     let v : ℕ = c.args.quoter.now.venue in
     let st : VenueSide = c.args.venue_side in
     let side : Side = c.args.side in
-    let k : BookSide = book_side_of side c.args.sides.now (ranks_in c.args.places.now c.args.ranks.now.items) in
+    let k : BookSide = book_side_of side c.args.sides.now
+    (ranks_in c.args.places.now c.args.ranks.now.items) in
     let below : v < 16 = omega (arith, c.get-shown.ensures.in_range) in
     let differs : is_same_side (venue_side_at k.venue_sides v).quote st.quote ≡ false =
     ap (λ (s : VenueSide). is_same_side s.quote st.quote) (sym c.get-shown.ensures.value)
@@ -28,7 +29,7 @@ update_ranks-requires-clause-ready c =
     ∙ ap (is_same_side c.quote.result) (sym c.quote-2.ensures) ∙ sym c.is_same.ensures
     ∙ c.if-is_same.false in
     subst (λ (t : BookSide). CanRank side v Quoted t)
-    (sym (ap (λ (t : VenueSides). book_side_of side t (ranks_in c.args.places.now c.args.ranks.now.items)) c.set.ensures
+    (sym (ap (λ (t : VenueSides). book_side_of side t k.ranks) c.set.ensures
     ∙ set_side side v st c.args.sides.now (ranks_in c.args.places.now c.args.ranks.now.items)))
     (record {
       others = others_stay side k v st c.requires.ranked;
@@ -48,7 +49,8 @@ returns-clause-side c =
     let may = c.args.quoter.now.may_rank in
     let st : VenueSide = c.args.venue_side in
     let side : Side = c.args.side in
-    let k : BookSide = book_side_of side c.args.sides.now (ranks_in c.args.places.now c.args.ranks.now.items) in
+    let k : BookSide = book_side_of side c.args.sides.now
+    (ranks_in c.args.places.now c.args.ranks.now.items) in
     let under : v < length k.venue_sides =
     omega (arith, c.get-shown.ensures.in_range, c.requires.ranked.count) in
     let differs : is_same_side (venue_side_at k.venue_sides v).quote st.quote ≡ false =
@@ -58,7 +60,7 @@ returns-clause-side c =
     ∙ c.if-is_same.false in
     c.update_ranks.ensures.side
     ∙ ap (side_rechecked side v may)
-    (ap (λ (t : VenueSides). book_side_of side t (ranks_in c.args.places.now c.args.ranks.now.items)) c.set.ensures
+    (ap (λ (t : VenueSides). book_side_of side t k.ranks) c.set.ensures
     ∙ set_side side v st c.args.sides.now (ranks_in c.args.places.now c.args.ranks.now.items))
     ∙ rechecked_set side k v st may under
     ∙ ap (λ t. cond t k (side_set side v st may k)) (sym differs)

@@ -39,14 +39,14 @@ others_lent noted room lent n same counted below =
     ∙ ap (λ (k : ℕ). take k room) counted
 
 -- what the ranks are once what was lent comes back
-ranks_back : (noted : RankPlaces) (room lent ws : List Best) (n : ℕ) → lent ≡ room
+ranks_back : (noted : RankPlaces) (room lent ws all : List Best) (n : ℕ)
+    → all ≡ put_mid 0 (n + 1) lent ws → lent ≡ room
     → length ws ≡ length (mid_of 0 (n + 1) lent)
     → n ≡ noted.count → noted.count < length room
-    → take (noted.count + 1) (refill (length room) room (put_mid 0 (n + 1) lent ws)) ≡ ws
-ranks_back noted room lent ws n same long counted below =
-    ap (λ (k : ℕ). take (k + 1) (refill (length room) room (put_mid 0 (n + 1) lent ws)))
-    (sym counted)
-    ∙ front_written room lent ws (n + 1) same long (omega (arith, counted, below))
+    → take (noted.count + 1) (refill (length room) room all) ≡ ws
+ranks_back noted room lent ws all n told same long counted below =
+    ap (λ (k : ℕ). take (k + 1) (refill (length room) room all)) (sym counted)
+    ∙ front_written room lent ws all (n + 1) told same long (omega (arith, counted, below))
 
 pub returns-clause-ranks : goal.returns-clause-ranks
 returns-clause-ranks c =
@@ -67,8 +67,12 @@ returns-clause-ranks c =
     subst (λ (t : List Best). IsNewest ages x t) c.requires.absent
     (subst (λ (u : Cause). IsCause u order.side ages x xs) quoted
     (c.requires.ready.caused x refl)).0 in
-    ranks_back noted room c.as_mut_slice.result.now c.move_to_rank.new.ranks c.len-from.result
-    c.as_mut_slice.ensures.value c.move_to_rank.auto.ranks c.len-from.ensures below
+    let told : c.best_first-1.given
+    ≡ put_mid 0 (c.len-from.result + 1) c.as_mut_slice.result.now c.move_to_rank.new.ranks =
+    first_of (search rules, cc, grind rules) in
+    ranks_back noted room c.as_mut_slice.result.now c.move_to_rank.new.ranks c.best_first-1.given
+    c.len-from.result told c.as_mut_slice.ensures.value c.move_to_rank.auto.ranks
+    c.len-from.ensures below
     ∙ c.move_to_rank.ensures.ranks
     ∙ ap (λ (t : List Best). insert t to x) rest
     ∙ walked_here order.cause order.side ages x xs to place.within place.before place.at
@@ -91,11 +95,15 @@ returns-clause-moved c =
     c.move_to_rank.ensures.place in
     let none : HasNone x.venue xs =
     subst (λ (t : List Best). HasNone x.venue t) c.requires.absent c.requires.ready.once in
+    let told : c.best_first-1.given
+    ≡ put_mid 0 (c.len-from.result + 1) c.as_mut_slice.result.now c.move_to_rank.new.ranks =
+    first_of (search rules, cc, grind rules) in
     added_moves xs x to place.within none
     ∙ ap (λ (t : List Best). not (is_same_best (best_of_ranks xs) (best_of_ranks t)))
     (sym (ranks_back noted room c.as_mut_slice.result.now c.move_to_rank.new.ranks
-    c.len-from.result c.as_mut_slice.ensures.value c.move_to_rank.auto.ranks c.len-from.ensures
-    below ∙ c.move_to_rank.ensures.ranks ∙ ap (λ (t : List Best). insert t to x) rest))
+    c.best_first-1.given c.len-from.result told c.as_mut_slice.ensures.value
+    c.move_to_rank.auto.ranks c.len-from.ensures below
+    ∙ c.move_to_rank.ensures.ranks ∙ ap (λ (t : List Best). insert t to x) rest))
 
 pub move_to_rank-requires-clause-ready : goal.move_to_rank-requires-clause-ready
 move_to_rank-requires-clause-ready c =
@@ -139,12 +147,16 @@ returns-clause-kept c =
     let n : ℕ = c.len-from.result in
     let below : noted.count < length room = one_fits noted room c.args.order.now c.args.x
     c.requires.kept c.requires.ready c.requires.absent in
+    let told : c.best_first-1.given
+    ≡ put_mid 0 (c.len-from.result + 1) c.as_mut_slice.result.now c.move_to_rank.new.ranks =
+    first_of (search rules, cc, grind rules) in
     record {
-      full = long_written room c.as_mut_slice.result.now c.move_to_rank.new.ranks (n + 1)
-          c.as_mut_slice.ensures.value c.move_to_rank.auto.ranks ∙ c.requires.kept.full;
+      full = long_written room c.as_mut_slice.result.now c.move_to_rank.new.ranks
+          c.best_first-1.given (n + 1) told c.as_mut_slice.ensures.value c.move_to_rank.auto.ranks ∙ c.requires.kept.full;
       few = omega (arith, below, c.requires.kept.full);
       places = subst (λ (t : List Best). AreNoted c.move_to_rank.new.places t)
-          (sym (ranks_back noted room c.as_mut_slice.result.now c.move_to_rank.new.ranks n
-          c.as_mut_slice.ensures.value c.move_to_rank.auto.ranks c.len-from.ensures below))
+          (sym (ranks_back noted room c.as_mut_slice.result.now c.move_to_rank.new.ranks
+          c.best_first-1.given n told c.as_mut_slice.ensures.value c.move_to_rank.auto.ranks
+          c.len-from.ensures below))
           c.move_to_rank.ensures.noted;
     }

@@ -12,9 +12,9 @@ use Rattle.nbbo_book.proofs.ranks.RankPlaces.remove_at.Goals as goal
 left : (noted : RankPlaces) (room less more : List Best) (out : Best) (at m : ℕ)
     → KeepsRanks noted room → at < noted.count → suc m ≡ noted.count → less ≡ remove room at
     → more ≡ less ++ out ∷ [] → take m more ≡ remove (ranks_in noted room) at
-left noted room less more out at m kept within counted without with =
-    ap (λ (t : List Best). take m t) with
-    ∙ ap (λ (t : List Best). take m (t ++ out ∷ [])) without
+left noted room less more out at m kept within counted shorter longer =
+    ap (λ (t : List Best). take m t) longer
+    ∙ ap (λ (t : List Best). take m (t ++ out ∷ [])) shorter
     ∙ kept_out m room at (out ∷ []) (omega (arith, within, counted))
     (omega (arith, counted, kept.few, kept.full))
     ∙ ap (λ (k : ℕ). remove (take k room) at) counted

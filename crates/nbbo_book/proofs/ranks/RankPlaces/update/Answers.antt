@@ -41,10 +41,13 @@ returns-in-Quoted-clause-ranks c =
     subst (λ (n : ℕ). IsNewest ages x (without n xs)) own
     (subst (λ (u : Cause). IsCause u order.side ages x xs) c.in-Quoted.is
     (c.requires.ready.caused x c.in-Some.is)).0 in
-    ap (λ (k : ℕ). take k (refill (length room) room
-    (put_mid 0 n lent c.move_to_rank-to.new.ranks))) (sym c.len-count.ensures)
-    ∙ front_written room lent c.move_to_rank-to.new.ranks n c.as_mut_slice.ensures.value
-    c.move_to_rank-to.auto.ranks fits
+    let told : c.best_first-1.given
+    ≡ put_mid 0 n c.as_mut_slice.result.now c.move_to_rank-to.new.ranks =
+    first_of (search rules, cc, grind rules) in
+    ap (λ (k : ℕ). take k (refill (length room) room c.best_first-1.given))
+    (sym c.len-count.ensures)
+    ∙ front_written room lent c.move_to_rank-to.new.ranks c.best_first-1.given n told
+    c.as_mut_slice.ensures.value c.move_to_rank-to.auto.ranks fits
     ∙ c.move_to_rank-to.ensures.ranks
     ∙ ap (λ (t : List Best). insert t to x) rest
     ∙ walked_here order.cause order.side ages x (without v xs) to place.within place.before place.at
@@ -84,12 +87,15 @@ returns-in-Quoted-clause-moved c =
     c.move_to_rank-to.ensures.place in
     let new : IsIn xs x → ⊥ = (subst (λ (u : Cause). IsCause u order.side ages x xs) c.in-Quoted.is
     (c.requires.ready.caused x c.in-Some.is)).1 in
+    let told : c.best_first-1.given
+    ≡ put_mid 0 n c.as_mut_slice.result.now c.move_to_rank-to.new.ranks =
+    first_of (search rules, cc, grind rules) in
     moved_moves xs x from to found place.within its none new
     ∙ ap (λ (t : List Best). not (is_same_best (best_of_ranks xs) (best_of_ranks t)))
-    (sym (ap (λ (k : ℕ). take k (refill (length room) room
-    (put_mid 0 n c.as_mut_slice.result.now c.move_to_rank-to.new.ranks))) (sym c.len-count.ensures)
-    ∙ front_written room c.as_mut_slice.result.now c.move_to_rank-to.new.ranks n
-    c.as_mut_slice.ensures.value c.move_to_rank-to.auto.ranks fits
+    (sym (ap (λ (k : ℕ). take k (refill (length room) room c.best_first-1.given))
+    (sym c.len-count.ensures)
+    ∙ front_written room c.as_mut_slice.result.now c.move_to_rank-to.new.ranks
+    c.best_first-1.given n told c.as_mut_slice.ensures.value c.move_to_rank-to.auto.ranks fits
     ∙ c.move_to_rank-to.ensures.ranks ∙ ap (λ (t : List Best). insert (remove t from) to x) lent))
 
 pub returns-in-Rechecked-clause-ranks : goal.returns-in-Rechecked-clause-ranks
@@ -151,11 +157,15 @@ returns-in-Quoted-clause-kept c =
     let ws : List Best = c.move_to_rank-to.new.ranks in
     let fits : n ≤ length room = omega (arith, c.len-count.ensures, c.requires.kept.few,
     c.requires.kept.full) in
-    let front = ap (λ (k : ℕ). take k (refill (length room) room (put_mid 0 n lent ws)))
+    let told : c.best_first-1.given
+    ≡ put_mid 0 n c.as_mut_slice.result.now c.move_to_rank-to.new.ranks =
+    first_of (search rules, cc, grind rules) in
+    let front = ap (λ (k : ℕ). take k (refill (length room) room c.best_first-1.given))
     (sym c.len-count.ensures)
-    ∙ front_written room lent ws n c.as_mut_slice.ensures.value c.move_to_rank-to.auto.ranks fits in
+    ∙ front_written room lent ws c.best_first-1.given n told c.as_mut_slice.ensures.value
+    c.move_to_rank-to.auto.ranks fits in
     record {
-      full = long_written room lent ws n c.as_mut_slice.ensures.value
+      full = long_written room lent ws c.best_first-1.given n told c.as_mut_slice.ensures.value
           c.move_to_rank-to.auto.ranks ∙ c.requires.kept.full;
       few = c.requires.kept.few;
       places = subst (λ (t : List Best). AreNoted c.move_to_rank-to.new.places t) (sym front)
