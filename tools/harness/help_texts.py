@@ -5,7 +5,7 @@ import subprocess
 from collections.abc import Iterable, Sequence
 from dataclasses import dataclass, field
 
-ENTRY = re.compile(r'^ {2,6}((?:-\w, )?--?[\w-]+(?: <\w+>)?|\[\w+\]\.\.\.|[a-z]+)(?: {2,}(\S.*))?$')
+ENTRY = re.compile(r'^ {2,6}((?:-\w, )?--?[\w-]+(?: <[\w=]+>)?|\[\w+\]\.\.\.|[a-z]+)(?: {2,}(\S.*))?$')
 CHOICES = re.compile(r': ((?:\w+, )*\w+ or \w+)(?=[;. ]|$)')
 INDENT = 10 * ' '  # of the text below a head
 PARTS = ('Commands', 'Arguments', 'Options')

@@ -13,6 +13,19 @@ REQUEST = struct.Struct('>10sQH')
 END_COUNT = 0xFFFF
 FIRST_SESSION = b'0000000001'
 
+# The forms of each payload, by type and length: this project's, and TotalView-ITCH 5.0's in the order of its pages.
+OWN_FORMS = {(0x51, 26), (0x71, 34), (0x48, 10)}
+ITCH_FORMS = {(ord(kind), size) for kind, size in (
+    ('S', 12), ('R', 39), ('H', 25), ('Y', 20), ('L', 26), ('V', 35), ('W', 12), ('K', 28), ('J', 35), ('h', 21), ('A', 36),
+    ('F', 40), ('E', 31), ('C', 36), ('X', 23), ('D', 19), ('U', 35), ('P', 44), ('Q', 40), ('B', 19), ('I', 50), ('N', 20),
+    ('O', 48),
+)}
+
+
+def looks_like_itch(forms: set[tuple[int, int]]) -> bool:
+    """Whether messages of these forms have one of ITCH's, and none of this project's."""
+    return bool(forms & ITCH_FORMS) and not forms & OWN_FORMS
+
 
 def block(message: bytes) -> bytes:
     """A message with its length before it."""

@@ -1,5 +1,5 @@
 -- A row of comma-separated values is what csv's writer writes of its fields.
-use Rattle.std.proofs.Common.{◌≡◌, ◌==◌, ℕ, zero, suc, ◌+◌, ◌<◌, ◌/◌, ◌%◌, ◌^◌, Bool, true, false, List, [], ◌∷◌, ◌++◌, append_assoc, append-nil, codes, decimal, refl, sym, ap, ◌∙◌, arith, inl, inr, Option, Some, None}
+use Rattle.std.proofs.Common.{◌≡◌, ◌==◌, ℕ, zero, suc, ◌+◌, ◌<◌, ◌/◌, ◌%◌, ◌^◌, Bool, true, false, List, [], ◌∷◌, ◌++◌, append_assoc, append-nil, codes, decimal, refl, sym, ap, subst, ◌∙◌, arith, inl, inr, Option, Some, None}
 use Rattle.std.specs.Prelude.{◌||◌, ◌≤◌, IfSome, IsTrue, flat_map, nat_le}
 use Rattle.std.specs.List.{list_all, list_any}
 use Rattle.std.proofs.lemmas.Bool.{and_parts, cases_Bool, leb-true, ne_eqb}
@@ -18,6 +18,10 @@ use Rattle.csv.specs.declared.parser.State.TheVariants as st
 use Rattle.jiff_fmt.specs.Text.{pad2, pad4, places}
 use Rattle.run_settings.specs.declared.formats.BestFormat.TheVariants.{Csv}
 use Rattle.run_settings.specs.declared.formats.TimeStyle.{TimeStyle}
+use Rattle.run_settings.specs.declared.formats.ValueStyle.{ValueStyle}
+use Rattle.run_settings.specs.declared.venue_names.VenueNames.{VenueNames}
+use Rattle.run_settings.specs.declared.venue_names.VenueNames.TheVariants.{Numbers, Named}
+use Rattle.run_settings.specs.VenueNames.{HaveVenueBytes, is_venue_byte, name_of_venue, venue_text}
 use Rattle.run_settings.specs.declared.formats.TimeStyle.TheVariants.{Seconds, Utc}
 use Rattle.feed_types.specs.Nationals.{state_of}
 use Rattle.best_rows.specs.Quoting.{csv_text, escaped_byte, needs_quotes, quoted}
@@ -213,13 +217,34 @@ unfolding fields_text
 three_fields v p s a b c = rw (plain_field v a, plain_field p b, plain_field s c, append-nil s)
     (sym (three_joined v p s))
 
-side_text : (side : Option Best) → IfSome side IsSideOfWords
-    → fields_text default_writer (side_fields side) ≡ codes "," ++ csv_side side
+-- a byte of a venue's name calls for no quotes
+venue_byte : (b : ℕ) → is_venue_byte b ≡ true → needs_byte default_writer b ≡ false
+venue_byte b is =
+    let c = ne_eqb b 44 (λ e. cc (subst (λ (x : ℕ). is_venue_byte x ≡ true) e is)) in
+    let q = ne_eqb b 34 (λ e. cc (subst (λ (x : ℕ). is_venue_byte x ≡ true) e is)) in
+    let r = ne_eqb b 13 (λ e. cc (subst (λ (x : ℕ). is_venue_byte x ≡ true) e is)) in
+    let f = ne_eqb b 10 (λ e. cc (subst (λ (x : ℕ). is_venue_byte x ≡ true) e is)) in
+    rw (c, q, r, f) refl
+
+venue_bytes : (name : List ℕ) → list_all is_venue_byte name ≡ true → IsPlain name
+venue_bytes [] is = refl
+venue_bytes (b ∷ name) is =
+    let both = and_parts (is_venue_byte b) (list_all is_venue_byte name) is in
+    or_from _ _ (venue_byte b both.0) (venue_bytes name both.1)
+
+plain_venue : (venues : VenueNames) (venue : ℕ) → HaveVenueBytes venues → venue < 2 ^ 64
+    → IsPlain (venue_text venues venue)
+plain_venue Numbers venue names fits = plain_decimal venue fits
+plain_venue (Named names) venue bytes fits = venue_bytes (name_of_venue names venue) (bytes venue)
+
+side_text : (venues : VenueNames) (side : Option Best) → HaveVenueBytes venues
+    → IfSome side IsSideOfWords
+    → fields_text default_writer (side_fields venues side) ≡ codes "," ++ csv_side venues side
 unfolding fields_text
-side_text None fits = refl
-side_text (Some b) fits =
-    three_fields (decimal b.venue) (price_text b.price) (decimal b.size)
-    (plain_decimal b.venue fits.venue) (plain_price b.price fits.price)
+side_text venues None names fits = refl
+side_text venues (Some b) names fits =
+    three_fields (venue_text venues b.venue) (price_text b.price) (decimal b.size)
+    (plain_venue venues b.venue names fits.venue) (plain_price b.price fits.price)
     (plain_decimal b.size fits.size)
 
 one_field : (x : List ℕ) → IsPlain x → fields_text default_writer (x ∷ []) ≡ codes "," ++ x
@@ -263,21 +288,24 @@ row_written n p s word b o t name bid offer time pn pp es eb eo ps et =
       et,
     ) (row_joined (codes ",") (codes "\n") n p name bid offer word time)
 
-pub row_is_written : (style : TimeStyle) (time : RowTime) (n : Notice) → HasWords time n
+pub row_is_written : (style : ValueStyle) (time : RowTime) (n : Notice)
+    → HaveVenueBytes style.venues → HasWords time n
     → csv_row style time n ≡ row_text default_writer (csv_fields style time n)
 unfolding csv_row
-row_is_written style time n fits =
+row_is_written style time n names fits =
     row_written (decimal n.number) (decimal n.position) (name_of n.symbol)
     (state_text (state_of n.national))
-    (side_fields n.national.bid) (side_fields n.national.offer) (time_fields style time)
-    (csv_text (name_of n.symbol)) (csv_side n.national.bid)
-    (csv_side n.national.offer) (csv_time style time)
+    (side_fields style.venues n.national.bid) (side_fields style.venues n.national.offer)
+    (time_fields style.times time)
+    (csv_text (name_of n.symbol)) (csv_side style.venues n.national.bid)
+    (csv_side style.venues n.national.offer) (csv_time style.times time)
     (plain_decimal n.number fits.number) (plain_decimal n.position fits.position)
     (name_field (name_of n.symbol) (field_name n.symbol fits.symbol))
-    (side_text n.national.bid fits.bid) (side_text n.national.offer fits.offer)
-    (plain_state (state_of n.national)) (time_written style time fits.at)
+    (side_text style.venues n.national.bid names fits.bid)
+    (side_text style.venues n.national.offer names fits.offer)
+    (plain_state (state_of n.national)) (time_written style.times time fits.at)
 
-header_is_written : (style : TimeStyle) (timed : Bool)
+header_is_written : (style : ValueStyle) (timed : Bool)
     → header_of (Csv style) timed ≡ row_text default_writer (csv_names timed)
 unfolding is_blank fields_text
 header_is_written style false = refl
@@ -290,12 +318,13 @@ reads_written text x y ys e rest =
     ap (λ (t : List ℕ). next_record default_config st.StartRecord [] [] (t ++ rest)) e
     ∙ read-write-many x y ys rest
 
-pub header_reads_back : (style : TimeStyle) (timed : Bool)
+pub header_reads_back : (style : ValueStyle) (timed : Bool)
     → ReadsBack (header_of (Csv style) timed) (csv_names timed)
 header_reads_back style timed =
     reads_written (header_of (Csv style) timed) _ _ _ (header_is_written style timed)
 
-pub row_reads_back : (style : TimeStyle) (time : RowTime) (n : Notice) → HasWords time n
+pub row_reads_back : (style : ValueStyle) (time : RowTime) (n : Notice)
+    → HaveVenueBytes style.venues → HasWords time n
     → ReadsBack (csv_row style time n) (csv_fields style time n)
-row_reads_back style time n fits =
-    reads_written (csv_row style time n) _ _ _ (row_is_written style time n fits)
+row_reads_back style time n names fits =
+    reads_written (csv_row style time n) _ _ _ (row_is_written style time n names fits)

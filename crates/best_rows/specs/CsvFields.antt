@@ -9,24 +9,27 @@ use Rattle.csv.specs.Machine.{next_record}
 use Rattle.csv.specs.Reading.{default_config}
 use Rattle.csv.specs.declared.parser.State.TheVariants as st
 use Rattle.run_settings.specs.declared.formats.TimeStyle.{TimeStyle}
+use Rattle.run_settings.specs.declared.formats.ValueStyle.{ValueStyle}
+use Rattle.run_settings.specs.declared.venue_names.VenueNames.{VenueNames}
+use Rattle.run_settings.specs.VenueNames.{venue_text}
 use Rattle.best_rows.specs.declared.row_time.RowTime.{RowTime}
 use Rattle.best_rows.specs.declared.row_time.RowTime.TheVariants.{Absent, Given}
 use Rattle.best_rows.specs.Times.{time_text}
 
-abbrev pub side_fields : Option Best → List (List ℕ)
-side_fields None = [] ∷ [] ∷ [] ∷ []
-side_fields (Some b) = decimal b.venue ∷ price_text b.price ∷ decimal b.size ∷ []
+abbrev pub side_fields : VenueNames → Option Best → List (List ℕ)
+side_fields venues None = [] ∷ [] ∷ [] ∷ []
+side_fields venues (Some b) = venue_text venues b.venue ∷ price_text b.price ∷ decimal b.size ∷ []
 
 abbrev pub time_fields : TimeStyle → RowTime → List (List ℕ)
 time_fields style Absent = []
 time_fields style (Given None) = [] ∷ []
 time_fields style (Given (Some time)) = time_text style time ∷ []
 
-abbrev pub csv_fields : TimeStyle → RowTime → Notice → List (List ℕ)
+abbrev pub csv_fields : ValueStyle → RowTime → Notice → List (List ℕ)
 csv_fields style time n =
     decimal n.number ∷ decimal n.position ∷ name_of n.symbol
-    ∷ ((side_fields n.national.bid ++ side_fields n.national.offer)
-    ++ (state_text (state_of n.national) ∷ time_fields style time))
+    ∷ ((side_fields style.venues n.national.bid ++ side_fields style.venues n.national.offer)
+    ++ (state_text (state_of n.national) ∷ time_fields style.times time))
 
 -- the names of the columns
 abbrev pub csv_names : Bool → List (List ℕ)

@@ -1,6 +1,7 @@
 pub mod Quoting
 pub mod UtcTexts
 pub mod Times
+pub mod VenueValues
 pub mod RowTexts
 pub mod CsvFields
 pub mod NoticeRows

@@ -7,45 +7,49 @@ use Rattle.feed_types.specs.Symbols.{name_of}
 use Rattle.feed_types.specs.Text.{price_text, state_text}
 use Rattle.run_settings.specs.declared.formats.BestFormat.{BestFormat}
 use Rattle.run_settings.specs.declared.formats.BestFormat.TheVariants.{Text, Csv, Json}
-use Rattle.run_settings.specs.declared.formats.TimeStyle.{TimeStyle}
+use Rattle.run_settings.specs.declared.formats.ValueStyle.{ValueStyle}
+use Rattle.run_settings.specs.declared.venue_names.VenueNames.{VenueNames}
+use Rattle.run_settings.specs.VenueNames.{venue_text}
 use Rattle.event_sinks.specs.Lines.{best_line}
 use Rattle.event_sinks.specs.SinkEvents.{SinkEvent, TimedEvent, told_best}
 use Rattle.best_rows.specs.declared.row_time.RowTime.{RowTime}
 use Rattle.best_rows.specs.declared.style.RowStyle.{RowStyle}
 use Rattle.best_rows.specs.Quoting.{csv_text, quoted}
 use Rattle.best_rows.specs.Times.{row_time, csv_time, json_time}
+use Rattle.best_rows.specs.VenueValues.{json_venue}
 
 -- ---- comma-separated values
 
 -- a side's venue, price and size, each empty where there is no side
-abbrev pub csv_side : Option Best → List ℕ
-csv_side None = codes ",,"
-csv_side (Some b) =
-    decimal b.venue ++ codes "," ++ price_text b.price ++ codes "," ++ decimal b.size
+abbrev pub csv_side : VenueNames → Option Best → List ℕ
+csv_side venues None = codes ",,"
+csv_side venues (Some b) =
+    venue_text venues b.venue ++ codes "," ++ price_text b.price ++ codes "," ++ decimal b.size
 
-unfoldable pub csv_row : TimeStyle → RowTime → Notice → List ℕ
+unfoldable pub csv_row : ValueStyle → RowTime → Notice → List ℕ
 csv_row style time n =
     decimal n.number ++ codes "," ++ decimal n.position ++ codes "," ++ csv_text (name_of n.symbol)
-    ++ codes "," ++ csv_side n.national.bid ++ codes "," ++ csv_side n.national.offer
-    ++ codes "," ++ state_text (state_of n.national) ++ csv_time style time ++ codes "\n"
+    ++ codes "," ++ csv_side style.venues n.national.bid
+    ++ codes "," ++ csv_side style.venues n.national.offer
+    ++ codes "," ++ state_text (state_of n.national) ++ csv_time style.times time ++ codes "\n"
 
 -- ---- JSON
 
 -- an object of a side's venue, price and size, or null
-abbrev pub json_side : Option Best → List ℕ
-json_side None = codes "null"
-json_side (Some b) =
-    codes "{\"venue\":" ++ decimal b.venue ++ codes ",\"price\":" ++ price_text b.price
+abbrev pub json_side : VenueNames → Option Best → List ℕ
+json_side venues None = codes "null"
+json_side venues (Some b) =
+    codes "{\"venue\":" ++ json_venue venues b.venue ++ codes ",\"price\":" ++ price_text b.price
     ++ codes ",\"size\":" ++ decimal b.size ++ codes "}"
 
-unfoldable pub json_row : TimeStyle → RowTime → Notice → List ℕ
+unfoldable pub json_row : ValueStyle → RowTime → Notice → List ℕ
 json_row style time n =
     codes "{\"notice\":" ++ decimal n.number ++ codes ",\"position\":" ++ decimal n.position
     ++ codes ",\"symbol\":" ++ quoted 92 (name_of n.symbol)
-    ++ codes ",\"bid\":" ++ json_side n.national.bid
-    ++ codes ",\"offer\":" ++ json_side n.national.offer
+    ++ codes ",\"bid\":" ++ json_side style.venues n.national.bid
+    ++ codes ",\"offer\":" ++ json_side style.venues n.national.offer
     ++ codes ",\"state\":\"" ++ state_text (state_of n.national) ++ codes "\""
-    ++ json_time style time ++ codes "}\n"
+    ++ json_time style.times time ++ codes "}\n"
 
 -- ---- by format
 

@@ -9,21 +9,22 @@ use crate::quoting::put_quoted;
 use crate::row_time::RowTime;
 use crate::rows::put_state;
 use crate::time_styles::put_time_value;
+use crate::venue_texts::put_venue_value;
 use feed_types::Best;
 use nbbo_book::Change;
-use run_settings::TimeStyle;
+use run_settings::{TimeStyle, ValueStyle, VenueNames};
 use text_out::{LineBuffer, put_bytes, put_number, put_price};
 
 /// Appends a side as an object of its venue, price and size, or null.
-fn put_json_side(text: &mut LineBuffer, side: &Option<Best>)
+fn put_json_side(text: &mut LineBuffer, venues: &VenueNames, side: &Option<Best>)
     requires { 80 ≤ text.old.room }
-    ensures { Appends text.old (json_side side.now) 80 text.new }
+    ensures { Appends text.old (json_side venues.now side.now) 80 text.new }
 {
     match side {
         None => put_bytes(text, *b"null"),
         Some(best) => {
             put_bytes(text, *b"{\"venue\":");
-            put_number(text, best.venue.index() as u64);
+            put_venue_value(text, venues, best.venue.index());
             put_bytes(text, *b",\"price\":");
             put_price(text, best.price);
             put_bytes(text, *b",\"size\":");
@@ -57,16 +58,17 @@ fn put_json_time(text: &mut LineBuffer, style: TimeStyle, time: RowTime)
 }
 
 /// Appends the object of a change of the national best, under this number, on a line, with its
-/// time in the style.
+/// time and its venues in the style.
 pub fn put_json(
     text: &mut LineBuffer,
-    style: TimeStyle,
+    style: &ValueStyle,
     time: RowTime,
     number: u64,
     change: &Change,
 )
     requires { 359 ≤ text.old.room }
-    ensures { Appends text.old (json_row style time (notice_of number change.now)) 359 text.new }
+    ensures { Appends text.old (json_row style.now time (notice_of number change.now)) 359
+        text.new }
 {
     put_bytes(text, *b"{\"notice\":");
     put_number(text, number);
@@ -75,12 +77,12 @@ pub fn put_json(
     put_bytes(text, *b",\"symbol\":");
     put_quoted(text, change.symbol.name(), b'\\');
     put_bytes(text, *b",\"bid\":");
-    put_json_side(text, &change.national.bid);
+    put_json_side(text, &style.venues, &change.national.bid);
     put_bytes(text, *b",\"offer\":");
-    put_json_side(text, &change.national.offer);
+    put_json_side(text, &style.venues, &change.national.offer);
     put_bytes(text, *b",\"state\":\"");
     put_state(text, change.national.state());
     put_bytes(text, *b"\"");
-    put_json_time(text, style, time);
+    put_json_time(text, style.times, time);
     put_bytes(text, *b"}\n");
 }

@@ -22,6 +22,7 @@ mod seconds;
 mod style;
 mod time_styles;
 mod utc;
+mod venue_texts;
 
 pub use header::header_line;
 pub use json_rows::put_known_time;
@@ -32,3 +33,4 @@ pub use rows::put_row;
 pub use seconds::put_seconds;
 pub use style::{RowStyle, has_times, put_header};
 pub use time_styles::{put_time, put_time_value};
+pub use venue_texts::{put_venue, put_venue_value};

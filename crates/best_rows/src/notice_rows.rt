@@ -28,6 +28,6 @@ pub fn put_notice(
         symbol: notice.symbol,
         national: notice.national,
     };
-    put_row(text, style, time, notice.number, &change);
+    put_row(text, &style, time, notice.number, &change);
     Ok(())
 }

@@ -34,18 +34,18 @@ pub(crate) fn put_state(text: &mut LineBuffer, state: NationalState)
 /// this time.
 pub fn put_row(
     text: &mut LineBuffer,
-    style: RowStyle,
+    style: &RowStyle,
     time: Option<u64>,
     number: u64,
     change: &Change,
 )
     requires { 1024 ≤ text.old.room }
     ensures row { text.new.items ≡ text.old.items
-        ++ row_of style.format (row_time style.timed time) (notice_of number change.now) }
+        ++ row_of style.now.format (row_time style.now.timed time) (notice_of number change.now) }
     ensures size { memory_of text.old ≤ memory_of text.new }
 {
     let time = RowTime::of(style.timed, time);
-    match style.format {
+    match &style.format {
         BestFormat::Text => put_change(text, number, change),
         BestFormat::Csv(style) => put_csv(text, style, time, number, change),
         BestFormat::Json(style) => put_json(text, style, time, number, change),

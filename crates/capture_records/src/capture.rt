@@ -49,7 +49,7 @@ pub enum Parse<'a> {
 
 /// The kind of a record.
 #[derive(Clone, Copy, Debug, PartialEq, Eq)]
-enum Kind {
+enum RecordType {
     Line(LineId),
     Renewal,
     Skip,
@@ -59,28 +59,28 @@ enum Kind {
 /// Returns the kind of a byte that is no line's letter, with a length, if there is one. Few records
 /// have such a byte.
 #[inline(never)]
-fn other_kind(byte: u8, len: usize) -> Option<Kind>
+fn other_kind(byte: u8, len: usize) -> Option<RecordType>
     requires { (byte ≢ 65) × (byte ≢ 66) × (byte ≢ 82) }
     ensures { MatchOption result (IsKind byte len → ⊥) (IsKindOf byte len) }
 {
     match byte {
-        b'N' if len == 10 => Some(Kind::Renewal),
-        b'K' if len == 8 => Some(Kind::Skip),
-        b'H' if len == 0 => Some(Kind::SelfHelp(true)),
-        b'W' if len == 0 => Some(Kind::SelfHelp(false)),
+        b'N' if len == 10 => Some(RecordType::Renewal),
+        b'K' if len == 8 => Some(RecordType::Skip),
+        b'H' if len == 0 => Some(RecordType::SelfHelp(true)),
+        b'W' if len == 0 => Some(RecordType::SelfHelp(false)),
         _ => None,
     }
 }
 
 /// Returns the kind of a byte with a length, if there is one.
 #[inline(always)]
-fn kind_from(byte: u8, len: usize) -> Option<Kind>
+fn kind_from(byte: u8, len: usize) -> Option<RecordType>
     ensures { MatchOption result (IsKind byte len → ⊥) (IsKindOf byte len) }
 {
     match byte {
-        b'A' => Some(Kind::Line(LineId::A)),
-        b'B' => Some(Kind::Line(LineId::B)),
-        b'R' => Some(Kind::Line(LineId::Recovery)),
+        b'A' => Some(RecordType::Line(LineId::A)),
+        b'B' => Some(RecordType::Line(LineId::B)),
+        b'R' => Some(RecordType::Line(LineId::Recovery)),
         _ => other_kind(byte, len),
     }
 }
@@ -120,7 +120,7 @@ fn number_from(bytes: &[u8]) -> u64
 
 /// Makes the record of a kind, with the bytes that its length counts.
 #[inline(always)]
-fn record_from(venue: VenueId, kind: Kind, held: &[u8]) -> Record<'_>
+fn record_from(venue: VenueId, kind: RecordType, held: &[u8]) -> Record<'_>
     requires { MayHave kind (length held.now) }
     ensures venue { record_venue (record_of result) ≡ venue }
     ensures kind { kind_byte (record_of result) ≡ byte_of kind }
@@ -129,20 +129,20 @@ fn record_from(venue: VenueId, kind: Kind, held: &[u8]) -> Record<'_>
     ensures number { HasNumber (record_of result) }
 {
     match kind {
-        Kind::Line(line) => Record::Datagram {
+        RecordType::Line(line) => Record::Datagram {
             venue,
             line,
             bytes: held,
         },
-        Kind::Renewal => Record::Renewal {
+        RecordType::Renewal => Record::Renewal {
             venue,
             session: name_from(held),
         },
-        Kind::Skip => Record::Skip {
+        RecordType::Skip => Record::Skip {
             venue,
             number: number_from(held),
         },
-        Kind::SelfHelp(on) => Record::SelfHelp { venue, on },
+        RecordType::SelfHelp(on) => Record::SelfHelp { venue, on },
     }
 }
 

@@ -9,17 +9,17 @@
 //! bytes are wanted for one, or that none begins them. [`one_reading`] says that a capture has one
 //! reading.
 //!
-//! Begin with `capture.rt`, then `record_format.rt`; `unread.rt` has the bytes that were read.
+//! Begin with `capture.rt`, then `record_format.rt`; `read_buffer.rt` has the bytes that were read.
 #![tactic(auto)]
 
 mod capture;
 mod laws;
 mod own_format;
+mod read_buffer;
 mod record_format;
-mod unread;
 
 pub use capture::{Parse, Record, parse_record};
 pub use laws::one_reading;
 pub use own_format::OwnFormat;
+pub use read_buffer::{ReadBuffer, ReadStep};
 pub use record_format::{CAPTURE_ROOM, RecordFormat, Step, is_complete};
-pub use unread::{ReadBuffer, ReadStep};

@@ -3,7 +3,7 @@ ghost use Rattle.std.specs.Prelude.{◌≡◌, ℕ, ◌++◌, ◌<◌, [], ◌�
 ghost use Rattle.capture_records.specs.Formats.{CameOf, StepsTo, TimedRecord};
 
 use crate::capture::Record;
-use crate::unread::ReadBuffer;
+use crate::read_buffer::ReadBuffer;
 
 /// The most bytes of a capture that are held.
 pub const CAPTURE_ROOM: usize = 1_179_648;

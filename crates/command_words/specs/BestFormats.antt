@@ -3,7 +3,7 @@ use Rattle.std.specs.Prelude.{ℕ, Bool, true, false, List, Option, Some, None, 
 use Rattle.std.specs.Str.{bytes_eq}
 use Rattle.run_settings.specs.declared.formats.BestFormat.{BestFormat}
 use Rattle.run_settings.specs.declared.formats.BestFormat.TheVariants.{Text, Csv, Json}
-use Rattle.run_settings.specs.declared.formats.TimeStyle.TheVariants.{Seconds}
+use Rattle.run_settings.specs.Styles.{all_numbers}
 use Rattle.run_settings.specs.declared.run_output.RunOutput.{RunOutput}
 use Rattle.run_settings.specs.declared.run_output.RunOutput.TheVariants.{Lines, Bests}
 use Rattle.command_words.specs.Readings.{mapped, named_or}
@@ -14,8 +14,8 @@ use Rattle.command_words.specs.declared.refusal.Refusal.TheVariants.{BadFormat}
 abbrev pub format_named : List ℕ → Option BestFormat
 format_named name =
     if bytes_eq name (codes "text") then Some Text
-    else if bytes_eq name (codes "csv") then Some (Csv Seconds)
-    else if bytes_eq name (codes "json") then Some (Json Seconds) else None
+    else if bytes_eq name (codes "csv") then Some (Csv all_numbers)
+    else if bytes_eq name (codes "json") then Some (Json all_numbers) else None
 
 -- All lines are printed where the best ones alone aren't asked for, and then no format may be
 -- named; else these, in the format that is named, or as they are.

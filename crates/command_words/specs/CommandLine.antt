@@ -3,9 +3,9 @@
 -- The crate clap says how words become the values of options: of the command nbbo_app and some
 -- words, subcommand_of is the subcommand with the values of its options, and fault_of what is wrong
 -- with the words.
-use Rattle.std.specs.Prelude.{◌≡◌, ◌≢◌, ◌⊎◌, [], ℕ, List, Option, Some, None, Result, Ok, Err, codes, string_bytes}
+use Rattle.std.specs.Prelude.{◌≡◌, ◌≢◌, ◌⊎◌, [], ℕ, Bool, true, false, List, Option, Some, None, Result, Ok, Err, codes, string_bytes}
 use Rattle.std.specs.Global.{Vec}
-use Rattle.clap.specs.Walk.{Row, Text, first_of}
+use Rattle.clap.specs.Walk.{Row, Text, first_of, one_of}
 use Rattle.clap.specs.Simple.{subcommand_of}
 use Rattle.clap.specs.Faults.{fault_of}
 use Rattle.clap.specs.Kinds.{IsAmong}
@@ -20,17 +20,19 @@ use Rattle.command_words.specs.CapturedLines.{ReadsAllLines}
 use Rattle.command_words.specs.Commands.{nbbo_app}
 use Rattle.command_words.specs.ListenRequests.{ReadsListening}
 use Rattle.command_words.specs.NormaliseRequests.{ReadsNormalising}
-use Rattle.command_words.specs.OptionValues.{lines_in, rows_of_command}
+use Rattle.command_words.specs.OptionValues.{is_flag_set, lines_in, rows_of_command}
 use Rattle.command_words.specs.Readings.{Gives, Then, and_then, mapped}
 use Rattle.command_words.specs.RunRequests.{ReadsReplay, ReadsStats}
 use Rattle.command_words.specs.StatsFormats.{stats_format_in}
 use Rattle.command_words.specs.StreamNames.{ReadsStreamFiles}
 use Rattle.command_words.specs.TimeStyles.{time_style_in}
+use Rattle.command_words.specs.TypeRequests.{ReadsTypes}
 use Rattle.command_words.specs.declared.streams.StreamFiles.{StreamFiles}
 use Rattle.command_words.specs.declared.task.Task.{Task}
-use Rattle.command_words.specs.declared.task.Task.TheVariants.{Run, Convert, Discover, Normalise, Listen}
+use Rattle.command_words.specs.declared.type_settings.TypeSettings.{TypeSettings}
+use Rattle.command_words.specs.declared.task.Task.TheVariants.{Run, CountTypes, Convert, Discover, Normalise, Listen}
 use Rattle.command_words.specs.declared.refusal.Refusal.{Refusal}
-use Rattle.command_words.specs.declared.refusal.Refusal.TheVariants.{Shown, Usage, NotText, BadSession, TooManySessions, BadNextSession, BadLines, BadRequest, BadFormat, BadPeriod, EveryWithoutLines, GapsWithEvery, BestsWithoutEvery, SkipAfterWithoutLines, SkipGapsWithSkipAfter, BadTime, ToBeforeFrom, SpanOfLines, SpanWithoutLines, BadTimeStyle, TimesOfText, TimesWithoutLines, BadEnd, KeptUnfollowed, FormatUnfollowed, BadSender, SendersWithFrom, BadRecording, BadMetrics, BadEndNumber, BadInput, BadOutput, BadSymbol, TooManySymbols, DuplicateSymbol, NoMemory}
+use Rattle.command_words.specs.declared.refusal.Refusal.TheVariants.{Shown, Usage, NotText, BadSession, TooManySessions, BadNextSession, BadLines, BadRequest, BadFormat, BadPeriod, EveryWithoutLines, GapsWithEvery, BestsWithoutEvery, TypesWithRows, SkipAfterWithoutLines, SkipGapsWithSkipAfter, BadTime, ToBeforeFrom, SpanOfLines, SpanWithoutLines, BadTimeStyle, TimesOfText, TimesWithoutLines, BadVenues, VenuesOfText, BadEnd, KeptUnfollowed, FormatUnfollowed, BadSender, SendersWithFrom, BadRecording, BadMetrics, UnknownItch, ItchTwice, BadEndNumber, BadSnapshot, UnknownSnapshot, SnapshotTwice, BadInput, BadOutput, BadSymbol, TooManySymbols, DuplicateSymbol, NoMemory}
 
 -- a text that was asked for: help, or the version
 abbrev pub IsAsked : ErrorKind → Type 0
@@ -64,6 +66,19 @@ abbrev pub OfCommand : Option (List Row) → (List Row → Result Task Refusal �
 OfCommand (Some rows) Read Else result = Read rows result
 OfCommand None Read Else result = Else result
 
+-- one reading where a flag is given, another one where it isn't
+abbrev pub OfFlag : Bool → (given other : Result Task Refusal → Type 0) → Result Task Refusal
+    → Type 0
+OfFlag true given other = given
+OfFlag false given other = other
+
+-- the task of stats: with the flag --types counts by type, else a run
+abbrev pub ReadsStatsTask : List Row → Result Task Refusal → Type 0
+ReadsStatsTask rows =
+    OfFlag (is_flag_set (one_of (codes "types") rows))
+    (Then (ReadsTypes rows) (λ settings. Gives (Ok (CountTypes settings))))
+    (Then (ReadsStats rows) (λ settings. Gives (Ok (Run settings))))
+
 -- The task of the subcommand that clap found, with the values of its options. Without one there is
 -- no list of sessions either.
 abbrev pub ReadsTask : Option (Text × List Row) → Result Task Refusal → Type 0
@@ -71,10 +86,9 @@ ReadsTask found =
     OfCommand (rows_of_command (codes "listen") found)
     (λ rows. Then (ReadsListening rows) (λ settings. Gives (Ok (Listen settings))))
     (OfCommand (rows_of_command (codes "convert") found) ReadsConversion
-    (OfCommand (rows_of_command (codes "stats") found)
-    (λ rows. Then (ReadsStats rows) (λ settings. Gives (Ok (Run settings))))
+    (OfCommand (rows_of_command (codes "stats") found) ReadsStatsTask
     (OfCommand (rows_of_command (codes "normalise") found)
-    (λ rows. Then (ReadsNormalising rows) (λ settings. Gives (Ok (Normalise settings))))
+    (λ rows. Then (ReadsNormalising rows) (λ request. Gives (Ok (Normalise request))))
     (OfCommand (rows_of_command (codes "lines") found) ReadsDiscovery
     (OfCommand (rows_of_command (codes "replay") found)
     (λ rows. Then (ReadsReplay rows) (λ settings. Gives (Ok (Run settings))))
@@ -124,6 +138,10 @@ Asks words task = ReadsWords words (Ok task)
 abbrev pub IsRefused : List Text → Refusal → Type 0
 IsRefused words refusal = ReadsWords words (Err refusal)
 
+-- The words ask for these counts by type.
+abbrev pub AsksTypes : List Text → TypeSettings → Type 0
+AsksTypes words settings = Asks words (CountTypes settings)
+
 -- The words ask for a run with these settings.
 abbrev pub AsksRun : List Text → RunSettings → Type 0
 AsksRun words settings = Asks words (Run settings)
@@ -161,6 +179,7 @@ refusal_text BadPeriod = codes "nbbo: bad period\n"
 refusal_text EveryWithoutLines = codes "nbbo: --every without --lines\n"
 refusal_text GapsWithEvery = codes "nbbo: --gaps with --every\n"
 refusal_text BestsWithoutEvery = codes "nbbo: --bests without --every\n"
+refusal_text TypesWithRows = codes "nbbo: --types with --gaps, --every or --bests\n"
 refusal_text SkipAfterWithoutLines =
     codes "nbbo: --skip-after without --lines: only a packet capture has times\n"
 refusal_text SkipGapsWithSkipAfter = codes "nbbo: --skip-gaps with --skip-after\n"
@@ -171,6 +190,8 @@ refusal_text SpanWithoutLines = codes "nbbo: --from or --to without --lines\n"
 refusal_text BadTimeStyle = codes "nbbo: bad time style\n"
 refusal_text TimesOfText = codes "nbbo: --times of lines of text, which have none\n"
 refusal_text TimesWithoutLines = codes "nbbo: --times without --lines\n"
+refusal_text BadVenues = codes "nbbo: bad venues\n"
+refusal_text VenuesOfText = codes "nbbo: --venues of lines of text, which have numbers\n"
 refusal_text BadEnd = codes "nbbo: bad end\n"
 refusal_text KeptUnfollowed = codes "nbbo: --kept without --follow\n"
 refusal_text FormatUnfollowed = codes "nbbo: --format without --follow\n"
@@ -178,7 +199,12 @@ refusal_text BadSender = codes "nbbo: bad sender\n"
 refusal_text SendersWithFrom = codes "nbbo: --senders with --from\n"
 refusal_text BadRecording = codes "nbbo: bad file for --record\n"
 refusal_text BadMetrics = codes "nbbo: bad metrics address\n"
+refusal_text UnknownItch = codes "nbbo: --itch names a session that --sessions doesn't\n"
+refusal_text ItchTwice = codes "nbbo: --itch names a session twice\n"
 refusal_text BadEndNumber = codes "nbbo: bad end number\n"
+refusal_text BadSnapshot = codes "nbbo: bad snapshot\n"
+refusal_text UnknownSnapshot = codes "nbbo: --snapshot names a session that --sessions doesn't\n"
+refusal_text SnapshotTwice = codes "nbbo: --snapshot names a session twice\n"
 refusal_text BadInput = codes "nbbo: bad file for --input\n"
 refusal_text BadOutput = codes "nbbo: bad file for --output\n"
 refusal_text BadSymbol = codes "nbbo: bad symbol\n"

@@ -1,8 +1,9 @@
 -- The commands of the program with their options, as the crate clap sees them.
-use Rattle.std.specs.Prelude.{◌∷◌, [], codes, true}
+use Rattle.std.specs.Prelude.{ℕ, List, ◌∷◌, [], codes, true}
 use Rattle.clap.specs.Simple.{App, new_app, on_top, with_subcommand}
 use Rattle.command_words.specs.OptionForms.{with_option_rules}
-use Rattle.command_words.specs.declared.option_table.OptionForm.TheVariants.{Buffer, Flag, FromOne, FromZero, Required, Text, Window, Words}
+use Rattle.command_words.specs.declared.option_table.OptionForm.{OptionForm}
+use Rattle.command_words.specs.declared.option_table.OptionForm.TheVariants.{Buffer, Flag, FromOne, FromZero, Required, Several, Text, Window, Words}
 
 abbrev pub replay_app : App
 replay_app = with_option_rules (new_app (codes "replay"))
@@ -11,24 +12,33 @@ replay_app = with_option_rules (new_app (codes "replay"))
     ∷ (codes "join", Flag) ∷ (codes "skip-gaps", Flag) ∷ (codes "skip-after", FromOne)
     ∷ (codes "gaps", Flag) ∷ (codes "best-only", Flag)
     ∷ (codes "from", Text) ∷ (codes "to", Text)
-    ∷ (codes "format", Text) ∷ (codes "times", Text)
+    ∷ (codes "format", Text) ∷ (codes "times", Text) ∷ (codes "venues", Text)
     ∷ (codes "input", Text) ∷ (codes "output", Text) ∷ (codes "symbols", Words) ∷ [])
 
-abbrev pub listen_app : App
-listen_app = with_option_rules (new_app (codes "listen"))
+-- listen with the options for what it receives
+abbrev pub receiving_app : App
+receiving_app = with_option_rules (new_app (codes "listen"))
     ((codes "sessions", Required) ∷ (codes "lines", Required)
+    ∷ (codes "itch", Text) ∷ (codes "orders", FromOne) ∷ (codes "end-number", Text)
     ∷ (codes "request", Text) ∷ (codes "request-after", FromZero)
     ∷ (codes "senders", Text) ∷ (codes "from", Text)
     ∷ (codes "most-ahead", FromOne) ∷ (codes "join", Flag) ∷ (codes "skip-after", FromOne)
     ∷ (codes "window", Window) ∷ (codes "journal", FromZero)
-    ∷ (codes "datagrams", FromZero) ∷ (codes "buffer", Buffer)
-    ∷ (codes "end", Text) ∷ (codes "complete", Flag)
+    ∷ (codes "datagrams", FromZero) ∷ (codes "buffer", Buffer) ∷ [])
+
+-- the other options of listen, with their forms
+abbrev pub listening_forms : List (List ℕ × OptionForm)
+listening_forms =
+    ((codes "end", Text) ∷ (codes "complete", Flag)
     ∷ (codes "seconds", FromOne) ∷ (codes "until-input-ends", Flag)
     ∷ (codes "silent-after", FromOne) ∷ (codes "record", Text)
     ∷ (codes "follow", Flag) ∷ (codes "kept", FromOne)
-    ∷ (codes "format", Text) ∷ (codes "times", Text)
+    ∷ (codes "format", Text) ∷ (codes "times", Text) ∷ (codes "venues", Text)
     ∷ (codes "stats", FromOne) ∷ (codes "stats-format", Text)
     ∷ (codes "metrics", Text) ∷ (codes "symbols", Words) ∷ [])
+
+abbrev pub listen_app : App
+listen_app = with_option_rules receiving_app listening_forms
 
 abbrev pub convert_app : App
 convert_app = with_option_rules (new_app (codes "convert"))
@@ -38,16 +48,17 @@ abbrev pub stats_app : App
 stats_app = with_option_rules (new_app (codes "stats"))
     ((codes "sessions", Required) ∷ (codes "lines", Text)
     ∷ (codes "window", Window) ∷ (codes "join", Flag) ∷ (codes "skip-gaps", Flag)
-    ∷ (codes "skip-after", FromOne) ∷ (codes "gaps", Flag) ∷ (codes "every", Text) ∷ (codes "bests", Flag)
+    ∷ (codes "skip-after", FromOne) ∷ (codes "gaps", Flag) ∷ (codes "types", Flag)
+    ∷ (codes "every", Text) ∷ (codes "bests", Flag)
     ∷ (codes "from", Text) ∷ (codes "to", Text)
-    ∷ (codes "format", Text) ∷ (codes "times", Text)
+    ∷ (codes "format", Text) ∷ (codes "times", Text) ∷ (codes "venues", Text)
     ∷ (codes "input", Text) ∷ (codes "output", Text) ∷ (codes "symbols", Words) ∷ [])
 
 abbrev pub normalise_app : App
 normalise_app = with_option_rules (new_app (codes "normalise"))
     ((codes "sessions", Required) ∷ (codes "lines", Text)
     ∷ (codes "window", Window) ∷ (codes "orders", FromOne) ∷ (codes "end-number", Text)
-    ∷ (codes "skip-gaps", Flag) ∷ (codes "skip-after", FromOne)
+    ∷ (codes "skip-gaps", Flag) ∷ (codes "skip-after", FromOne) ∷ (codes "snapshot", Several)
     ∷ (codes "input", Text) ∷ (codes "output", Text) ∷ (codes "symbols", Words) ∷ [])
 
 abbrev pub discovering_app : App

@@ -8,6 +8,7 @@ pub mod EndNumbers
 pub mod EndRules
 pub mod FeedRequests
 pub mod FileNames
+pub mod ItchRequests
 pub mod ListenFormats
 pub mod ListenRequests
 pub mod NextSessions
@@ -20,6 +21,7 @@ pub mod RunRequests
 pub mod SenderLists
 pub mod Sessions
 pub mod SkipRules
+pub mod SnapshotFiles
 pub mod StatsFormats
 pub mod StatsOutputs
 pub mod TimeWords
@@ -27,4 +29,6 @@ pub mod TimeStyles
 pub mod SpanWords
 pub mod StreamNames
 pub mod Symbols
+pub mod TypeRequests
+pub mod VenueLists
 pub mod WordSources

@@ -1,11 +1,13 @@
 -- The settings that the values of the options of listen give.
 use Rattle.std.specs.Prelude.{◌≡◌, ℕ, List, Bool, true, false, Option, Some, None, Result, Ok, Err, codes, if◌then◌else◌, length, unwrap_or}
 use Rattle.clap.specs.Walk.{Row, first_of, one_of}
+use Rattle.run_settings.specs.declared.itch_settings.ItchSettings.{ItchSettings}
 use Rattle.run_settings.specs.declared.listen_settings.ListenSettings.{ListenSettings}
 use Rattle.command_words.specs.Addresses.{ReadsLines, ReadsMetrics, ReadsRequest}
 use Rattle.command_words.specs.EndRules.{end_rule_in}
 use Rattle.command_words.specs.FeedRequests.{IsFeed}
 use Rattle.command_words.specs.FileNames.{ReadsFileName}
+use Rattle.command_words.specs.ItchRequests.{ReadsItch}
 use Rattle.command_words.specs.ListenFormats.{listen_format_in}
 use Rattle.command_words.specs.NextSessions.{ReadsNextSessions}
 use Rattle.command_words.specs.OptionValues.{is_flag_set, lines_in, list_in, number_given, symbol_words_in}
@@ -14,6 +16,7 @@ use Rattle.command_words.specs.SenderLists.{ReadsNamedSenders}
 use Rattle.command_words.specs.Sessions.{ReadsSessions}
 use Rattle.command_words.specs.StatsFormats.{listen_stats_in}
 use Rattle.command_words.specs.Symbols.{ReadsSymbols}
+use Rattle.command_words.specs.VenueLists.{ReadsListenVenues, listen_rows}
 use Rattle.command_words.specs.declared.listen_parts.ListenOutputs.{ListenOutputs}
 use Rattle.command_words.specs.declared.listen_parts.ListenRules.{ListenRules}
 use Rattle.command_words.specs.declared.listen_parts.Reception.{Reception}
@@ -85,25 +88,28 @@ ReadsListenRules rows =
     (λ senders. Yields (λ rules.
     (rules.end ≡ end) × (rules.kept ≡ kept) × (rules.senders ≡ senders)))))
 
--- Where metrics are served, which counts and which form of best lines are printed, and into which
--- file it is recorded what the lines bring, in this order.
-abbrev pub ReadsListenOutputs : List Row → Result ListenOutputs Refusal → Type 0
-ReadsListenOutputs rows =
+-- Where metrics are served, which counts and which form of best lines are printed, what stands for
+-- this many venues, and into which file it is recorded what the lines bring, in this order.
+abbrev pub ReadsListenOutputs : List Row → (venues : ℕ) → Result ListenOutputs Refusal → Type 0
+ReadsListenOutputs rows venues =
     Then (ReadsMetrics (first_of (codes "metrics") rows))
     (λ metrics. Then (Gives (listen_stats_in (number_given (one_of (codes "stats") rows))
     (first_of (codes "stats-format") rows)))
     (λ stats. Then (Gives (listen_format_in (is_followed rows) (first_of (codes "format") rows)
     (first_of (codes "times") rows)))
-    (λ format. Then (ReadsFileName BadRecording (first_of (codes "record") rows))
+    (λ plain. Then (ReadsListenVenues (first_of (codes "venues") rows) venues)
+    (λ names. Then (ReadsFileName BadRecording (first_of (codes "record") rows))
     (λ record_to. Yields (λ outputs.
-    (outputs.metrics ≡ metrics) × (outputs.stats ≡ stats) × (outputs.format ≡ format)
-    × (outputs.record ≡ record_to))))))
+    (outputs.metrics ≡ metrics) × (outputs.stats ≡ stats)
+    × (outputs.format ≡ listen_rows names plain) × (outputs.venues ≡ names)
+    × (outputs.record ≡ record_to)))))))
 
 -- The settings have these parts.
-pub record HasParts (reception : Reception) (rules : ListenRules) (outputs : ListenOutputs)
-    (settings : ListenSettings) : Type 0 where
+pub record HasParts (reception : Reception) (itch : ItchSettings) (rules : ListenRules)
+    (outputs : ListenOutputs) (settings : ListenSettings) : Type 0 where
   pub feed_is : settings.feed ≡ reception.feed
   pub next_are : settings.next ≡ reception.next
+  pub itch_is : settings.itch ≡ itch
   pub lines_are : settings.lines ≡ reception.lines
   pub request_is : settings.request ≡ reception.request
   pub end_is : settings.end ≡ rules.end
@@ -113,13 +119,15 @@ pub record HasParts (reception : Reception) (rules : ListenRules) (outputs : Lis
   pub stats_are : settings.stats ≡ outputs.stats
   pub format_is : settings.format ≡ outputs.format
   pub record_is : settings.record ≡ outputs.record
+  pub venues_are : settings.venues ≡ outputs.venues
 
--- The settings of listen by the values of its options: the feed is looked at first, then the rules,
--- and then the outputs.
+-- The settings of listen by the values of its options: the feed is looked at first, then which
+-- venues are in ITCH, the rules, and then the outputs.
 abbrev pub ReadsListening : List Row → Result ListenSettings Refusal → Type 0
 ReadsListening rows =
     Then (ReadsReception rows)
-    (λ reception. Then (ReadsListenRules rows)
-    (λ rules. Then (ReadsListenOutputs rows)
+    (λ reception. Then (ReadsItch rows reception.feed.sessions.items)
+    (λ itch. Then (ReadsListenRules rows)
+    (λ rules. Then (ReadsListenOutputs rows (length reception.feed.sessions.items))
     (λ outputs. Yields (λ settings. HasListenOptions rows settings
-    × HasParts reception rules outputs settings))))
+    × HasParts reception itch rules outputs settings)))))

@@ -3,7 +3,7 @@ use Rattle.std.specs.Prelude.{◌∷◌, [], ℕ, List, Some, codes, pos, true, 
 use Rattle.clap.specs.Lexer.{usize_max}
 use Rattle.clap.specs.Walk.{Rule, Text}
 use Rattle.clap.specs.Simple.{App, new_rule, with_rule}
-use Rattle.clap.specs.declared.builder.action.ArgAction.TheVariants.{SetTrue}
+use Rattle.clap.specs.declared.builder.action.ArgAction.TheVariants.{Append, SetTrue}
 use Rattle.clap.specs.declared.builder.value_parser.ValueParser.TheVariants.{Signed}
 use Rattle.command_words.specs.declared.option_table.OptionForm.{OptionForm}
 use Rattle.command_words.specs.declared.option_table.OptionForm.TheVariants as forms
@@ -15,6 +15,10 @@ valued_rule name = record (new_rule name) { long = Some name; value_names = 1 }
 -- --NAME VALUE, without which the command is refused
 abbrev pub required_rule : Text → Rule
 required_rule name = record (valued_rule name) { required = true }
+
+-- --NAME VALUE, which may stand there several times
+abbrev pub several_rule : Text → Rule
+several_rule name = record (valued_rule name) { action = Some Append }
 
 -- the value is a number in this range
 abbrev pub number_rule : Rule → (least most : ℕ) → Rule
@@ -36,6 +40,7 @@ abbrev pub rule_by : OptionForm → Text → Rule
 rule_by forms.Flag name = flag_rule name
 rule_by forms.Text name = valued_rule name
 rule_by forms.Required name = required_rule name
+rule_by forms.Several name = several_rule name
 rule_by forms.Window name =
     record (number_rule (valued_rule name) 1 65535) { defaults = codes "4096" ∷ [] }
 rule_by forms.FromZero name = number_rule (valued_rule name) 0 4294967295

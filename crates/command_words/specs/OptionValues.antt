@@ -24,6 +24,10 @@ lines_in rows = unwrap_or (first_of (codes "lines") rows) []
 abbrev pub symbol_words_in : List Row → List Text
 symbol_words_in rows = unwrap_or (all_of (codes "symbols") rows) []
 
+-- the texts that name files of snapshots, none where none is given
+abbrev pub snapshot_texts_in : List Row → List Text
+snapshot_texts_in rows = unwrap_or (all_of (codes "snapshot") rows) []
+
 -- decimal digits, one or more
 abbrev pub is_numeral : Text → Bool
 is_numeral digits = nat_lt 0 (length digits) && list_all (λ c. nat_lt (digit_value c) 10) digits

@@ -18,15 +18,16 @@ use Rattle.command_words.specs.SkipRules.{skips_in}
 use Rattle.command_words.specs.SpanWords.{ReadsSpan}
 use Rattle.command_words.specs.StatsOutputs.{ReadsCounted, bests_by}
 use Rattle.command_words.specs.TimeStyles.{styled_in}
+use Rattle.command_words.specs.VenueLists.{ReadsVenues}
 use Rattle.command_words.specs.declared.refusal.Refusal.{Refusal}
 
--- the output of replay, but for the style of its times
+-- the output of replay, but for its style
 abbrev pub ReadsReplayOutput : List Row → Result RunOutput Refusal → Type 0
 ReadsReplayOutput rows =
     Gives (replay_output_in (is_flag_set (one_of (codes "best-only") rows))
     (first_of (codes "format") rows))
 
--- the output of stats, but for the style of its times: what it counts, or with --bests the rows of
+-- the output of stats, but for its style: what it counts, or with --bests the rows of
 -- national bests in its place
 abbrev pub ReadsStatsOutput : List Row → Result RunOutput Refusal → Type 0
 ReadsStatsOutput rows =
@@ -53,12 +54,19 @@ pub record IsRunAsked (feed : FeedSettings) (gaps : Bool) (output : RunOutput) (
   pub span_is : settings.span ≡ span
   pub next_are : settings.next_sessions.items ≡ next
 
--- The run of this feed: the style of times is looked at first, then the list of lines, the span of
--- time, the rule for gaps, and last the sessions that follow others.
+-- the output of this many venues, in the style of its times and with the names of its venues
+abbrev pub ReadsStyled : List Row → (venues : ℕ) → (plain : RunOutput) → Result RunOutput Refusal
+    → Type 0
+ReadsStyled rows venues plain =
+    Then (Gives (styled_in plain (first_of (codes "times") rows) (first_of (codes "lines") rows)))
+    (λ styled. ReadsVenues (first_of (codes "venues") rows) venues styled)
+
+-- The run of this feed: the style of times and the names of venues are looked at first, then the
+-- list of lines, the span of time, the rule for gaps, and last the sessions that follow others.
 abbrev pub ReadsRunOf : List Row → FeedSettings → (gaps : Bool) → (plain : RunOutput)
     → Result RunSettings Refusal → Type 0
 ReadsRunOf rows feed gaps plain =
-    Then (Gives (styled_in plain (first_of (codes "times") rows) (first_of (codes "lines") rows)))
+    Then (ReadsStyled rows (length feed.sessions.items) plain)
     (λ output. Then (ReadsInput (first_of (codes "lines") rows)
     (length feed.sessions.items))
     (λ input. Then (ReadsSpan output (first_of (codes "from") rows) (first_of (codes "to") rows)

@@ -5,7 +5,7 @@ use Rattle.std.specs.Net.Grammar.{IsIpText, IsSocketText}
 use Rattle.std.specs.Net.Socket.{socket_ip, socket_port}
 use Rattle.std.specs.declared.net.ip_addr.IpAddr.{IpAddr}
 use Rattle.std.specs.declared.net.socket_addr.SocketAddr.{SocketAddr}
-use Rattle.run_settings.specs.declared.sender.Sender.{Sender}
+use Rattle.run_settings.specs.declared.sender.AllowedSender.{AllowedSender}
 use Rattle.run_settings.specs.declared.sender.Senders.{Senders}
 use Rattle.run_settings.specs.declared.sender.Senders.TheVariants.{Any, These}
 use Rattle.command_words.specs.Addresses.{AreSpelled}
@@ -26,7 +26,7 @@ abbrev pub SpellsAddress : List ℕ → IpAddr → Option ℕ → Type 0
 SpellsAddress text address None = IsIpText text address
 SpellsAddress text address (Some port) = SpellsPort text address port
 
-abbrev pub IsSenderText : List ℕ → Sender → Type 0
+abbrev pub IsSenderText : List ℕ → AllowedSender → Type 0
 IsSenderText text sender = SpellsAddress text sender.address sender.port
 
 -- the list names these senders; without a list it is any
@@ -41,7 +41,7 @@ NameSenders (Some list) (These senders) =
 abbrev pub NamesNoSenders : Option (List ℕ) → Type 0
 NamesNoSenders None = ⊥
 NamesNoSenders (Some list) =
-    (senders : List Sender) → AreSpelled IsSenderText (names_in list) senders → ⊥
+    (senders : List AllowedSender) → AreSpelled IsSenderText (names_in list) senders → ⊥
 
 abbrev pub ReadsSenders : Option (List ℕ) → Result Senders Refusal → Type 0
 ReadsSenders list (Ok senders) = NameSenders list senders

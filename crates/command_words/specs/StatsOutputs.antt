@@ -6,7 +6,7 @@ use Rattle.run_settings.specs.declared.formats.ReportFormat.{ReportFormat}
 use Rattle.run_settings.specs.declared.formats.ReportFormat.TheVariants as reports
 use Rattle.run_settings.specs.declared.formats.RowFormat.{RowFormat}
 use Rattle.run_settings.specs.declared.formats.RowFormat.TheVariants.{Csv, Json}
-use Rattle.run_settings.specs.declared.formats.TimeStyle.TheVariants.{Seconds}
+use Rattle.run_settings.specs.Styles.{all_numbers}
 use Rattle.run_settings.specs.declared.run_output.RunOutput.{RunOutput}
 use Rattle.run_settings.specs.declared.run_output.RunOutput.TheVariants.{Stats, Gaps, Periods, BestTimes}
 use Rattle.command_words.specs.PeriodWords.{SpellsPeriod}
@@ -17,23 +17,23 @@ use Rattle.command_words.specs.declared.refusal.Refusal.TheVariants.{BadPeriod, 
 -- the form of rows of this name, with times as numbers
 abbrev pub row_format_named : List ℕ → Option RowFormat
 row_format_named name =
-    if bytes_eq name (codes "csv") then Some (Csv Seconds)
-    else if bytes_eq name (codes "json") then Some (Json Seconds) else None
+    if bytes_eq name (codes "csv") then Some (Csv all_numbers)
+    else if bytes_eq name (codes "json") then Some (Json all_numbers) else None
 
 -- rows have the form that is named, or are comma-separated values
 abbrev pub row_format_by : Option (List ℕ) → Result RowFormat Refusal
-row_format_by = named_or row_format_named (Csv Seconds) BadFormat
+row_format_by = named_or row_format_named (Csv all_numbers) BadFormat
 
 -- the form of counts of this name, with times as numbers
 abbrev pub report_format_named : List ℕ → Option ReportFormat
 report_format_named name =
-    if bytes_eq name (codes "table") then Some (reports.Table Seconds)
-    else if bytes_eq name (codes "csv") then Some (reports.Csv Seconds)
-    else if bytes_eq name (codes "json") then Some (reports.Json Seconds) else None
+    if bytes_eq name (codes "table") then Some (reports.Table all_numbers)
+    else if bytes_eq name (codes "csv") then Some (reports.Csv all_numbers)
+    else if bytes_eq name (codes "json") then Some (reports.Json all_numbers) else None
 
 -- counts are printed in the form that is named, or as tables
 abbrev pub report_format_by : Option (List ℕ) → Result ReportFormat Refusal
-report_format_by = named_or report_format_named (reports.Table Seconds) BadFormat
+report_format_by = named_or report_format_named (reports.Table all_numbers) BadFormat
 
 -- rows of periods want the times of a packet capture
 abbrev pub timed_periods : (lines : Option (List ℕ)) → (length : ℕ) → RowFormat

@@ -25,18 +25,18 @@ time_style_named name =
 
 -- the format with times in a style, which lines of text haven't
 abbrev pub best_format_in : TimeStyle → BestFormat → Option BestFormat
-best_format_in style (bests.Csv plain) = Some (bests.Csv style)
-best_format_in style (bests.Json plain) = Some (bests.Json style)
+best_format_in style (bests.Csv plain) = Some (bests.Csv (record plain { times = style }))
+best_format_in style (bests.Json plain) = Some (bests.Json (record plain { times = style }))
 best_format_in style bests.Text = None
 
 abbrev pub row_format_in : TimeStyle → RowFormat → RowFormat
-row_format_in style (rows.Csv plain) = rows.Csv style
-row_format_in style (rows.Json plain) = rows.Json style
+row_format_in style (rows.Csv plain) = rows.Csv (record plain { times = style })
+row_format_in style (rows.Json plain) = rows.Json (record plain { times = style })
 
 abbrev pub report_format_in : TimeStyle → ReportFormat → ReportFormat
-report_format_in style (reports.Table plain) = reports.Table style
-report_format_in style (reports.Csv plain) = reports.Csv style
-report_format_in style (reports.Json plain) = reports.Json style
+report_format_in style (reports.Table plain) = reports.Table (record plain { times = style })
+report_format_in style (reports.Csv plain) = reports.Csv (record plain { times = style })
+report_format_in style (reports.Json plain) = reports.Json (record plain { times = style })
 
 abbrev pub styled_periods : TimeStyle → PeriodStyle → PeriodStyle
 styled_periods style periods = record periods { format = row_format_in style periods.format }

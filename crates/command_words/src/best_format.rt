@@ -3,7 +3,7 @@ ghost use Rattle.std.specs.Prelude.{◌≡◌, option_map};
 ghost use Rattle.command_words.specs.BestFormats.{format_named, replay_output_in};
 
 use crate::refusal::Refusal;
-use run_settings::{BestFormat, RunOutput, TimeStyle};
+use run_settings::{BestFormat, RunOutput, ValueStyle};
 
 /// Returns the format of this name.
 pub fn format_named(name: &str) -> Option<BestFormat>
@@ -12,9 +12,9 @@ pub fn format_named(name: &str) -> Option<BestFormat>
     if name == "text" {
         Some(BestFormat::Text)
     } else if name == "csv" {
-        Some(BestFormat::Csv(TimeStyle::Seconds))
+        Some(BestFormat::Csv(ValueStyle::numbers()))
     } else if name == "json" {
-        Some(BestFormat::Json(TimeStyle::Seconds))
+        Some(BestFormat::Json(ValueStyle::numbers()))
     } else {
         None
     }

@@ -4,25 +4,27 @@ ghost use Rattle.clap.specs.Matches.{found_of};
 ghost use Rattle.clap.specs.Simple.{subcommand_of, subcommand_rows_of};
 ghost use Rattle.clap.specs.Values.{kind_of};
 ghost use Rattle.clap.specs.Walk.{rows_of};
-ghost use Rattle.command_words.specs.CommandLine.{IsAccepted, IsOfVenues, IsRefusedByClap, NamesStreams, ReadsConversion, ReadsDiscovery, ReadsTask, ReadsWords, RefusesBy};
+ghost use Rattle.command_words.specs.CommandLine.{IsAccepted, IsOfVenues, IsRefusedByClap, NamesStreams, ReadsConversion, ReadsDiscovery, ReadsStatsTask, ReadsTask, ReadsWords, RefusesBy};
 ghost use Rattle.command_words.specs.Commands.{nbbo_app};
 ghost use Rattle.command_words.specs.ListenRequests.{ReadsListening};
 ghost use Rattle.command_words.specs.NormaliseRequests.{ReadsNormalising};
 ghost use Rattle.command_words.specs.OptionValues.{rows_of_command};
 ghost use Rattle.command_words.specs.Readings.{Gives, Then};
 ghost use Rattle.command_words.specs.RunRequests.{ReadsReplay, ReadsStats};
+ghost use Rattle.command_words.specs.TypeRequests.{ReadsTypes};
 
 use crate::captured_lines::read_all_lines;
 use crate::commands::nbbo_command;
 use crate::listen_words::listening_of;
 use crate::normalise_words::normalising_of;
-use crate::option_values::{given_text, text_of};
+use crate::option_values::{flag_of, given_text, text_of};
 use crate::refusal::Refusal;
 use crate::run_words::{replay_of, stats_of};
 use crate::stats_format::read_stats_format;
 use crate::streams::{StreamFiles, streams_of};
 use crate::task::Task;
 use crate::time_style::read_time_style;
+use crate::type_words::types_of;
 use clap::error::ErrorKind;
 use clap::{ArgMatches, Error};
 use std::alloc::Global;
@@ -85,8 +87,17 @@ fn replay_task(alloc: Global, replay: &ArgMatches<'_>) -> Result<Task, Refusal>
     Ok(Task::Run(replay_of(alloc, replay)?))
 }
 
+/// Returns the counts by type for which the options of `stats` ask.
+fn types_task(alloc: Global, stats: &ArgMatches<'_>) -> Result<Task, Refusal>
+    ensures reads { Then (ReadsTypes (rows_of (found_of stats.now)))
+        (λ settings. Gives (Ok (Task.CountTypes settings))) result }
+    ensures venues { IfOk result IsOfVenues }
+{
+    Ok(Task::CountTypes(types_of(alloc, stats)?))
+}
+
 /// Returns the run of `stats` for which its options ask.
-fn stats_task(alloc: Global, stats: &ArgMatches<'_>) -> Result<Task, Refusal>
+fn report_task(alloc: Global, stats: &ArgMatches<'_>) -> Result<Task, Refusal>
     ensures reads { Then (ReadsStats (rows_of (found_of stats.now)))
         (λ settings. Gives (Ok (Task.Run settings))) result }
     ensures venues { IfOk result IsOfVenues }
@@ -94,10 +105,21 @@ fn stats_task(alloc: Global, stats: &ArgMatches<'_>) -> Result<Task, Refusal>
     Ok(Task::Run(stats_of(alloc, stats)?))
 }
 
+/// Returns the task of `stats` for which its options ask.
+fn stats_task(alloc: Global, stats: &ArgMatches<'_>) -> Result<Task, Refusal>
+    ensures reads { ReadsStatsTask (rows_of (found_of stats.now)) result }
+    ensures venues { IfOk result IsOfVenues }
+{
+    if flag_of(stats, "types") {
+        return types_task(alloc, stats);
+    }
+    report_task(alloc, stats)
+}
+
 /// Returns the run of `normalise` for which its options ask.
 fn normalising_task(alloc: Global, normalise: &ArgMatches<'_>) -> Result<Task, Refusal>
     ensures reads { Then (ReadsNormalising (rows_of (found_of normalise.now)))
-        (λ settings. Gives (Ok (Task.Normalise settings))) result }
+        (λ request. Gives (Ok (Task.Normalise request))) result }
     ensures venues { IfOk result IsOfVenues }
 {
     Ok(Task::Normalise(normalising_of(alloc, normalise)?))

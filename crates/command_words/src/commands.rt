@@ -15,7 +15,7 @@ use std::alloc::{AllocError, Global};
 
 /// The program, in one line.
 const ABOUT: &str = "\
-Brings the redundant lines of each venue's MoldUDP64 feed into one sequence, and keeps the
+Puts the redundant lines of each venue's MoldUDP64 feed into one sequence, and keeps the
 national best bid and offer of each symbol";
 
 /// The version, and the sum of the logic that the sources have proofs of, which a kit's version
@@ -31,7 +31,7 @@ Examples:
   nbbo listen --sessions 0000000001 --lines 127.0.0.1:7001,127.0.0.1:7002 ACME
   nbbo replay --sessions NORTH,SOUTH --input capture --output lines.txt @symbols.txt
 
-'nbbo replay --help' and 'nbbo listen --help' tell what is read and what is printed.
+'nbbo COMMAND --help' has what a command reads and prints.
 A word @FILE, if no -- stands before it, is replaced by the lines of FILE, each of them a word.";
 
 /// The program with its texts.

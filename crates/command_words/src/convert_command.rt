@@ -17,7 +17,7 @@ const ABOUT: &str = "Converts a packet capture into a capture of this project's 
 const LONG_ABOUT: &str = "\
 Converts a packet capture (pcap or pcapng) from standard input into a capture as 'nbbo replay'
 reads it without --lines, and writes that to standard output: a record for each datagram that
-goes to a line, in the order of the capture. 'nbbo replay --help' says what a record is; those
+goes to a line, in the order of the capture. 'nbbo replay --help' has what a record is. Records
 of kind N, H and W can be put between.";
 
 /// The usage of `convert`.
@@ -37,7 +37,7 @@ Example:
 Status:
   0  the packet capture was converted to its end, or help was shown
   1  the input or the run was refused; the records of the datagrams before were written. Standard
-     error says why: 'bad capture at byte N', 'short record', 'read failed', 'write failed',
+     error reports why: 'bad capture at byte N', 'short record', 'read failed', 'write failed',
      'too many turns' and 'no memory' as of 'nbbo replay --lines'
   2  the command line was refused: 'bad lines' where the list isn't two addresses for each of 1 to
      " MAX_VENUES " venues, or names one twice

@@ -26,7 +26,7 @@ const EXAMPLE: &str = "\
 Example:
   nbbo lines < day.pcap
 
-'--help' also tells what is counted.";
+'--help' also has what is counted.";
 
 /// The part of the long help after the options.
 const END: &str = "\
@@ -49,7 +49,7 @@ project's own (51, 71 and 48 with 26, 34 and 10 bytes), whatever else the messag
 
 A row 'left out of the words: SESSION  WHY' stands for each session that came at one address and
 port, or at more than two, or at one of its two after another session; whose name is all spaces, or
-has a comma or a quotation mark; or that is past the first 16. The last line has the words
+has a comma or a quotation mark; or that is past the first 16. The last row has the words
 --sessions and --lines for the others, the two addresses of each in order; it is empty where there
 are none. Names with other bytes than letters, digits and %+-./:@_ stand in quotation marks, which a
 shell takes away where the line is pasted or read by eval, but not within $(..). A name with a slash
@@ -71,8 +71,8 @@ Examples:
 
 Status:
   0  the packet capture was read to its end and its lines were printed, or help was shown
-  1  the input or the run was refused; the lines of the frames before were printed, unless it is
-     'write failed' or 'no memory'. Standard error says why: 'bad capture at byte N', 'short
+  1  the input or the run was refused; the rows of the frames before were printed, unless it is
+     'write failed' or 'no memory'. Standard error reports why: 'bad capture at byte N', 'short
      record at byte N', 'read failed', 'write failed', 'too many turns' and 'no memory' as of
      'nbbo replay --lines'
   2  the command line was refused: 'bad format' where the format is none of those, 'bad time style'

@@ -4,6 +4,8 @@ use crate::limits::text;
 use crate::option_values::{given_text, text_of};
 use crate::quoting::{joined, quoted};
 use crate::sessions::first_name;
+use crate::snapshot_words::names_file;
+use crate::venue_list::is_venue_name;
 use clap::ArgMatches;
 use feed_types::{MAX_SESSIONS, MAX_VENUES};
 use std::alloc::{AllocError, Global};
@@ -11,6 +13,9 @@ use std::net::SocketAddr;
 
 /// What a session is.
 const RIGHT_SESSION: &str = "is no session: 1 to 10 characters of printable ASCII";
+
+/// What the name of a venue is.
+const RIGHT_NAME: &str = "is no name: 1 to 16 digits, letters, '-', '.' and '_'";
 
 /// What each venue's line A is to be where frames are written to it.
 const NO_DESTINATION: &str = "is no line A of IPv4, to which the frames of its venue are written";
@@ -188,6 +193,51 @@ pub fn sessions_explained(alloc: Global, options: &ArgMatches<'_>) -> Option<Str
     let chained = given_text(options, "lines").is_some();
     let text = bad_session_in(alloc, text_of(options, "sessions"), chained)?;
     quoted(alloc, "--sessions: ", text, RIGHT_SESSION).ok()
+}
+
+/// Returns what is wrong with the number of names of a list of venues, if anything is.
+fn names_counted(alloc: Global, names: usize, sessions: usize) -> Option<String> {
+    if names == sessions {
+        return None;
+    }
+    let names = names.to_string(alloc).ok()?;
+    let sessions = sessions.to_string(alloc).ok()?;
+    let parts = [
+        "nbbo: --venues: ",
+        names.as_str(),
+        " names for ",
+        sessions.as_str(),
+        " sessions, which have one each\n",
+    ];
+    joined(alloc, parts.as_slice()).ok()
+}
+
+/// Returns what is wrong with a list of venues' names.
+pub fn venues_explained(alloc: Global, options: &ArgMatches<'_>) -> Option<String> {
+    let names: Vec<&str> = text_of(options, "venues").split(',').collect(alloc).ok()?;
+    let sessions = count_in(text_of(options, "sessions"));
+    if let Some(text) = names_counted(alloc, names.len(), sessions) {
+        return Some(text);
+    }
+    for place in 0..names.len() {
+        if !is_venue_name(names[place].as_bytes()) {
+            return quoted(alloc, "--venues: ", names[place], RIGHT_NAME).ok();
+        }
+        if names[..place].contains(&names[place]) {
+            return quoted(alloc, "--venues: ", names[place], "stands there twice").ok();
+        }
+    }
+    None
+}
+
+/// Returns what is wrong with the texts that name files of snapshots.
+pub fn snapshots_explained(alloc: Global, options: &ArgMatches<'_>) -> Option<String> {
+    for text in options.get_strs("snapshot")? {
+        if !names_file(*text) {
+            return quoted(alloc, "--snapshot: ", *text, "isn't VENUE=FILE").ok();
+        }
+    }
+    None
 }
 
 /// Returns what is wrong with the sessions of one venue, if anything is.

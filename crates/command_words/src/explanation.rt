@@ -3,7 +3,9 @@
 //! It is told beside the refusal's own text, and no clause speaks of it.
 
 use crate::command_line::parsed;
-use crate::explained_lists::{lines_explained, next_explained, sessions_explained};
+use crate::explained_lists::{
+    lines_explained, next_explained, sessions_explained, snapshots_explained, venues_explained,
+};
 use crate::option_values::{flag_of, given_text};
 use crate::quoting::{joined, quoted};
 use crate::refusal::Refusal;
@@ -17,12 +19,13 @@ const COMMANDS: [&str; 6] = ["replay", "stats", "listen", "convert", "normalise"
 
 /// The options of `replay` that have a value, beside those for which the refusal has one line
 /// alone.
-const REPLAY_OPTIONS: [&str; 7] = [
+const REPLAY_OPTIONS: [&str; 8] = [
     "skip-after",
     "from",
     "to",
     "format",
     "times",
+    "venues",
     "input",
     "output",
 ];
@@ -32,7 +35,7 @@ const REPLAY_FLAGS: [&str; 3] = ["join", "skip-gaps", "best-only"];
 
 /// The options of `listen` that have a value, beside those for which the refusal has one line
 /// alone.
-const LISTEN_OPTIONS: [&str; 16] = [
+const LISTEN_OPTIONS: [&str; 17] = [
     "request-after",
     "senders",
     "from",
@@ -46,6 +49,7 @@ const LISTEN_OPTIONS: [&str; 16] = [
     "kept",
     "format",
     "times",
+    "venues",
     "stats",
     "stats-format",
     "metrics",
@@ -179,6 +183,8 @@ fn explained(
         Refusal::BadSession => sessions_explained(alloc, options),
         Refusal::BadNextSession => next_explained(alloc, options),
         Refusal::BadLines => lines_explained(alloc, command, options),
+        Refusal::BadVenues => venues_explained(alloc, options),
+        Refusal::BadSnapshot => snapshots_explained(alloc, options),
         Refusal::BadSymbol => symbols_explained(alloc, options),
         Refusal::DuplicateSymbol => double_explained(alloc, options),
         Refusal::BadFormat => format_explained(alloc, command, options),

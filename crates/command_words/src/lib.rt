@@ -4,15 +4,16 @@
 //! or the [`Refusal`] that they get: a text and a status. `ReadsWords` of `specs/CommandLine.antt`
 //! says which of them, over clap's reading of the words (`specs/Commands.antt`,
 //! `specs/OptionValues.antt`). What the options of a command give, and the order in which they are
-//! looked at, stands in `specs/RunRequests.antt`, `specs/ListenRequests.antt` and
-//! `specs/NormaliseRequests.antt`, over `specs/FeedRequests.antt` and in the words of
-//! `specs/Readings.antt`. Each kind of value has a file of its own (`specs/Sessions.antt`,
-//! `specs/NextSessions.antt`, `specs/Symbols.antt`, `specs/Addresses.antt`,
+//! looked at, stands in `specs/RunRequests.antt`, `specs/TypeRequests.antt`,
+//! `specs/ListenRequests.antt` and `specs/NormaliseRequests.antt`, over `specs/FeedRequests.antt`
+//! and in the words of `specs/Readings.antt`. Each kind of value has a file of its own
+//! (`specs/Sessions.antt`, `specs/NextSessions.antt`, `specs/Symbols.antt`, `specs/Addresses.antt`,
 //! `specs/CapturedLines.antt`, `specs/BestFormats.antt`, `specs/StatsFormats.antt`,
 //! `specs/StatsOutputs.antt`, `specs/PeriodWords.antt`, `specs/TimeWords.antt`,
 //! `specs/TimeStyles.antt`, `specs/SpanWords.antt`, `specs/SkipRules.antt`, `specs/EndRules.antt`,
 //! `specs/EndNumbers.antt`, `specs/SenderLists.antt`, `specs/Destinations.antt`,
-//! `specs/FileNames.antt`).
+//! `specs/FileNames.antt`, `specs/SnapshotFiles.antt`, `specs/VenueLists.antt`,
+//! `specs/ItchRequests.antt`).
 //!
 //! Beside it, [`stream_files`] returns the files that words name in place of standard input and
 //! standard output (`NamesStreams`, `specs/StreamNames.antt`), and [`words_of_sources`] puts the
@@ -38,6 +39,7 @@ mod explained_lists;
 mod explanation;
 mod feed_words;
 mod file_names;
+mod itch_words;
 mod limits;
 mod listen_command;
 mod listen_format;
@@ -46,8 +48,10 @@ mod listen_outputs;
 mod listen_parts;
 mod listen_rules;
 mod listen_words;
+mod named_output;
 mod next_sessions;
 mod normalise_command;
+mod normalise_request;
 mod normalise_words;
 mod option_table;
 mod option_values;
@@ -60,6 +64,8 @@ mod replay_command;
 mod run_words;
 mod sender_list;
 mod sessions;
+mod snapshot_file;
+mod snapshot_words;
 mod span_words;
 mod stats_command;
 mod stats_format;
@@ -69,11 +75,17 @@ mod symbols;
 mod task;
 mod time_style;
 mod time_words;
+mod type_settings;
+mod type_words;
+mod venue_list;
 mod word_sources;
 
 pub use command_line::{settings, stream_files};
 pub use explanation::{explanation_of, symbol_words};
+pub use normalise_request::NormaliseRequest;
 pub use refusal::Refusal;
+pub use snapshot_file::SnapshotFile;
 pub use streams::StreamFiles;
 pub use task::Task;
+pub use type_settings::TypeSettings;
 pub use word_sources::{WordSource, file_named, words_of_sources};

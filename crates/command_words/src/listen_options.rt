@@ -34,6 +34,44 @@ joined before: see below. A '-' stands in place of a line that isn't there, of o
 two of a venue; write --lines=LIST where the list begins with it",
 };
 
+/// `--itch NAMES`.
+const ITCH: CommandOption<'static> = CommandOption {
+    name: "itch",
+    value: "NAMES",
+    form: OptionForm::Text,
+    help: "The venues that send TotalView-ITCH 5.0, by their first sessions, parted by commas",
+    long_help: "\
+The venues that send TotalView-ITCH 5.0 in place of this project's own messages, by the names
+of their first sessions in --sessions, parted by commas, each once. Message n of such a venue
+becomes the quotation that it changes, of the orders that messages 1 to n leave, as with
+'nbbo normalise'. Only the symbols of the command line are quoted. A gap that --skip-after gives
+up ends what is quoted of the venue until its next session. So does a start in the middle, which
+--join doesn't mend. The venue's counts are those of the packets that its lines made: datagrams
+that came late or were refused, and requests, aren't among them",
+};
+
+/// `--orders N` of a command that listens.
+const ORDERS: CommandOption<'static> = CommandOption {
+    name: "orders",
+    value: "N",
+    form: OptionForm::FromOne,
+    help: text!("With --itch: how many live orders a venue may have, 1 to " MAX_COUNT " [default: " DEFAULT_ORDERS "]"),
+    long_help: text!("\
+With --itch: how many live orders of the named symbols a venue may have at once: 1 to " MAX_COUNT ",
+by default " DEFAULT_ORDERS ". A venue that needs more is quoted no more, and its lines fail"),
+};
+
+/// `--end-number RULE` of a command that listens.
+const END_NUMBER: CommandOption<'static> = CommandOption {
+    name: "end-number",
+    value: "RULE",
+    form: OptionForm::Text,
+    help: "With --itch: the number of an end of session: next or last [default: next]",
+    long_help: "\
+With --itch: the number that an end of session has on the lines of such a venue: 'next', one
+more than the last message's, as by default; or 'last', that of the last message",
+};
+
 /// `--request ADDR`.
 const REQUEST: CommandOption<'static> = CommandOption {
     name: "request",
@@ -42,13 +80,13 @@ const REQUEST: CommandOption<'static> = CommandOption {
     help: "Where messages that are missing are asked for",
     long_help: "\
 Where messages that are missing are asked for: the address of a retransmission server.
-A request goes there from the socket of the line that found the gap, at once or as
---request-after says, and again while the gap stands, from any line of the venue, 250 ms or
+A request goes there from the socket of the line that found the gap, at once or after the time
+of --request-after. It goes again while the gap stands, from any line of the venue, 250 ms or
 more later. A reply is read on the line that asked. Where a line of the venue is a multicast
 group, requests leave from a socket of the venue's own, and replies come there, as line R. The
 port isn't 0, nor the IP address 0.0.0.0 or [::], and it is of each line's version of IP. A
 request that can't be sent, as where a firewall refuses it or there is no route, ends nothing:
-standard error says so of each line, at the first one, and at the end how many there were.
+standard error reports the first one of each line, and at the end how many there were.
 Without this option nothing is asked for",
 };
 
@@ -58,29 +96,30 @@ const REQUEST_AFTER: CommandOption<'static> = CommandOption {
     value: "MS",
     form: OptionForm::FromZero,
     help: text!(
-        "For how many milliseconds a gap stands before it is asked for, 0 to " MAX_COUNT " [default: 0, with a further option " USUAL_WAIT "]"
+        "For how many milliseconds a gap stands before it is asked for, 0 to " MAX_COUNT
+        " [default: 0, with a further option " USUAL_WAIT "]"
     ),
     long_help: text!("\
 With --request: for how many milliseconds a gap stands before its messages are asked for, 0
-to " MAX_COUNT ", so that the other line can bring them first. By default 0, with a further option
-" USUAL_WAIT ". With 0 a request leaves with a datagram of the venue alone, so that nothing is asked for
+to " MAX_COUNT ", so that the other line can have them first. By default 0, with a further option
+" USUAL_WAIT ". With 0 a request leaves with a datagram of the venue alone, so nothing is asked for
 again while none comes. A further option is one other than --sessions, --lines, --request, --window, --journal,
 --datagrams and --end any; sessions that follow others are one, too"),
 };
 
 /// The long help of the list of senders.
 const SENDERS_HELP: &str = "\
-Whose datagrams are taken: IP addresses, or IP addresses with a port, parted by commas, as
-10.0.0.7,10.0.0.8:26400 or [::1]:7001. What others send comes to nothing, replies to
-requests, too: standard error says so of each line, at the first datagram, and at the end
-how many there were. Without this option the datagrams of any sender are taken";
+Whose datagrams are accepted: IP addresses, or IP addresses with a port, parted by commas, as
+10.0.0.7,10.0.0.8:26400 or [::1]:7001. Those of others are passed over, replies to requests, too:
+standard error reports the first one of each line, and at the end how many there were. Without
+this option the datagrams of any sender are accepted";
 
 /// `--senders LIST`.
 const SENDERS: CommandOption<'static> = CommandOption {
     name: "senders",
     value: "LIST",
     form: OptionForm::Text,
-    help: "Whose datagrams are taken: IP addresses, with or without a port",
+    help: "Whose datagrams are accepted: IP addresses, with or without a port",
     long_help: SENDERS_HELP,
 };
 
@@ -100,16 +139,17 @@ const MOST_AHEAD: CommandOption<'static> = CommandOption {
     value: "N",
     form: OptionForm::FromOne,
     help: text!(
-        "How far ahead of a venue's lines a number may be, 1 to " MAX_COUNT " [default: no limit, with a further option " USUAL_LEAD "]"
+        "How far ahead of a venue's lines a number may be, 1 to " MAX_COUNT
+        " [default: no limit, with a further option " USUAL_LEAD "]"
     ),
     long_help: text!("\
-How many messages past the highest number that the lines of its venue have brought the number
-of a datagram may be, 1 to " MAX_COUNT ". One that is further is withheld: it changes nothing, and
-standard error says so once of each line, and at the end how many there were. The third of a
-line in a row is taken. Before the venue's lines have brought any message the first one waits,
-and is taken with the second that agrees. An end of the venue's session is withheld, too, until
-another line brings the same one, or this line a third time in a row. By default nothing is
-withheld, with a further option, as of --request-after, the number is " USUAL_LEAD),
+How far the number of a datagram may be past the highest that the venue's lines have had, 1 to
+" MAX_COUNT ". One that is further is withheld: it changes nothing, and standard error reports the
+first one of each line, and at the end how many there were. The third of a line in a row is taken.
+Before the venue's lines have had any message the first one waits, and is taken with the second
+that agrees. An end of the venue's session is withheld, too, until another line has the same one,
+or this line a third time in a row. By default nothing is withheld; with a further option, as of
+--request-after, the number is " USUAL_LEAD),
 };
 
 /// `--silent-after MS`.
@@ -118,12 +158,13 @@ const SILENT_AFTER: CommandOption<'static> = CommandOption {
     value: "MS",
     form: OptionForm::FromOne,
     help: text!(
-        "After how many milliseconds a line that brings nothing is reported, 1 to " MAX_COUNT " [default: never, with a further option " USUAL_SILENCE "]"
+        "After how many milliseconds a silent line is reported, 1 to " MAX_COUNT
+        " [default: never, with a further option " USUAL_SILENCE "]"
     ),
     long_help: text!("\
-After how many milliseconds standard error has a line for a line that brings nothing, from the
-start, too, and another when it is heard again: 1 to " MAX_COUNT ". By default it has none, with a
-further option, as of --request-after, it has them after " USUAL_SILENCE),
+After how many milliseconds without a datagram standard error reports a line, from the start, too,
+and then when it is heard again: 1 to " MAX_COUNT ". By default it is never reported; with a further
+option, as of --request-after, after " USUAL_SILENCE),
 };
 
 /// `--record FILE`.
@@ -131,13 +172,13 @@ const RECORD: CommandOption<'static> = CommandOption {
     name: "record",
     value: "FILE",
     form: OptionForm::Text,
-    help: "Writes what the lines bring into this file, for 'nbbo replay'",
+    help: "Writes what the lines receive into this file, for 'nbbo replay'",
     long_help: "\
-Writes what the lines bring into this file, which is made anew: a capture as 'nbbo replay' reads
-it without --lines, in which the datagrams of each venue, and the gaps that were given up, stand
-in the order in which they were taken. The disk holds no line up: what it is too slow for is left
-out and counted. Standard error has the count at the end, and a replay of such a file ends with
-'short record'. It has no times",
+Writes what the lines receive into this file, which is made anew: a capture as 'nbbo replay' reads
+it without --lines. The datagrams of each venue, and the gaps that were given up, stand in it in
+the order in which they were taken. The disk holds no line up: what it is too slow for is left out
+and counted. Standard error has the count at the end, and a replay of such a file ends with
+'short record'. The file has no times",
 };
 
 /// `--join` of a command that listens.
@@ -158,12 +199,12 @@ const SKIP_AFTER: CommandOption<'static> = CommandOption {
     value: "MS",
     form: OptionForm::FromOne,
     help: text!(
-        "After how many milliseconds a gap is given up that stands so long, 1 to " MAX_COUNT
+        "After how many milliseconds a gap that stands is given up, 1 to " MAX_COUNT
     ),
     long_help: text!("\
-After how many milliseconds a gap is given up that stands so long: 1 to " MAX_COUNT ". The
-sequence then goes on with the first message that has come after it. What was given up and
-comes later changes nothing. Without this option a gap is waited for as long as the run goes"),
+After how many milliseconds a gap that stands is given up: 1 to " MAX_COUNT ". The sequence then
+goes on with the first message that has come after it. What was given up and comes later changes
+nothing. Without this option a gap is waited for until the run ends"),
 };
 
 /// `--journal N` of a command that listens.
@@ -172,7 +213,8 @@ const JOURNAL: CommandOption<'static> = CommandOption {
     value: "N",
     form: OptionForm::FromZero,
     help: text!(
-        "How many items and declarations of self-help there may be, 0 to " MAX_COUNT " [default: " DEFAULT_COUNT ", with --follow " MAX_COUNT "]"
+        "How many items and declarations of self-help there may be, 0 to " MAX_COUNT
+        " [default: " DEFAULT_COUNT ", with --follow " MAX_COUNT "]"
     ),
     long_help: text!("\
 How many items and declarations of self-help there is room for: 0 to " MAX_COUNT ". A
@@ -186,11 +228,12 @@ const DATAGRAMS: CommandOption<'static> = CommandOption {
     value: "N",
     form: OptionForm::FromZero,
     help: text!(
-        "How many datagrams a line reads at most, 0 to " MAX_COUNT " [default: " DEFAULT_COUNT ", with --follow no limit]"
+        "How many datagrams a line reads at most, 0 to " MAX_COUNT
+        " [default: " DEFAULT_COUNT ", with --follow no limit]"
     ),
     long_help: text!("\
 How many datagrams a line reads at most: 0 to " MAX_COUNT ". A line also ends after an
-end of session, as --end says. By default " DEFAULT_COUNT "; with --follow there is no limit"),
+end of session: see --end. By default " DEFAULT_COUNT "; with --follow there is no limit"),
 };
 
 /// `--end WHICH`.
@@ -200,11 +243,11 @@ const END: CommandOption<'static> = CommandOption {
     form: OptionForm::Text,
     help: "Which ends of session end a line: any, own or none [default: any]",
     long_help: "\
-Which ends of session end a line: 'any', an end of whichever session, by default; 'own',
-one of the venue's session alone, as --sessions names it, so that neither yesterday's end,
-where it is still sent, nor another feed's ends the line; or 'none', none, and then an end isn't
-taken at all. After an end that doesn't end it the line goes on: standard error says so of each
-line, at the first one, and at the end how many there were. See also --most-ahead",
+Which ends of session end a line: 'any', an end of whichever session, by default; 'own', an end of
+the venue's session alone, as --sessions names it; or 'none'. With 'own' neither yesterday's end,
+where it is still sent, nor another feed's ends the line. With 'none' an end isn't taken at all.
+After an end that doesn't end it the line goes on: standard error reports the first one of each
+line, and at the end how many there were. See also --most-ahead",
 };
 
 /// `--buffer BYTES`.
@@ -215,7 +258,7 @@ const BUFFER: CommandOption<'static> = CommandOption {
     help: text!("How large a buffer to ask for at each line's socket, 1 to " MAX_BUFFER " bytes"),
     long_help: text!("\
 How many bytes of room to ask for in each line's socket, where the system keeps what has
-come until it is read: 1 to " MAX_BUFFER ". Standard error says how many there are then; the
+come until it is read: 1 to " MAX_BUFFER ". Standard error reports how many there are then; the
 system gives no more than its own limit. Without this option it is the system's default"),
 };
 
@@ -237,9 +280,9 @@ const UNTIL_INPUT_ENDS: CommandOption<'static> = CommandOption {
     form: OptionForm::Flag,
     help: "Ends the run when standard input ends",
     long_help: "\
-Ends the run when standard input ends, whether or not anything comes on the lines. What
-standard input brings is passed over. What came on the lines until then is printed as at
-any other end, and the status is 0. In a terminal Ctrl-D ends standard input; with
+Ends the run when standard input ends, whether or not anything comes on the lines. The bytes
+of standard input are passed over. What came on the lines until then is printed as at any
+other end, and the status is 0. In a terminal Ctrl-D ends standard input; with
 '< /dev/null' it ends at once",
 };
 
@@ -248,11 +291,11 @@ const COMPLETE: CommandOption<'static> = CommandOption {
     name: "complete",
     value: "",
     form: OptionForm::Flag,
-    help: "Ends with status 3 where a venue lacks messages at the end",
+    help: "Ends with status 3 where messages are missing at the end",
     long_help: "\
-Ends with status 3 where a venue lacks messages at the end, as standard error says of it.
-What --join or --skip-after gave up isn't waited for, and isn't lacking. Without this option
-the status is 0 then",
+Ends with status 3 where messages of a venue are missing at the end, as standard error
+reports. What --join or --skip-after gave up isn't missing. Without this option the status
+is 0 then",
 };
 
 /// `--follow`.
@@ -260,12 +303,12 @@ const FOLLOW: CommandOption<'static> = CommandOption {
     name: "follow",
     value: "",
     form: OptionForm::Flag,
-    help: "Prints each best line as it comes",
+    help: "Prints each change of a best as it comes",
     long_help: "\
-Prints each best line as it comes, in the same order as without this option, and the
-lines of the venues once all lines have ended. Where standard output can't be written any
-more, the run ends with status 1. What was printed isn't kept, so that the run takes no more
-memory the longer it goes, and it ends by no count of its own",
+Prints each change of a best as it comes, in the same order as without this option, and the
+rows of the venues once all lines have ended. Where standard output can't be written any
+more, the run ends with status 1. What was printed isn't kept, so a longer run takes no more
+memory, and it ends by no count of its own",
 };
 
 /// `--kept N`.
@@ -278,8 +321,8 @@ const KEPT: CommandOption<'static> = CommandOption {
     ),
     long_help: text!("\
 With --follow: how many changes may wait to be printed: 1 to " MAX_COUNT ", by default
-" DEFAULT_KEPT ". While more do, as where standard output isn't read, no further item is taken:
-what comes waits in the windows of the venues, and what goes past these is asked for again"),
+" DEFAULT_KEPT ". While as many wait, as where nobody reads standard output, no further item is
+taken: what comes waits in the windows of the venues, and what goes past these is asked for again"),
 };
 
 /// `--format FORMAT`.
@@ -287,14 +330,26 @@ const FORMAT: CommandOption<'static> = CommandOption {
     name: "format",
     value: "FORMAT",
     form: OptionForm::Text,
-    help: "With --follow: the format of the best lines: text, csv or json [default: text]",
+    help: "With --follow: the format of the rows of bests: text, csv or json [default: text]",
     long_help: "\
-With --follow: the format of the best lines: 'text', as without this option, or 'csv' or 'json',
-rows as of 'nbbo replay --best-only --format', and no lines of venues. Each row ends with the time
-at which the datagram was read that caused the change, by this machine's clock: where messages
-were missing before it, the one that brought the last of them, or where they were given up the
-last one of the venue before that. It is empty or null where the clock can't be read, and in rows
-that are left for the end since memory was refused",
+With --follow: the format of the rows of bests: 'text', as without this option, or 'csv' or 'json',
+rows as of 'nbbo replay --best-only --format', and no rows of venues. Each row ends with the time
+at which the datagram was read that caused the change, by this machine's clock. After a gap that is
+the datagram that filled it, or where the gap was given up the venue's last one before that. It is
+empty or null where the clock can't be read, and in rows that are left for the end since memory was
+refused",
+};
+
+/// `--venues LIST` of a command that listens.
+const VENUES: CommandOption<'static> = CommandOption {
+    name: "venues",
+    value: "LIST",
+    form: OptionForm::Text,
+    help: "The names that stand for the venues' numbers",
+    long_help: "\
+The names that stand for the venues' numbers on standard error, in metrics, and in rows of csv and
+JSON, as NYSE,ARCA: one for each venue in the order of --sessions, parted by commas, each once. A
+name has 1 to 16 digits, letters, '-', '.' and '_'. Rows of text have the numbers",
 };
 
 /// `--stats SECONDS`.
@@ -309,12 +364,12 @@ Every how many seconds standard error has a line of counts for each venue: 1 to
   nbbo: second N venue V sent S known K lag G lacks L requests R
       A packets P messages M new W repeated X ahead Y refused Z NUMBER:COUNT.. B packets ..
 S is the number of the last item in sequence, K how far the session is known to go, G how
-many messages are between, and L how many of the first gap are missing. Since the line
-before, R requests were sent, and P packets came on line A, or B. Those that were taken had
+many messages are between, and L how many of the first gap are missing. Since the
+line before, R requests were sent, and P packets came on line A, or B. Those that were taken had
 M messages: W that came first, and X that had come before. Y packets went past the window
 and Z were refused, COUNT of them by the refusal of this NUMBER in 'nbbo replay --help'.
 What else there was stands after these, and in the table, too: of a venue 'gave up N' messages;
-of a line 'dropped N' datagrams by the system at its socket, as Linux tells it in /proc/net/udp,
+of a line 'dropped N' datagrams by the system at its socket, as Linux has it in /proc/net/udp,
 'withheld N', 'other_senders N' that were passed over, 'unsent N' requests that couldn't be sent,
 and 'held_back N'. A venue with a socket of its own for requests has R after B"),
 };
@@ -344,15 +399,18 @@ const METRICS: CommandOption<'static> = CommandOption {
     long_help: "\
 Serves the counts by HTTP while the run goes on, to whoever asks this address for /metrics, as
 Prometheus does: an IP address of this machine and a port, as 127.0.0.1:9464; with port 0
-the system picks one, and standard error says which. Each count begins with nbbo_, and is
+the system picks one, and standard error reports which. Each count begins with nbbo_, and is
 that of the run, of a venue, or of a line of a venue, which its labels name. Whoever can
 reach the address can read them. A client has 2 seconds, and holds nothing up",
 };
 
-/// The options of `listen`, in the order in which its help has them.
-pub const LISTEN_OPTIONS: &[CommandOption<'static>] = &[
+/// The options of `listen` for what it receives, in the order in which its help has them.
+pub const RECEIVING_OPTIONS: &[CommandOption<'static>] = &[
     SESSIONS,
     LINES,
+    ITCH,
+    ORDERS,
+    END_NUMBER,
     REQUEST,
     REQUEST_AFTER,
     SENDERS,
@@ -364,6 +422,10 @@ pub const LISTEN_OPTIONS: &[CommandOption<'static>] = &[
     JOURNAL,
     DATAGRAMS,
     BUFFER,
+];
+
+/// The options of `listen` for how it ends and what it prints, which its help has after these.
+pub const LISTENING_OPTIONS: &[CommandOption<'static>] = &[
     END,
     COMPLETE,
     SECONDS,
@@ -374,6 +436,7 @@ pub const LISTEN_OPTIONS: &[CommandOption<'static>] = &[
     KEPT,
     FORMAT,
     TIMES,
+    VENUES,
     STATS,
     STATS_FORMAT,
     METRICS,

@@ -1,7 +1,9 @@
 //! The parts of the settings of `listen`, as its options are read.
 ghost use Rattle.std.specs.Prelude.{◌≡◌, ◌*◌, vec_len};
 
-use run_settings::{BestFormat, EndRule, FeedSettings, ListenStats, NextSession, Senders};
+use run_settings::{
+    BestFormat, EndRule, FeedSettings, ListenStats, NextSession, Senders, VenueNames,
+};
 use std::net::SocketAddr;
 
 /// What a run of `listen` receives.
@@ -37,6 +39,8 @@ pub struct ListenOutputs {
     pub stats: Option<ListenStats>,
     /// The form of best lines.
     pub format: BestFormat,
+    /// What stands for a venue.
+    pub venues: VenueNames,
     /// The name of the file into which what the lines bring is recorded, if into any.
     pub record: Option<String>,
 }

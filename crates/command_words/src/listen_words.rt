@@ -4,6 +4,7 @@ ghost use Rattle.clap.specs.Matches.{found_of};
 ghost use Rattle.clap.specs.Walk.{rows_of};
 ghost use Rattle.command_words.specs.ListenRequests.{ReadsListening, datagrams_by};
 
+use crate::itch_words::itch_of;
 use crate::limits::DEFAULT_COUNT;
 use crate::listen_outputs::listen_outputs_of;
 use crate::listen_rules::listen_rules_of;
@@ -30,12 +31,15 @@ pub fn listening_of(alloc: Global, listen: &ArgMatches<'_>) -> Result<ListenSett
     ensures { ReadsListening (rows_of (found_of listen.now)) result }
 {
     let reception = reception_of(alloc, listen)?;
+    let itch = itch_of(alloc, listen, reception.feed.sessions.as_slice())?;
     let rules = listen_rules_of(alloc, listen)?;
-    let outputs = listen_outputs_of(alloc, listen)?;
+    let venues = reception.feed.sessions.len();
+    let outputs = listen_outputs_of(alloc, listen, venues)?;
     let follow = is_followed(listen);
     Ok(ListenSettings {
         feed: reception.feed,
         next: reception.next,
+        itch,
         lines: reception.lines,
         request: reception.request,
         request_after: number_of(listen, "request-after"),
@@ -56,5 +60,6 @@ pub fn listening_of(alloc: Global, listen: &ArgMatches<'_>) -> Result<ListenSett
         stats: outputs.stats,
         metrics: outputs.metrics,
         record: outputs.record,
+        venues: outputs.venues,
     })
 }

@@ -13,7 +13,7 @@ use run_settings::NextSession;
 use std::alloc::{AllocError, Global};
 
 /// Returns how many of the sessions have this name.
-fn times_in(sessions: &[[u8; 10]], name: &[u8; 10]) -> usize
+pub fn times_in(sessions: &[[u8; 10]], name: &[u8; 10]) -> usize
     ensures { result ≡ count_by (bytes_eq name.now) sessions.now }
 {
     let mut times = 0;
@@ -26,7 +26,7 @@ fn times_in(sessions: &[[u8; 10]], name: &[u8; 10]) -> usize
 }
 
 /// Returns whether each session stands there once.
-fn are_once(sessions: &[[u8; 10]]) -> bool
+pub fn are_once(sessions: &[[u8; 10]]) -> bool
     ensures { result ≡ are_once sessions.now }
 {
     sessions.iter().all(|name| times_in(sessions, name) == 1)

@@ -18,12 +18,13 @@ const LONG_ABOUT: &str = "\
 Turns a capture of lines in TotalView-ITCH 5.0 from standard input into one of this project's own
 messages, and writes that to standard output: packets of the same sessions, with the same numbers.
 Message n becomes the quotation that it changes, of the orders that messages 1 to n leave; a halt;
-or an empty message. The input is a capture of this project's own format, and so is the output;
-with --lines both are packet captures, and each frame of the output goes to line A's address at the
-time of the frame that made its messages ready. Lines A and B are put into one sequence here.
+or an empty message. Lines A and B become one sequence, which is written on line A. The input is a
+capture of this project's own format, and so is the output. With --lines both are packet captures:
+each frame of the output goes to line A's address, at the time of the frame that made its messages
+ready.
 
-A gap that is given up ends what is written of its session, since a book that lacks orders shows a
-best that is wrong: an end of session stands at the first missing number.";
+A gap that is given up ends what is written of its session, since a book without some orders shows
+a wrong best: an end of session stands at the first missing number.";
 
 /// The usage of `normalise`.
 const USAGE: &str = "nbbo normalise [OPTIONS] --sessions <LIST> [SYMBOL]... < CAPTURE > CAPTURE";
@@ -41,17 +42,19 @@ Example:
   nbbo normalise --sessions NASDAQ --lines 239.1.1.1:26400,239.1.1.2:26400 ACME < itch.pcap |
     nbbo replay --sessions NASDAQ --lines 239.1.1.1:26400,239.1.1.2:26400 --best-only ACME
 
-Standard error says at the end of each gap that was given up, and of each that stands:
+Standard error reports at the end each gap that was given up, and each that stands:
   nbbo: venue V lacks COUNT messages from NUMBER, and is quoted no more
   nbbo: venue V lacks COUNT messages from NUMBER
 and where a venue's messages are of this project's own: 'looks like own messages'.
 
 Status:
   0  the capture was turned to its end, or help was shown
-  1  the input or the run was refused; what was ready before was written. Standard error says why:
-     as of 'nbbo replay', and 'venue V has more live orders than --orders'
+  1  the input or the run was refused; what was ready before was written. Standard error reports
+     why: as of 'nbbo replay', and 'venue V has more live orders than --orders'
   2  the command line was refused: as of 'nbbo replay'; 'bad end number': --end-number is neither
-     next nor last; 'bad lines' also where line A of a venue isn't there or isn't of IPv4"
+     next nor last; 'bad snapshot': --snapshot isn't VENUE=FILE; '--snapshot names a session that
+     --sessions doesn't'; '--snapshot names a session twice'; 'bad lines' also where line A of a
+     venue isn't there or isn't of IPv4"
 );
 
 /// The texts of `normalise`.
@@ -102,11 +105,24 @@ const SKIP_AFTER: CommandOption<'static> = CommandOption {
     value: "MS",
     form: OptionForm::FromOne,
     help: text!("\
-With --lines: after how many milliseconds a session is given up whose gap stands, 1 to " MAX_COUNT),
+With --lines: after how many milliseconds a gap that stands ends its session, 1 to " MAX_COUNT),
     long_help: text!("\
-With --lines: after how many milliseconds by the times of the frames a gap is given up that
-stands so long: 1 to " MAX_COUNT ". That ends what is written of the session: the venue is
-quoted no more until its next session"),
+With --lines: after how many milliseconds, by the times of the frames, a gap that stands is
+given up: 1 to " MAX_COUNT ". That ends what is written of the session: the venue is quoted
+no more until its next session"),
+};
+
+/// `--snapshot VENUE=FILE`.
+const SNAPSHOT: CommandOption<'static> = CommandOption {
+    name: "snapshot",
+    value: "VENUE=FILE",
+    form: OptionForm::Several,
+    help: "A file with a snapshot of a venue's live orders, once for each venue that has one",
+    long_help: "\
+A file with a snapshot of a venue's live orders, with which its first session begins. VENUE is
+the name of that session in --sessions, up to the first '='; given again for another venue. A
+snapshot is as Glimpse 5.0 has it: messages in blocks, each after its length in two bytes, high
+byte first, of which the last one is End of Snapshot",
 };
 
 /// `[SYMBOL]...`.
@@ -130,6 +146,7 @@ const OPTIONS: &[CommandOption<'static>] = &[
     END_NUMBER,
     SKIP_GAPS,
     SKIP_AFTER,
+    SNAPSHOT,
     INPUT,
     OUTPUT,
     SYMBOLS,

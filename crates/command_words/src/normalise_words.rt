@@ -1,19 +1,25 @@
-//! The settings that the options of `normalise` give.
-ghost use Rattle.std.specs.Prelude.{◌≡◌, ◌≤◌, IfOk, codes};
+//! The requests that the options of `normalise` give.
+ghost use Rattle.std.specs.Prelude.{◌≡◌, ◌≤◌, IfOk, codes, length, map};
 ghost use Rattle.clap.specs.Matches.{found_of};
 ghost use Rattle.clap.specs.Walk.{first_of, one_of, rows_of};
 ghost use Rattle.run_settings.specs.Lists.{AreOfVenues};
 ghost use Rattle.run_settings.specs.RunInputs.{captured_lines_in};
 ghost use Rattle.command_words.specs.EndNumbers.{end_number_in};
 ghost use Rattle.command_words.specs.NormaliseRequests.{ReadsAddressed, ReadsNormalising, ReadsNormalisingSkips, orders_in};
+ghost use Rattle.command_words.specs.OptionValues.{snapshot_texts_in};
+ghost use Rattle.command_words.specs.Readings.{mapped};
+ghost use Rattle.command_words.specs.SnapshotFiles.{SnapshotsOfVenues, ReadsSnapshots, named_by};
 
 use crate::destinations::is_addressed;
 use crate::end_number::read_end_number;
 use crate::feed_words::feed_of;
 use crate::limits::DEFAULT_ORDERS;
+use crate::normalise_request::NormaliseRequest;
 use crate::option_values::{flag_of, given_text, number_of, number_or};
 use crate::refusal::Refusal;
 use crate::run_words::{input_of, next_sessions_of, skips_in};
+use crate::snapshot_file::SnapshotFile;
+use crate::snapshot_words::read_snapshots;
 use clap::ArgMatches;
 use run_settings::{EndNumberRule, NormaliseSettings, RunInput, SkipRule};
 use std::alloc::Global;
@@ -46,7 +52,7 @@ fn normalising_skips_of(options: &ArgMatches<'_>) -> Result<SkipRule, Refusal>
 }
 
 /// Returns the rule for the number of an end of session that the option gives.
-fn end_number_of(options: &ArgMatches<'_>) -> Result<EndNumberRule, Refusal>
+pub fn end_number_of(options: &ArgMatches<'_>) -> Result<EndNumberRule, Refusal>
     ensures { result ≡ end_number_in
         (first_of (codes "end-number") (rows_of (found_of options.now))) }
 {
@@ -60,8 +66,26 @@ fn orders_of(options: &ArgMatches<'_>) -> u32
     number_or(options, "orders", DEFAULT_ORDERS)
 }
 
-/// Returns the settings that the options of `normalise` give.
-pub fn normalising_of(alloc: Global, options: &ArgMatches<'_>) -> Result<NormaliseSettings, Refusal>
+/// Returns the files of snapshots that the options name for venues with these first sessions.
+fn snapshots_of(
+    alloc: Global,
+    options: &ArgMatches<'_>,
+    sessions: &[[u8; 10]],
+) -> Result<Vec<SnapshotFile>, Refusal>
+    requires { length sessions.now ≤ 16 }
+    ensures reads { ReadsSnapshots (snapshot_texts_in (rows_of (found_of options.now)))
+        sessions.now (mapped (λ files. map (λ file. named_by file) files.items) result) }
+    ensures venues { IfOk result
+        (λ files. SnapshotsOfVenues (length sessions.now) files.items) }
+{
+    match options.get_strs("snapshot") {
+        Some(texts) => read_snapshots(alloc, texts, sessions),
+        None => read_snapshots(alloc, &[], sessions),
+    }
+}
+
+/// Returns the request that the options of `normalise` give.
+pub fn normalising_of(alloc: Global, options: &ArgMatches<'_>) -> Result<NormaliseRequest, Refusal>
     ensures { ReadsNormalising (rows_of (found_of options.now)) result }
 {
     let feed = feed_of(alloc, options, 0)?;
@@ -69,12 +93,17 @@ pub fn normalising_of(alloc: Global, options: &ArgMatches<'_>) -> Result<Normali
     let skips = normalising_skips_of(options)?;
     let end_number = end_number_of(options)?;
     let next_sessions = next_sessions_of(alloc, options, feed.sessions.len())?;
-    Ok(NormaliseSettings {
+    let snapshots = snapshots_of(alloc, options, feed.sessions.as_slice())?;
+    let settings = NormaliseSettings {
         feed,
         next_sessions,
         orders: orders_of(options),
         skips,
         end_number,
         input,
+    };
+    Ok(NormaliseRequest {
+        settings,
+        snapshots,
     })
 }

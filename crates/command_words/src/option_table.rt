@@ -19,6 +19,8 @@ pub enum OptionForm {
     Text,
     /// An option with a text, without which the command is refused.
     Required,
+    /// An option with a text that may stand there several times.
+    Several,
     /// A number of messages that a venue holds, by default 4096.
     Window,
     /// A number from 0 to 4294967295.
@@ -89,6 +91,7 @@ fn argument_of<'a>(alloc: Global, option: &CommandOption<'a>) -> Arg<'a>
         OptionForm::Flag => flag_argument(alloc, option),
         OptionForm::Text => valued_argument(alloc, option),
         OptionForm::Required => valued_argument(alloc, option).required(true),
+        OptionForm::Several => valued_argument(alloc, option).action(ArgAction::Append),
         OptionForm::Window => valued_argument(alloc, option)
             .value_parser(value_parser!(u32).range(1..=i64::from(MAX_WINDOW)))
             .default_value(text!(DEFAULT_WINDOW)),

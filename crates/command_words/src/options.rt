@@ -20,12 +20,12 @@ the first packet of its name that comes after the end of the one before"),
 
 /// The long help of `--lines` of a packet capture.
 pub const CAPTURED_LINES_HELP: &str = "\
-Says that the input is a packet capture (pcap or pcapng), and where the lines' datagrams
+Reads the input as a packet capture (pcap or pcapng). LIST has where the lines' datagrams
 go in it: two addresses for each venue, line A's and then line B's, venue 0's first,
 parted by commas and each once. An address is an IP address, of a machine or a group,
 and a port, as 239.1.1.1:26400 or [ff02::1]:26400. One of zeros, as 0.0.0.0:26400, takes
 what goes to that port at any address; a datagram goes to the first line that takes it.
-A '-' stands in place of a line that isn't there, of one of the two of a venue; write
+A '-' stands in place of a line that isn't there, of one of the two of a venue. Write
 --lines=LIST where the list begins with it";
 
 /// `--lines LIST` of a command that also reads captures of the project's own format.
@@ -45,7 +45,8 @@ pub const WINDOW: CommandOption<'static> = CommandOption {
     help: text!("How many messages a venue holds past the last item sent, 1 to " MAX_WINDOW),
     long_help: text!("\
 How many messages past the last item sent a venue holds while it waits for those
-between: 1 to " MAX_WINDOW ". A packet that goes further is 'ahead': it is known of, not taken"),
+between: 1 to " MAX_WINDOW ". A packet that goes further is 'ahead': it isn't taken, and only shows
+how far the session is"),
 };
 
 /// `--journal N`.
@@ -54,7 +55,8 @@ pub const JOURNAL: CommandOption<'static> = CommandOption {
     value: "N",
     form: OptionForm::FromZero,
     help: text!(
-        "How many items and declarations of self-help there may be, 0 to " MAX_COUNT " [default: " DEFAULT_COUNT ", with --lines or --best-only " MAX_COUNT "]"
+        "How many items and declarations of self-help there may be, 0 to " MAX_COUNT
+        " [default: " DEFAULT_COUNT ", with --lines or --best-only " MAX_COUNT "]"
     ),
     long_help: text!("\
 How many items and declarations of self-help there is room for: 0 to " MAX_COUNT ". A
@@ -85,11 +87,11 @@ Gives up what is missing where a packet lies past the window, as a record of kin
 the messages up to the first one that has come, and again as long as the packet lies past
 the window. What was given up and comes later changes nothing. A packet is 'ahead' only
 where it has more messages than the window. Sessions that are under way are joined, too, so
-that --join beside it changes nothing. Until a gap is given up the venue stands still, with
-the quotations from before it in the national best: for a window of messages, which of a slow
-venue is hours. What it held is then printed at once, at the time of the packet that lies past
-the window. --skip-after gives gaps up by time, --window 100 sooner; --skip-after beside it is
-refused",
+--join beside it changes nothing. Until a gap is given up the venue stands still, and its
+quotations from before the gap stay in the national best: for a window of messages, which of a
+slow venue is hours. What it held is then printed at once, at the time of the packet that lies
+past the window. --window 100 gives gaps up sooner, --skip-after by time; --skip-after beside
+it is refused",
 };
 
 /// `--skip-after MS` of a command that reads captures.
@@ -98,14 +100,14 @@ pub const SKIP_AFTER: CommandOption<'static> = CommandOption {
     value: "MS",
     form: OptionForm::FromOne,
     help: text!(
-        "With --lines: after how many milliseconds a gap is given up that stands so long, 1 to " MAX_COUNT
+        "With --lines: after how many milliseconds a gap that stands is given up, 1 to " MAX_COUNT
     ),
     long_help: text!("\
-With --lines: after how many milliseconds by the times of the frames a gap is given up that
-stands so long: 1 to " MAX_COUNT ". That is done before the next frame is taken; the sequence then
-goes on with the first message that has come after the gap. What was given up and comes later
-changes nothing. Sessions that are under way are joined at their first packet, so that --join
-beside it changes nothing. Live the same is 'nbbo listen --join --skip-after MS'"),
+With --lines: after how many milliseconds, by the times of the frames, a gap that stands is given
+up: 1 to " MAX_COUNT ". That is done before the next frame is taken. The sequence then goes on with
+the first message that has come after the gap. What was given up and comes later changes nothing.
+Sessions that are under way are joined at their first packet, so --join beside it changes nothing.
+Live the same is 'nbbo listen --join --skip-after MS'"),
 };
 
 /// `--from TIME`.
@@ -113,7 +115,7 @@ pub const FROM_TIME: CommandOption<'static> = CommandOption {
     name: "from",
     value: "TIME",
     form: OptionForm::Text,
-    help: "Prints of what came at this time or later, as 2026-11-28T14:30:00Z",
+    help: "Prints what came at this time or later, as 2026-11-28T14:30:00Z",
     long_help: "\
 The rows or statistics are of what came at this time or later, in UTC as
 2026-11-28T14:30:00Z, or with up to nine decimals of a second, or as rows have it, in seconds
@@ -128,7 +130,7 @@ pub const TO_TIME: CommandOption<'static> = CommandOption {
     name: "to",
     value: "TIME",
     form: OptionForm::Text,
-    help: "Prints of what came before this time",
+    help: "Prints what came before this time",
     long_help: "\
 The rows or statistics are of what came before this time, which is written as that of
 --from and isn't before it",
@@ -143,8 +145,22 @@ pub const TIMES: CommandOption<'static> = CommandOption {
     long_help: "\
 How times are printed: 'seconds', from 1970 on, as without this option: in csv with nine
 places, in json also as integers of nanoseconds, in tables as such; or 'utc', a date and a time
-of day in UTC with nine places, as RFC 3339 has them: 2026-05-28T20:26:40.000003000Z. Lines
+of day in UTC with nine places, as RFC 3339 has them: 2026-05-28T20:26:40.000003000Z. Rows
 of text have no times",
+};
+
+/// `--venues LIST`.
+pub const VENUES: CommandOption<'static> = CommandOption {
+    name: "venues",
+    value: "LIST",
+    form: OptionForm::Text,
+    help: "The names that stand for the venues' numbers in csv, json and tables",
+    long_help: text!(
+        "\
+The names that stand for the venues' numbers in csv, json and tables, as NYSE,ARCA: one for
+each venue in the order of --sessions, parted by commas, each once. A name has 1 to 16
+digits, letters, '-', '.' and '_'. Rows of text and standard error have the numbers"
+    ),
 };
 
 /// `--input FILE`.

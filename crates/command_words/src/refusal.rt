@@ -12,6 +12,12 @@ const NO_TIMES: &str = "nbbo: --skip-after without --lines: only a packet captur
 const BAD_NEXT_SESSION: &str =
     "nbbo: bad next session: after a slash a name of 1 to 10 characters, each of a venue once\n";
 
+/// The text where a venue in ITCH is named by a session that is no venue's first one.
+const UNKNOWN_ITCH: &str = "nbbo: --itch names a session that --sessions doesn't\n";
+
+/// The text where a snapshot is of a session that is no venue's first one.
+const UNKNOWN_SNAPSHOT: &str = "nbbo: --snapshot names a session that --sessions doesn't\n";
+
 /// Why there are no settings.
 #[derive(Debug, Drop)]
 pub enum Refusal {
@@ -43,6 +49,8 @@ pub enum Refusal {
     GapsWithEvery,
     /// Rows of national bests are asked for, and there are no periods.
     BestsWithoutEvery,
+    /// Counts by type are asked for, and rows of another kind, too.
+    TypesWithRows,
     /// Gaps are to be given up after some time, and the input has no times.
     SkipAfterWithoutLines,
     /// Gaps are to be given up after some time, and at the window, too.
@@ -61,6 +69,10 @@ pub enum Refusal {
     TimesOfText,
     /// The style of times is said, and the input has no times.
     TimesWithoutLines,
+    /// The list of venues' names doesn't have one for each venue, each once.
+    BadVenues,
+    /// Venues are named where lines of text are printed, which have numbers.
+    VenuesOfText,
     /// The rule by which an end of session ends a line is none of those that there are.
     BadEnd,
     /// How many changes are kept is said where all are, since best lines aren't printed as they
@@ -76,8 +88,18 @@ pub enum Refusal {
     BadRecording,
     /// The text for the address of metrics is no address.
     BadMetrics,
+    /// A venue in ITCH is named by a session that is no venue's first one.
+    UnknownItch,
+    /// A venue in ITCH is named twice.
+    ItchTwice,
     /// The rule for the number of an end of session is none of those that there are.
     BadEndNumber,
+    /// The text for a snapshot has no `=`, or no name of a file after it.
+    BadSnapshot,
+    /// A snapshot is of a session that is no venue's first one.
+    UnknownSnapshot,
+    /// A venue has two snapshots.
+    SnapshotTwice,
     /// The name of the file that is read in place of standard input is empty.
     BadInput,
     /// The name of the file that is written in place of standard output is empty.
@@ -108,11 +130,15 @@ impl Refusal {
             Refusal::BestsWithoutEvery | Refusal::BadTime | Refusal::ToBeforeFrom => 2,
             Refusal::SpanOfLines | Refusal::SpanWithoutLines => 2,
             Refusal::SkipAfterWithoutLines | Refusal::SkipGapsWithSkipAfter => 2,
+            Refusal::TypesWithRows => 2,
             Refusal::BadTimeStyle | Refusal::TimesOfText | Refusal::TimesWithoutLines => 2,
+            Refusal::BadVenues | Refusal::VenuesOfText => 2,
             Refusal::GapsWithEvery | Refusal::BadEnd | Refusal::KeptUnfollowed => 2,
             Refusal::FormatUnfollowed | Refusal::BadSender | Refusal::BadMetrics => 2,
             Refusal::SendersWithFrom | Refusal::BadRecording => 2,
+            Refusal::UnknownItch | Refusal::ItchTwice => 2,
             Refusal::BadEndNumber | Refusal::BadInput | Refusal::BadOutput => 2,
+            Refusal::BadSnapshot | Refusal::UnknownSnapshot | Refusal::SnapshotTwice => 2,
             Refusal::BadSymbol | Refusal::TooManySymbols | Refusal::DuplicateSymbol => 2,
         }
     }
@@ -135,6 +161,7 @@ impl Refusal {
             Refusal::EveryWithoutLines => "nbbo: --every without --lines\n",
             Refusal::GapsWithEvery => "nbbo: --gaps with --every\n",
             Refusal::BestsWithoutEvery => "nbbo: --bests without --every\n",
+            Refusal::TypesWithRows => "nbbo: --types with --gaps, --every or --bests\n",
             Refusal::SkipAfterWithoutLines => NO_TIMES,
             Refusal::SkipGapsWithSkipAfter => "nbbo: --skip-gaps with --skip-after\n",
             Refusal::BadTime => "nbbo: bad time\n",
@@ -144,6 +171,8 @@ impl Refusal {
             Refusal::BadTimeStyle => "nbbo: bad time style\n",
             Refusal::TimesOfText => "nbbo: --times of lines of text, which have none\n",
             Refusal::TimesWithoutLines => "nbbo: --times without --lines\n",
+            Refusal::BadVenues => "nbbo: bad venues\n",
+            Refusal::VenuesOfText => "nbbo: --venues of lines of text, which have numbers\n",
             Refusal::BadEnd => "nbbo: bad end\n",
             Refusal::KeptUnfollowed => "nbbo: --kept without --follow\n",
             Refusal::FormatUnfollowed => "nbbo: --format without --follow\n",
@@ -151,7 +180,12 @@ impl Refusal {
             Refusal::SendersWithFrom => "nbbo: --senders with --from\n",
             Refusal::BadRecording => "nbbo: bad file for --record\n",
             Refusal::BadMetrics => "nbbo: bad metrics address\n",
+            Refusal::UnknownItch => UNKNOWN_ITCH,
+            Refusal::ItchTwice => "nbbo: --itch names a session twice\n",
             Refusal::BadEndNumber => "nbbo: bad end number\n",
+            Refusal::BadSnapshot => "nbbo: bad snapshot\n",
+            Refusal::UnknownSnapshot => UNKNOWN_SNAPSHOT,
+            Refusal::SnapshotTwice => "nbbo: --snapshot names a session twice\n",
             Refusal::BadInput => "nbbo: bad file for --input\n",
             Refusal::BadOutput => "nbbo: bad file for --output\n",
             Refusal::BadSymbol => "nbbo: bad symbol\n",

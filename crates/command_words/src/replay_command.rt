@@ -9,26 +9,27 @@ use crate::limits::text;
 use crate::option_table::{CommandOption, OptionForm};
 use crate::options::{
     CAPTURED_LINES, FROM_TIME, INPUT, JOIN, JOURNAL, OUTPUT, SESSIONS, SKIP_AFTER, SKIP_GAPS,
-    SYMBOLS, TIMES, TO_TIME, WINDOW,
+    SYMBOLS, TIMES, TO_TIME, VENUES, WINDOW,
 };
 use clap::Command;
 use std::alloc::{AllocError, Global};
 
 /// `replay`, in one line.
-const ABOUT: &str = "Replays a capture from standard input and prints what became of it";
+const ABOUT: &str = "Replays a capture from standard input and prints each event and best";
 
 const LONG_ABOUT: &str = "\
-Replays a capture from standard input and prints what became of it.
+Replays a capture from standard input, and prints a row for each packet, item and change of the
+national best.
 
-A capture is a list of records, one after the other: the venue (1 byte, from 0), a kind (1 byte),
-a length (2 bytes, big-endian) and that many bytes. Kind A, B or R is a MoldUDP64 datagram that
-came on line A, on line B or from recovery. Kind N has ten bytes, the name of the venue's next
-session. Kind K has eight bytes, a number (big-endian): the messages below it that are missing are
-given up. Kind H declares self-help on the venue, which takes its quotations out of the national
-best, and kind W withdraws it; both have length 0.
+With --lines the input is a packet capture, pcap or pcapng, as tcpdump and dumpcap write it. The
+datagrams of its lines are replayed, in the order of the capture.
 
-With --lines the input is a packet capture, pcap or pcapng, as tcpdump and dumpcap write it, and
-what is replayed are the datagrams of its lines, in the order of the capture.";
+Without it a capture is a list of records, one after the other: the venue (1 byte, from 0), a kind
+(1 byte), a length (2 bytes, big-endian) and that many bytes. Kind A, B or R is a MoldUDP64
+datagram that came on line A, on line B or from recovery. Kind N has ten bytes, the name of the
+venue's next session. Kind K has eight bytes, a number (big-endian): the messages below it that are
+missing are given up. Kind H declares self-help on the venue, which takes its quotations out of the
+national best, and kind W withdraws it; both have length 0.";
 
 /// The usage of `replay`.
 const USAGE: &str = "nbbo replay [OPTIONS] --sessions <LIST> [SYMBOL]... < CAPTURE";
@@ -39,11 +40,11 @@ Examples:
   nbbo replay --sessions NORTH,SOUTH ACME < capture
   zcat day.capture.gz | nbbo replay --sessions NORTH,SOUTH --best-only --format csv ACME
 
-'--help' also tells what a capture is and what is printed.";
+'--help' also has what a capture is, and each row that is printed.";
 
 /// The part of the long help after the options.
 const LINES: &str = text!("\
-Printed lines, V a venue from 0, L a line (A, B or R for recovery):
+Printed rows, V a venue from 0, L a line (A, B or R for recovery):
   packet V L taken NEW REPEATED  of a datagram's messages NEW came first, REPEATED came again
   packet V L heartbeat           it has none
   packet V L ended               it announces the end of the session
@@ -68,9 +69,9 @@ Printed lines, V a venue from 0, L a line (A, B or R for recovery):
   declare V on POSITION          self-help stands on the venue; 'off' where it was withdrawn. In
                                  place of the journal's position 'already' where it was so
   venue V sent SENT wins A B R   after the last record, for each venue: how many items were sent,
-                                 and how many messages each line brought first
+                                 and how many messages came first on each line
 
-With --lines standard error says at the end, where the count isn't 0:
+With --lines standard error reports at the end, where the count isn't 0:
   frames in all, datagrams to lines, datagrams to other addresses passed over
                                  where not each frame has a datagram to a line
   frames without IP, IP packets without UDP
@@ -89,12 +90,14 @@ session NAME, which isn't named', or, of a session that is named to follow anoth
 began: the one before it wasn't over'; 'no frame has a time', where an option goes by times;
 'a second capture seems to begin at byte N', as after 'cat' of two files.
 
-At the end of a whole capture standard error says what each venue still lacks: the first messages
-that never came, though later ones did, as far as the window goes; and which symbols never came:
+At the end of a whole capture standard error reports what is missing of each venue: the first
+messages that never came, though later ones did, within the window; and which symbols never came:
   nbbo: venue V lacks COUNT messages from NUMBER
   nbbo: symbol S never came
-It does where it is a terminal, and where --lines, --best-only, --join, --skip-gaps or --skip-after
-is given.
+  nbbo: venue V's messages look like ITCH; normalise turns them into quotations
+The last one stands where a venue's messages had types and lengths of TotalView-ITCH 5.0 and none of
+this project's own. These are reported at a terminal, and where --lines, --best-only, --join,
+--skip-gaps or --skip-after is given.
 
 Examples:
   $ nbbo replay --sessions NORTH,SOUTH ACME < capture
@@ -135,8 +138,8 @@ Refusals:
 
 Status:
   0  the capture was replayed to its end, or help or the version was shown
-  1  the input or the run was refused; the lines of the records before were printed, and no venue
-     lines. Standard error says why:
+  1  the input or the run was refused; the rows of the records before were printed, and no venue
+     rows. Standard error reports why:
        journal full    the next item or declaration has no room in the journal; those of the same
                        datagram that had room were printed, too
        bad record      a record's venue isn't below the number of sessions, its kind isn't A, B, R,
@@ -152,7 +155,7 @@ Status:
        write failed    standard output can't be written, as where it is a pipe that 'head' has left
        too many turns  input was read 1,000,000,000 times and hasn't ended
        no memory       memory was refused
-  2  the command line was refused; standard error says why. 'bad session': a name is empty, has
+  2  the command line was refused; standard error reports why. 'bad session': a name is empty, has
      more than ten characters or one that isn't printable ASCII; 'too many sessions': more than " MAX_VENUES ";
      'bad symbol': a symbol is empty, has more than eight characters, or a space or one that isn't
      printable ASCII; 'too many symbols': more than " MAX_SYMBOLS "; 'duplicate symbol': one is named twice;
@@ -160,9 +163,10 @@ Status:
      'bad lines': --lines isn't two addresses for each session, or names one twice; 'bad time': the
      text of --from or --to is none; '--to before --from'; '--from or --to without --best-only';
      '--from or --to without --lines'; 'bad time style': --times is neither seconds nor utc;
-     '--times of lines of text', which have none; '--times without --lines'; '--skip-after without
-     --lines'; '--skip-gaps with --skip-after'; 'bad next session': with --lines a name after a
-     slash is none, or is that of another session of the venue");
+     '--times of lines of text', which have none; '--times without --lines'; 'bad venues': --venues
+     isn't a name for each session, each once; '--venues of lines of text', which have numbers;
+     '--skip-after without --lines'; '--skip-gaps with --skip-after'; 'bad next session': with
+     --lines a name after a slash is none, or is that of another session of the venue");
 
 /// The texts of `replay`.
 const TEXTS: CommandTexts<'static> = CommandTexts {
@@ -188,10 +192,10 @@ const BEST_ONLY: CommandOption<'static> = CommandOption {
     name: "best-only",
     value: "",
     form: OptionForm::Flag,
-    help: "Prints the best lines alone",
+    help: "Prints the rows of bests alone",
     long_help: "\
-Prints the best lines alone: the changes of the national best bid and offer of the symbols
-that are named. Without a symbol there are none, and standard error says so",
+Prints the rows of bests alone: the changes of the national best bid and offer of the symbols
+that are named. Without a symbol there are none, and standard error reports that",
 };
 
 /// `--format FORMAT`.
@@ -199,11 +203,11 @@ const FORMAT: CommandOption<'static> = CommandOption {
     name: "format",
     value: "FORMAT",
     form: OptionForm::Text,
-    help: "The format of the best lines with --best-only: text, csv or json",
+    help: "The format of the rows of bests with --best-only: text, csv or json",
     long_help: "\
-The format of the best lines with --best-only: 'text', as without this option; 'csv', a
+The format of the rows of bests with --best-only: 'text', as without this option; 'csv', a
 line with the columns' names and then a row each; or 'json', an object on a line each.
-Lines end in a line feed alone. A side that there isn't is three empty values in csv and
+Rows end in a line feed alone. A side that there isn't is three empty values in csv and
 null in json. Prices have four places. With --lines each row and object ends with the time
 of the datagram that caused it, as --times says, and an object also with 'time_ns', an
 integer of nanoseconds; empty or null where the packet capture has none. Without
@@ -225,6 +229,7 @@ const OPTIONS: &[CommandOption<'static>] = &[
     TO_TIME,
     FORMAT,
     TIMES,
+    VENUES,
     INPUT,
     OUTPUT,
     SYMBOLS,

@@ -10,15 +10,15 @@ ghost use Rattle.command_words.specs.CapturedLines.{ReadsInput};
 ghost use Rattle.command_words.specs.NextSessions.{ReadsNextSessions};
 ghost use Rattle.command_words.specs.OptionValues.{is_flag_set, list_in, number_given};
 ghost use Rattle.command_words.specs.Readings.{mapped};
-ghost use Rattle.command_words.specs.RunRequests.{ReadsReplay, ReadsRunOf, ReadsSkips, ReadsStats, ReadsStatsOutput, replay_journal};
+ghost use Rattle.command_words.specs.RunRequests.{ReadsReplay, ReadsRunOf, ReadsSkips, ReadsStats, ReadsStatsOutput, ReadsStyled, replay_journal};
 ghost use Rattle.command_words.specs.SkipRules.{skip_rule_by, skips_in};
 ghost use Rattle.command_words.specs.SpanWords.{ReadsSpan};
-ghost use Rattle.command_words.specs.TimeStyles.{styled_in};
 
 use crate::best_format::read_replay_output;
 use crate::captured_lines::read_input;
 use crate::feed_words::feed_of;
 use crate::limits::DEFAULT_COUNT;
+use crate::named_output::read_venues;
 use crate::next_sessions::read_next_sessions;
 use crate::option_values::{flag_of, given_text, number_of, number_or, text_of};
 use crate::refusal::Refusal;
@@ -101,7 +101,7 @@ pub fn input_of(alloc: Global, run: &ArgMatches<'_>, venues: usize) -> Result<Ru
     read_input(alloc, given_text(run, "lines"), venues)
 }
 
-/// Returns the output that the options of `stats` ask for, but for the style of its times.
+/// Returns the output that the options of `stats` ask for, but for its style.
 fn stats_output_of(stats: &ArgMatches<'_>) -> Result<RunOutput, Refusal>
     ensures { ReadsStatsOutput (rows_of (found_of stats.now)) result }
 {
@@ -114,17 +114,23 @@ fn stats_output_of(stats: &ArgMatches<'_>) -> Result<RunOutput, Refusal>
     bests_by(flag_of(stats, "bests"), counted)
 }
 
-/// Returns this output, with the times of its rows in the style that the option gives.
-fn styled_of(run: &ArgMatches<'_>, plain: RunOutput) -> Result<RunOutput, Refusal>
-    ensures { result ≡ styled_in plain
-        (first_of (codes "times") (rows_of (found_of run.now)))
-        (first_of (codes "lines") (rows_of (found_of run.now))) }
+/// Returns this output of `venues` venues, 16 at most, with times in the style and with the names
+/// that the options give.
+pub fn styled_of(
+    alloc: Global,
+    run: &ArgMatches<'_>,
+    plain: RunOutput,
+    venues: usize,
+) -> Result<RunOutput, Refusal>
+    requires { venues ≤ 16 }
+    ensures { ReadsStyled (rows_of (found_of run.now)) venues plain result }
 {
-    read_style(plain, given_text(run, "times"), given_text(run, "lines"))
+    let styled = read_style(plain, given_text(run, "times"), given_text(run, "lines"))?;
+    read_venues(alloc, styled, given_text(run, "venues"), venues)
 }
 
 /// Returns the span of time in which events lie that this output is of.
-fn span_of(run: &ArgMatches<'_>, output: &RunOutput) -> Result<TimeSpan, Refusal>
+pub fn span_of(run: &ArgMatches<'_>, output: &RunOutput) -> Result<TimeSpan, Refusal>
     ensures { ReadsSpan output.now
         (first_of (codes "from") (rows_of (found_of run.now)))
         (first_of (codes "to") (rows_of (found_of run.now)))
@@ -138,7 +144,7 @@ fn span_of(run: &ArgMatches<'_>, output: &RunOutput) -> Result<TimeSpan, Refusal
     )
 }
 
-/// Returns the run of this feed, whose output is `plain` but for the style of its times.
+/// Returns the run of this feed, whose output is `plain` but for its style.
 fn run_of(
     alloc: Global,
     run: &ArgMatches<'_>,
@@ -148,7 +154,7 @@ fn run_of(
 ) -> Result<RunSettings, Refusal>
     ensures { ReadsRunOf (rows_of (found_of run.now)) feed gaps plain result }
 {
-    let output = styled_of(run, plain)?;
+    let output = styled_of(alloc, run, plain, feed.sessions.len())?;
     let input = input_of(alloc, run, feed.sessions.len())?;
     let span = span_of(run, &output)?;
     let skips = skips_of(run)?;

@@ -1,28 +1,28 @@
 //! The senders on the command line.
 ghost use Rattle.std.specs.Prelude.{MatchOption, map, option_map};
-ghost use Rattle.run_settings.specs.declared.sender.Sender.{Sender};
+ghost use Rattle.run_settings.specs.declared.sender.AllowedSender.{AllowedSender};
 ghost use Rattle.command_words.specs.Addresses.{AreSpelled};
 ghost use Rattle.command_words.specs.Readings.{Finds, OrNoMemory, mapped};
 ghost use Rattle.command_words.specs.SenderLists.{IsSenderText, ReadsNamedSenders, ReadsSenders};
 ghost use Rattle.command_words.specs.declared.refusal.Refusal.TheVariants.{BadSender};
 
 use crate::refusal::Refusal;
-use run_settings::{Sender, Senders};
+use run_settings::{AllowedSender, Senders};
 use std::alloc::Global;
 use std::net::{IpAddr, SocketAddr};
 
 /// Returns the sender that the text spells, `None` where it spells none.
-fn sender_of(text: &str) -> Option<Sender>
-    ensures { MatchOption result ((sender : Sender) → IsSenderText text.now sender → ⊥)
+fn sender_of(text: &str) -> Option<AllowedSender>
+    ensures { MatchOption result ((sender : AllowedSender) → IsSenderText text.now sender → ⊥)
         (IsSenderText text.now) }
 {
     match IpAddr::parse_ascii(text.as_bytes()) {
-        Ok(address) => Some(Sender {
+        Ok(address) => Some(AllowedSender {
             address,
             port: None,
         }),
         Err(_) => match SocketAddr::parse_ascii(text.as_bytes()) {
-            Ok(from) => Some(Sender {
+            Ok(from) => Some(AllowedSender {
                 address: from.ip(),
                 port: Some(from.port()),
             }),
@@ -32,7 +32,7 @@ fn sender_of(text: &str) -> Option<Sender>
 }
 
 /// Returns the senders that the texts spell, in order.
-fn spelled_senders(alloc: Global, texts: &[&str]) -> Result<Vec<Sender>, Refusal>
+fn spelled_senders(alloc: Global, texts: &[&str]) -> Result<Vec<AllowedSender>, Refusal>
     ensures { OrNoMemory
         (Finds (AreSpelled IsSenderText (map (λ text. text.now) texts.now)) BadSender)
         (mapped (λ senders. senders.items) result) }

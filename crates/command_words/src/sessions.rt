@@ -18,7 +18,7 @@ fn is_printable(bytes: &[u8]) -> bool
 }
 
 /// Returns whether `name` is 1 to 10 bytes of `20` to `7e`.
-fn is_name(name: &[u8]) -> bool
+pub fn is_name(name: &[u8]) -> bool
     ensures { result ≡ is_session_name name.now }
 {
     !name.is_empty() && name.len() <= NAME_LEN && is_printable(name)
@@ -32,7 +32,7 @@ pub fn are_names(names: &[&str]) -> bool
 }
 
 /// Returns the name as packets carry it, filled on the right with spaces.
-fn filled(name: &[u8]) -> [u8; 10]
+pub fn filled(name: &[u8]) -> [u8; 10]
     requires { length name.now ≤ 10 }
     ensures { result ≡ filled_name name.now }
 {

@@ -9,18 +9,18 @@ use crate::limits::text;
 use crate::option_table::{CommandOption, OptionForm};
 use crate::options::{
     CAPTURED_LINES, FROM_TIME, INPUT, JOIN, OUTPUT, SESSIONS, SKIP_AFTER, SKIP_GAPS, TIMES,
-    TO_TIME, WINDOW,
+    TO_TIME, VENUES, WINDOW,
 };
 use clap::Command;
 use std::alloc::{AllocError, Global};
 
 /// `stats`, in one line.
-const ABOUT: &str = "Replays a capture and prints what happened in it, counted";
+const ABOUT: &str = "Replays a capture and prints counts of its packets, gaps and bests";
 
 const LONG_ABOUT: &str = "\
-Replays a capture from standard input and prints counts in place of the lines of 'nbbo replay': of
+Replays a capture from standard input and prints counts in place of the rows of 'nbbo replay': of
 each venue and each of its lines the packets, messages and gaps, and of the symbols that are named
-the changes of the national bests. 'nbbo replay --help' says what a capture is.";
+the changes of the national bests. 'nbbo replay --help' has what a capture is.";
 
 /// The usage of `stats`.
 const USAGE: &str = "nbbo stats [OPTIONS] --sessions <LIST> [SYMBOL]... < CAPTURE";
@@ -31,17 +31,17 @@ Examples:
   nbbo stats --sessions NORTH,SOUTH ACME < capture
   nbbo stats --sessions NORTH --lines 239.1.1.1:26400,239.1.1.2:26400 --format json < day.pcap
 
-'--help' also tells what is counted.";
+'--help' also has what is counted.";
 
 /// The part of the long help after the options.
 const END: &str = "\
 Printed for each venue, from 0; rows of zeros alone are left out:
-  first a row for each line  its packets; the messages that it lost, as it never brought them, and
-                             those that it brought late; those that it brought first, of all lines;
-                             how long before the other line, half of these at most; and its longest
+  first a row for each line  its packets; the messages that it lost, which never came on it, and
+                             those that came late; those that came on it first, of all lines; how
+                             long before the other line, half of these at most; and its longest
                              gap. Durations are in nanoseconds, by the times of the frames
   packets                    a line's datagrams; the bytes of those that are packets; and by the
-                             answer to each: 'with messages taken', which the line brought first
+                             answer to each: 'with messages taken', which came on this line first
                              or again; 'past the window', of which nothing was taken; and those
                              refused, by the fault
   gaps                       of line A, of line B, and of all lines together: how many there were;
@@ -66,45 +66,50 @@ Printed for each venue, from 0; rows of zeros alone are left out:
 and then the changes of national bests, by the state after.
 
 A number far ahead, as of a packet past the window, counts as known once a second packet goes on
-from it. A line lost the numbers that it passed over and never brought, and those past its last one;
-it begins where its session was joined, before any message of it came, else at 1.
+from it. A line lost the numbers that its packets passed over and that never came on it, and those
+past its last one. It begins where its session was joined, before any message of it came, else at 1.
 
-With --lines there follows, by the times of the frames, of each venue, of the messages that both
-lines brought, how long the second line took where the other one was first in time: the mean; half
-of them within, 90 and 99 of a hundred within, 999 of a thousand within (a sixteenth more at most),
-and the longest; and when each line was last heard. A frame without a time has no part in this.
+With --lines there follow leads, by the times of the frames: of each venue, of the messages that came
+on both lines, how long the second line took where the other one was first. They are the mean; half
+of them within, 90 and 99 of a hundred within, 999 of a thousand within (a sixteenth more at most);
+and the longest. Then comes when each line was last heard. A frame without a time has no part in
+this.
 
 With --every there are rows in place of all these: of each period in which a frame to any line came,
-for each venue a row of line A and one of line B, with the time at which the period began, a whole
-multiple of its length from 1970 on (UTC); the line's datagrams; the bytes of those that are
-packets; the messages in these that were taken, or had come before; those that the line brought
+for each venue a row of line A and one of line B. A row has the time at which the period began, a
+whole multiple of its length from 1970 on (UTC); the line's datagrams; the bytes of those that are
+packets; the messages in these that were taken, or had come before; those that came on this line
 first; and how many messages the numbers of its packets passed over. A period without a frame has no
-row, and none comes twice: the last 16 periods are kept, a late frame counts in its own, and in the
-oldest of them where it is later still. How many are, standard error reports as 'frames earlier than
-the 16 periods that are kept'. A frame without a time counts in no period. The rows of the last
-periods are printed at the end of a whole capture alone. In csv the columns are time, venue, line,
-packets, bytes, messages, first and missing; JSON has also time_ns.
+row, and no period comes twice. The last 16 periods are kept: a late frame counts in its own, and in
+the oldest of them where it is later still. Standard error counts those as 'frames earlier than the
+16 periods that are kept'. A frame without a time counts in no period. The rows of the last periods
+are printed at the end of a whole capture alone. In csv the columns are time, venue, line, packets,
+bytes, messages, first and missing; JSON has also time_ns.
 
-With --every and --bests a row has the time at which the period began, the symbol and the venue; in
-which share of the period's time the best bid was the venue's, and in which the best offer; in which
-share the symbol's bid was below its offer ('normal'), in which both were equal ('locked'), and in
-which the bid was above ('crossed'); and the mean spread in dollars over the time in which it was
-normal, empty or null where there was none. Rows of zeros are left out. The best that stands when a
-period begins stands in it from then on. The time is the latest of the frames so far: a late frame
-changes a best at that time. With --from it begins there. The last period's time ends with the
-capture's last frame, with --to with the last one before that, its share is of a whole period all
-the same. A period without a frame has no row, though a best stood in it. In csv the columns are
-time, symbol, venue, bid, offer, normal, locked, crossed and spread; JSON has also time_ns.
+With --every and --bests a row has the time at which the period began, the symbol and the venue. Then
+come shares of the period's time: in which the best bid was the venue's, and the best offer; in which
+the symbol's bid was below its offer ('normal'), equal to it ('locked'), and above it ('crossed').
+Last comes the mean spread in dollars over the time in which it was normal, empty or null where
+there was none. Rows of zeros are left out. The best that stands when a period begins stands in it
+from then on. The time is the latest of the frames so far: a late frame changes a best at that time.
+With --from it begins there. The last period's time ends with the capture's last frame, with --to
+with the last one before that; its share is of a whole period all the same. A period without a frame
+has no row, though a best stood in it. In csv the columns are time, symbol, venue, bid, offer,
+normal, locked, crossed and spread; JSON has also time_ns.
 
 With --gaps a row has the venue; the line, A, B or 'all' for what all lines together left out; the
 first and the last number; how many messages were left out, and how many of these were given up;
-when the gap began and when it ended, as --times says, in JSON also in nanoseconds, empty or null
-where the frame has no time or there are no frames; and what ended it: the line A, B or 'recovery'
-whose packet brought the last of its messages, 'skip' where the last of them were given up, or some
-before it was shown, 'before' where another line had brought them then, or 'open' where nothing did,
-to the end of its session or of the capture. What a join gives up is no gap. In csv the columns are
-venue, line, first, last, messages, given_up, began, ended and ended_by; JSON has also began_ns and
-ended_ns.
+when the gap began and when it ended, in the style of --times, in JSON also in nanoseconds, empty or
+null where the frame has no time or there are no frames; and what ended it: the line A, B or
+'recovery' that had the last of its messages; 'skip' where the last of them were given up, or some
+before it was shown; 'before' where they had come on another line by then; or 'open' where nothing
+did, to the end of its session or of the capture. What a join gives up is no gap. In csv the columns
+are venue, line, first, last, messages, given_up, began, ended and ended_by; JSON has also began_ns
+and ended_ns.
+
+With --types a row has the venue, the line, the type, as a letter of TotalView-ITCH 5.0 or 'other',
+and how many messages of it stood in the line's datagrams. In csv the columns are venue, line, type
+and messages. Symbols, --window, --join, --skip-gaps and --skip-after have no part in it.
 
 In JSON the counts are one object; null stands where nothing is known:
   venues           a list with an object for each venue: its number as 'venue'; and
@@ -144,15 +149,14 @@ Examples:
 
 Status:
   0  the capture was replayed to its end and the counts were printed, or help was shown
-  1  the input or the run was refused; standard error says why, as of 'nbbo replay', and the counts
-     of the records before were printed, unless there were none or it is 'write failed' or 'no
-     memory'
+  1  the input or the run was refused; standard error reports why, as of 'nbbo replay'. The counts of
+     the records before were printed, unless there were none or it is 'write failed' or 'no memory'
   2  the command line was refused: 'bad format' where the format is none of those; 'bad period'
      where that of --every is none; '--every without --lines'; '--gaps with --every'; '--bests
-     without --every'; else as of 'nbbo replay'
+     without --every'; '--types with --gaps, --every or --bests'; else as of 'nbbo replay'
 
-At the end of a whole capture standard error says what each venue still lacks, as of 'nbbo replay',
-and with --lines it counts what was passed over, as of 'nbbo replay --lines'.";
+At the end of a whole capture standard error reports what is missing, as of 'nbbo replay', and with
+--lines it counts what was passed over, as of 'nbbo replay --lines'.";
 
 /// The texts of `stats`.
 const TEXTS: CommandTexts<'static> = CommandTexts {
@@ -174,6 +178,18 @@ Prints in place of the counts a row for each gap in the numbers of the messages,
 and at the end of the capture those of the gaps that are open. A gap of line A, of line B,
 or of all lines together is a run of numbers that a packet of it passes over. It ends when
 these have come on any line or were given up",
+};
+
+/// `--types` of `stats`.
+const TYPES: CommandOption<'static> = CommandOption {
+    name: "types",
+    value: "",
+    form: OptionForm::Flag,
+    help: "Prints how many messages of each type of ITCH each line had, in place of counts",
+    long_help: "\
+Prints in place of the counts a row for each venue, line and type of TotalView-ITCH 5.0 of which
+a message came on the line: how many, each as often as it came. 'other' is any other type, or
+another length than the type's. Nothing is replayed",
 };
 
 /// `--every PERIOD`.
@@ -210,8 +226,8 @@ const FORMAT: CommandOption<'static> = CommandOption {
     help: "The format of the counts: table, csv or json; of rows: csv or json",
     long_help: "\
 The format of the counts: 'table', as without this option; 'csv', a line with the columns'
-names and then a row for each figure; or 'json', an object on a line of its own. With --gaps
-or --every that of the rows: 'csv', as without this option, a line with the columns' names and
+names and then a row for each figure; or 'json', an object on a line of its own. With --gaps,
+--types or --every that of the rows: 'csv', as without this option, a line with the columns' names and
 then a row each; or 'json', an object on a line each",
 };
 
@@ -237,12 +253,14 @@ const OPTIONS: &[CommandOption<'static>] = &[
     SKIP_GAPS,
     SKIP_AFTER,
     GAPS,
+    TYPES,
     EVERY,
     BESTS,
     FROM_TIME,
     TO_TIME,
     FORMAT,
     TIMES,
+    VENUES,
     INPUT,
     OUTPUT,
     COUNTED_SYMBOLS,

@@ -4,27 +4,27 @@ ghost use Rattle.command_words.specs.StatsOutputs.{ReadsCounted, bests_by, repor
 
 use crate::period_words::read_period;
 use crate::refusal::Refusal;
-use run_settings::{PeriodStyle, ReportFormat, RowFormat, RunOutput, TimeStyle};
+use run_settings::{PeriodStyle, ReportFormat, RowFormat, RunOutput, ValueStyle};
 
 /// Returns the form of rows of this name.
 fn row_format_named(name: &str) -> Option<RowFormat>
     ensures { result ≡ row_format_named name.now }
 {
     if name == "csv" {
-        Some(RowFormat::Csv(TimeStyle::Seconds))
+        Some(RowFormat::Csv(ValueStyle::numbers()))
     } else if name == "json" {
-        Some(RowFormat::Json(TimeStyle::Seconds))
+        Some(RowFormat::Json(ValueStyle::numbers()))
     } else {
         None
     }
 }
 
 /// Returns the form of rows by its name, comma-separated values where none is named.
-fn read_row_format(name: Option<&str>) -> Result<RowFormat, Refusal>
+pub fn read_row_format(name: Option<&str>) -> Result<RowFormat, Refusal>
     ensures { result ≡ row_format_by (option_map (λ name. name.now) name.entry) }
 {
     match name {
-        None => Ok(RowFormat::Csv(TimeStyle::Seconds)),
+        None => Ok(RowFormat::Csv(ValueStyle::numbers())),
         Some(name) => row_format_named(name).ok_or(Refusal::BadFormat),
     }
 }
@@ -34,11 +34,11 @@ fn report_format_named(name: &str) -> Option<ReportFormat>
     ensures { result ≡ report_format_named name.now }
 {
     if name == "table" {
-        Some(ReportFormat::Table(TimeStyle::Seconds))
+        Some(ReportFormat::Table(ValueStyle::numbers()))
     } else if name == "csv" {
-        Some(ReportFormat::Csv(TimeStyle::Seconds))
+        Some(ReportFormat::Csv(ValueStyle::numbers()))
     } else if name == "json" {
-        Some(ReportFormat::Json(TimeStyle::Seconds))
+        Some(ReportFormat::Json(ValueStyle::numbers()))
     } else {
         None
     }
@@ -49,7 +49,7 @@ fn read_report_format(name: Option<&str>) -> Result<ReportFormat, Refusal>
     ensures { result ≡ report_format_by (option_map (λ name. name.now) name.entry) }
 {
     match name {
-        None => Ok(ReportFormat::Table(TimeStyle::Seconds)),
+        None => Ok(ReportFormat::Table(ValueStyle::numbers())),
         Some(name) => report_format_named(name).ok_or(Refusal::BadFormat),
     }
 }

@@ -3,7 +3,9 @@ ghost use Rattle.std.specs.Prelude.{◌≡◌, option_map};
 ghost use Rattle.command_words.specs.TimeStyles.{best_format_in, output_in, report_format_in, row_format_in, styled_in, styled_periods, time_style_in, time_style_named};
 
 use crate::refusal::Refusal;
-use run_settings::{BestFormat, PeriodStyle, ReportFormat, RowFormat, RunOutput, TimeStyle};
+use run_settings::{
+    BestFormat, PeriodStyle, ReportFormat, RowFormat, RunOutput, TimeStyle, ValueStyle,
+};
 
 /// Returns the style of this name.
 pub fn time_style_named(name: &str) -> Option<TimeStyle>
@@ -18,13 +20,23 @@ pub fn time_style_named(name: &str) -> Option<TimeStyle>
     }
 }
 
+/// Returns the style of values with times in this style.
+fn style_in(style: TimeStyle, plain: ValueStyle) -> ValueStyle
+    ensures { result ≡ record plain { times = style } }
+{
+    ValueStyle {
+        times: style,
+        venues: plain.venues,
+    }
+}
+
 /// Returns the format with times in this style, which lines of text haven't.
 pub fn best_format_in(style: TimeStyle, format: BestFormat) -> Option<BestFormat>
     ensures { result ≡ best_format_in style format }
 {
     match format {
-        BestFormat::Csv(_) => Some(BestFormat::Csv(style)),
-        BestFormat::Json(_) => Some(BestFormat::Json(style)),
+        BestFormat::Csv(plain) => Some(BestFormat::Csv(style_in(style, plain))),
+        BestFormat::Json(plain) => Some(BestFormat::Json(style_in(style, plain))),
         BestFormat::Text => None,
     }
 }
@@ -34,8 +46,8 @@ fn row_format_in(style: TimeStyle, format: RowFormat) -> RowFormat
     ensures { result ≡ row_format_in style format }
 {
     match format {
-        RowFormat::Csv(_) => RowFormat::Csv(style),
-        RowFormat::Json(_) => RowFormat::Json(style),
+        RowFormat::Csv(plain) => RowFormat::Csv(style_in(style, plain)),
+        RowFormat::Json(plain) => RowFormat::Json(style_in(style, plain)),
     }
 }
 
@@ -44,9 +56,9 @@ fn report_format_in(style: TimeStyle, format: ReportFormat) -> ReportFormat
     ensures { result ≡ report_format_in style format }
 {
     match format {
-        ReportFormat::Table(_) => ReportFormat::Table(style),
-        ReportFormat::Csv(_) => ReportFormat::Csv(style),
-        ReportFormat::Json(_) => ReportFormat::Json(style),
+        ReportFormat::Table(plain) => ReportFormat::Table(style_in(style, plain)),
+        ReportFormat::Csv(plain) => ReportFormat::Csv(style_in(style, plain)),
+        ReportFormat::Json(plain) => ReportFormat::Json(style_in(style, plain)),
     }
 }
 

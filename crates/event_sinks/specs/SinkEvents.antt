@@ -10,8 +10,8 @@ use Rattle.line_arbiter.specs.declared.outcome.LineFault.{LineFault}
 use Rattle.line_arbiter.specs.declared.faults.RenewFault.{RenewFault}
 use Rattle.line_arbiter.specs.declared.faults.SkipFault.{SkipFault}
 use Rattle.journal_book.specs.Changes.{notice_of}
-use Rattle.event_sinks.specs.declared.event.Event.{Event}
-use Rattle.event_sinks.specs.declared.event.Event.TheVariants.{Packet, Refusal, Item, Best, Gap, Renewal, Skip, Declaration, Last}
+use Rattle.event_sinks.specs.declared.event.ReplayedEvent.{ReplayedEvent}
+use Rattle.event_sinks.specs.declared.event.ReplayedEvent.TheVariants.{Packet, Refusal, Item, Best, Gap, Renewal, Skip, Declaration, Last}
 
 -- A packet was answered, with its messages' first number, their count and the length of its
 -- datagram in bytes; a datagram was no packet, an item was taken, a national best changed, messages
@@ -44,7 +44,7 @@ abbrev pub at_time : Option ℕ → List SinkEvent → List TimedEvent
 at_time time events = map (timed_event time) events
 
 -- what an event says
-abbrev pub told_by : Event → SinkEvent
+abbrev pub told_by : ReplayedEvent → SinkEvent
 told_by (Packet venue line number count bytes answer) =
     told_packet venue line number count bytes answer.now
 told_by (Refusal venue line fault) = told_refusal venue line fault

@@ -7,7 +7,7 @@ use nbbo_book::Change;
 
 /// An event of a replay.
 #[derive(Clone, Copy, Debug)]
-pub enum Event<'a> {
+pub enum ReplayedEvent<'a> {
     /// A packet was answered. Its messages have the numbers from `number` on; a heartbeat and an
     /// end of session have none. `bytes` is the length of its datagram.
     Packet {

@@ -2,7 +2,7 @@
 ghost use Rattle.std.specs.Prelude.{◌++◌, [], ◌∷◌, List, OnOk, OnErr};
 ghost use Rattle.event_sinks.specs.SinkEvents.{TimedEvent, timed_event, told_by};
 
-use crate::event::Event;
+use crate::event::ReplayedEvent;
 
 /// Why a sink takes no more.
 #[derive(Clone, Copy, Debug, PartialEq, Eq)]
@@ -25,7 +25,7 @@ pub trait EventSink {
 
     /// Takes an event of a record that came at this time, in nanoseconds since 1970 where that is
     /// known. After a failure it takes no other.
-    fn take(&mut self, time: Option<u64>, event: &Event<'_>) -> Result<(), SinkStop>
+    fn take(&mut self, time: Option<u64>, event: &ReplayedEvent<'_>) -> Result<(), SinkStop>
         ensures took { OnOk result
             (takes self.old (timed_event time (told_by event.now) ∷ []) self.new) }
         ensures failed { OnErr result

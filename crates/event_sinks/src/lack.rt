@@ -7,7 +7,7 @@ use mold_packet::Request;
 /// Messages that a venue lacks: the first run of them, as far as the window and what is known of
 /// the session go.
 #[derive(Clone, Copy, Debug, PartialEq, Eq)]
-pub struct Lack {
+pub struct MissingRange {
     /// The venue.
     pub venue: VenueId,
     /// The first message that is missing.
@@ -16,13 +16,13 @@ pub struct Lack {
     pub count: u16,
 }
 
-impl Lack {
+impl MissingRange {
     /// Returns what the venue lacks, by the request that it would make.
-    pub fn of(venue: VenueId, gap: &Request) -> Lack
+    pub fn of(venue: VenueId, gap: &Request) -> MissingRange
         ensures { result
             ≡ record { venue = venue; number = gap.now.number; count = gap.now.count } }
     {
-        Lack {
+        MissingRange {
             venue,
             number: gap.number,
             count: gap.count,

@@ -1,9 +1,10 @@
 //! What is said on standard error of messages that venues lack.
+ghost use Rattle.text_out.specs.Members.{writing_of};
 ghost use Rattle.std.specs.Prelude.{◌≡◌, flat_map};
 ghost use Rattle.event_sinks.specs.LackTexts.{lack_texts, lacking_texts, messages_text, missing_texts};
 ghost use Rattle.text_out.specs.StandardError.{SaysEach};
 
-use crate::lack::Lack;
+use crate::lack::MissingRange;
 use feed_types::VenueId;
 use text_out::{TextOut, write_number, write_stderr};
 
@@ -20,8 +21,7 @@ fn messages(count: u16) -> &'static str
 
 /// Writes which venue lacks something.
 fn write_lacking<E: TextOut>(venue: VenueId, errors: &mut E)
-    ensures { SaysEach (record { adds = E.adds; failures = E.failures })
-        (lacking_texts venue) errors.old errors.new }
+    ensures { SaysEach (writing_of E.TextOut) (lacking_texts venue) errors.old errors.new }
 {
     write_stderr("nbbo: venue ", errors);
     write_number(venue.index() as u64, errors);
@@ -29,9 +29,8 @@ fn write_lacking<E: TextOut>(venue: VenueId, errors: &mut E)
 }
 
 /// Writes how many messages are missing, and then the first of them.
-fn write_missing<E: TextOut>(count: u16, number: u64, errors: &mut E)
-    ensures { SaysEach (record { adds = E.adds; failures = E.failures })
-        (missing_texts count number) errors.old errors.new }
+pub fn write_missing<E: TextOut>(count: u16, number: u64, errors: &mut E)
+    ensures { SaysEach (writing_of E.TextOut) (missing_texts count number) errors.old errors.new }
 {
     write_number(count as u64, errors);
     write_stderr(messages(count), errors);
@@ -40,17 +39,16 @@ fn write_missing<E: TextOut>(count: u16, number: u64, errors: &mut E)
 }
 
 /// Writes what a venue lacks.
-fn write_lack<E: TextOut>(lack: &Lack, errors: &mut E)
-    ensures { SaysEach (record { adds = E.adds; failures = E.failures })
-        (lack_texts lack.now) errors.old errors.new }
+fn write_lack<E: TextOut>(lack: &MissingRange, errors: &mut E)
+    ensures { SaysEach (writing_of E.TextOut) (lack_texts lack.now) errors.old errors.new }
 {
     write_lacking(lack.venue, errors);
     write_missing(lack.count, lack.number, errors);
 }
 
 /// Writes what venues lack.
-pub fn write_lacks<E: TextOut>(lacks: &[Lack], errors: &mut E)
-    ensures { SaysEach (record { adds = E.adds; failures = E.failures })
+pub fn write_lacks<E: TextOut>(lacks: &[MissingRange], errors: &mut E)
+    ensures { SaysEach (writing_of E.TextOut)
         (flat_map lack_texts lacks.now) errors.old errors.new }
 {
     for lack in lacks {

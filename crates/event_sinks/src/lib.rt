@@ -4,7 +4,8 @@
 //! What a sink prints waits in a [`TextPage`] (`specs/TextPages.antt`). [`TextSink`] writes the
 //! line of each event (`specs/EventLines.antt`).
 //!
-//! A replay ends as [`Replayed`] says, and what its venues lack then is a list of [`Lack`], which
+//! A replay ends as [`Replayed`] says, and what its venues lack then is a list of [`MissingRange`],
+//! which
 //! [`write_lacks`] writes on standard error (`specs/LackTexts.antt`).
 //!
 //! Begin with `event.rt` and `event_sink.rt`; `lines.rt` has the lines.
@@ -19,10 +20,10 @@ mod replay_stop;
 mod text_page;
 mod text_sink;
 
-pub use event::Event;
+pub use event::ReplayedEvent;
 pub use event_sink::{EventSink, SinkStop};
-pub use lack::Lack;
-pub use lack_lines::write_lacks;
+pub use lack::MissingRange;
+pub use lack_lines::{write_lacks, write_missing};
 pub use lines::{put_change, put_venue};
 pub use replay_stop::{ReplayStop, Replayed};
 pub use text_page::TextPage;

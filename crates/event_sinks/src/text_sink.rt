@@ -6,7 +6,7 @@ ghost use Rattle.event_sinks.specs.SinkEvents.{told_by};
 ghost use Rattle.event_sinks.specs.TextPages.{TakesText, FailsText};
 ghost use Rattle.event_sinks.specs.TextPageLaws.{takes_no_text, takes_more_text, fails_after_text, fails_longer_text};
 
-use crate::event::Event;
+use crate::event::ReplayedEvent;
 use crate::event_sink::{EventSink, SinkStop};
 use crate::lines::{
     put_change, put_declared, put_fault, put_gap, put_item, put_last, put_packet, put_renewal,
@@ -39,33 +39,38 @@ impl<W> TextSink<W> {
 
 /// Appends the line of any event. Those that come with most records have a way of their own.
 #[inline(never)]
-fn put_any(text: &mut LineBuffer, event: &Event<'_>)
+fn put_any(text: &mut LineBuffer, event: &ReplayedEvent<'_>)
     requires { 1024 ≤ text.old.room }
     ensures { Puts text.old (event_line (told_by event.now)) text.new }
 {
     match event {
-        Event::Packet {
+        ReplayedEvent::Packet {
             venue,
             line,
             answer,
             ..
         } => put_packet(text, *venue, *line, answer),
-        Event::Refusal { venue, line, fault } => put_fault(text, *venue, *line, fault.code()),
-        Event::Item { venue, item } => put_item(text, *venue, item),
-        Event::Best { number, change } => put_change(text, *number, change),
-        Event::Gap { venue, request } => put_gap(text, *venue, request),
-        Event::Renewal { venue, answer } => put_renewal(text, *venue, answer),
-        Event::Skip {
+        ReplayedEvent::Refusal { venue, line, fault } => put_fault(
+            text,
+            *venue,
+            *line,
+            fault.code(),
+        ),
+        ReplayedEvent::Item { venue, item } => put_item(text, *venue, item),
+        ReplayedEvent::Best { number, change } => put_change(text, *number, change),
+        ReplayedEvent::Gap { venue, request } => put_gap(text, *venue, request),
+        ReplayedEvent::Renewal { venue, answer } => put_renewal(text, *venue, answer),
+        ReplayedEvent::Skip {
             venue,
             number,
             answer,
         } => put_skip(text, *venue, *number, answer),
-        Event::Declaration {
+        ReplayedEvent::Declaration {
             venue,
             on,
             position,
         } => put_declared(text, *venue, *on, *position),
-        Event::Last {
+        ReplayedEvent::Last {
             venue,
             sent,
             a,
@@ -77,19 +82,19 @@ fn put_any(text: &mut LineBuffer, event: &Event<'_>)
 
 /// Appends the line of an event. It is small, so that it is inlined where the event is made.
 #[inline(always)]
-fn put_event(text: &mut LineBuffer, event: &Event<'_>)
+fn put_event(text: &mut LineBuffer, event: &ReplayedEvent<'_>)
     requires { 1024 ≤ text.old.room }
     ensures { Puts text.old (event_line (told_by event.now)) text.new }
 {
     match event {
-        Event::Packet {
+        ReplayedEvent::Packet {
             venue,
             line,
             answer,
             ..
         } => put_packet(text, *venue, *line, answer),
-        Event::Item { venue, item } => put_item(text, *venue, item),
-        Event::Best { number, change } => put_change(text, *number, change),
+        ReplayedEvent::Item { venue, item } => put_item(text, *venue, item),
+        ReplayedEvent::Best { number, change } => put_change(text, *number, change),
         _ => put_any(text, event),
     }
 }
@@ -113,7 +118,7 @@ impl<W: TextOut> EventSink for TextSink<W> {
         fails_longer_text timed_line W.adds W.failures s.page t.page xs ys a };
 
     #[inline(always)]
-    fn take(&mut self, _time: Option<u64>, event: &Event<'_>) -> Result<(), SinkStop> {
+    fn take(&mut self, _time: Option<u64>, event: &ReplayedEvent<'_>) -> Result<(), SinkStop> {
         self.page.write_full()?;
         put_event(&mut self.page.text, event);
         Ok(())

@@ -1,4 +1,4 @@
--- The lanes of a feed, and its setting.
+-- The lanes of a feed, its setting, and the sessions of its venues that are named.
 use Rattle.std.specs.Prelude.{ℕ, List, Option}
 use Rattle.atomic_table.specs.Seated.{TableId}
 
@@ -14,9 +14,10 @@ pub record FeedSetting : Type 0 where
   pub log : ℕ
   pub kept : Option ℕ
 
--- The lanes of the venues, in order, those of the subscribers, in the order of their ids, and the
--- feed's setting.
+-- The lanes of the venues, in order, those of the subscribers, in the order of their ids, the
+-- setting of the feed, and by venue the names of the sessions that follow its first one, in order.
 pub record FeedLanes : Type 0 where
   pub venues : List TableId
   pub subscribers : List TableId
   pub setting : FeedSetting
+  pub next : List (List (List ℕ))

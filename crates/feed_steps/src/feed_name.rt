@@ -7,8 +7,8 @@ use std::marker::Brand;
 pub trait FeedName {
     ghost use Rattle.feed_steps.specs.Lanes.{FeedLanes};
 
-    /// The feed's lanes, those of its venues, in order, and those of its subscribers, and what it
-    /// is set up with.
+    /// The feed's lanes, those of its venues, in order, and those of its subscribers, what it is
+    /// set up with, and the names of the sessions that follow the venues' first ones.
     ghost lanes: { FeedLanes };
 }
 
@@ -26,5 +26,6 @@ impl FeedName for Brand {
         log = 0;
         kept = None;
       };
+      next = [];
     } };
 }

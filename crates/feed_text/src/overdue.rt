@@ -11,7 +11,7 @@ ghost use Rattle.feed_text.specs.Standings.{IsStandingKept};
 use crate::standing_gap::StandingGap;
 use crate::standing_gaps::StandingGaps;
 use crate::venue::VenueReplay;
-use crate::venues::Venues;
+use crate::venues::ReplayVenues;
 use feed_types::VenueId;
 use line_arbiter::ArbiterStatus;
 use mold_packet::Request;
@@ -76,7 +76,7 @@ impl VenueReplay {
     }
 }
 
-impl Venues {
+impl ReplayVenues {
     /// The same of the venue at this place, if there is one and a gap of it is kept.
     fn overdue_at(&self, clock: &GapClock, kept: &StandingGaps, place: usize) -> Option<u64>
         requires { place < 16 }

@@ -13,7 +13,7 @@ use crate::overdue::{GapClock, GapSkip};
 use crate::replay::ReplayConfig;
 use crate::replay_sink::{PublishStop, ReplaySink};
 use crate::standing_gaps::StandingGaps;
-use crate::venues::Venues;
+use crate::venues::ReplayVenues;
 use capture_records::Record;
 use event_sinks::EventSink;
 use feed_types::VenueId;
@@ -70,7 +70,7 @@ fn clock_of(rule: SkipRule, time: Option<u64>) -> Option<GapClock>
 }
 
 /// Notes which gaps stand, where the rule asks for it.
-fn note_for(rule: SkipRule, venues: &Venues, kept: &mut StandingGaps)
+fn note_for(rule: SkipRule, venues: &ReplayVenues, kept: &mut StandingGaps)
     ensures { (config : ReplayConfig) (at : ReplayPoint) → config.skips ≡ rule
         → FollowAll config.window venues.now.items at.histories
         → Knows config kept.old at → KeepsFor config kept.new at }
@@ -84,7 +84,7 @@ fn note_for(rule: SkipRule, venues: &Venues, kept: &mut StandingGaps)
 /// one.
 fn overdue_skip(
     config: &ReplayConfig<'_>,
-    venues: &Venues,
+    venues: &ReplayVenues,
     kept: &StandingGaps,
     time: Option<u64>,
 ) -> Option<GapSkip>
@@ -103,7 +103,7 @@ fn overdue_skip(
 /// Returns the skip that is put in before a record, if one is.
 fn next_skip(
     config: &ReplayConfig<'_>,
-    venues: &Venues,
+    venues: &ReplayVenues,
     kept: &StandingGaps,
     coming: &Coming<'_>,
 ) -> Option<GapSkip>
@@ -130,7 +130,7 @@ fn next_skip(
 /// Returns whether there was one.
 fn put_in_next<K: EventSink>(
     config: &ReplayConfig<'_>,
-    venues: &mut Venues,
+    venues: &mut ReplayVenues,
     kept: &mut StandingGaps,
     coming: &Coming<'_>,
     output: &mut ReplaySink<K>,
@@ -164,7 +164,7 @@ fn put_in_next<K: EventSink>(
 #[inline(never)]
 fn put_in_all<K: EventSink>(
     config: &ReplayConfig<'_>,
-    venues: &mut Venues,
+    venues: &mut ReplayVenues,
     kept: &mut StandingGaps,
     coming: &Coming<'_>,
     output: &mut ReplaySink<K>,
@@ -206,7 +206,7 @@ fn is_plain(config: &ReplayConfig<'_>) -> bool
 #[inline(always)]
 pub fn follow_rule<K: EventSink>(
     config: &ReplayConfig<'_>,
-    venues: &mut Venues,
+    venues: &mut ReplayVenues,
     kept: &mut StandingGaps,
     next: &Record<'_>,
     output: &mut ReplaySink<K>,

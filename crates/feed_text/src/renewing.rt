@@ -9,7 +9,7 @@ ghost use Rattle.run_settings.specs.NextSessions.{names_after};
 use crate::joining::is_of_session;
 use crate::replay_sink::{PublishStop, ReplaySink};
 use crate::venue::VenueReplay;
-use event_sinks::{Event, EventSink};
+use event_sinks::{EventSink, ReplayedEvent};
 use feed_types::VenueId;
 use mold_packet::read_packet;
 use run_settings::NextSession;
@@ -83,7 +83,7 @@ impl VenueReplay {
         }
         match self.next_session(name) {
             Ok(ordinal) => {
-                output.tell(&Event::Renewal {
+                output.tell(&ReplayedEvent::Renewal {
                     venue,
                     answer: &Ok(ordinal),
                 })?;

@@ -1,4 +1,5 @@
 //! The replay of a capture.
+ghost use Rattle.text_out.specs.Members.{reading_of, writing_of};
 ghost use Rattle.std.specs.Prelude.{◌≡◌, ◌≤◌, ◌+◌, length, vec_capacity, IfOk, OnOk};
 ghost use Rattle.journal_book.specs.NumberedBooks.{new_numbered};
 ghost use Rattle.feed_text.specs.EventReplays.{AnswersRun, venues_in};
@@ -12,9 +13,9 @@ ghost use Rattle.feed_text.specs.Told.{told_facts};
 use crate::fault::ReplayFault;
 use crate::replay_sink::ReplaySink;
 use crate::run::run;
-use crate::venues::Venues;
+use crate::venues::ReplayVenues;
 use capture_records::{CAPTURE_ROOM, OwnFormat, ReadBuffer, RecordFormat};
-use event_sinks::{EventSink, Lack, ReplayStop, Replayed, TextPage, TextSink};
+use event_sinks::{EventSink, MissingRange, ReplayStop, Replayed, TextPage, TextSink};
 use feed_types::SymbolName;
 use journal_book::NumberedBook;
 use run_settings::{NextSession, SkipRule};
@@ -48,7 +49,7 @@ pub struct ReplayConfig<'a> {
 
 /// What a replay takes memory for, before it reads anything.
 struct Prepared {
-    venues: Venues,
+    venues: ReplayVenues,
     journal: NumberedBook,
     unread: ReadBuffer<CAPTURE_ROOM>,
 }
@@ -70,7 +71,7 @@ fn new_journal(alloc: Global, config: &ReplayConfig<'_>) -> Result<NumberedBook,
 fn prepare(
     alloc: Global,
     config: &ReplayConfig<'_>,
-    lacks: &mut Vec<Lack>,
+    lacks: &mut Vec<MissingRange>,
 ) -> Result<Prepared, AllocError>
     requires { CanReplay config.now }
     ensures prepared { IfOk result (λ made.
@@ -80,7 +81,7 @@ fn prepare(
 {
     lacks.reserve(16)?;
     Ok(Prepared {
-        venues: Venues::new(alloc, config.sessions, config.window, config.gaps)?,
+        venues: ReplayVenues::new(alloc, config.sessions, config.window, config.gaps)?,
         journal: new_journal(alloc, config)?,
         unread: ReadBuffer::new(alloc)?,
     })
@@ -88,9 +89,9 @@ fn prepare(
 
 /// Gives the sink the venues' last events, shows all, and appends what each venue lacks.
 fn close<F, K: EventSink>(
-    venues: &Venues,
+    venues: &ReplayVenues,
     sink: &mut K,
-    lacks: &mut Vec<Lack>,
+    lacks: &mut Vec<MissingRange>,
 ) -> Result<(), ReplayStop<F>>
     requires { length lacks.old.items + length venues.now.items ≤ vec_capacity lacks.old }
     ensures closes { ClosesSink K.takes K.fails K.is_shown venues.now sink.old sink.new result }
@@ -110,20 +111,20 @@ fn replay_prepared<R: CaptureIn, F: RecordFormat, K: EventSink>(
     format: &mut F,
     reader: &mut R,
     sink: K,
-    lacks: &mut Vec<Lack>,
+    lacks: &mut Vec<MissingRange>,
 ) -> Replayed<K, F::Fault>
     requires can { CanReplay config.now }
     requires of_venues { F.venues format.old ≡ venues_in config.now }
     requires starts { IsReplayStart config.now prepared.unread prepared.venues prepared.journal }
     requires room { length lacks.old.items + 16 ≤ vec_capacity lacks.old }
     ensures replays { AnswersRun
-        (record { gives = R.gives; ends = R.ends; failures = R.failures; fails = R.fails })
+        (reading_of R.CaptureIn)
         (record { reads = F.reads; wants = F.wants; is_bad = F.is_bad; is_whole = F.is_whole })
         (record { takes = K.takes; fails = K.fails }) K.is_shown
         config.now (told_facts config.now) reader.old reader.new format.old format.new
         sink result.sink result.outcome }
     ensures lacks { OnOk result.outcome (AppendsLacks
-        (record { gives = R.gives; ends = R.ends; failures = R.failures; fails = R.fails })
+        (reading_of R.CaptureIn)
         (record { reads = F.reads; wants = F.wants; is_bad = F.is_bad; is_whole = F.is_whole })
         config.now reader.old reader.new format.old format.new lacks.old.items lacks.new.items) }
 {
@@ -167,18 +168,18 @@ pub fn replay_events<R: CaptureIn, F: RecordFormat, K: EventSink>(
     format: &mut F,
     reader: &mut R,
     sink: K,
-    lacks: &mut Vec<Lack>,
+    lacks: &mut Vec<MissingRange>,
 ) -> Replayed<K, F::Fault>
     requires can { CanReplay config.now }
     requires of_venues { F.venues format.old ≡ venues_in config.now }
     ensures replays { AnswersRun
-        (record { gives = R.gives; ends = R.ends; failures = R.failures; fails = R.fails })
+        (reading_of R.CaptureIn)
         (record { reads = F.reads; wants = F.wants; is_bad = F.is_bad; is_whole = F.is_whole })
         (record { takes = K.takes; fails = K.fails }) K.is_shown
         config.now (told_facts config.now) reader.old reader.new format.old format.new
         sink result.sink result.outcome }
     ensures lacks { OnOk result.outcome (AppendsLacks
-        (record { gives = R.gives; ends = R.ends; failures = R.failures; fails = R.fails })
+        (reading_of R.CaptureIn)
         (record { reads = F.reads; wants = F.wants; is_bad = F.is_bad; is_whole = F.is_whole })
         config.now reader.old reader.new format.old format.new lacks.old.items lacks.new.items) }
 {
@@ -223,16 +224,15 @@ pub fn replay<R: CaptureIn, W: TextOut>(
     config: &ReplayConfig<'_>,
     reader: &mut R,
     writer: W,
-    lacks: &mut Vec<Lack>,
+    lacks: &mut Vec<MissingRange>,
 ) -> ReplayRun<W>
     requires { CanReplay config.now }
     ensures replays { AnswersReplay
-        (record { gives = R.gives; ends = R.ends; failures = R.failures; fails = R.fails })
-        (record { adds = W.adds; failures = W.failures })
+        (reading_of R.CaptureIn) (writing_of W.TextOut)
         config.now (told_facts config.now) reader.old reader.new
         writer result.writer result.outcome }
     ensures lacks { OnOk result.outcome (AppendsLacks
-        (record { gives = R.gives; ends = R.ends; failures = R.failures; fails = R.fails })
+        (reading_of R.CaptureIn)
         own_parsing config.now reader.old reader.new (venues_in config.now) (venues_in config.now)
         lacks.old.items lacks.new.items) }
 {

@@ -7,7 +7,7 @@ ghost use Rattle.event_sinks.specs.SinkEvents.{at_time, timed_event, told_best, 
 ghost use Rattle.feed_text.specs.ReplayStates.{EmitsInto, EmitsPlain, state_of_replay};
 ghost use Rattle.feed_text.specs.declared.replay_sink.PublishStop.TheVariants.{SinkFailed};
 
-use event_sinks::{Event, EventSink, SinkStop};
+use event_sinks::{EventSink, ReplayedEvent, SinkStop};
 use feed_types::{Entry, VenueId};
 use journal_book::{EntryChanges, JournalFault, NumberedBook};
 
@@ -53,7 +53,7 @@ fn tell_bests<K: EventSink>(
 {
     let mut number = latest.first;
     for change in latest.changes {
-        sink.take(time, &Event::Best { number, change })?;
+        sink.take(time, &ReplayedEvent::Best { number, change })?;
         number += 1;
     }
     Ok(())
@@ -62,7 +62,7 @@ fn tell_bests<K: EventSink>(
 impl<K: EventSink> ReplaySink<K> {
     /// Gives the sink an event that leaves the journal unchanged.
     #[inline(always)]
-    pub fn tell(&mut self, event: &Event<'_>) -> Result<(), PublishStop>
+    pub fn tell(&mut self, event: &ReplayedEvent<'_>) -> Result<(), PublishStop>
         ensures { EmitsPlain (record { takes = K.takes; fails = K.fails })
             (state_of_replay self.old) (told_by event.now) (state_of_replay self.new) result }
     {
@@ -89,7 +89,7 @@ impl<K: EventSink> ReplaySink<K> {
         // Journaled before the sink is told: what the book keeps of the symbol is fetched
         // meanwhile.
         self.journal.add(entry);
-        let item = Event::Item {
+        let item = ReplayedEvent::Item {
             venue: *venue,
             item: numbered,
         };
@@ -109,7 +109,7 @@ impl<K: EventSink> ReplaySink<K> {
     {
         match self.journal.declare(venue, on) {
             Ok(position) => {
-                let declaration = Event::Declaration {
+                let declaration = ReplayedEvent::Declaration {
                     venue,
                     on,
                     position: Some(position),
@@ -119,7 +119,7 @@ impl<K: EventSink> ReplaySink<K> {
                 Ok(())
             }
             Err(JournalFault::AlreadySo) => {
-                let declaration = Event::Declaration {
+                let declaration = ReplayedEvent::Declaration {
                     venue,
                     on,
                     position: None,

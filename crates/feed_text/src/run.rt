@@ -1,4 +1,5 @@
 //! The loop over the records of a capture.
+ghost use Rattle.text_out.specs.Members.{reading_of};
 ghost use Rattle.std.specs.Prelude.{◌≡◌, length};
 ghost use Rattle.feed_text.specs.Replays.{CanReplay};
 ghost use Rattle.feed_text.specs.Running.{IsReplayStart, RunsToEnd, ShowsBefore, StopsShown};
@@ -7,7 +8,7 @@ use crate::put_in::follow_rule;
 use crate::replay::ReplayConfig;
 use crate::replay_sink::{PublishStop, ReplaySink};
 use crate::standing_gaps::StandingGaps;
-use crate::venues::Venues;
+use crate::venues::ReplayVenues;
 use capture_records::{CAPTURE_ROOM, ReadBuffer, ReadStep, RecordFormat, Step, is_complete};
 use event_sinks::{EventSink, ReplayStop, SinkStop};
 use text_out::CaptureIn;
@@ -40,14 +41,14 @@ pub fn run<R: CaptureIn, F: RecordFormat, K: EventSink>(
     format: &mut F,
     reader: &mut R,
     unread: &mut ReadBuffer<CAPTURE_ROOM>,
-    venues: &mut Venues,
+    venues: &mut ReplayVenues,
     output: &mut ReplaySink<K>,
 ) -> Result<(), ReplayStop<F::Fault>>
     requires can { CanReplay config.now }
     requires starts { IsReplayStart config.now unread.old venues.old output.old.journal }
     requires of_venues { F.venues format.old ≡ length config.now.sessions.now }
     ensures { RunsToEnd
-        (record { gives = R.gives; ends = R.ends; failures = R.failures; fails = R.fails })
+        (reading_of R.CaptureIn)
         (record { reads = F.reads; wants = F.wants; is_bad = F.is_bad; is_whole = F.is_whole })
         (record { takes = K.takes; fails = K.fails }) K.is_shown
         config.now reader.old reader.new format.old format.new output.old.sink output.new.sink

@@ -5,7 +5,7 @@ ghost use Rattle.feed_text.specs.Following.{FollowAll};
 ghost use Rattle.feed_text.specs.Standings.{IsStandingKept, KeepsNone, standing_noted};
 
 use crate::standing_gap::{StandingGap, stands_then};
-use crate::venues::Venues;
+use crate::venues::ReplayVenues;
 use feed_types::VenueId;
 
 /// The most venues.
@@ -34,7 +34,7 @@ impl StandingGaps {
     }
 
     /// Notes which gap of its venue stands after the record that was taken last.
-    pub fn note(&mut self, venues: &Venues)
+    pub fn note(&mut self, venues: &ReplayVenues)
         ensures { (window : ℕ) (hs : List History) → FollowAll window venues.now.items hs
             → IsStandingKept self.new (standing_noted window self.old hs) }
     {

@@ -19,7 +19,7 @@ ghost use Rattle.feed_text.specs.ReplayStates.{EmitsInto, state_of_replay};
 ghost use Rattle.feed_text.specs.Following.{Follows, SendsReady, TakesReady, PublishesPacket, EmitsOne, GivesUp, Renews};
 
 use crate::replay_sink::{PublishStop, ReplaySink};
-use event_sinks::{Event, EventSink, Lack, SinkStop};
+use event_sinks::{EventSink, MissingRange, ReplayedEvent, SinkStop};
 use feed_types::{Anything, Entry, LineId, Numbered, VenueId};
 use line_arbiter::{Arbiter, LineFault, Outcome, RenewFault, SkipFault};
 use mold_packet::{Messages, Packet, Request, read_packet};
@@ -159,7 +159,7 @@ fn tell_answer<K: EventSink>(
         ∷ [])
         (state_of_replay output.new) result }
 {
-    output.tell(&Event::Packet {
+    output.tell(&ReplayedEvent::Packet {
         venue,
         line,
         number: packet.number(),
@@ -339,7 +339,7 @@ impl VenueReplay {
     {
         match read_packet(bytes) {
             Ok(packet) => self.take_packet(venue, line, &packet, bytes.len() as u64, output),
-            Err(fault) => output.tell(&Event::Refusal { venue, line, fault }),
+            Err(fault) => output.tell(&ReplayedEvent::Refusal { venue, line, fault }),
         }
     }
 
@@ -359,7 +359,7 @@ impl VenueReplay {
             (state_of_replay output.new) result }
     {
         match self.arbiter.gap() {
-            Some(request) => output.tell(&Event::Gap {
+            Some(request) => output.tell(&ReplayedEvent::Gap {
                 venue,
                 request: &request,
             }),
@@ -418,7 +418,7 @@ impl VenueReplay {
             (state_of_replay output.old) (state_of_replay output.new) self.new result }
     {
         let answer = self.next_session(session);
-        output.tell(&Event::Renewal {
+        output.tell(&ReplayedEvent::Renewal {
             venue,
             answer: &answer,
         })
@@ -453,7 +453,7 @@ impl VenueReplay {
             (state_of_replay output.old) (state_of_replay output.new) self.new result }
     {
         let answer = self.give_up(number);
-        output.tell(&Event::Skip {
+        output.tell(&ReplayedEvent::Skip {
             venue,
             number,
             answer: &answer,
@@ -470,7 +470,7 @@ impl VenueReplay {
     }
 
     /// Appends what the venue lacks, if it lacks anything. There is memory for it.
-    pub fn put_lack(&self, lacks: &mut Vec<Lack>)
+    pub fn put_lack(&self, lacks: &mut Vec<MissingRange>)
         requires { length lacks.old.items < vec_capacity lacks.old }
         ensures lack { (width place : ℕ) (h : History) → Follows width place self.now h
             → lacks.new.items ≡ lacks.old.items ++ lack_of width place h }
@@ -478,7 +478,7 @@ impl VenueReplay {
         ensures capacity { vec_capacity lacks.new ≡ vec_capacity lacks.old }
     {
         if let Some(gap) = self.arbiter.gap() {
-            lacks.push_reserved(Lack::of(self.arbiter.venue(), &gap));
+            lacks.push_reserved(MissingRange::of(self.arbiter.venue(), &gap));
         }
     }
 
@@ -493,7 +493,7 @@ impl VenueReplay {
     {
         sink.take(
             None,
-            &Event::Last {
+            &ReplayedEvent::Last {
                 venue: self.arbiter.venue(),
                 sent: self.sent(),
                 a: self.arbiter.wins(LineId::A),

@@ -14,7 +14,7 @@ use crate::replay::ReplayConfig;
 use crate::replay_sink::{PublishStop, ReplaySink};
 use crate::venue::VenueReplay;
 use capture_records::Record;
-use event_sinks::{EventSink, Lack, SinkStop};
+use event_sinks::{EventSink, MissingRange, SinkStop};
 use feed_types::VenueId;
 use mold_packet::Request;
 use std::alloc::{AllocError, Global};
@@ -22,12 +22,12 @@ use std::marker::Model;
 
 /// The venues of a replay, by their numbers, and whether gap lines are asked for.
 #[derive(Drop)]
-pub struct Venues {
+pub struct ReplayVenues {
     pub(crate) venues: Vec<VenueReplay>,
     gaps: bool,
 }
 
-impl Model for Venues {
+impl Model for ReplayVenues {
     ghost use Rattle.feed_text.specs.Following.{VenueList};
 
     ghost Value = { VenueList };
@@ -35,7 +35,7 @@ impl Model for Venues {
     ghost view = { λ v. record { items = v.venues.items; gaps = v.gaps } };
 }
 
-impl Venues {
+impl ReplayVenues {
     /// A venue for each session name, 16 at most, to which nothing came. They take the memory of
     /// their windows here, and none later.
     pub fn new(
@@ -43,7 +43,7 @@ impl Venues {
         sessions: &[[u8; 10]],
         window: u32,
         gaps: bool,
-    ) -> Result<Venues, AllocError>
+    ) -> Result<ReplayVenues, AllocError>
         requires few { length sessions.now ≤ 16 }
         requires least { 1 ≤ window }
         requires most { window ≤ 65535 }
@@ -56,7 +56,7 @@ impl Venues {
             let venue = VenueReplay::new(alloc, VenueId::at(place), *session, window)?;
             venues.push(venue)?;
         }
-        Ok(Venues { venues, gaps })
+        Ok(ReplayVenues { venues, gaps })
     }
 
     /// Gives up what the venue lacks below the number, where it may be, and publishes the events of
@@ -157,7 +157,7 @@ impl Venues {
     }
 
     /// Appends what each venue lacks, of each that lacks anything. There is memory for them.
-    pub fn put_lacks(&self, lacks: &mut Vec<Lack>)
+    pub fn put_lacks(&self, lacks: &mut Vec<MissingRange>)
         requires { length lacks.old.items + length self.now.items ≤ vec_capacity lacks.old }
         ensures { LeavesLacks self.now lacks.old.items lacks.new.items }
     {

@@ -7,7 +7,7 @@ use Rattle.line_gaps.specs.declared.open_gap.EndedGap.{EndedGap}
 use Rattle.line_gaps.specs.declared.open_gap.GapEnd.{GapEnd}
 use Rattle.line_gaps.specs.declared.open_gap.GapEnd.TheVariants as ends
 use Rattle.report_rows.specs.FirstTexts.{first_texts}
-use Rattle.report_rows.specs.RowTexts.{CellValue, count, row_text, time, word}
+use Rattle.report_rows.specs.RowTexts.{CellValue, count, row_text, time, venue_at, word}
 
 abbrev pub gap_names : List (List ℕ)
 gap_names =
@@ -29,7 +29,7 @@ gap_end_word ends.Open = codes "open"
 
 abbrev pub gap_values : ℕ → EndedGap → List CellValue
 gap_values venue g =
-    count venue ∷ word (gap_line_word g.line) ∷ count g.gap.run.first ∷ count g.gap.run.last
+    venue_at venue ∷ word (gap_line_word g.line) ∷ count g.gap.run.first ∷ count g.gap.run.last
     ∷ count g.gap.messages ∷ count g.given_up ∷ time g.gap.began ∷ time g.ended
     ∷ word (gap_end_word g.by) ∷ []
 

@@ -7,7 +7,7 @@ ghost use Rattle.gap_rows.specs.GapCells.{gap_names};
 ghost use Rattle.gap_rows.specs.GapMakers.{EndsIn, one_of, said_at, said_by, shown_in, venue_in};
 
 use crate::gap_row::{gap_names, write_gaps};
-use event_sinks::{Event, SinkStop, TextPage};
+use event_sinks::{ReplayedEvent, SinkStop, TextPage};
 use feed_types::VenueId;
 use line_gaps::{EndedGaps, VenueGaps};
 use report_rows::{RowMaker, RowSink};
@@ -26,22 +26,22 @@ pub struct GapMaker {
 
 /// Returns the venue that an event is of, if gaps have a part in it.
 #[inline(always)]
-fn venue_of(event: &Event<'_>) -> Option<VenueId>
+fn venue_of(event: &ReplayedEvent<'_>) -> Option<VenueId>
     ensures venue { venue_in (told_by event.now) ≡ result }
     ensures shown { shown_in (told_by event.now) ≡ result }
     ensures before { venue_in (told_before (told_by event.now)) ≡ result }
     ensures said { said_by (told_by event.now) ≡ told_by event.now }
 {
     match event {
-        Event::Packet { venue, .. } => Some(*venue),
-        Event::Renewal { venue, .. } => Some(*venue),
-        Event::Skip { venue, .. } => Some(*venue),
-        Event::Last { venue, .. } => Some(*venue),
-        Event::Item { .. } => None,
-        Event::Refusal { .. } => None,
-        Event::Best { .. } => None,
-        Event::Gap { .. } => None,
-        Event::Declaration { .. } => None,
+        ReplayedEvent::Packet { venue, .. } => Some(*venue),
+        ReplayedEvent::Renewal { venue, .. } => Some(*venue),
+        ReplayedEvent::Skip { venue, .. } => Some(*venue),
+        ReplayedEvent::Last { venue, .. } => Some(*venue),
+        ReplayedEvent::Item { .. } => None,
+        ReplayedEvent::Refusal { .. } => None,
+        ReplayedEvent::Best { .. } => None,
+        ReplayedEvent::Gap { .. } => None,
+        ReplayedEvent::Declaration { .. } => None,
     }
 }
 
@@ -51,7 +51,7 @@ fn take_at(
     venues: &mut Vec<VenueGaps>,
     venue: VenueId,
     time: Option<u64>,
-    event: &Event<'_>,
+    event: &ReplayedEvent<'_>,
     ended: &mut EndedGaps,
 )
     requires { ended.old.gaps.items ≡ [] }
@@ -80,7 +80,7 @@ impl GapMaker {
 
     /// Takes an event, and returns its venue, if it has one. What it ends are the gaps that ended.
     #[inline(always)]
-    fn take_event(&mut self, time: Option<u64>, event: &Event<'_>) -> VenueId
+    fn take_event(&mut self, time: Option<u64>, event: &ReplayedEvent<'_>) -> VenueId
         ensures format { self.new.format ≡ self.old.format }
         ensures ends { (e : TimedEvent) → said_at e ≡ timed_event time (told_by event.now)
             → EndsIn e (one_of (length self.old.venues.items) (venue_in (told_by event.now)))
@@ -126,13 +126,13 @@ impl RowMaker for GapMaker {
         &mut self,
         page: &mut TextPage<W>,
         time: Option<u64>,
-        event: &Event<'_>,
+        event: &ReplayedEvent<'_>,
     ) -> Result<(), SinkStop> {
         let venue = self.take_event(time, event);
-        write_gaps(page, self.format, venue, self.ended.as_slice())
+        write_gaps(page, &self.format, venue, self.ended.as_slice())
     }
 
-    fn pass(&mut self, time: Option<u64>, event: &Event<'_>) {
+    fn pass(&mut self, time: Option<u64>, event: &ReplayedEvent<'_>) {
         let _venue = self.take_event(time, event);
     }
 

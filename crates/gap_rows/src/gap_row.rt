@@ -56,7 +56,7 @@ fn gap_cells(venue: VenueId, gap: &EndedGap) -> [Cell<'static>; 9]
     ensures short { AllByRecursion IsShortCell result }
 {
     [
-        Cell::Count(venue.index() as u64),
+        Cell::Venue(venue.index()),
         Cell::Word(line_word(gap.line)),
         Cell::Count(gap.gap.run.first),
         Cell::Count(gap.gap.run.last),
@@ -95,19 +95,19 @@ fn gap_at(gaps: &[EndedGap], place: usize) -> EndedGap
 #[inline(always)]
 pub(crate) fn write_gaps<W: TextOut>(
     page: &mut TextPage<W>,
-    format: RowFormat,
+    format: &RowFormat,
     venue: VenueId,
     gaps: &[EndedGap],
 ) -> Result<(), SinkStop>
     ensures took { OnOk result (TakesPage W.adds W.failures page.old
-        (gap_rows_text format venue gaps.now) page.new) }
+        (gap_rows_text format.now venue gaps.now) page.new) }
     ensures failed { OnErr result (FailsPage W.adds W.failures page.old
-        (page.old.text.items ++ gap_rows_text format venue gaps.now) page.new) }
+        (page.old.text.items ++ gap_rows_text format.now venue gaps.now) page.new) }
 {
     for place in 0..gaps.len() {
         page.write_full()?;
         let gap = gap_at(gaps, place);
-        put_gap(&mut page.text, format, venue, &gap);
+        put_gap(&mut page.text, *format, venue, &gap);
     }
     Ok(())
 }

@@ -5,12 +5,12 @@ ghost use Rattle.hub_lanes.specs.Sections.{Consumes};
 ghost use Rattle.hub_lanes.specs.Batches.{ConsumesBatch};
 ghost use Rattle.hub_lanes.specs.Offers.{LacksSubscriber, Offers, OffersAll, OffersUpTo};
 
-use crate::journal_and_lanes::JournalAndLanes;
+use crate::journal_and_lanes::ConsolidatorState;
 use feed_steps::{FeedName, Unsent};
 use feed_types::{Genuine, SubscriberId, VenueId};
 use filter_terms::Filter;
 use journal_book::{JournalFault, Unfinished};
-use live_wakeups::{Bells, FeedTimes};
+use live_wakeups::{FeedTimes, Wakeups};
 use std::sync::Wait;
 
 /// The most changes that are looked at for a subscriber in one section, so that nobody waits long
@@ -22,7 +22,7 @@ const CHANGES_A_SECTION: usize = 1_024;
 /// push.
 pub fn consume_next<G: Genuine, N: FeedName, W: Wait>(
     rt: &W,
-    core: &mut JournalAndLanes<G, N>,
+    core: &mut ConsolidatorState<G, N>,
     venue: VenueId,
     times: &FeedTimes,
 ) -> Result<Option<u64>, JournalFault>
@@ -47,7 +47,7 @@ pub fn consume_next<G: Genuine, N: FeedName, W: Wait>(
 #[inline(always)]
 pub fn consume_some<G: Genuine, N: FeedName, W: Wait>(
     rt: Option<&W>,
-    core: &mut JournalAndLanes<G, N>,
+    core: &mut ConsolidatorState<G, N>,
     venue: VenueId,
     most: u32,
     times: &FeedTimes,
@@ -81,9 +81,9 @@ pub struct Offered {
 
 /// Wakes the subscriber's thread where notices were pushed.
 #[inline(always)]
-fn wake(bells: &Bells, id: SubscriberId, pushed: u64) {
+fn wake(wakeups: &Wakeups, id: SubscriberId, pushed: u64) {
     if pushed > 0 {
-        bells.notices(id).notify_all();
+        wakeups.notices(id).notify_all();
     }
 }
 
@@ -93,9 +93,9 @@ fn wake(bells: &Bells, id: SubscriberId, pushed: u64) {
 #[inline(always)]
 fn offer_up_to<G: Genuine, N: FeedName, W: Wait>(
     rt: &W,
-    core: &mut JournalAndLanes<G, N>,
+    core: &mut ConsolidatorState<G, N>,
     filters: &[Filter],
-    bells: &Bells,
+    wakeups: &Wakeups,
     id: SubscriberId,
     to: usize,
 ) -> Offered
@@ -108,7 +108,7 @@ fn offer_up_to<G: Genuine, N: FeedName, W: Wait>(
         let answer = match core.offer(rt, id, filters.get(id.index()), to) {
             Ok(answer) => answer,
             Err(Unfinished) => {
-                wake(bells, id, pushed);
+                wake(wakeups, id, pushed);
                 return Offered {
                     pushed,
                     unfinished: true,
@@ -117,12 +117,12 @@ fn offer_up_to<G: Genuine, N: FeedName, W: Wait>(
         };
         match answer {
             Ok(_) => pushed = pushed.saturating_add(1),
-            Err(Unsent::LaneFull) if !bells.is_room_wanted(id) => bells.want_room(id),
+            Err(Unsent::LaneFull) if !wakeups.is_room_wanted(id) => wakeups.want_room(id),
             Err(unsent) => {
                 if unsent == Unsent::Nothing {
-                    bells.end_want_of_room(id);
+                    wakeups.clear_room_wanted(id);
                 }
-                wake(bells, id, pushed);
+                wake(wakeups, id, pushed);
                 return Offered {
                     pushed,
                     unfinished: false,
@@ -139,9 +139,9 @@ fn offer_up_to<G: Genuine, N: FeedName, W: Wait>(
 #[tactic(auto, using(crate::proofs::Offers::all_looked_at))]
 pub fn offer_some<G: Genuine, N: FeedName, W: Wait>(
     rt: &W,
-    core: &mut JournalAndLanes<G, N>,
+    core: &mut ConsolidatorState<G, N>,
     filters: &[Filter],
-    bells: &Bells,
+    wakeups: &Wakeups,
     id: SubscriberId,
 ) -> Option<u64>
     ensures offers { IfSome result (λ pushed. Offers id pushed core.old core.new) }
@@ -151,15 +151,15 @@ pub fn offer_some<G: Genuine, N: FeedName, W: Wait>(
         return None;
     }
     let to = core.change_count();
-    Some(offer_up_to(rt, core, filters, bells, id, to).pushed)
+    Some(offer_up_to(rt, core, filters, wakeups, id, to).pushed)
 }
 
 /// Offers each subscriber what it wants, and looks at no more than 1,024 changes for each.
 pub fn offer_each<G: Genuine, N: FeedName, W: Wait>(
     rt: &W,
-    core: &mut JournalAndLanes<G, N>,
+    core: &mut ConsolidatorState<G, N>,
     filters: &[Filter],
-    bells: &Bells,
+    wakeups: &Wakeups,
 ) -> Offered
     ensures { OffersAll result.pushed result.unfinished core.old core.new }
 {
@@ -168,7 +168,7 @@ pub fn offer_each<G: Genuine, N: FeedName, W: Wait>(
     for place in 0..core.subscriber_count() {
         let id = SubscriberId::at(place);
         let to = core.look_limit(id, CHANGES_A_SECTION);
-        let done = offer_up_to(rt, core, filters, bells, id, to);
+        let done = offer_up_to(rt, core, filters, wakeups, id, to);
         offered = offered.saturating_add(done.pushed);
         unfinished |= done.unfinished;
     }

@@ -29,7 +29,7 @@ pub type HubParts<G> = (
 /// what was sent to each subscriber is what it wants of the changes that were looked at for it
 /// (`HubLockInvariant` in `specs/Hubs.antt`). It holds no closure.
 #[derive(Drop)]
-pub struct JournalAndLanes<G: Genuine, N: FeedName> {
+pub struct ConsolidatorState<G: Genuine, N: FeedName> {
     kept: Journal,
     from_venues: Vec<Receiver<Numbered, VenueItems<G>>>,
     to_subscribers: Vec<Sender<Notice, RisingNotices>>,
@@ -38,7 +38,7 @@ pub struct JournalAndLanes<G: Genuine, N: FeedName> {
     feed: PhantomData<N>,
 }
 
-impl<G: Genuine, N: FeedName> Model for JournalAndLanes<G, N> {
+impl<G: Genuine, N: FeedName> Model for ConsolidatorState<G, N> {
     ghost use Rattle.std.specs.Coded.{codes};
     ghost use Rattle.filter_terms.specs.contracts.terms.Terms as terms_type;
     ghost use Rattle.hub_lanes.specs.Hubs.{HubState, HubLockInvariant};
@@ -62,7 +62,7 @@ impl<G: Genuine, N: FeedName> Model for JournalAndLanes<G, N> {
     }) };
 }
 
-impl<G: Genuine, N: FeedName> JournalAndLanes<G, N> {
+impl<G: Genuine, N: FeedName> ConsolidatorState<G, N> {
     /// A journal with the lanes of its venues, those of its subscribers, and those that are left
     /// for further ones.
     pub fn new(
@@ -70,7 +70,7 @@ impl<G: Genuine, N: FeedName> JournalAndLanes<G, N> {
         receivers: Vec<Receiver<Numbered, VenueItems<G>>>,
         senders: Vec<Sender<Notice, RisingNotices>>,
         spare: VecDeque<SpareLane>,
-    ) -> JournalAndLanes<G, N>
+    ) -> ConsolidatorState<G, N>
         requires { HubLockInvariant G.Genuine N.lanes (record {
           journal = journal;
           receivers = receivers.items;
@@ -84,7 +84,7 @@ impl<G: Genuine, N: FeedName> JournalAndLanes<G, N> {
           spare = spare.items;
         } }
     {
-        JournalAndLanes {
+        ConsolidatorState {
             kept: journal,
             from_venues: receivers,
             to_subscribers: senders,
@@ -100,7 +100,7 @@ impl<G: Genuine, N: FeedName> JournalAndLanes<G, N> {
             × (result.2.items ≡ self.senders) }
         ensures hub { HubLockInvariant G.Genuine N.lanes self }
     {
-        let JournalAndLanes {
+        let ConsolidatorState {
             kept,
             from_venues,
             to_subscribers,

@@ -1,7 +1,7 @@
 //! The consolidator of a live feed: what its lock guards, and the sections under that lock.
 //!
 //! The lock guards the journal, the receiving ends of the venues' lanes and the sending ends of the
-//! subscribers', [`JournalAndLanes`]. The subscribers' filters stand beside it (`live_feed`) and
+//! subscribers', [`ConsolidatorState`]. The subscribers' filters stand beside it (`live_feed`) and
 //! are lent to each call: this crate stores no closure.
 //!
 //! Contract: whenever the lock is free, what it guards is a part of a world of the event machine
@@ -11,21 +11,21 @@
 #![tactic(auto)]
 
 mod calls;
+mod hub_reading;
 mod journal_and_lanes;
 mod laws;
-mod reading;
 mod spare;
 mod spares;
 mod turn;
 
 pub use calls::{Offered, consume_next, consume_some, offer_each, offer_some};
-pub use journal_and_lanes::JournalAndLanes;
+pub use hub_reading::national_in;
+pub use journal_and_lanes::ConsolidatorState;
 pub use laws::journaled_items_are_the_sessions;
-pub use reading::national_in;
 pub use spare::SpareLane;
 pub use spares::new_spares;
 pub use turn::{Consolidated, take_turn};
 
 // What a feed's own threads call, and no program.
 #[doc(hidden)]
-pub use turn::no_handle;
+pub use turn::without_waiting;

@@ -4,12 +4,12 @@ ghost use Rattle.std.specs.Prelude.{◌≡◌, ◌⊎◌, ◌≤◌, ◌<◌, �
 ghost use Rattle.hub_lanes.specs.Turns.{ConsumesRound, TakesTurn};
 
 use crate::calls::{consume_some, offer_each};
-use crate::journal_and_lanes::JournalAndLanes;
+use crate::journal_and_lanes::ConsolidatorState;
 use feed_steps::FeedName;
 use feed_types::{Genuine, MAX_VENUES, VenueId};
 use filter_terms::Filter;
 use journal_book::JournalFault;
-use live_wakeups::{Bells, FeedTimes};
+use live_wakeups::{FeedTimes, Wakeups};
 use std::sync::Wait;
 
 /// The most items that are journaled in one section, so that nobody waits long for the lock, nor
@@ -66,14 +66,14 @@ fn venue_after(first: usize, step: usize, venues: usize) -> VenueId
 
 /// Returns the number of the venue with which a turn begins: `next`, or 0 where that is past the
 /// last venue.
-fn first_place<G: Genuine, N: FeedName>(core: &JournalAndLanes<G, N>, next: usize) -> usize
+fn first_place<G: Genuine, N: FeedName>(core: &ConsolidatorState<G, N>, next: usize) -> usize
     ensures { (result ≡ 0) ⊎ (result < length N.lanes.venues) }
 {
     if next < core.venue_count() { next } else { 0 }
 }
 
 /// Returns no handle to wait by, in place of this one: who is passed it waits for nobody.
-pub fn no_handle<W>(_rt: &W) -> Option<&W>
+pub fn without_waiting<W>(_rt: &W) -> Option<&W>
     ensures { result ≡ None }
 {
     None
@@ -84,7 +84,7 @@ pub fn no_handle<W>(_rt: &W) -> Option<&W>
 /// waits for ever. It waits for no sender.
 fn consume_round<G: Genuine, N: FeedName, W: Wait>(
     rt: &W,
-    core: &mut JournalAndLanes<G, N>,
+    core: &mut ConsolidatorState<G, N>,
     next: &mut usize,
     times: &FeedTimes,
 ) -> Consolidated
@@ -102,7 +102,7 @@ fn consume_round<G: Genuine, N: FeedName, W: Wait>(
         }
         let venue = venue_after(first, step, venues);
         *next = venue.index() + 1;
-        match consume_some(no_handle(rt), core, venue, left, times) {
+        match consume_some(without_waiting(rt), core, venue, left, times) {
             Ok(count) => {
                 done.consumed += count;
                 done.venues[venue.index()] = count > 0;
@@ -122,17 +122,17 @@ fn consume_round<G: Genuine, N: FeedName, W: Wait>(
 #[tactic(auto, using(crate::proofs::Turns::turn_taken))]
 pub fn take_turn<G: Genuine, N: FeedName, W: Wait>(
     rt: &W,
-    core: &mut JournalAndLanes<G, N>,
+    core: &mut ConsolidatorState<G, N>,
     filters: &[Filter],
     next: &mut usize,
-    bells: &Bells,
+    wakeups: &Wakeups,
 ) -> Consolidated
     ensures most { result.consumed ≤ 64 }
     ensures turn { TakesTurn G.Genuine N.lanes result.consumed result.offered result.unfinished
         result.refused core.old core.new }
 {
-    let mut done = consume_round(rt, core, next, bells.times());
-    let offers = offer_each(rt, core, filters, bells);
+    let mut done = consume_round(rt, core, next, wakeups.times());
+    let offers = offer_each(rt, core, filters, wakeups);
     done.offered = offers.pushed;
     done.unfinished = offers.unfinished;
     done

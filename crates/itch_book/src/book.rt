@@ -1,6 +1,6 @@
 //! The order book of some symbols of a venue.
 
-ghost use Rattle.std.specs.Prelude.{◌≡◌, ℕ, ◌*◌, ◌<◌, ◌≤◌, ◌++◌, [], ◌∷◌, All, List, IfOk, IfSome, IsTrue, MatchOption, OnErr, OnOk, Some, length, map};
+ghost use Rattle.std.specs.Prelude.{◌≡◌, ℕ, ◌*◌, ◌<◌, ◌≤◌, ◌++◌, [], ◌∷◌, All, List, IfOk, IfSome, IsTrue, MatchOption, OnErr, OnOk, Some, length, map, slice_index_or};
 ghost use Rattle.feed_types.specs.Symbols.{key_of};
 ghost use Rattle.itch_messages.specs.declared.event.OrderEvent.{OrderEvent};
 ghost use Rattle.itch_book.specs.declared.order.Order.{Order};
@@ -311,6 +311,15 @@ impl OrderBook {
             → (row : SymbolRow) × (FitsRow self.now.keys events place row) × (result ≡ row.quote) }
     {
         self.rows[place].quote
+    }
+
+    /// Returns what the book keeps of the symbol at a place: its quotation, its round lot, and
+    /// whether it is halted.
+    pub fn row(&self, place: usize) -> SymbolRow
+        requires { place < length self.now.keys }
+        ensures { (d : SymbolRow) → result ≡ slice_index_or self.now.rows place d }
+    {
+        self.rows[place]
     }
 
     /// Returns the numbers of messages that changed no order, or took more than there was.

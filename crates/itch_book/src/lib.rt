@@ -32,4 +32,5 @@ pub use laws::{one_best, ranks_follow_prices};
 pub use level::Level;
 pub use oddity::{Oddities, Oddity};
 pub use order::{Order, book_rank};
+pub use row::SymbolRow;
 pub use symbol_places::MOST_SYMBOLS;

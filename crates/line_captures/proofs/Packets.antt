@@ -4,8 +4,8 @@ use Rattle.std.proofs.lemmas.List.{drop-append-le}
 use Rattle.feed_types.specs.declared.line.LineId.{LineId}
 use Rattle.feed_types.specs.declared.line.LineId.TheVariants.{A, B, Recovery}
 use Rattle.feed_types.specs.Text.{line_letter}
-use Rattle.packet_capture.specs.declared.stop.Stop.{Stop}
-use Rattle.packet_capture.specs.declared.stop.Stop.TheVariants as stops
+use Rattle.packet_capture.specs.declared.stop.NoPiece.{NoPiece}
+use Rattle.packet_capture.specs.declared.stop.NoPiece.TheVariants as stops
 use Rattle.packet_capture.specs.Captures.{Context, PieceContent, IsPiece, StopsReading, frames_in, list_of}
 use Rattle.packet_capture.specs.Frames.{FrameContent}
 use Rattle.capture_records.specs.Capture.{CaptureRecord, IsKind, IsRecord, record_of}
@@ -99,7 +99,7 @@ step_read law s t bytes p (Passed len) is lines venues counts k =
 step_read law s t bytes p Wants is lines venues counts k = absurd k
 step_read law s t bytes p (Bad bad) is lines venues counts k = absurd k
 
-pub stop_read : (s t : PacketState) (bytes : List ℕ) (stop : Stop) (step : Step BadPiece)
+pub stop_read : (s t : PacketState) (bytes : List ℕ) (stop : NoPiece) (step : Step BadPiece)
     → StopsReading s.context bytes stop → t ≡ s → IsStopStep stop bytes step
     → StepsTo ReadsPackets wants_packets is_bad_packets s bytes step t
 stop_read s t bytes (stops.Wants n) Wants why same k = let few = few_unread s.context bytes n why

@@ -1,8 +1,8 @@
 -- Packet captures for lines, as a format of records.
 use Rattle.std.specs.Prelude.{◌≡◌, ◌≢◌, ℕ, List, [], ◌∷◌, ◌++◌, map}
 use Rattle.packet_capture.specs.declared.reader.Format.TheVariants.{Start}
-use Rattle.packet_capture.specs.declared.stop.Stop.{Stop}
-use Rattle.packet_capture.specs.declared.stop.Stop.TheVariants as stops
+use Rattle.packet_capture.specs.declared.stop.NoPiece.{NoPiece}
+use Rattle.packet_capture.specs.declared.stop.NoPiece.TheVariants as stops
 use Rattle.packet_capture.specs.Captures.{Context, PieceContent, IsCapture, ArePieces, StopsReading, frames_in, frames_of, new_context}
 use Rattle.packet_capture.specs.Frames.{FrameContent}
 use Rattle.capture_records.specs.Capture.{CaptureRecord, record_of}
@@ -122,7 +122,7 @@ IsStepOf lines piece Wants = ⊥
 IsStepOf lines piece (Bad bad) = ⊥
 
 -- the step where no piece is read, at these bytes
-abbrev pub IsStopStep : Stop → List ℕ → Step BadPiece → Type 0
+abbrev pub IsStopStep : NoPiece → List ℕ → Step BadPiece → Type 0
 IsStopStep (stops.Wants n) bytes Wants = Unit {0}
 IsStopStep (stops.Bad fault) bytes (Bad bad) = (bad.fault ≡ fault) × (bad.start ≡ start_of bytes)
 IsStopStep stop bytes step = ⊥

@@ -3,7 +3,7 @@ ghost use Rattle.std.specs.Prelude.{◌≡◌, ◌⊎◌, IfSome, IfNone, IsTrue
 ghost use Rattle.packet_capture.specs.Datagrams.{datagram_content};
 ghost use Rattle.line_captures.specs.Lines.{IsZeros, Takes, GoesTo, GoesToNone};
 
-use packet_capture::{Address, Datagram};
+use packet_capture::{Address, UdpDatagram};
 use run_settings::CapturedLine;
 
 fn is_zeros(address: &Address) -> bool
@@ -41,7 +41,7 @@ fn are_same_address(one: &Address, other: &Address) -> bool
 /// Whether the line takes the datagram.
 // As a call for each line that is looked at it took some 20 instructions.
 #[inline(always)]
-fn takes(line: &CapturedLine, datagram: &Datagram<'_>) -> bool
+fn takes(line: &CapturedLine, datagram: &UdpDatagram<'_>) -> bool
     ensures { IsTrue result ↔ Takes line.now (datagram_content datagram.now) }
 {
     line.port == datagram.port
@@ -50,7 +50,7 @@ fn takes(line: &CapturedLine, datagram: &Datagram<'_>) -> bool
 
 /// The line of the list that a datagram goes to: the first that takes it, or `None`.
 #[inline(always)]
-pub(crate) fn line_to(lines: &[CapturedLine], datagram: &Datagram<'_>) -> Option<CapturedLine>
+pub(crate) fn line_to(lines: &[CapturedLine], datagram: &UdpDatagram<'_>) -> Option<CapturedLine>
     ensures some { IfSome result (GoesTo lines.now (datagram_content datagram.now)) }
     ensures none { IfNone result (GoesToNone lines.now (datagram_content datagram.now)) }
 {

@@ -2,6 +2,7 @@
 ghost use Rattle.std.specs.Prelude.{◌≡◌, ◌+◌, ◌≤◌, ◌<◌, ◌++◌, [], ◌∷◌, ◌/◌, ◌%◌, IfOk, OnErr, OnOk, length};
 ghost use Rattle.capture_records.specs.Capture.{HasNumber, bytes_of_record, payload_of, record_of};
 ghost use Rattle.text_out.specs.Devices.{Moved, Wrote};
+ghost use Rattle.text_out.specs.Members.{reading_of, writing_of};
 ghost use Rattle.line_captures.specs.Conversions.{AnswersConversion};
 
 use capture_records::{
@@ -106,9 +107,9 @@ pub fn convert<R: CaptureIn, F: RecordFormat, W: TextOut>(
     writer: &mut W,
 ) -> Result<(), ReplayStop<F::Fault>>
     ensures { AnswersConversion
-        (record { gives = R.gives; ends = R.ends; failures = R.failures; fails = R.fails })
+        (reading_of R.CaptureIn)
         (record { reads = F.reads; wants = F.wants; is_bad = F.is_bad; is_whole = F.is_whole })
-        (record { adds = W.adds; failures = W.failures })
+        (writing_of W.TextOut)
         (F.venues format.old) turns reader.old reader.new format.old format.new
         writer.old writer.new result }
 {

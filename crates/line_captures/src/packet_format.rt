@@ -20,7 +20,7 @@ use crate::piece_step::{LineDatagram, PieceStep};
 use crate::progress::Progress;
 use capture_records::{RecordFormat, Step};
 use packet_capture::{
-    CaptureReader, Datagram, Frame, Piece, Stop, read_as_bytes_come, read_datagram,
+    CaptureReader, Frame, NoPiece, Piece, UdpDatagram, read_as_bytes_come, read_datagram,
     read_plain_datagram,
 };
 use run_settings::CapturedLine;
@@ -108,7 +108,7 @@ impl<'a> PacketFormat<'a> {
 #[inline(always)]
 fn line_datagram<'b>(
     lines: &[CapturedLine],
-    datagram: Datagram<'b>,
+    datagram: UdpDatagram<'b>,
     counts: &mut FrameCounts,
 ) -> Option<LineDatagram<'b>>
     requires { length datagram.bytes.now < 65536 }
@@ -187,12 +187,12 @@ fn step_of<'b>(lines: &[CapturedLine], piece: Piece<'b>, progress: &mut Progress
 }
 
 /// Returns the step where no piece is read at the front of these bytes.
-fn step_at<'b>(stop: Stop, bytes: &[u8]) -> PieceStep<'b>
+fn step_at<'b>(stop: NoPiece, bytes: &[u8]) -> PieceStep<'b>
     ensures { IsStopStep stop bytes.now (step_from result) }
 {
     match stop {
-        Stop::Wants(_) => PieceStep::Wants,
-        Stop::Bad(fault) => PieceStep::Bad(BadPiece::new(fault, bytes)),
+        NoPiece::Wants(_) => PieceStep::Wants,
+        NoPiece::Bad(fault) => PieceStep::Bad(BadPiece::new(fault, bytes)),
     }
 }
 
@@ -224,7 +224,7 @@ fn any_step<'b>(
 struct PlainPacket<'a> {
     piece: Piece<'a>,
     frame: Frame<'a>,
-    datagram: Datagram<'a>,
+    datagram: UdpDatagram<'a>,
 }
 
 /// Returns the packet at the front of some bytes where it carries a plain datagram, as nearly all

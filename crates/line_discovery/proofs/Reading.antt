@@ -2,8 +2,8 @@
 use Rattle.std.proofs.Common.{◌≡◌, ℕ, List, [], ◌∷◌, ◌++◌, Option, Some, None, drop, refl, sym, ap, subst, ◌∙◌, append-nil, arith}
 use Rattle.std.proofs.lemmas.List.{drop-append-le}
 use Rattle.std.specs.List.{AllZip}
-use Rattle.packet_capture.specs.declared.stop.Stop.{Stop}
-use Rattle.packet_capture.specs.declared.stop.Stop.TheVariants as stops
+use Rattle.packet_capture.specs.declared.stop.NoPiece.{NoPiece}
+use Rattle.packet_capture.specs.declared.stop.NoPiece.TheVariants as stops
 use Rattle.packet_capture.specs.Captures.{Context, PieceContent, IsPiece, StopsReading, frames_of, list_of}
 use Rattle.packet_capture.specs.Frames.{FrameContent}
 use Rattle.capture_records.specs.declared.record_format.Step.{Step}
@@ -15,24 +15,24 @@ use Rattle.line_captures.specs.declared.progress.Progress.{Progress}
 use Rattle.line_captures.specs.Counts.{IsFate, counts_after, piece_after, timed_after}
 use Rattle.line_captures.specs.CountLaws.{counts_frame, counts_silent}
 use Rattle.line_discovery.specs.declared.counts.SurveyCounts.{SurveyCounts}
-use Rattle.line_discovery.specs.declared.fate.Fate.{Fate}
-use Rattle.line_discovery.specs.declared.fate.Fate.TheVariants.{Packet, Other, NoDatagram}
-use Rattle.line_discovery.specs.declared.sighting.Sighting.{Sighting}
-use Rattle.line_discovery.specs.declared.survey.LineSurvey.{LineSurvey}
+use Rattle.line_discovery.specs.declared.frame_class.FrameClass.{FrameClass}
+use Rattle.line_discovery.specs.declared.frame_class.FrameClass.TheVariants.{Packet, Other, NoDatagram}
+use Rattle.line_discovery.specs.declared.endpoint_packet.EndpointPacket.{EndpointPacket}
+use Rattle.line_discovery.specs.declared.survey.EndpointSurvey.{EndpointSurvey}
 use Rattle.line_discovery.specs.Sightings.{HasFate, frame_fate, others_in, packets_in}
 use Rattle.line_discovery.specs.Surveys.{CountsFate, CountsSightings, StopsSurvey, ReadsSurvey, is_bad_piece, wants_piece}
 use Rattle.packet_capture.specs.laws.Fronts.{piece_len, few_unread}
 
 -- ---- counts
 
-is_fate : (f : FrameContent) (fate : Fate) → HasFate f fate → IsFate [] f (frame_fate fate)
+is_fate : (f : FrameContent) (fate : FrameClass) → HasFate f fate → IsFate [] f (frame_fate fate)
 is_fate f (Packet s) h = (h.0, h.1, λ place line e takes. absurd cc)
 is_fate f (Other s) h = (h.0, h.1, λ place line e takes. absurd cc)
 is_fate f (NoDatagram fault) h = h
 
 -- what one piece counts, with a frame
 pub counts_sighting : (before mid after : SurveyCounts) (pieced : Progress) (p : PieceContent)
-    (f : FrameContent) (fate : Fate) → pieced ≡ piece_after before.progress p
+    (f : FrameContent) (fate : FrameClass) → pieced ≡ piece_after before.progress p
     → mid ≡ record before { progress = timed_after pieced f.time }
     → CountsFate fate mid after → HasFate f fate → p.frame ≡ Some f
     → CountsSightings before (p ∷ []) after
@@ -56,10 +56,12 @@ counts_sighting before mid after pieced p f fate piece timed counted is framed =
           (record { fate = frame_fate fate; is = is_fate f fate is; after_is = counts }) framed;
       lines = counted.lines
           ∙ ap (λ (x : SurveyCounts). x.lines ++ packets_in fate) timed
-          ∙ ap (λ (l : List Sighting). before.lines ++ l) (sym (append-nil (packets_in fate)));
+          ∙ ap (λ (l : List EndpointPacket). before.lines ++ l) (sym (append-nil (packets_in
+          fate)));
       others = counted.others
           ∙ ap (λ (x : SurveyCounts). x.others ++ others_in fate) timed
-          ∙ ap (λ (l : List Sighting). before.others ++ l) (sym (append-nil (others_in fate)));
+          ∙ ap (λ (l : List EndpointPacket). before.others ++ l) (sym (append-nil (others_in
+          fate)));
     }
 
 -- and without one
@@ -85,7 +87,7 @@ abbrev Lasts : Type 0
 Lasts = (before after : Context) (bytes more : List ℕ) (p : PieceContent)
     → IsPiece before bytes p after → IsPiece before (bytes ++ more) p after
 
-pub piece_read : Lasts → (s t : LineSurvey) (bytes : List ℕ) (p : PieceContent)
+pub piece_read : Lasts → (s t : EndpointSurvey) (bytes : List ℕ) (p : PieceContent)
     → IsPiece s.capture bytes p t.capture → CountsSightings s.counts (p ∷ []) t.counts
     → TakesPiece ReadsSurvey s bytes [] p.len t
 piece_read law s t bytes p is counts =
@@ -103,7 +105,7 @@ piece_read law s t bytes p is counts =
       };
     }
 
-pub stop_read : (s t : LineSurvey) (bytes : List ℕ) (stop : Stop) (step : Step BadPiece)
+pub stop_read : (s t : EndpointSurvey) (bytes : List ℕ) (stop : NoPiece) (step : Step BadPiece)
     → StopsReading s.capture bytes stop → t ≡ s → StopsSurvey stop bytes step
     → StepsTo ReadsSurvey wants_piece is_bad_piece s bytes step t
 stop_read s t bytes (stops.Wants n) Wants why same k = let few = few_unread s.capture bytes n why

@@ -9,10 +9,10 @@ use Rattle.message_forms.specs.Payloads.{is_itch, is_own}
 use Rattle.mold_packet.specs.declared.fault.PacketFault.{PacketFault}
 use Rattle.mold_packet.specs.Content.{Content, Spells, last_number}
 use Rattle.mold_packet.specs.Faults.{HasFault}
-use Rattle.line_discovery.specs.declared.fate.Fate.{Fate}
-use Rattle.line_discovery.specs.declared.fate.Fate.TheVariants.{Packet, Other, NoDatagram}
+use Rattle.line_discovery.specs.declared.frame_class.FrameClass.{FrameClass}
+use Rattle.line_discovery.specs.declared.frame_class.FrameClass.TheVariants.{Packet, Other, NoDatagram}
 use Rattle.line_discovery.specs.declared.line_key.LineKey.{LineKey}
-use Rattle.line_discovery.specs.declared.sighting.Sighting.{Sighting}
+use Rattle.line_discovery.specs.declared.endpoint_packet.EndpointPacket.{EndpointPacket}
 use Rattle.line_discovery.specs.declared.span.Span.{Span}
 
 -- printable ASCII, as the names that a command line can have
@@ -34,7 +34,7 @@ sighting_times None = None
 sighting_times (Some time) = Some (record { low = time; high = time })
 
 -- a datagram that is a packet, and came at this time
-abbrev pub packet_sighting : DatagramContent → Option ℕ → Content → Sighting
+abbrev pub packet_sighting : DatagramContent → Option ℕ → Content → EndpointPacket
 packet_sighting d time p = record {
   key = line_key d (Some p.session);
   messages = length p.messages;
@@ -46,7 +46,7 @@ packet_sighting d time p = record {
 }
 
 -- a datagram that is none
-abbrev pub other_sighting : DatagramContent → Option ℕ → Sighting
+abbrev pub other_sighting : DatagramContent → Option ℕ → EndpointPacket
 other_sighting d time = record {
   key = line_key d None;
   messages = 0;
@@ -71,31 +71,31 @@ IsNoPacket bytes =
     × (is_printable_name packet.session ≡ true → ⊥))
 
 -- what a datagram at this time shows: a packet, or another datagram
-abbrev pub IsShown : DatagramContent → Option ℕ → Fate → Type 0
+abbrev pub IsShown : DatagramContent → Option ℕ → FrameClass → Type 0
 IsShown d time (Packet s) =
     (packet : Content) × IsPacket d.bytes packet × (s ≡ packet_sighting d time packet)
 IsShown d time (Other s) = IsNoPacket d.bytes × (s ≡ other_sighting d time)
 IsShown d time (NoDatagram fault) = ⊥
 
 -- the fate of a frame: its datagram is shown, or it carries none
-abbrev pub HasFate : FrameContent → Fate → Type 0
+abbrev pub HasFate : FrameContent → FrameClass → Type 0
 HasFate frame (NoDatagram fault) = HasFrameFault frame.link frame.bytes fault
 HasFate frame fate =
     (d : DatagramContent) × CarriesDatagram frame.link frame.bytes d × IsShown d frame.time fate
 
 -- the packets, and the other datagrams
-abbrev pub packets_in : Fate → List Sighting
+abbrev pub packets_in : FrameClass → List EndpointPacket
 packets_in (Packet s) = s ∷ []
 packets_in (Other s) = []
 packets_in (NoDatagram fault) = []
 
-abbrev pub others_in : Fate → List Sighting
+abbrev pub others_in : FrameClass → List EndpointPacket
 others_in (Packet s) = []
 others_in (Other s) = s ∷ []
 others_in (NoDatagram fault) = []
 
 -- a fate as a replay of the capture has it that reads no line
-abbrev pub frame_fate : Fate → FrameFate
+abbrev pub frame_fate : FrameClass → FrameFate
 frame_fate (Packet s) = elsewhere
 frame_fate (Other s) = elsewhere
 frame_fate (NoDatagram fault) = no_datagram fault

@@ -8,7 +8,7 @@ use Rattle.packet_capture.specs.Frames.{FrameContent}
 use Rattle.capture_records.specs.Formats.{TimedRecord}
 use Rattle.line_captures.specs.CountLaws.{counts_none as none_counted, counts_then as then_counted}
 use Rattle.line_discovery.specs.declared.counts.SurveyCounts.{SurveyCounts}
-use Rattle.line_discovery.specs.declared.survey.LineSurvey.{LineSurvey}
+use Rattle.line_discovery.specs.declared.survey.EndpointSurvey.{EndpointSurvey}
 use Rattle.line_discovery.specs.Sightings.{HasFate, others_in, packets_in}
 use Rattle.line_discovery.specs.Surveys.{CountsSightings, ReadsSurvey}
 
@@ -66,7 +66,7 @@ counts_then a b c ps qs x y =
     }
 
 -- no piece
-pub survey_none : (s : LineSurvey) (bytes : List ℕ) → ReadsSurvey s bytes [] s bytes
+pub survey_none : (s : EndpointSurvey) (bytes : List ℕ) → ReadsSurvey s bytes [] s bytes
 survey_none s bytes = record {
   pieces = [];
   are = λ more. (refl, refl);
@@ -75,7 +75,7 @@ survey_none s bytes = record {
 }
 
 -- pieces after pieces
-pub survey_more : (s t u : LineSurvey) (xs ys zs : List ℕ) (rs qs : List TimedRecord)
+pub survey_more : (s t u : EndpointSurvey) (xs ys zs : List ℕ) (rs qs : List TimedRecord)
     → ReadsSurvey s xs rs t ys → ReadsSurvey t ys qs u zs → ReadsSurvey s xs (rs ++ qs) u zs
 survey_more s t u xs ys zs rs qs a b = record {
   pieces = a.pieces ++ b.pieces;
@@ -86,7 +86,7 @@ survey_more s t u xs ys zs rs qs a b = record {
 }
 
 -- whatever follows
-pub survey_longer : (s t : LineSurvey) (xs ys more : List ℕ) (rs : List TimedRecord)
+pub survey_longer : (s t : EndpointSurvey) (xs ys more : List ℕ) (rs : List TimedRecord)
     → ReadsSurvey s xs rs t ys → ReadsSurvey s (xs ++ more) rs t (ys ++ more)
 survey_longer s t xs ys more rs a = record {
   pieces = a.pieces;
@@ -99,6 +99,6 @@ survey_longer s t xs ys more rs a = record {
 }
 
 -- no record is of a venue
-pub survey_venues : (s t : LineSurvey) (xs ys : List ℕ) (rs : List TimedRecord)
+pub survey_venues : (s t : EndpointSurvey) (xs ys : List ℕ) (rs : List TimedRecord)
     → ReadsSurvey s xs rs t ys → ◌≡◌ {A = ℕ} 0 0
 survey_venues s t xs ys rs a = refl

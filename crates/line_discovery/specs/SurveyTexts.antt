@@ -9,7 +9,7 @@ use Rattle.line_captures.specs.declared.frame_counts.FrameCounts.{FrameCounts}
 use Rattle.line_discovery.specs.declared.counts.SurveyCounts.{SurveyCounts}
 use Rattle.line_discovery.specs.declared.line_key.LineKey.{LineKey}
 use Rattle.line_discovery.specs.declared.line_row.LineRow.{LineRow}
-use Rattle.line_discovery.specs.declared.rest.SurveyRest.{SurveyRest}
+use Rattle.line_discovery.specs.declared.unlisted.Unlisted.{Unlisted}
 use Rattle.line_discovery.specs.declared.span.Span.{Span}
 use Rattle.line_discovery.specs.LineWords.{words_of}
 use Rattle.line_discovery.specs.Looks.{look_member, look_row}
@@ -74,7 +74,7 @@ date_member label (Some time) = label ++ (codes "\"" ++ (utc_text time ++ codes 
 
 -- the other datagrams and where they went, frames without a datagram, and datagrams that are in no
 -- row
-abbrev pub rest_of : SurveyCounts → SurveyRest
+abbrev pub rest_of : SurveyCounts → Unlisted
 rest_of c = record {
   others = up_to_most (length c.others);
   addresses = length (rows_of c.others);
@@ -111,7 +111,7 @@ table_row style others r =
     ++ (time_cell style (low_of r.times)
     ++ (time_cell style (high_of r.times) ++ codes "\n")))))
 
-abbrev pub table_rest : SurveyRest → List ℕ
+abbrev pub table_rest : Unlisted → List ℕ
 table_rest r =
     cells_text 13 (codes "-") (
     (codes "\ndatagrams that are no packets      ", Some r.others)
@@ -123,7 +123,7 @@ table_rest r =
     ++ codes "\n"
 
 -- and then which sessions look like ITCH, and the words for the lines that came
-abbrev pub table_of : TimeStyle → List LineRow → List LineRow → SurveyRest → List ℕ
+abbrev pub table_of : TimeStyle → List LineRow → List LineRow → Unlisted → List ℕ
 table_of style others rows rest =
     table_head style
     ++ (flat_map (table_row style others) rows
@@ -167,7 +167,7 @@ json_members style others rows r =
 abbrev pub json_line : TimeStyle → List LineRow → List LineRow → LineRow → List ℕ
 json_line style others rows r = json_head r.key ++ json_members style others rows r
 
-abbrev pub json_rest : SurveyRest → List ℕ
+abbrev pub json_rest : Unlisted → List ℕ
 json_rest r =
     cells_text 0 (codes "null") (
     (codes "{\"other_datagrams\":", Some r.others)
@@ -178,7 +178,7 @@ json_rest r =
     ∷ [])
     ++ codes "}\n"
 
-abbrev pub json_of : TimeStyle → List LineRow → List LineRow → SurveyRest → List ℕ
+abbrev pub json_of : TimeStyle → List LineRow → List LineRow → Unlisted → List ℕ
 json_of style others rows rest = flat_map (json_line style others rows) rows ++ json_rest rest
 
 abbrev pub text_of_survey : StatsFormat → TimeStyle → SurveyCounts → List ℕ

@@ -3,7 +3,7 @@ use Rattle.std.specs.Prelude.{◌≡◌, ℕ, ◌+◌, ◌-◌, List, [], ◌∷
 use Rattle.std.specs.List.{sum_by}
 use Rattle.line_discovery.specs.declared.line_key.LineKey.{LineKey}
 use Rattle.line_discovery.specs.declared.line_row.LineRow.{LineRow}
-use Rattle.line_discovery.specs.declared.sighting.Sighting.{Sighting}
+use Rattle.line_discovery.specs.declared.endpoint_packet.EndpointPacket.{EndpointPacket}
 use Rattle.line_discovery.specs.KeyedRows.{IsKeyedTable, Keying, keyed_rows}
 use Rattle.line_discovery.specs.Keys.{same_key}
 use Rattle.line_discovery.specs.Spans.{span_of, wider}
@@ -13,7 +13,7 @@ abbrev pub up_to_most : ℕ → ℕ
 up_to_most n = min n 18446744073709551615
 
 -- what is counted of a line's datagrams, which are all of its key
-abbrev pub row_over : LineKey → List Sighting → LineRow
+abbrev pub row_over : LineKey → List EndpointPacket → LineRow
 row_over key mine = record {
   key = key;
   packets = up_to_most (length mine);
@@ -26,7 +26,7 @@ row_over key mine = record {
 }
 
 -- rows by line, of the first 4,096
-abbrev pub by_line : Keying Sighting LineKey LineRow
+abbrev pub by_line : Keying EndpointPacket LineKey LineRow
 by_line = record {
   key_of = λ s. s.key;
   same = same_key;
@@ -35,7 +35,7 @@ by_line = record {
   most = 4096;
 }
 
-abbrev pub rows_of : List Sighting → List LineRow
+abbrev pub rows_of : List EndpointPacket → List LineRow
 rows_of seen = keyed_rows by_line seen
 
 abbrev pub keys_of : List LineRow → List LineKey
@@ -46,7 +46,7 @@ abbrev pub listed_in : List LineRow → ℕ
 listed_in rows = up_to_most (sum_by (λ r. r.packets) rows)
 
 -- how many datagrams are in no row, since there were 4,096 when the first of their line came
-abbrev pub unlisted_of : List Sighting → ℕ
+abbrev pub unlisted_of : List EndpointPacket → ℕ
 unlisted_of seen = up_to_most (length seen) - listed_in (rows_of seen)
 
 -- how many datagrams the row of this key has, 0 without one
@@ -60,7 +60,7 @@ abbrev pub row_at_first : LineKey → LineRow
 row_at_first key = row_over key []
 
 -- a row after one more datagram of its line
-abbrev pub row_with : Sighting → LineRow → LineRow
+abbrev pub row_with : EndpointPacket → LineRow → LineRow
 row_with s r = record {
   key = r.key;
   packets = up_to_most (r.packets + 1);
@@ -73,6 +73,6 @@ row_with s r = record {
 }
 
 -- these are the rows and the count of what was seen
-pub record IsLineTable (rows : List LineRow) (count : ℕ) (seen : List Sighting) : Type 0 where
+pub record IsLineTable (rows : List LineRow) (count : ℕ) (seen : List EndpointPacket) : Type 0 where
   pub table : IsKeyedTable by_line rows seen
   pub count_is : count ≡ up_to_most (length seen)

@@ -3,8 +3,8 @@ ghost use Rattle.std.specs.Prelude.{◌≡◌, IfOk, [], ◌∷◌};
 ghost use Rattle.packet_capture.specs.Captures.{piece_of};
 ghost use Rattle.line_discovery.specs.Surveys.{CountsFate, CountsSightings, new_counts};
 
-use crate::fate::{Fate, fate_of};
-use crate::table::Table;
+use crate::frame_class::{FrameClass, fate_of};
+use crate::table::EndpointTable;
 use line_captures::Progress;
 use packet_capture::Piece;
 use std::alloc::{AllocError, Global};
@@ -16,9 +16,9 @@ pub struct SurveyCounts {
     /// datagram is one to no line.
     pub progress: Progress,
     /// The packets.
-    pub lines: Table,
+    pub lines: EndpointTable,
     /// The other datagrams.
-    pub others: Table,
+    pub others: EndpointTable,
 }
 
 impl SurveyCounts {
@@ -28,25 +28,25 @@ impl SurveyCounts {
     {
         Ok(SurveyCounts {
             progress: Progress::new(),
-            lines: Table::new(alloc)?,
-            others: Table::new(alloc)?,
+            lines: EndpointTable::new(alloc)?,
+            others: EndpointTable::new(alloc)?,
         })
     }
 
     /// Counts a frame by its fate.
-    fn count_fate(&mut self, fate: &Fate)
+    fn count_fate(&mut self, fate: &FrameClass)
         ensures { CountsFate fate.now self.old self.new }
     {
         match fate {
-            Fate::Packet(sighting) => {
+            FrameClass::Packet(sighting) => {
                 self.progress.counts.add_elsewhere();
                 self.lines.count(sighting);
             }
-            Fate::Other(sighting) => {
+            FrameClass::Other(sighting) => {
                 self.progress.counts.add_elsewhere();
                 self.others.count(sighting);
             }
-            Fate::NoDatagram(fault) => self.progress.counts.add_fault(*fault),
+            FrameClass::NoDatagram(fault) => self.progress.counts.add_fault(*fault),
         }
     }
 

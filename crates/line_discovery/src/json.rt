@@ -8,10 +8,10 @@ use crate::line_key::LineKey;
 use crate::line_row::LineRow;
 use crate::look::put_look_member;
 use crate::pieces::{CellStyle, put_cells, put_place};
-use crate::rest::{SurveyRest, rest_of};
-use crate::table::Table;
+use crate::table::EndpointTable;
 use crate::text::{high_of, low_of, other_key, session_name};
 use crate::times::put_date_member;
+use crate::unlisted::{Unlisted, rest_of};
 use run_settings::{StatsFormat, TimeStyle};
 use std::alloc::{AllocError, Global};
 
@@ -77,7 +77,7 @@ fn put_members(
     alloc: Global,
     text: &mut Vec<u8>,
     style: TimeStyle,
-    others: &Table,
+    others: &EndpointTable,
     rows: &[LineRow],
     row: &LineRow,
 ) -> Result<(), AllocError>
@@ -108,7 +108,7 @@ fn put_row(
     alloc: Global,
     text: &mut Vec<u8>,
     style: TimeStyle,
-    others: &Table,
+    others: &EndpointTable,
     rows: &[LineRow],
     row: &LineRow,
 ) -> Result<(), AllocError>
@@ -124,7 +124,7 @@ fn put_rows(
     alloc: Global,
     text: &mut Vec<u8>,
     style: TimeStyle,
-    others: &Table,
+    others: &EndpointTable,
     rows: &[LineRow],
 ) -> Result<(), AllocError>
     ensures { OnOk result (text.new.items
@@ -137,7 +137,7 @@ fn put_rows(
 }
 
 /// Appends what is in no row as an object.
-fn put_rest(text: &mut Vec<u8>, rest: &SurveyRest) -> Result<(), AllocError>
+fn put_rest(text: &mut Vec<u8>, rest: &Unlisted) -> Result<(), AllocError>
     ensures { OnOk result (text.new.items ≡ text.old.items ++ json_rest rest.now) }
 {
     let members = [
@@ -156,9 +156,9 @@ fn put_json(
     alloc: Global,
     text: &mut Vec<u8>,
     style: TimeStyle,
-    others: &Table,
+    others: &EndpointTable,
     rows: &[LineRow],
-    rest: &SurveyRest,
+    rest: &Unlisted,
 ) -> Result<(), AllocError>
     ensures { OnOk result (text.new.items
         ≡ text.old.items ++ json_of style (rows_of others.now) rows.now rest.now) }

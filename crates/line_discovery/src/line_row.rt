@@ -2,8 +2,8 @@
 ghost use Rattle.std.specs.Prelude.{◌≡◌};
 ghost use Rattle.line_discovery.specs.Tables.{row_at_first, row_with};
 
+use crate::endpoint_packet::EndpointPacket;
 use crate::line_key::LineKey;
-use crate::sighting::Sighting;
 use crate::span::{Span, wider};
 
 /// What was counted of a line. A count stays at its largest number once it is there.
@@ -44,7 +44,7 @@ impl LineRow {
     }
 
     /// Counts a datagram of this line.
-    pub(crate) fn grow(&mut self, sighting: &Sighting)
+    pub(crate) fn grow(&mut self, sighting: &EndpointPacket)
         ensures { self.new ≡ row_with sighting.now self.old }
     {
         self.packets = self.packets.saturating_add(1);

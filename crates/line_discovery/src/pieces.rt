@@ -2,8 +2,8 @@
 ghost use Rattle.std.specs.Prelude.{◌≡◌, ◌≤◌, ◌++◌, OnOk, flat_map};
 ghost use Rattle.line_discovery.specs.SurveyTexts.{cell_text, filled_text, place_cell};
 
+use crate::address_text::place_text;
 use crate::line_key::LineKey;
-use crate::place::place_text;
 use itoa::Buffer;
 use std::alloc::{AllocError, Global};
 

@@ -10,24 +10,24 @@ use crate::counts::SurveyCounts;
 use crate::text::text_of;
 use capture_records::{RecordFormat, Step};
 use line_captures::{BadPiece, DroppedFrames, FrameCounts};
-use packet_capture::{CaptureReader, Stop, read_as_bytes_come};
+use packet_capture::{CaptureReader, NoPiece, read_as_bytes_come};
 use run_settings::{StatsFormat, TimeStyle};
 use std::alloc::{AllocError, Global};
 
 /// A packet capture (pcap or pcapng) of which the datagrams are counted. As a format it has no
 /// records.
 #[derive(Drop)]
-pub struct LineSurvey {
+pub struct EndpointSurvey {
     capture: CaptureReader,
     counts: SurveyCounts,
 }
 
-impl LineSurvey {
+impl EndpointSurvey {
     /// Returns the survey of which nothing was read. It takes all its memory, some 1 MB.
-    pub fn new(alloc: Global) -> Result<LineSurvey, AllocError>
+    pub fn new(alloc: Global) -> Result<EndpointSurvey, AllocError>
         ensures { IfOk result (λ s. s ≡ new_survey) }
     {
-        Ok(LineSurvey {
+        Ok(EndpointSurvey {
             capture: CaptureReader::new(),
             counts: SurveyCounts::new(alloc)?,
         })
@@ -85,16 +85,16 @@ impl LineSurvey {
 }
 
 /// Returns the step where no piece is read at the front of these bytes.
-fn step_at<'b>(stop: Stop, bytes: &[u8]) -> Step<'b, BadPiece>
+fn step_at<'b>(stop: NoPiece, bytes: &[u8]) -> Step<'b, BadPiece>
     ensures { StopsSurvey stop bytes.now result }
 {
     match stop {
-        Stop::Wants(_) => Step::Wants,
-        Stop::Bad(fault) => Step::Bad(BadPiece::new(fault, bytes)),
+        NoPiece::Wants(_) => Step::Wants,
+        NoPiece::Bad(fault) => Step::Bad(BadPiece::new(fault, bytes)),
     }
 }
 
-impl RecordFormat for LineSurvey {
+impl RecordFormat for EndpointSurvey {
     type Fault = BadPiece;
 
     ghost reads = { ReadsSurvey };

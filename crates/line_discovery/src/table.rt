@@ -6,9 +6,9 @@ ghost use Rattle.line_discovery.specs.KeyedRows.{AreApart, rows_grown};
 ghost use Rattle.line_discovery.specs.Keys.{same_key};
 ghost use Rattle.line_discovery.specs.Tables.{by_line, keys_of, listed_in, packets_at, row_with, rows_of, unlisted_of, up_to_most};
 
+use crate::endpoint_packet::EndpointPacket;
 use crate::line_key::LineKey;
 use crate::line_row::LineRow;
-use crate::sighting::Sighting;
 use feed_types::Past;
 use indexmap::IndexSet;
 use std::alloc::{AllocError, Global};
@@ -20,21 +20,21 @@ const MOST: usize = 4_096;
 /// A row for each line that was seen, in the order in which they first were, at most 4,096.
 /// Contracts see the datagrams.
 #[derive(Drop)]
-pub struct Table {
+pub struct EndpointTable {
     /// The rows' keys, in order: a key has the place of its row.
     keys: IndexSet<LineKey>,
     rows: Vec<LineRow>,
     count: u64,
-    past: Past<Sighting>,
+    past: Past<EndpointPacket>,
 }
 
-impl Model for Table {
+impl Model for EndpointTable {
     ghost use Rattle.std.specs.Prelude.{◌≡◌, ◌+◌, List, ◌≤◌, vec_capacity};
     ghost use Rattle.indexmap.specs.IndexSet.{index_set_len, spare};
-    ghost use Rattle.line_discovery.specs.declared.sighting.Sighting.{Sighting};
+    ghost use Rattle.line_discovery.specs.declared.endpoint_packet.EndpointPacket.{EndpointPacket};
     ghost use Rattle.line_discovery.specs.Tables.{IsLineTable, keys_of};
 
-    ghost Value = { List Sighting };
+    ghost Value = { List EndpointPacket };
 
     ghost view = { λ t. t.past.items };
 
@@ -44,7 +44,7 @@ impl Model for Table {
 }
 
 /// Counts a datagram in the row at this place, which is that of its line.
-fn grow_at(rows: &mut [LineRow], place: usize, sighting: &Sighting)
+fn grow_at(rows: &mut [LineRow], place: usize, sighting: &EndpointPacket)
     requires apart { AreApart by_line rows.old }
     requires found { (row : LineRow) × (slice_get rows.old place ≡ Some row)
         × (same_key row.key sighting.now.key ≡ true) }
@@ -55,7 +55,7 @@ fn grow_at(rows: &mut [LineRow], place: usize, sighting: &Sighting)
 
 /// Counts a datagram in the row of its line, in a new one where there is none, unless there are
 /// 4,096.
-fn count_in(keys: &mut IndexSet<LineKey>, rows: &mut Vec<LineRow>, sighting: &Sighting)
+fn count_in(keys: &mut IndexSet<LineKey>, rows: &mut Vec<LineRow>, sighting: &EndpointPacket)
     requires apart { AreApart by_line rows.old.items }
     requires keyed { keys.old.keys ≡ keys_of rows.old.items }
     requires room { 4096 ≤ vec_capacity rows.old }
@@ -100,12 +100,12 @@ fn listed_in(rows: &[LineRow]) -> u64
     listed
 }
 
-impl Table {
+impl EndpointTable {
     /// Returns the table of no datagram. It takes all its memory, some 500 kB.
-    pub(crate) fn new(alloc: Global) -> Result<Table, AllocError>
+    pub(crate) fn new(alloc: Global) -> Result<EndpointTable, AllocError>
         ensures { IfOk result (λ t. t ≡ []) }
     {
-        Ok(Table {
+        Ok(EndpointTable {
             keys: IndexSet::with_capacity(alloc, MOST)?,
             rows: Vec::with_capacity(alloc, MOST)?,
             count: 0,
@@ -114,7 +114,7 @@ impl Table {
     }
 
     /// Counts one more datagram.
-    pub(crate) fn count(&mut self, sighting: &Sighting)
+    pub(crate) fn count(&mut self, sighting: &EndpointPacket)
         ensures { self.new ≡ self.old ++ sighting.now ∷ [] }
     {
         count_in(&mut self.keys, &mut self.rows, sighting);

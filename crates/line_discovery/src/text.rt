@@ -9,10 +9,10 @@ use crate::line_key::LineKey;
 use crate::line_row::LineRow;
 use crate::look::put_looks;
 use crate::pieces::{CellStyle, put_cells, put_place};
-use crate::rest::{SurveyRest, rest_of};
 use crate::span::Span;
-use crate::table::Table;
+use crate::table::EndpointTable;
 use crate::times::put_time_cell;
+use crate::unlisted::{Unlisted, rest_of};
 use crate::words::put_words;
 use run_settings::{StatsFormat, TimeStyle};
 use std::alloc::{AllocError, Global};
@@ -81,7 +81,7 @@ fn put_row(
     alloc: Global,
     text: &mut Vec<u8>,
     style: TimeStyle,
-    others: &Table,
+    others: &EndpointTable,
     row: &LineRow,
 ) -> Result<(), AllocError>
     ensures { OnOk result (text.new.items
@@ -109,7 +109,7 @@ fn put_rows(
     alloc: Global,
     text: &mut Vec<u8>,
     style: TimeStyle,
-    others: &Table,
+    others: &EndpointTable,
     rows: &[LineRow],
 ) -> Result<(), AllocError>
     ensures { OnOk result (text.new.items
@@ -122,7 +122,7 @@ fn put_rows(
 }
 
 /// Appends what is in no row.
-fn put_rest(text: &mut Vec<u8>, rest: &SurveyRest) -> Result<(), AllocError>
+fn put_rest(text: &mut Vec<u8>, rest: &Unlisted) -> Result<(), AllocError>
     ensures { OnOk result (text.new.items ≡ text.old.items ++ table_rest rest.now) }
 {
     let cells = [
@@ -159,9 +159,9 @@ fn put_table(
     alloc: Global,
     text: &mut Vec<u8>,
     style: TimeStyle,
-    others: &Table,
+    others: &EndpointTable,
     rows: &[LineRow],
-    rest: &SurveyRest,
+    rest: &Unlisted,
 ) -> Result<(), AllocError>
     ensures { OnOk result (text.new.items
         ≡ text.old.items ++ table_of style (rows_of others.now) rows.now rest.now) }

@@ -2,9 +2,9 @@
 ghost use Rattle.std.specs.Prelude.{◌≡◌, ◌++◌, IfOk, OnOk, flat_map};
 ghost use Rattle.line_discovery.specs.LineWords.{lines_of, more_lines, more_sessions, named_words, pair_of, past_row, session_of, venue_by, venues_of, words_by, words_of, words_with};
 
+use crate::address_text::{is_lower_place, place_text};
 use crate::line_key::LineKey;
 use crate::line_row::LineRow;
-use crate::place::{is_lower_place, place_text};
 use crate::session_word::put_session_word;
 use crate::standing::{Standing, put_left_out, put_left_row, standing_of};
 use crate::text::session_name;

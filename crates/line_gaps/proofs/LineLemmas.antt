@@ -6,7 +6,7 @@ use Rattle.std.proofs.lemmas.Bool.{cases_Bool}
 use Rattle.std.proofs.lemmas.Bool.Decides.{nat_tests}
 use Rattle.event_sinks.specs.SinkEvents.{SinkEvent, TimedEvent, told_before, told_best, told_declaration, told_gap, told_item, told_last, told_packet, told_refusal, told_renewal, told_skip}
 use Rattle.line_gaps.specs.declared.gap_line.GapLine.{GapLine}
-use Rattle.line_gaps.specs.declared.heard_packet.HeardPacket.{HeardPacket}
+use Rattle.line_gaps.specs.declared.heard_packet.TimedPacket.{TimedPacket}
 use Rattle.line_gaps.specs.declared.line_gaps.GapPass.{GapPass}
 use Rattle.line_gaps.specs.declared.line_gaps.LineGaps.{LineGaps}
 use Rattle.line_gaps.specs.declared.lost_numbers.LostNumbers.{LostNumbers}
@@ -57,12 +57,12 @@ add_full gaps init newest gap full are =
 
 -- ---- the gap that a packet begins
 
-pub passed_none : (highest : ℕ) (packet : HeardPacket) → packet.number ≤ highest + 1
+pub passed_none : (highest : ℕ) (packet : TimedPacket) → packet.number ≤ highest + 1
     → gap_passed highest (Some packet) ≡ []
 passed_none highest packet within =
     if_not (nat_lt (highest + 1) packet.number) _ [] (grind (arith, nat_tests, within))
 
-pub passed_some : (highest : ℕ) (packet : HeardPacket) → highest + 1 < packet.number
+pub passed_some : (highest : ℕ) (packet : TimedPacket) → highest + 1 < packet.number
     → gap_passed highest (Some packet)
     ≡ open_gap_of (record { first = highest + 1; last = packet.number - 1 }) packet.time ∷ []
 passed_some highest packet past =
@@ -78,14 +78,14 @@ pub over_begun : (line : GapLine) (lost : LostNumbers) (run : NumberRun) (time :
 over_begun line lost run time =
     over_one (is_open_gap lost (open_gap_of run time)) (over_first line lost) (open_gap_of run time)
 
-pub open_none : (lost : LostNumbers) (gaps : List OpenGap) (highest : ℕ) (packet : HeardPacket)
+pub open_none : (lost : LostNumbers) (gaps : List OpenGap) (highest : ℕ) (packet : TimedPacket)
     → packet.number ≤ highest + 1
     → gaps ≡ fold add_gap gaps (still_open lost (gap_passed highest (Some packet)))
 open_none lost gaps highest packet within =
     ap (λ (gs : List OpenGap). fold add_gap gaps (still_open lost gs))
     (sym (passed_none highest packet within))
 
-pub ended_none : (line : GapLine) (lost : LostNumbers) (highest : ℕ) (packet : HeardPacket)
+pub ended_none : (line : GapLine) (lost : LostNumbers) (highest : ℕ) (packet : TimedPacket)
     (before : List EndedGap) → packet.number ≤ highest + 1
     → before ≡ before ++ over_new line lost (gap_passed highest (Some packet))
 ended_none line lost highest packet before within =
@@ -93,7 +93,7 @@ ended_none line lost highest packet before within =
     ∙ ap (λ (gs : List OpenGap). before ++ over_new line lost gs)
     (sym (passed_none highest packet within))
 
-pub open_some : (lost : LostNumbers) (gaps : List OpenGap) (highest : ℕ) (packet : HeardPacket)
+pub open_some : (lost : LostNumbers) (gaps : List OpenGap) (highest : ℕ) (packet : TimedPacket)
     → highest + 1 < packet.number
     → fold add_gap gaps (opened lost (record { first = highest + 1; last = packet.number - 1 })
     packet.time)
@@ -102,7 +102,7 @@ open_some lost gaps highest packet past =
     ap (λ (gs : List OpenGap). fold add_gap gaps (still_open lost gs))
     (sym (passed_some highest packet past))
 
-pub ended_some : (line : GapLine) (lost : LostNumbers) (highest : ℕ) (packet : HeardPacket)
+pub ended_some : (line : GapLine) (lost : LostNumbers) (highest : ℕ) (packet : TimedPacket)
     (before : List EndedGap) → highest + 1 < packet.number
     → before ++ over_at_once line lost (record { first = highest + 1; last = packet.number - 1 })
     packet.time
@@ -227,7 +227,7 @@ pub record Reached (line : GapLine) (earlier : List TimedEvent) (last : TimedEve
   pub known : known_number earlier ≤ known_number (last ∷ earlier)
   pub highest : highest_on line earlier ≤ highest_on line (last ∷ earlier)
 
-more_with : (highest : ℕ) (o : Option HeardPacket) → highest ≤ highest_with highest o
+more_with : (highest : ℕ) (o : Option TimedPacket) → highest ≤ highest_with highest o
 more_with highest None = omega arith
 more_with highest (Some packet) = omega arith
 
@@ -287,11 +287,11 @@ filter_stands line earlier last (gap ∷ gaps) stand =
           (filter_stands line earlier last gaps stand.1)
     ]
 
-pub own_yes : (line : GapLine) (packet : HeardPacket) → is_packet_of line packet ≡ true
+pub own_yes : (line : GapLine) (packet : TimedPacket) → is_packet_of line packet ≡ true
     → of_line line (Some packet) ≡ Some packet
 own_yes line packet is = if_yes (is_packet_of line packet) (Some packet) None is
 
-pub own_not : (line : GapLine) (packet : HeardPacket) → is_packet_of line packet ≡ false
+pub own_not : (line : GapLine) (packet : TimedPacket) → is_packet_of line packet ≡ false
     → of_line line (Some packet) ≡ None
 own_not line packet is = if_not (is_packet_of line packet) (Some packet) None is
 
@@ -306,7 +306,7 @@ passes_none lost gaps = record {
 }
 
 -- gaps end, and then the packet passes
-pub takes_line : (packet : HeardPacket) (filled : Bool) (lost : LostNumbers)
+pub takes_line : (packet : TimedPacket) (filled : Bool) (lost : LostNumbers)
     (old mid new : LineGaps) → KeepsLine old mid
     → mid.«open».items ≡ kept_open filled lost old.«open».items
     → PassesLine (of_line mid.line (Some packet)) lost mid new
@@ -318,14 +318,14 @@ takes_line packet filled lost old mid new kept gaps passes sums =
     ap (λ (l : GapLine). of_line l (Some packet)) kept.line in
     record {
       line = passes.line ∙ kept.line;
-      begun = passes.begun ∙ ap (λ (o : Option HeardPacket). is_some o || mid.begun) own
+      begun = passes.begun ∙ ap (λ (o : Option TimedPacket). is_some o || mid.begun) own
           ∙ ap (λ (b : Bool). is_some (of_line old.line (Some packet)) || b) kept.begun;
-      highest = passes.highest ∙ ap (λ (o : Option HeardPacket). highest_with mid.highest o) own
+      highest = passes.highest ∙ ap (λ (o : Option TimedPacket). highest_with mid.highest o) own
           ∙ ap (λ (h : ℕ). highest_with h (of_line old.line (Some packet))) kept.highest;
       «open» = passes.«open»
           ∙ ap (λ (gs : List OpenGap). fold add_gap gs
           (still_open lost (gap_passed mid.highest (of_line mid.line (Some packet))))) gaps
-          ∙ ap (λ (o : Option HeardPacket). fold add_gap (kept_open filled lost old.«open».items)
+          ∙ ap (λ (o : Option TimedPacket). fold add_gap (kept_open filled lost old.«open».items)
           (still_open lost (gap_passed mid.highest o))) own
           ∙ ap (λ (h : ℕ). fold add_gap (kept_open filled lost old.«open».items)
           (still_open lost (gap_passed h (of_line old.line (Some packet))))) kept.highest;
@@ -333,7 +333,7 @@ takes_line packet filled lost old mid new kept gaps passes sums =
       sums = sums;
     }
 
-pub over_both : (packet : HeardPacket) (filled : Bool) (lost : LostNumbers)
+pub over_both : (packet : TimedPacket) (filled : Bool) (lost : LostNumbers)
     (old mid : LineGaps) (before between after : List EndedGap) → KeepsLine old mid
     → between ≡ before ++ over_if filled old.line lost (pass_of packet) old.«open».items
     → after ≡ between
@@ -346,7 +346,7 @@ over_both packet filled lost old mid before between after kept first next =
     (next
     ∙ ap (λ (l : GapLine). between
     ++ over_new l lost (gap_passed mid.highest (of_line mid.line (Some packet)))) kept.line
-    ∙ ap (λ (o : Option HeardPacket). between
+    ∙ ap (λ (o : Option TimedPacket). between
     ++ over_new old.line lost (gap_passed mid.highest o)) own
     ∙ ap (λ (h : ℕ). between
     ++ over_new old.line lost (gap_passed h (of_line old.line (Some packet)))) kept.highest)

@@ -5,7 +5,7 @@ use Rattle.std.proofs.lemmas.Bool.{cases_lt}
 use Rattle.std.proofs.lemmas.Bool.Decides.{nat_tests}
 use Rattle.std.specs.Prelude.{Option, Some, nat_lt}
 use Rattle.event_sinks.specs.SinkEvents.{TimedEvent}
-use Rattle.line_gaps.specs.declared.heard_packet.HeardPacket.{HeardPacket}
+use Rattle.line_gaps.specs.declared.heard_packet.TimedPacket.{TimedPacket}
 use Rattle.line_gaps.specs.declared.lost_numbers.LostNumbers.{LostNumbers}
 use Rattle.line_gaps.specs.declared.number_runs.NumberRuns.{NumberRuns}
 use Rattle.line_gaps.specs.Gaps.{brings_number, counts_with, number_has_come, highest_with, is_given_up, is_missing, is_missing_by, known_number, last_number_told, passes, was_passed}
@@ -101,7 +101,7 @@ either_false false b e f = f
 either_false true b e f = cc e
 
 -- The numbers fit the events with one more, with which a packet counts that brings_number b.
-pub fits_packet : (events : List TimedEvent) (last : TimedEvent) (packet : HeardPacket)
+pub fits_packet : (events : List TimedEvent) (last : TimedEvent) (packet : TimedPacket)
     (old new : LostNumbers) (below_it : ℕ) (b : ℕ → Bool)
     → counts_with events last.time last.event ≡ Some packet
     → ((n : ℕ) → passes n last.event ≡ false)
@@ -121,7 +121,7 @@ fits_packet events last packet old new below_it b counts passes_none brings_b pa
     let end = last_number_told packet.number packet.count in
     let known = known_number events in
     let reach : known_number (last ∷ events) ≡ max known end =
-    ap (λ (p : Option HeardPacket). highest_with known p) counts in
+    ap (λ (p : Option TimedPacket). highest_with known p) counts in
     record {
       missing = λ none n.
           missing none n

@@ -10,7 +10,7 @@ use Rattle.line_arbiter.specs.declared.outcome.Outcome.TheVariants.{Taken}
 use Rattle.feed_types.specs.declared.line.LineId.{LineId}
 use Rattle.line_gaps.specs.declared.number_run.NumberRun.{NumberRun}
 use Rattle.line_gaps.specs.declared.gap_line.GapLine.{GapLine}
-use Rattle.line_gaps.specs.declared.heard_packet.HeardPacket.{HeardPacket}
+use Rattle.line_gaps.specs.declared.heard_packet.TimedPacket.{TimedPacket}
 use Rattle.line_gaps.specs.declared.line_gaps.GapPass.{GapPass}
 use Rattle.line_gaps.specs.declared.line_gaps.LineGaps.{LineGaps}
 use Rattle.line_gaps.specs.declared.lost_numbers.LostNumbers.{LostNumbers}
@@ -37,7 +37,7 @@ learnt_none highest floor below n within =
     ap (λ (b : Bool). b && (nat_le floor n && nat_le n below)) (not_below highest n within)
 
 -- A packet that brings no number that was missing leaves all as they were.
-pub stays_heard : (earlier : List TimedEvent) (last : TimedEvent) (packet : HeardPacket)
+pub stays_heard : (earlier : List TimedEvent) (last : TimedEvent) (packet : TimedPacket)
     (old : LostNumbers) (b : ℕ → Bool) → counts_with earlier last.time last.event ≡ Some packet
     → ((n : ℕ) → passes n last.event ≡ false) → ((n : ℕ) → brings_number n last.event ≡ b n)
     → FitsLost earlier old
@@ -49,7 +49,7 @@ stays_heard earlier last packet old b counts passes_none brings_b fits kept n wi
     let come = number_has_come earlier n in
     let passed = was_passed earlier n in
     let reach : known_number (last ∷ earlier) ≡ max known end =
-    ap (λ (p : Option HeardPacket). highest_with known p) counts in
+    ap (λ (p : Option TimedPacket). highest_with known p) counts in
     ap (λ (k : ℕ). is_missing_by k (brings_number n last.event || come)
     (passes n last.event || passed) n) reach
     ∙ ap (λ (c : Bool). is_missing_by (max known end) (c || come) (passes n last.event || passed) n)
@@ -65,22 +65,22 @@ stays_heard earlier last packet old b counts passes_none brings_b fits kept n wi
 -- ---- a packet that counts
 
 -- what it fills is over by it
-pub record EndsBy (last : TimedEvent) (packet : HeardPacket) : Type 0 where
+pub record EndsBy (last : TimedEvent) (packet : TimedPacket) : Type 0 where
   pub by : end_with last.event ≡ end_on packet.line
   pub time : last.time ≡ packet.time
 
 own_counts : (line : GapLine) (earlier : List TimedEvent) (last : TimedEvent)
-    (packet : HeardPacket) (old : LineGaps) → IsHeard earlier last packet → old.line ≡ line
+    (packet : TimedPacket) (old : LineGaps) → IsHeard earlier last packet → old.line ≡ line
     → of_line old.line (Some packet) ≡ counts_on line earlier last
 own_counts line earlier last packet old heard is =
     ap (λ (l : GapLine). of_line l (Some packet)) is
-    ∙ ap (λ (o : Option HeardPacket). of_line line o) (sym heard.counts)
+    ∙ ap (λ (o : Option TimedPacket). of_line line o) (sym heard.counts)
 
-one_of : (b : Bool) (packet : HeardPacket) → IsOneOf (if b then Some packet else None) packet
+one_of : (b : Bool) (packet : TimedPacket) → IsOneOf (if b then Some packet else None) packet
 one_of true packet = refl
 one_of false packet = tt
 
-is_own_one : (line : GapLine) (packet : HeardPacket) → IsOneOf (of_line line (Some packet)) packet
+is_own_one : (line : GapLine) (packet : TimedPacket) → IsOneOf (of_line line (Some packet)) packet
 is_own_one line packet = one_of (is_packet_of line packet) packet
 
 kept_after : (line : GapLine) (earlier : List TimedEvent) (last : TimedEvent) (lost : LostNumbers)
@@ -93,7 +93,7 @@ kept_after line earlier last lost false gaps agree stays stand =
     sym (all_stay line earlier last gaps (stays refl) stand)
 
 pub line_after : (line : GapLine) (earlier : List TimedEvent) (last : TimedEvent)
-    (packet : HeardPacket) (filled : Bool) (lost : LostNumbers) (old new : LineGaps)
+    (packet : TimedPacket) (filled : Bool) (lost : LostNumbers) (old new : LineGaps)
     → IsHeard earlier last packet → Agrees (last ∷ earlier) lost
     → (filled ≡ false → Stays earlier last)
     → FitsLine line earlier old → TakesLine packet filled lost old new
@@ -113,15 +113,15 @@ line_after line earlier last packet filled lost old new heard agree stays fits t
     (gap_passed old.highest (of_line old.line (Some packet))))
     ∙ ap (λ (h : ℕ). fold add_gap (filter p old.«open».items)
     (filter p (gap_passed h (of_line old.line (Some packet))))) fits.highest
-    ∙ ap (λ (q : Option HeardPacket). fold add_gap (filter p old.«open».items)
+    ∙ ap (λ (q : Option TimedPacket). fold add_gap (filter p old.«open».items)
     (filter p (gap_passed (highest_on line earlier) q))) own in
     record {
       line_is = takes.line ∙ fits.line_is;
       begun = takes.begun
-          ∙ ap (λ (q : Option HeardPacket). is_some q || old.begun) own
+          ∙ ap (λ (q : Option TimedPacket). is_some q || old.begun) own
           ∙ ap (λ (b : Bool). is_some o || b) fits.begun;
       highest = takes.highest
-          ∙ ap (λ (q : Option HeardPacket). highest_with old.highest q) own
+          ∙ ap (λ (q : Option TimedPacket). highest_with old.highest q) own
           ∙ ap (λ (h : ℕ). highest_with h o) (fits.highest
           ∙ sym (heard.skips_none (beginning_stands line earlier)
           (highest_on line earlier)));
@@ -131,7 +131,7 @@ line_after line earlier last packet filled lost old new heard agree stays fits t
           ∙ sym (if_not (closes_gaps last.event) [] _ heard.goes_on);
       stand = subst (λ (gs : List OpenGap). AreStanding line (last ∷ earlier) gs) (sym gaps)
           (passed_stands line earlier last packet o (filter p old.«open».items) heard.counts refl
-          (subst (λ (q : Option HeardPacket). IsOneOf q packet) own
+          (subst (λ (q : Option TimedPacket). IsOneOf q packet) own
           (is_own_one old.line packet))
           (subst Reaches own takes.reaches)
           (filter_stands line earlier last old.«open».items fits.stand)
@@ -144,7 +144,7 @@ not_agrees : (earlier : List TimedEvent) (lost : LostNumbers) → Agrees earlier
 not_agrees earlier lost agree gap = ap not (agree.opens gap)
 
 over_kept : (line : GapLine) (earlier : List TimedEvent) (last : TimedEvent)
-    (packet : HeardPacket) (lost : LostNumbers) (filled : Bool) (gaps : List OpenGap)
+    (packet : TimedPacket) (lost : LostNumbers) (filled : Bool) (gaps : List OpenGap)
     → Agrees (last ∷ earlier) lost → (filled ≡ false → Stays earlier last)
     → (filled ≡ true → EndsBy last packet) → AreStanding line earlier gaps
     → over_if filled line lost (pass_of packet) gaps
@@ -178,7 +178,7 @@ over_begins line events lost gaps agree =
     (λ g. first_agrees line events lost g agree) _
 
 pub over_after : (line : GapLine) (earlier : List TimedEvent) (last : TimedEvent)
-    (packet : HeardPacket) (filled : Bool) (lost : LostNumbers) (old : LineGaps)
+    (packet : TimedPacket) (filled : Bool) (lost : LostNumbers) (old : LineGaps)
     → IsHeard earlier last packet → Agrees (last ∷ earlier) lost
     → (filled ≡ false → Stays earlier last) → (filled ≡ true → EndsBy last packet)
     → FitsLine line earlier old
@@ -199,7 +199,7 @@ over_after line earlier last packet filled lost old heard agree stays ends_by fi
     (over_begins line events lost _ agree)
     ∙ ap (λ (h : ℕ). over old.«open».items
     ++ fresh (gap_passed h (of_line old.line (Some packet)))) fits.highest
-    ∙ ap (λ (q : Option HeardPacket). over old.«open».items
+    ∙ ap (λ (q : Option TimedPacket). over old.«open».items
     ++ fresh (gap_passed (highest_on line earlier) q)) own
     ∙ ap (λ (gs : List OpenGap). over gs
     ++ fresh (gap_passed (highest_on line earlier) (counts_on line earlier last))) fits.«open»
@@ -280,7 +280,7 @@ close_after line earlier last lost old closes agree fits =
 pub no_counts : (line : GapLine) (earlier : List TimedEvent) (last : TimedEvent)
     → SaysNothing earlier last → counts_on line earlier last ≡ None
 no_counts line earlier last says =
-    ap (λ (o : Option HeardPacket). of_line line o) says.counts
+    ap (λ (o : Option TimedPacket). of_line line o) says.counts
 
 pub idle_missing : (earlier : List TimedEvent) (last : TimedEvent) (n : ℕ)
     → SaysNothing earlier last → is_missing (last ∷ earlier) n ≡ is_missing earlier n
@@ -288,7 +288,7 @@ idle_missing earlier last n says =
     let known = known_number earlier in
     let come = number_has_come earlier n in
     let passed = was_passed earlier n in
-    ap (λ (o : Option HeardPacket). is_missing_by (highest_with known o)
+    ap (λ (o : Option TimedPacket). is_missing_by (highest_with known o)
     (brings_number n last.event || come) (passes n last.event || passed) n) says.counts
     ∙ ap (λ (c : Bool). is_missing_by known (c || come) (passes n last.event || passed) n)
     (says.brings_none n)
@@ -301,14 +301,14 @@ idle_base line earlier last new says is =
     let stands = beginning_stands line earlier in
     let base = highest_skipped stands (highest_on line earlier) last.event in
     is ∙ sym (says.skips_none stands (highest_on line earlier))
-    ∙ ap (λ (o : Option HeardPacket). highest_with base o)
+    ∙ ap (λ (o : Option TimedPacket). highest_with base o)
     (sym (no_counts line earlier last says))
 
 idle_begun : (line : GapLine) (earlier : List TimedEvent) (last : TimedEvent)
     (new : LineGaps) → SaysNothing earlier last → new.begun ≡ has_begun line earlier
     → new.begun ≡ has_begun line (last ∷ earlier)
 idle_begun line earlier last new says is =
-    is ∙ ap (λ (o : Option HeardPacket). is_some o || has_begun line earlier)
+    is ∙ ap (λ (o : Option TimedPacket). is_some o || has_begun line earlier)
     (sym (no_counts line earlier last says))
 
 idle_stays : (earlier : List TimedEvent) (last : TimedEvent) → SaysNothing earlier last
@@ -327,7 +327,7 @@ line_idle line earlier last gaps says goes_on fits =
       begun = idle_begun line earlier last gaps says fits.begun;
       highest = idle_base line earlier last gaps says fits.highest;
       «open» = sym stay ∙ ap (λ (gs : List OpenGap). filter p gs) fits.«open»
-          ∙ ap (λ (o : Option HeardPacket). fold add_gap (filter p (open_on line earlier))
+          ∙ ap (λ (o : Option TimedPacket). fold add_gap (filter p (open_on line earlier))
           (filter p (gap_passed (highest_on line earlier) o)))
           (sym (no_counts line earlier last says))
           ∙ sym (if_not (closes_gaps last.event) [] _ goes_on);
@@ -342,13 +342,13 @@ idle_after line earlier last gaps says goes_on fits =
     let events = last ∷ earlier in
     let over = λ (gs : List OpenGap). map (ended_gap line events (end_with last.event) last.time)
     (filter (λ g. not (is_open_after events g)) gs) in
-    let fresh = λ (o : Option HeardPacket). map (over_before line events)
+    let fresh = λ (o : Option TimedPacket). map (over_before line events)
     (filter (λ g. not (is_open_after events g)) (gap_passed (highest_on line earlier) o)) in
     ap (λ (gs : List OpenGap). map (ended_gap line events (end_with last.event) last.time) gs)
     (sym (none_over line earlier last gaps.«open».items (idle_stays earlier last says) fits.stand))
     ∙ ap over fits.«open»
     ∙ sym (append-nil (over (open_on line earlier)))
-    ∙ ap (λ (o : Option HeardPacket). over (open_on line earlier) ++ fresh o)
+    ∙ ap (λ (o : Option TimedPacket). over (open_on line earlier) ++ fresh o)
     (sym (no_counts line earlier last says))
     ∙ sym (if_not (closes_gaps last.event) _ _ goes_on)
 
@@ -374,7 +374,7 @@ packet_skips_none true highest venue line number count bytes answer = refl
 packet_skips_none false highest venue line number count bytes answer = refl
 
 -- a packet whose messages came, none of which was missing
-pub stays_taken : (earlier : List TimedEvent) (packet : HeardPacket) (venue bytes new repeated : ℕ)
+pub stays_taken : (earlier : List TimedEvent) (packet : TimedPacket) (venue bytes new repeated : ℕ)
     (old : LostNumbers) → FitsLost earlier old → old.missing.dropped ≡ 0
     → meets_runs old.missing.runs.items
     (record { first = packet.number; last = last_number_told packet.number packet.count }) ≡ false

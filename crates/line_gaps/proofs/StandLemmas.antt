@@ -6,7 +6,7 @@ use Rattle.std.proofs.lemmas.Bool.{cases_Bool}
 use Rattle.std.proofs.lemmas.Bool.Decides.{nat_tests}
 use Rattle.event_sinks.specs.SinkEvents.{TimedEvent}
 use Rattle.line_gaps.specs.declared.gap_line.GapLine.{GapLine}
-use Rattle.line_gaps.specs.declared.heard_packet.HeardPacket.{HeardPacket}
+use Rattle.line_gaps.specs.declared.heard_packet.TimedPacket.{TimedPacket}
 use Rattle.line_gaps.specs.declared.open_gap.OpenGap.{OpenGap}
 use Rattle.line_gaps.specs.Ends.{joined_gap, open_gap_of}
 use Rattle.line_gaps.specs.Gaps.{counts_on, counts_with, highest_on, highest_with, is_missing, known_number, last_number_told}
@@ -141,24 +141,24 @@ filter_below n p (gap ∷ gaps) below = elim (cases_Bool (p gap)) [
       (filter_below n p gaps below.1)
 ]
 
-told_within : (base : ℕ) (o : Option HeardPacket) (packet : HeardPacket) → o ≡ Some packet
+told_within : (base : ℕ) (o : Option TimedPacket) (packet : TimedPacket) → o ≡ Some packet
     → last_number_told packet.number packet.count ≤ highest_with base o
 told_within base o packet is =
     let reach : highest_with base o ≡ max base (last_number_told packet.number packet.count) =
-    ap (λ (p : Option HeardPacket). highest_with base p) is in
+    ap (λ (p : Option TimedPacket). highest_with base p) is in
     omega (arith, reach)
 
 below_is : (m n : ℕ) → nat_lt m n ≡ true → m < n
 below_is m n e = grind (arith, nat_tests, e)
 
 -- it is this packet, if it is one
-abbrev pub IsOneOf : Option HeardPacket → HeardPacket → Type 0
+abbrev pub IsOneOf : Option TimedPacket → TimedPacket → Type 0
 IsOneOf None packet = Unit
 IsOneOf (Some p) packet = p ≡ packet
 
 -- what a packet of the line begins
 begun_stands : (line : GapLine) (earlier : List TimedEvent) (last : TimedEvent)
-    (packet : HeardPacket) (gaps : List OpenGap)
+    (packet : TimedPacket) (gaps : List OpenGap)
     → counts_with earlier last.time last.event ≡ Some packet
     → counts_on line earlier last ≡ Some packet
     → Reaches (Some packet)
@@ -179,7 +179,7 @@ begun_stands line earlier last packet gaps counts own reaches stand below =
           let gap = open_gap_of (record { first = highest + 1; last = packet.number - 1 })
           packet.time in
           let known_is : known_number (last ∷ earlier) ≡ max (known_number earlier) told =
-          ap (λ (o : Option HeardPacket). highest_with (known_number earlier) o) counts in
+          ap (λ (o : Option TimedPacket). highest_with (known_number earlier) o) counts in
           let high_is : told ≤ highest_on line (last ∷ earlier) =
           told_within _ (counts_on line earlier last) packet own in
           let over : highest + 1 < packet.number = below_is (highest + 1) packet.number past in
@@ -205,7 +205,7 @@ begun_stands line earlier last packet gaps counts own reaches stand below =
 
 -- what a packet begins on a line, whether it is of the line or not
 pub passed_stands : (line : GapLine) (earlier : List TimedEvent) (last : TimedEvent)
-    (packet : HeardPacket) (o : Option HeardPacket) (gaps : List OpenGap)
+    (packet : TimedPacket) (o : Option TimedPacket) (gaps : List OpenGap)
     → counts_with earlier last.time last.event ≡ Some packet
     → counts_on line earlier last ≡ o → IsOneOf o packet
     → Reaches o

@@ -13,7 +13,7 @@ use Rattle.line_gaps.specs.declared.gap_line.GapLine.{GapLine}
 use Rattle.line_gaps.specs.declared.gap_line.GapLine.TheVariants as lines
 use Rattle.line_gaps.specs.declared.ended_gaps.EndedGaps.{EndedGaps}
 use Rattle.line_gaps.specs.declared.gap_sums.GapSums.{GapSums}
-use Rattle.line_gaps.specs.declared.heard_packet.HeardPacket.{HeardPacket}
+use Rattle.line_gaps.specs.declared.heard_packet.TimedPacket.{TimedPacket}
 use Rattle.line_gaps.specs.declared.line_gaps.LineGaps.{LineGaps}
 use Rattle.line_gaps.specs.declared.lost_numbers.LostNumbers.{LostNumbers}
 use Rattle.line_gaps.specs.declared.open_gap.EndedGap.{EndedGap}
@@ -84,7 +84,7 @@ sums_are rows over ended sums is are =
     subst (λ (l : List EndedGap). AreSumsOf (rows ++ l) sums) is are
 
 -- A packet that counts.
-pub venue_heard : (earlier : List TimedEvent) (last : TimedEvent) (packet : HeardPacket)
+pub venue_heard : (earlier : List TimedEvent) (last : TimedEvent) (packet : TimedPacket)
     (filled : Bool) (lost : LostNumbers) (old new : VenueGaps) (before after : List EndedGap)
     → IsHeard earlier last packet → FitsBut earlier last old
     → FitsLost (last ∷ earlier) lost → KeepsDropped old.lost lost → new.lost ≡ lost
@@ -179,7 +179,7 @@ venue_skipped earlier time venue number joined lost old new before after fits lo
 idle_known : (earlier : List TimedEvent) (last : TimedEvent) → SaysNothing earlier last
     → known_number (last ∷ earlier) ≡ known_number earlier
 idle_known earlier last says =
-    ap (λ (o : Option HeardPacket). highest_with (known_number earlier) o) says.counts
+    ap (λ (o : Option TimedPacket). highest_with (known_number earlier) o) says.counts
 
 fits_idle : (earlier : List TimedEvent) (last : TimedEvent) (lost : LostNumbers)
     → SaysNothing earlier last → FitsLost earlier lost → FitsLost (last ∷ earlier) lost
@@ -347,7 +347,7 @@ fits_none gaps lost line_a line_b line_all a b all far come = record {
   come = come;
 }
 
-pub far_none : (far : PerLine (Option HeardPacket)) → far ≡ on_all None → (line : LineId)
+pub far_none : (far : PerLine (Option TimedPacket)) → far ≡ on_all None → (line : LineId)
     → on_line line far ≡ None
 far_none far is on.A = ap (on_line on.A) is
 far_none far is on.B = ap (on_line on.B) is
@@ -357,7 +357,7 @@ far_none far is on.Recovery = ap (on_line on.Recovery) is
 
 -- what is kept of them after one more
 pub far_set : (earlier : List TimedEvent) (time : Option ℕ) (venue : ℕ) (at : LineId)
-    (number count bytes : ℕ) (far : PerLine (Option HeardPacket))
+    (number count bytes : ℕ) (far : PerLine (Option TimedPacket))
     → ((line : LineId) → on_line line far ≡ far_on line earlier) → (line : LineId)
     → on_line line (with_line at (Some (packet_heard at number count time)) far)
     ≡ far_on line (timed_event time (told_packet venue at number count bytes (Ok Ahead)) ∷ earlier)
@@ -372,17 +372,17 @@ far_set earlier time venue on.Recovery number count bytes far was on.B = was on.
 far_set earlier time venue on.Recovery number count bytes far was on.Recovery = refl
 
 -- with a packet past the window the one before counts, if it goes on from that
-pub far_counts : (number : ℕ) (before : HeardPacket) (o : Option HeardPacket) → o ≡ Some before
+pub far_counts : (number : ℕ) (before : TimedPacket) (o : Option TimedPacket) → o ≡ Some before
     → goes_on before number ≡ true → far_that number o ≡ Some before
 far_counts number before o is on =
     ap (far_that number) is ∙ if_yes (goes_on before number) (Some before) None on
 
-pub far_alone : (number : ℕ) (before : HeardPacket) (o : Option HeardPacket) → o ≡ Some before
+pub far_alone : (number : ℕ) (before : TimedPacket) (o : Option TimedPacket) → o ≡ Some before
     → goes_on before number ≡ false → far_that number o ≡ None
 far_alone number before o is on =
     ap (far_that number) is ∙ if_not (goes_on before number) (Some before) None on
 
-pub far_first : (number : ℕ) (o : Option HeardPacket) → o ≡ None → far_that number o ≡ None
+pub far_first : (number : ℕ) (o : Option TimedPacket) → o ≡ None → far_that number o ≡ None
 far_first number o is = ap (far_that number) is
 
 -- ---- over all sessions
@@ -442,7 +442,7 @@ renewed_timed earlier time venue ordinal old new before after none fits ends = r
 
 -- which packets are past the window has no part in gaps that end
 pub other_far : (earlier : List TimedEvent) (last : TimedEvent) (old new : VenueGaps)
-    (far : PerLine (Option HeardPacket)) (before after : List EndedGap)
+    (far : PerLine (Option TimedPacket)) (before after : List EndedGap)
     → StepsOn earlier last (record old { far = far }) new before after
     → StepsOn earlier last old new before after
 other_far earlier last old new far before after steps = record {
@@ -457,8 +457,8 @@ other_far earlier last old new far before after steps = record {
       };
 }
 
-pub far_but : (earlier : List TimedEvent) (packet : HeardPacket) (venue bytes : ℕ)
-    (old : VenueGaps) (far : PerLine (Option HeardPacket)) → FitsSession earlier old
+pub far_but : (earlier : List TimedEvent) (packet : TimedPacket) (venue bytes : ℕ)
+    (old : VenueGaps) (far : PerLine (Option TimedPacket)) → FitsSession earlier old
     → far ≡ with_line packet.line (Some packet) old.far
     → FitsBut earlier (packet_event packet venue bytes (Ok Ahead)) (record old { far = far })
 far_but earlier packet venue bytes old far fits is = record {
@@ -467,7 +467,7 @@ far_but earlier packet venue bytes old far fits is = record {
   b = fits.b;
   all = fits.all;
   far = λ line.
-      ap (λ (f : PerLine (Option HeardPacket)). on_line line f) is
+      ap (λ (f : PerLine (Option TimedPacket)). on_line line f) is
       ∙ far_set earlier packet.time venue packet.line packet.number packet.count bytes old.far
       fits.far line;
   come = fits.come;

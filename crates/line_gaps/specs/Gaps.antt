@@ -10,7 +10,7 @@ use Rattle.line_arbiter.specs.declared.outcome.Outcome.TheVariants.{Taken, Ahead
 use Rattle.event_sinks.specs.SinkEvents.{SinkEvent, TimedEvent, told_packet, told_skip}
 use Rattle.line_gaps.specs.declared.gap_line.GapLine.{GapLine}
 use Rattle.line_gaps.specs.declared.gap_line.GapLine.TheVariants as lines
-use Rattle.line_gaps.specs.declared.heard_packet.HeardPacket.{HeardPacket}
+use Rattle.line_gaps.specs.declared.heard_packet.TimedPacket.{TimedPacket}
 
 -- ---- numbers that came, were given up, or are missing
 
@@ -55,7 +55,7 @@ is_given_up (last ∷ earlier) n =
 
 -- ---- packets that count
 
-abbrev pub packet_heard : LineId → ℕ → ℕ → Option ℕ → HeardPacket
+abbrev pub packet_heard : LineId → ℕ → ℕ → Option ℕ → TimedPacket
 packet_heard line number count time = record {
   line = line;
   number = number;
@@ -64,35 +64,35 @@ packet_heard line number count time = record {
 }
 
 -- a packet of the line past the window
-abbrev pub far_with : LineId → Option ℕ → SinkEvent → Option HeardPacket
+abbrev pub far_with : LineId → Option ℕ → SinkEvent → Option TimedPacket
 far_with line time (told_packet venue on number count bytes (Ok Ahead)) =
     if is_same_line on line then Some (packet_heard on number count time) else None
 far_with line time _ = None
 
-abbrev pub latest : Option HeardPacket → Option HeardPacket → Option HeardPacket
+abbrev pub latest : Option TimedPacket → Option TimedPacket → Option TimedPacket
 latest (Some packet) earlier = Some packet
 latest None earlier = earlier
 
 -- the line's latest one
-abbrev pub far_on : LineId → List TimedEvent → Option HeardPacket
+abbrev pub far_on : LineId → List TimedEvent → Option TimedPacket
 far_on line [] = None
 far_on line (last ∷ earlier) =
     latest (far_with line last.time last.event) (far_on line earlier)
 
 -- a packet goes on from an earlier one: it begins at or after its first number, and at most the
 -- largest window past its last
-abbrev pub goes_on : HeardPacket → ℕ → Bool
+abbrev pub goes_on : TimedPacket → ℕ → Bool
 goes_on earlier number =
     nat_le earlier.number number
     && nat_le number (count_after (last_number_told earlier.number earlier.count) 65535)
 
-abbrev pub far_that : ℕ → Option HeardPacket → Option HeardPacket
+abbrev pub far_that : ℕ → Option TimedPacket → Option TimedPacket
 far_that number None = None
 far_that number (Some earlier) = if goes_on earlier number then Some earlier else None
 
 -- The packet that counts with an event: its own, unless that was refused, or is past the window.
 -- One past the window counts with the line's next one of these, if that goes on from it.
-abbrev pub counts_with : List TimedEvent → Option ℕ → SinkEvent → Option HeardPacket
+abbrev pub counts_with : List TimedEvent → Option ℕ → SinkEvent → Option TimedPacket
 counts_with earlier time (told_packet venue line number count bytes (Ok Ahead)) =
     far_that number (far_on line earlier)
 counts_with earlier time (told_packet venue line number count bytes (Ok outcome)) =
@@ -100,17 +100,17 @@ counts_with earlier time (told_packet venue line number count bytes (Ok outcome)
 counts_with earlier time _ = None
 
 -- a packet is of a line, or of all lines
-abbrev pub is_packet_of : GapLine → HeardPacket → Bool
+abbrev pub is_packet_of : GapLine → TimedPacket → Bool
 is_packet_of lines.A packet = is_same_line packet.line on.A
 is_packet_of lines.B packet = is_same_line packet.line on.B
 is_packet_of lines.All packet = true
 
-abbrev pub of_line : GapLine → Option HeardPacket → Option HeardPacket
+abbrev pub of_line : GapLine → Option TimedPacket → Option TimedPacket
 of_line line None = None
 of_line line (Some packet) = if is_packet_of line packet then Some packet else None
 
 -- the packet of a line that counts with an event
-abbrev pub counts_on : GapLine → List TimedEvent → TimedEvent → Option HeardPacket
+abbrev pub counts_on : GapLine → List TimedEvent → TimedEvent → Option TimedPacket
 counts_on line earlier last = of_line line (counts_with earlier last.time last.event)
 
 -- a packet of the line counted
@@ -120,7 +120,7 @@ has_begun line (last ∷ earlier) =
     is_some (counts_on line earlier last) || has_begun line earlier
 
 -- the highest number after a packet
-abbrev pub highest_with : ℕ → Option HeardPacket → ℕ
+abbrev pub highest_with : ℕ → Option TimedPacket → ℕ
 highest_with highest None = highest
 highest_with highest (Some packet) = max highest (last_number_told packet.number packet.count)
 

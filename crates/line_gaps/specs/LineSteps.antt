@@ -3,7 +3,7 @@ use Rattle.std.specs.Prelude.{◌≡◌, ℕ, ◌+◌, ◌-◌, ◌≤◌, Bool,
 use Rattle.std.specs.List.{filter, fold}
 use Rattle.feed_types.specs.FullCounts.{count_after}
 use Rattle.line_gaps.specs.declared.gap_line.GapLine.{GapLine}
-use Rattle.line_gaps.specs.declared.heard_packet.HeardPacket.{HeardPacket}
+use Rattle.line_gaps.specs.declared.heard_packet.TimedPacket.{TimedPacket}
 use Rattle.line_gaps.specs.declared.line_gaps.GapPass.{GapPass}
 use Rattle.line_gaps.specs.declared.line_gaps.LineGaps.{LineGaps}
 use Rattle.line_gaps.specs.declared.lost_numbers.LostNumbers.{LostNumbers}
@@ -20,12 +20,12 @@ abbrev pub still_open : LostNumbers → List OpenGap → List OpenGap
 still_open lost gaps = filter (is_open_gap lost) gaps
 
 -- a packet tells of the number below its own, if there is one
-abbrev pub Reaches : Option HeardPacket → Type 0
+abbrev pub Reaches : Option TimedPacket → Type 0
 Reaches None = Unit
 Reaches (Some packet) = packet.number ≤ last_number_told packet.number packet.count + 1
 
 -- A packet, if it is of the line, begins a gap, and the line's highest number is at least its last.
-pub record PassesLine (own : Option HeardPacket) (lost : LostNumbers) (old new : LineGaps)
+pub record PassesLine (own : Option TimedPacket) (lost : LostNumbers) (old new : LineGaps)
     : Type 0 where
   pub line : new.line ≡ old.line
   pub begun : new.begun ≡ (is_some own || old.begun)
@@ -35,7 +35,7 @@ pub record PassesLine (own : Option HeardPacket) (lost : LostNumbers) (old new :
   pub reaches : Reaches own
 
 -- what ends of the gaps that are open, where a number that was missing came
-abbrev pub pass_of : HeardPacket → GapPass
+abbrev pub pass_of : TimedPacket → GapPass
 pass_of packet = record { by = end_on packet.line; time = packet.time }
 
 abbrev pub kept_open : Bool → LostNumbers → List OpenGap → List OpenGap
@@ -45,13 +45,13 @@ abbrev pub over_if : Bool → GapLine → LostNumbers → GapPass → List OpenG
 over_if filled line lost pass gaps = if filled then over_now line lost pass gaps else []
 
 -- the gaps that a packet of the venue ends, which filled what was missing or didn't
-abbrev pub gaps_over_with : HeardPacket → Bool → LostNumbers → LineGaps → List EndedGap
+abbrev pub gaps_over_with : TimedPacket → Bool → LostNumbers → LineGaps → List EndedGap
 gaps_over_with packet filled lost old =
     over_if filled old.line lost (pass_of packet) old.«open».items
     ++ over_new old.line lost (gap_passed old.highest (of_line old.line (Some packet)))
 
 -- A packet of the venue ends gaps of the line, and then passes it.
-pub record TakesLine (packet : HeardPacket) (filled : Bool) (lost : LostNumbers)
+pub record TakesLine (packet : TimedPacket) (filled : Bool) (lost : LostNumbers)
     (old new : LineGaps) : Type 0 where
   pub line : new.line ≡ old.line
   pub begun : new.begun ≡ (is_some (of_line old.line (Some packet)) || old.begun)

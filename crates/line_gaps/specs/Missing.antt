@@ -1,7 +1,7 @@
 -- The numbers of a venue that are missing, as they are kept.
 use Rattle.std.specs.Prelude.{◌≡◌, ℕ, ◌<◌, ◌≤◌, Bool, false, ◌&&◌, nat_le, nat_lt, min, List, Some}
 use Rattle.event_sinks.specs.SinkEvents.{TimedEvent}
-use Rattle.line_gaps.specs.declared.heard_packet.HeardPacket.{HeardPacket}
+use Rattle.line_gaps.specs.declared.heard_packet.TimedPacket.{TimedPacket}
 use Rattle.line_gaps.specs.declared.lost_numbers.LostNumbers.{LostNumbers}
 use Rattle.line_gaps.specs.Gaps.{brings_messages, brings_number, counts_with, number_has_come, is_given_up, is_left, is_missing, known_number, passes, was_passed}
 use Rattle.line_gaps.specs.Runs.{AreAscending, HaveJust, count_below}
@@ -23,7 +23,7 @@ abbrev pub given_up_by : List TimedEvent → ℕ → ℕ
 given_up_by events number = min (count_below (is_left events) number) 18446744073709551615
 
 -- a packet counts with an event, and none of its numbers came
-pub record CountsNumbers (events : List TimedEvent) (last : TimedEvent) (packet : HeardPacket)
+pub record CountsNumbers (events : List TimedEvent) (last : TimedEvent) (packet : TimedPacket)
     : Type 0 where
   pub counts : counts_with events last.time last.event ≡ Some packet
   pub brings_none : (n : ℕ) → brings_number n last.event ≡ false

@@ -5,7 +5,7 @@ use Rattle.std.specs.List.{filter, fold}
 use Rattle.event_sinks.specs.SinkEvents.{SinkEvent, TimedEvent, told_last, told_packet, told_renewal}
 use Rattle.line_gaps.specs.declared.gap_line.GapLine.{GapLine}
 use Rattle.line_gaps.specs.declared.gap_line.GapLine.TheVariants as lines
-use Rattle.line_gaps.specs.declared.heard_packet.HeardPacket.{HeardPacket}
+use Rattle.line_gaps.specs.declared.heard_packet.TimedPacket.{TimedPacket}
 use Rattle.line_gaps.specs.declared.open_gap.EndedGap.{EndedGap}
 use Rattle.line_gaps.specs.declared.open_gap.GapEnd.{GapEnd}
 use Rattle.line_gaps.specs.declared.open_gap.GapEnd.TheVariants as ends
@@ -39,7 +39,7 @@ abbrev pub given_up_of : List TimedEvent → OpenGap → ℕ
 given_up_of events gap = min (count_in_run (is_given_up events) gap.run) 18446744073709551615
 
 -- the gap of the numbers that a packet passes over, where the highest before is this
-abbrev pub gap_passed : ℕ → Option HeardPacket → List OpenGap
+abbrev pub gap_passed : ℕ → Option TimedPacket → List OpenGap
 gap_passed highest None = []
 gap_passed highest (Some packet) =
     if nat_lt (highest + 1) packet.number

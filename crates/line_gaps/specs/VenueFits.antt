@@ -9,7 +9,7 @@ use Rattle.line_arbiter.specs.declared.outcome.LineFault.{LineFault}
 use Rattle.line_arbiter.specs.declared.outcome.Outcome.{Outcome}
 use Rattle.line_gaps.specs.declared.gap_line.GapLine.{GapLine}
 use Rattle.line_gaps.specs.declared.gap_line.GapLine.TheVariants as lines
-use Rattle.line_gaps.specs.declared.heard_packet.HeardPacket.{HeardPacket}
+use Rattle.line_gaps.specs.declared.heard_packet.TimedPacket.{TimedPacket}
 use Rattle.line_gaps.specs.declared.line_gaps.LineGaps.{LineGaps}
 use Rattle.line_gaps.specs.declared.open_gap.EndedGap.{EndedGap}
 use Rattle.line_gaps.specs.declared.open_gap.OpenGap.{OpenGap}
@@ -83,13 +83,13 @@ pub record FitsBut (earlier : List TimedEvent) (last : TimedEvent) (gaps : Venue
   pub come : gaps.has_come ≡ any_has_come earlier
 
 -- the event of a packet that was answered so
-abbrev pub packet_event : HeardPacket → ℕ → ℕ → Result Outcome LineFault → TimedEvent
+abbrev pub packet_event : TimedPacket → ℕ → ℕ → Result Outcome LineFault → TimedEvent
 packet_event packet venue bytes answer =
     timed_event packet.time
     (told_packet venue packet.line packet.number packet.count bytes answer)
 
 -- With an event a packet counts.
-pub record IsHeard (earlier : List TimedEvent) (last : TimedEvent) (packet : HeardPacket)
+pub record IsHeard (earlier : List TimedEvent) (last : TimedEvent) (packet : TimedPacket)
     : Type 0 where
   pub counts : counts_with earlier last.time last.event ≡ Some packet
   pub goes_on : closes_gaps last.event ≡ false

@@ -8,14 +8,14 @@ use feed_types::{LineId, MAX_WINDOW};
 
 /// A packet of a line that was accepted, with its first number, its count and its time.
 #[derive(Clone, Copy, Debug, PartialEq, Eq)]
-pub struct HeardPacket {
+pub struct TimedPacket {
     pub line: LineId,
     pub number: u64,
     pub count: u16,
     pub time: Option<u64>,
 }
 
-impl HeardPacket {
+impl TimedPacket {
     /// Returns the last number that it tells of: that of its last message, or the one below its
     /// own where it has none.
     #[inline(always)]
@@ -44,7 +44,7 @@ impl HeardPacket {
 
     /// Returns whether the packet goes on from this earlier one: it begins at or after its first
     /// number, and at most the largest window past its last one.
-    pub fn goes_on(&self, earlier: &HeardPacket) -> bool
+    pub fn goes_on(&self, earlier: &TimedPacket) -> bool
         ensures { result ≡ goes_on earlier.now self.now.number }
     {
         let most = earlier.last().saturating_add(u64::from(MAX_WINDOW));

@@ -24,7 +24,7 @@ mod venue_gaps;
 pub use ended_gaps::EndedGaps;
 pub use gap_line::GapLine;
 pub use gap_sums::{GapEnds, GapSums};
-pub use heard_packet::HeardPacket;
+pub use heard_packet::TimedPacket;
 pub use line_gaps::{GapPass, LineGaps};
 pub use lost_numbers::LostNumbers;
 pub use number_run::NumberRun;

@@ -14,7 +14,7 @@ ghost use Rattle.line_gaps.specs.LineSteps.{PassesLine, SkipsLine, TakesLine, hi
 use crate::ended_gaps::EndedGaps;
 use crate::gap_line::GapLine;
 use crate::gap_sums::{GapSums, raised};
-use crate::heard_packet::HeardPacket;
+use crate::heard_packet::TimedPacket;
 use crate::lost_numbers::LostNumbers;
 use crate::number_run::NumberRun;
 use crate::number_runs::NumberRuns;
@@ -59,7 +59,7 @@ fn end_by_line(line: LineId) -> GapEnd
 
 /// Returns whether a packet is of the line, or the line is all lines.
 #[inline(always)]
-fn is_own(line: GapLine, packet: &HeardPacket) -> bool
+fn is_own(line: GapLine, packet: &TimedPacket) -> bool
     ensures { result ≡ is_packet_of line packet.now }
 {
     match line {
@@ -295,7 +295,7 @@ impl LineGaps {
     /// Begins a gap where a packet of the line passes over numbers, and counts what it brings late
     /// or again.
     #[inline(always)]
-    fn compare(&mut self, packet: &HeardPacket, lost: &LostNumbers, ended: &mut EndedGaps)
+    fn compare(&mut self, packet: &TimedPacket, lost: &LostNumbers, ended: &mut EndedGaps)
         requires { length ended.old.gaps.items + 1 ≤ 51 }
         ensures ends { EndsGaps 1 self.old self.new ended.old ended.new }
         ensures begun { self.new.begun ≡ self.old.begun }
@@ -320,7 +320,7 @@ impl LineGaps {
 
     /// Takes a packet of the line.
     #[inline(always)]
-    fn pass(&mut self, packet: &HeardPacket, lost: &LostNumbers, ended: &mut EndedGaps)
+    fn pass(&mut self, packet: &TimedPacket, lost: &LostNumbers, ended: &mut EndedGaps)
         requires { length ended.old.gaps.items + 1 ≤ 51 }
         ensures ends { EndsGaps 1 self.old self.new ended.old ended.new }
         ensures passes { PassesLine (Some packet.now) lost.now self.old self.new }
@@ -334,7 +334,7 @@ impl LineGaps {
 
     /// Takes a packet, if it is of the line.
     #[inline(always)]
-    fn pass_own(&mut self, packet: &HeardPacket, lost: &LostNumbers, ended: &mut EndedGaps)
+    fn pass_own(&mut self, packet: &TimedPacket, lost: &LostNumbers, ended: &mut EndedGaps)
         requires { length ended.old.gaps.items + 1 ≤ 51 }
         ensures ends { EndsGaps 1 self.old self.new ended.old ended.new }
         ensures passes { PassesLine (of_line self.old.line (Some packet.now)) lost.now self.old
@@ -353,7 +353,7 @@ impl LineGaps {
     #[inline(always)]
     fn end_filled(
         &mut self,
-        packet: &HeardPacket,
+        packet: &TimedPacket,
         lost: &LostNumbers,
         is_filled: bool,
         ended: &mut EndedGaps,
@@ -378,7 +378,7 @@ impl LineGaps {
     #[inline(always)]
     pub(crate) fn take(
         &mut self,
-        packet: &HeardPacket,
+        packet: &TimedPacket,
         lost: &LostNumbers,
         is_filled: bool,
         ended: &mut EndedGaps,

@@ -7,7 +7,7 @@ ghost use Rattle.line_gaps.specs.Gaps.{last_number_told};
 ghost use Rattle.line_gaps.specs.Missing.{CountsNumbers, FitsLost, KeepsDropped, KeepsKnown, given_up_by, is_learnt};
 
 use crate::gap_sums::raised;
-use crate::heard_packet::HeardPacket;
+use crate::heard_packet::TimedPacket;
 use crate::number_run::NumberRun;
 use crate::number_runs::NumberRuns;
 
@@ -100,7 +100,7 @@ impl LostNumbers {
 
     /// Takes a packet whose messages came. Returns whether one of them was missing.
     #[inline(always)]
-    pub fn take_messages(&mut self, packet: &HeardPacket) -> bool
+    pub fn take_messages(&mut self, packet: &TimedPacket) -> bool
         ensures dropped { KeepsDropped self.old self.new }
         ensures found { result ≡ meets_runs self.old.missing.runs.items (record {
           first = packet.now.number;
@@ -119,7 +119,7 @@ impl LostNumbers {
 
     /// Takes a packet of which nothing came, but which tells of the numbers up to its last.
     #[inline(always)]
-    pub fn take_numbers(&mut self, packet: &HeardPacket)
+    pub fn take_numbers(&mut self, packet: &TimedPacket)
         ensures dropped { KeepsDropped self.old self.new }
         ensures fits { (events : List TimedEvent) (last : TimedEvent)
             → CountsNumbers events last packet.now → FitsLost events self.old

@@ -17,10 +17,10 @@ ghost use Rattle.line_gaps.specs.VenueFits.{EndsJust, FitsBut, FitsGaps, FitsSes
 use crate::ended_gaps::EndedGaps;
 use crate::gap_line::GapLine;
 use crate::gap_sums::{GapSums, raised};
-use crate::heard_packet::HeardPacket;
+use crate::heard_packet::TimedPacket;
 use crate::line_gaps::LineGaps;
 use crate::lost_numbers::LostNumbers;
-use event_sinks::Event;
+use event_sinks::ReplayedEvent;
 use feed_types::{LineId, PerLine};
 use line_arbiter::{LineFault, Outcome, RenewFault, SkipFault};
 use std::alloc::{AllocError, Global};
@@ -71,7 +71,7 @@ pub struct VenueGaps {
     pub b: LineGaps,
     pub all: LineGaps,
     /// The latest packet of each line in the present session that was answered `Ahead`.
-    pub far: PerLine<Option<HeardPacket>>,
+    pub far: PerLine<Option<TimedPacket>>,
     pub lost: LostNumbers,
     /// Whether a message of the present session came.
     pub has_come: bool,
@@ -197,7 +197,7 @@ impl VenueGaps {
 
     /// Has each line take a packet, which brought a number that was missing where `is_filled`.
     #[inline(always)]
-    fn pass_each(&mut self, packet: &HeardPacket, is_filled: bool, ended: &mut EndedGaps)
+    fn pass_each(&mut self, packet: &TimedPacket, is_filled: bool, ended: &mut EndedGaps)
         requires { ended.old.gaps.items ≡ [] }
         ensures { PassesVenue packet.now is_filled self.old self.new ended.old ended.new }
     {
@@ -209,7 +209,7 @@ impl VenueGaps {
     /// Has each line take a packet that brought a number that was missing.
     #[cold]
     #[inline(never)]
-    fn pass_filled(&mut self, packet: HeardPacket, ended: &mut EndedGaps)
+    fn pass_filled(&mut self, packet: TimedPacket, ended: &mut EndedGaps)
         requires { ended.old.gaps.items ≡ [] }
         ensures { PassesVenue packet true self.old self.new ended.old ended.new }
     {
@@ -219,7 +219,7 @@ impl VenueGaps {
     /// Has the lines take a packet, which brought a number that was missing where `is_filled`.
     // Few do: theirs is a call of its own, so that the others ask once and not for each line.
     #[inline(always)]
-    fn pass(&mut self, packet: &HeardPacket, is_filled: bool, ended: &mut EndedGaps)
+    fn pass(&mut self, packet: &TimedPacket, is_filled: bool, ended: &mut EndedGaps)
         requires { ended.old.gaps.items ≡ [] }
         ensures { PassesVenue packet.now is_filled self.old self.new ended.old ended.new }
     {
@@ -232,7 +232,7 @@ impl VenueGaps {
 
     /// Takes a packet whose messages came.
     #[inline(always)]
-    fn take_messages(&mut self, packet: &HeardPacket, new: u16, ended: &mut EndedGaps)
+    fn take_messages(&mut self, packet: &TimedPacket, new: u16, ended: &mut EndedGaps)
         requires { ended.old.gaps.items ≡ [] }
         ensures ends { EndsVenue self.old self.new ended.old ended.new }
         ensures missing { (events : List TimedEvent) (venue bytes repeated : ℕ)
@@ -254,7 +254,7 @@ impl VenueGaps {
     /// Takes a packet of which nothing came, but which tells of the numbers up to its last.
     #[cold]
     #[inline(never)]
-    fn take_numbers(&mut self, packet: HeardPacket, ended: &mut EndedGaps)
+    fn take_numbers(&mut self, packet: TimedPacket, ended: &mut EndedGaps)
         requires { ended.old.gaps.items ≡ [] }
         ensures ends { EndsVenue self.old self.new ended.old ended.new }
         ensures missing { (events : List TimedEvent) (last : TimedEvent)
@@ -274,7 +274,7 @@ impl VenueGaps {
     /// it.
     #[cold]
     #[inline(never)]
-    fn take_far(&mut self, packet: HeardPacket, ended: &mut EndedGaps)
+    fn take_far(&mut self, packet: TimedPacket, ended: &mut EndedGaps)
         requires { ended.old.gaps.items ≡ [] }
         ensures ends { EndsVenue self.old self.new ended.old ended.new }
         ensures takes { (earlier : List TimedEvent) (venue bytes : ℕ) → FitsSession earlier self.old
@@ -295,7 +295,7 @@ impl VenueGaps {
 
     /// Takes a packet that was answered so.
     #[inline(always)]
-    fn take_packet(&mut self, packet: &HeardPacket, outcome: &Outcome, ended: &mut EndedGaps)
+    fn take_packet(&mut self, packet: &TimedPacket, outcome: &Outcome, ended: &mut EndedGaps)
         requires { ended.old.gaps.items ≡ [] }
         ensures ends { EndsVenue self.old self.new ended.old ended.new }
         ensures takes { (earlier : List TimedEvent) (venue bytes : ℕ) → FitsSession earlier self.old
@@ -314,7 +314,7 @@ impl VenueGaps {
     #[inline(always)]
     fn take_answered(
         &mut self,
-        packet: &HeardPacket,
+        packet: &TimedPacket,
         answer: &Result<Outcome, LineFault>,
         ended: &mut EndedGaps,
     )
@@ -443,7 +443,7 @@ impl VenueGaps {
 
     /// Takes an event of the venue, and appends the gaps that it ends.
     #[inline(always)]
-    pub fn take(&mut self, time: Option<u64>, event: &Event<'_>, ended: &mut EndedGaps)
+    pub fn take(&mut self, time: Option<u64>, event: &ReplayedEvent<'_>, ended: &mut EndedGaps)
         requires { ended.old.gaps.items ≡ [] }
         ensures ends { EndsVenue self.old self.new ended.old ended.new }
         ensures takes { (earlier : List TimedEvent) → FitsGaps earlier self.old
@@ -451,14 +451,14 @@ impl VenueGaps {
             ended.new.gaps.items }
     {
         match event {
-            Event::Packet {
+            ReplayedEvent::Packet {
                 line,
                 number,
                 count,
                 answer,
                 ..
             } => {
-                let packet = HeardPacket {
+                let packet = TimedPacket {
                     line: *line,
                     number: *number,
                     count: *count,
@@ -466,14 +466,16 @@ impl VenueGaps {
                 };
                 self.take_answered(&packet, answer, ended);
             }
-            Event::Skip { number, answer, .. } => self.take_skip(*number, time, answer, ended),
-            Event::Renewal { answer, .. } => self.take_renewal(answer, ended),
-            Event::Last { .. } => self.close(ended),
-            Event::Refusal { .. } => {}
-            Event::Item { .. } => {}
-            Event::Best { .. } => {}
-            Event::Gap { .. } => {}
-            Event::Declaration { .. } => {}
+            ReplayedEvent::Skip { number, answer, .. } => self.take_skip(
+                *number, time, answer, ended,
+            ),
+            ReplayedEvent::Renewal { answer, .. } => self.take_renewal(answer, ended),
+            ReplayedEvent::Last { .. } => self.close(ended),
+            ReplayedEvent::Refusal { .. } => {}
+            ReplayedEvent::Item { .. } => {}
+            ReplayedEvent::Best { .. } => {}
+            ReplayedEvent::Gap { .. } => {}
+            ReplayedEvent::Declaration { .. } => {}
         }
     }
 }

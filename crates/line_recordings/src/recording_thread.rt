@@ -1,4 +1,5 @@
 //! The thread of a recording.
+ghost use Rattle.text_out.specs.Members.{writing_of};
 ghost use Rattle.text_out.specs.StandardError.{SaysEach};
 ghost use Rattle.line_recordings.specs.Written.{WritesRecording, failure_texts};
 
@@ -35,7 +36,7 @@ pub fn write_recording<C: Clock, W: TextOut + Drop, E: TextOut>(
     errors: &mut E,
 )
     ensures recorded { WritesRecording W.adds recording.old recording.new }
-    ensures told { SaysEach (record { adds = E.adds; failures = E.failures })
+    ensures told { SaysEach (writing_of E.TextOut)
         (failure_texts recording.new.has_failed) errors.old errors.new }
 {
     let _named = os::set_thread_name(b"recording");

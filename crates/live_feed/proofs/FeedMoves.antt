@@ -25,7 +25,7 @@ get_map f (z ∷ xs) (suc k) x e = get_map f xs k x e
 module _ (starts : List StartState) (receivers : List (LaneEnd Numbered)) (journal : JournalState)
     (spare : List SpareLane) (setting : FeedSetting) (lanes : FeedLanes)
     (h : IsClosed setting starts receivers journal spare)
-    (e : lanes_of receivers spare setting ≡ lanes) where
+    (e : lanes_of receivers spare setting starts ≡ lanes) where
   setting_is : setting ≡ lanes.setting
   setting_is = ap (λ (l : FeedLanes). l.setting) e
 
@@ -97,4 +97,7 @@ module _ (starts : List StartState) (receivers : List (LaneEnd Numbered)) (journ
         lane = ap (slice_get lanes.venues) (h.begun.new k s.lane there).0 ∙ lane_at k s.lane there;
         window = sized.0 ∙ ap (λ (s : FeedSetting). s.window) setting_is;
         capacity = sized.1 ∙ ap (λ (s : FeedSetting). s.lane) setting_is;
+        next = ap (slice_get lanes.next) (h.begun.of k s at)
+            ∙ ap (λ (l : FeedLanes). slice_get l.next k) (sym e)
+            ∙ get_map (λ (x : StartState). x.next) starts k s at;
       }

@@ -1,5 +1,6 @@
 pub mod PossibleSections
 pub mod FeedMoves
+pub mod NamedNext
 pub mod ClosedLanes
 pub mod ClosedSubscribers
 pub mod RunMoves

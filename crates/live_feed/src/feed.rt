@@ -1,9 +1,9 @@
 //! A feed that isn't open yet.
 
-ghost use Rattle.std.specs.Prelude.{◌≡◌, ◌≤◌, [], length, IfOk, IfErr, None, OnOk, Some};
+ghost use Rattle.std.specs.Prelude.{◌≡◌, ◌≤◌, [], length, IfOk, IfErr, None, OnOk, Some, slice_set};
 ghost use Rattle.journal_book.specs.Configs.{IsGood, Explains};
 ghost use Rattle.venue_lines.specs.NextSessions.{AreNextNames};
-ghost use Rattle.venue_lines.specs.Starts.{AreNamed};
+ghost use Rattle.venue_lines.specs.Starts.{AreNamed, followed_at, none_next};
 ghost use Rattle.live_feed.specs.feed.Feeds.{configured_setting, feed_setting_of};
 
 pub(crate) mod log_size;
@@ -19,9 +19,9 @@ use crossbeam_utils::CachePadded;
 use feed_steps::FeedName;
 use feed_types::{FeedConfig, Genuine, MAX_SUBSCRIBERS, Numbered, VenueId};
 use fifo_lane::{Receiver, VenueItems};
-use hub_lanes::{JournalAndLanes, SpareLane, new_spares};
+use hub_lanes::{ConsolidatorState, SpareLane, new_spares};
 use journal_book::{CoreFault, Journal, new_journal, new_keeping_journal};
-use live_wakeups::{Bells, FeedTimes};
+use live_wakeups::{FeedTimes, Wakeups};
 use std::alloc::{AllocError, Global};
 use std::collections::VecDeque;
 use std::marker::Model;
@@ -32,8 +32,8 @@ use venue_lines::{VenueLocks, VenueStart, new_starts};
 /// said of skipped messages, the one that was taken out of the lane last, and the next one.
 const FURTHER_ITEMS: usize = 3;
 
-/// A feed that isn't open yet, to which nothing came. Contracts see it as its lanes and its
-/// setting.
+/// A feed that isn't open yet, to which nothing came. Contracts see it as its lanes, its setting
+/// and the names of the sessions that follow its venues' first ones.
 #[derive(Drop)]
 pub struct LiveFeed<G: Genuine> {
     starts: Vec<VenueStart<G>>,
@@ -43,7 +43,7 @@ pub struct LiveFeed<G: Genuine> {
     window: u32,
     lane: u32,
     log_lines: u32,
-    bells: Arc<Bells, Global>,
+    wakeups: Arc<Wakeups, Global>,
 }
 
 impl<G: Genuine> Model for LiveFeed<G> {
@@ -55,7 +55,7 @@ impl<G: Genuine> Model for LiveFeed<G> {
     ghost coded = { feed_lanes_code };
 
     ghost view = { λ f. lanes_of f.from_venues.items f.spare_lanes.items
-        (feed_setting_of f.kept f.window f.lane f.log_lines) };
+        (feed_setting_of f.kept f.window f.lane f.log_lines) f.starts.items };
 
     ghost invariant = { λ f. IsClosed (feed_setting_of f.kept f.window f.lane f.log_lines)
         f.starts.items f.from_venues.items f.kept f.spare_lanes.items };
@@ -64,7 +64,7 @@ impl<G: Genuine> Model for LiveFeed<G> {
 /// Names the sessions that follow the first one of the venue at its place, if there is one.
 fn follow_at<G: Genuine>(starts: &mut [VenueStart<G>], venue: VenueId, names: Vec<[u8; 10]>)
     requires { AreNextNames G.sessions venue names.items }
-    ensures { starts.new ≡ starts.old }
+    ensures { starts.new ≡ followed_at starts.old venue names.items }
 {
     let place = venue.index();
     if place < starts.len() {
@@ -85,6 +85,8 @@ impl<G: Genuine> LiveFeed<G> {
         ensures subscribers { IfOk result (λ feed. length feed.subscribers ≡ 32) }
         ensures setting { IfOk result
             (λ feed. feed.setting ≡ configured_setting config.now None) }
+        ensures next { IfOk result
+            (λ feed. feed.next ≡ none_next (length config.now.sessions.now)) }
         ensures good { OnOk result (IsGood config.now) }
         ensures fault { IfErr result (Explains config.now) }
     {
@@ -110,6 +112,8 @@ impl<G: Genuine> LiveFeed<G> {
         ensures subscribers { IfOk result (λ feed. length feed.subscribers ≡ 32) }
         ensures setting { IfOk result
             (λ feed. feed.setting ≡ configured_setting config.now (Some kept)) }
+        ensures next { IfOk result
+            (λ feed. feed.next ≡ none_next (length config.now.sessions.now)) }
         ensures good { OnOk result (IsGood config.now) }
         ensures fault { IfErr result (Explains config.now) }
     {
@@ -135,10 +139,12 @@ impl<G: Genuine> LiveFeed<G> {
         ensures subscribers { IfOk result (λ feed. length feed.subscribers ≡ 32) }
         ensures setting { IfOk result (λ feed. feed.setting
             ≡ feed_setting_of journal config.now.window config.now.lane config.now.log) }
+        ensures next { IfOk result
+            (λ feed. feed.next ≡ none_next (length config.now.sessions.now)) }
     {
         let (starts, from_venues) = new_starts(alloc, config)?;
         let spare_lanes = new_spares(alloc, config.lane)?;
-        let bells = Arc::new(alloc, Bells::new(FeedTimes::none(alloc)))?;
+        let wakeups = Arc::new(alloc, Wakeups::new(FeedTimes::none(alloc)))?;
         Ok(LiveFeed {
             starts,
             from_venues,
@@ -147,7 +153,7 @@ impl<G: Genuine> LiveFeed<G> {
             window: config.window,
             lane: config.lane,
             log_lines: config.log,
-            bells,
+            wakeups,
         })
     }
 
@@ -162,7 +168,7 @@ impl<G: Genuine> LiveFeed<G> {
     {
         let items = self.window as usize + self.lane as usize + FURTHER_ITEMS;
         let times = FeedTimes::new(alloc, self.starts.len(), items, changes)?;
-        self.bells = Arc::new(alloc, Bells::new(times))?;
+        self.wakeups = Arc::new(alloc, Wakeups::new(times))?;
         Ok(())
     }
 
@@ -171,7 +177,9 @@ impl<G: Genuine> LiveFeed<G> {
     /// and all of it was sent. Where the feed has no such venue nothing is named.
     pub fn name_next(&mut self, venue: VenueId, names: Vec<[u8; 10]>)
         requires { AreNextNames G.sessions venue names.items }
-        ensures { self.new ≡ self.old }
+        ensures { self.new ≡ record self.old {
+          next = slice_set self.old.next venue names.items;
+        } }
     {
         follow_at(self.starts.as_mut_slice(), venue, names);
     }
@@ -197,15 +205,15 @@ impl<G: Genuine> LiveFeed<G> {
             window: _,
             lane: _,
             log_lines,
-            bells,
+            wakeups,
         } = self;
-        let core = JournalAndLanes::new(kept, from_venues, senders, spare_lanes);
+        let core = ConsolidatorState::new(kept, from_venues, senders, spare_lanes);
         let hub = CachePadded::new(HubLock::new(HubCell {
             core,
             filters,
             next: 0,
         }));
-        let venues = VenueLocks::open(starts, venues, bells);
+        let venues = VenueLocks::open(starts, venues, wakeups);
         let log_size = LogSize::new(log_lines);
         Ok(OpenFeed {
             venues,

@@ -12,16 +12,16 @@ use feed_steps::FeedName;
 use feed_types::{Genuine, Notice, SubscriberId};
 use fifo_lane::{Receiver, RisingNotices};
 use filter_terms::Filter;
-use hub_lanes::{Consolidated, JournalAndLanes, offer_each, take_turn};
+use hub_lanes::{Consolidated, ConsolidatorState, offer_each, take_turn};
 use journal_book::JournalFault;
-use live_wakeups::Bells;
+use live_wakeups::Wakeups;
 use std::sync::Wait;
 
 /// The journal and the lanes that meet at it, with the subscribers' filters beside them.
 #[derive(Drop)]
 pub struct HubCell<G: Genuine, N: FeedName> {
     /// The journal and the lanes.
-    pub core: JournalAndLanes<G, N>,
+    pub core: ConsolidatorState<G, N>,
     pub(crate) filters: Vec<Filter>,
     /// The number of the venue with which the consolidator's next turn begins, or past the last one
     /// where it begins with the first.
@@ -65,7 +65,7 @@ impl<G: Genuine, N: FeedName> HubCell<G, N> {
     }
 
     /// Journals what is in the venues' lanes, and then offers each subscriber what it wants.
-    pub(crate) fn take_turn<W: Wait>(&mut self, rt: &W, bells: &Bells) -> Consolidated
+    pub(crate) fn take_turn<W: Wait>(&mut self, rt: &W, wakeups: &Wakeups) -> Consolidated
         ensures most { result.consumed ≤ 64 }
         ensures turn { TakesTurn G.Genuine N.lanes result.consumed result.offered
             result.unfinished result.refused self.old.core self.new.core }
@@ -75,13 +75,13 @@ impl<G: Genuine, N: FeedName> HubCell<G, N> {
             filters,
             next,
         } = self;
-        take_turn(rt, core, filters.as_slice(), next, bells)
+        take_turn(rt, core, filters.as_slice(), next, wakeups)
     }
 
     /// Offers each subscriber what it wants, and journals nothing.
-    pub(crate) fn offer_alone<W: Wait>(&mut self, rt: &W, bells: &Bells) -> Consolidated {
+    pub(crate) fn offer_alone<W: Wait>(&mut self, rt: &W, wakeups: &Wakeups) -> Consolidated {
         let HubCell { core, filters, .. } = self;
-        let offers = offer_each(rt, core, filters.as_slice(), bells);
+        let offers = offer_each(rt, core, filters.as_slice(), wakeups);
         let mut done = Consolidated::nothing();
         done.offered = offers.pushed;
         done.unfinished = offers.unfinished;

@@ -13,9 +13,9 @@
 //!
 //! A [`LiveFeed`] has all lanes of a feed, to which nothing came yet (`specs/feed/Feeds.antt`). An
 //! [`OpenFeed`] has them under its locks; each call takes one of these. Outside of a lock nothing
-//! is known of its states, so a call's clauses say which answers are possible (`IsPossibleAtHub`,
-//! `IsPossibleAtVenue`). What is done to the lock's own state the clauses of the sections say that
-//! it calls, those of [`JournalAndLanes`] and [`VenueCell`].
+//! is known of its states, so a call's clauses state which answers are possible (`IsPossibleAtHub`,
+//! `IsPossibleAtVenue`). How the guarded state changes is stated on the sections that a call takes,
+//! the methods of [`ConsolidatorState`] and [`VenueCell`].
 //!
 //! Once all threads have returned, `OpenFeed::settle` closes all lanes and returns a
 //! [`Settlement`]: per venue, what was consumed, is in the lane and is ready are the sessions'
@@ -70,7 +70,7 @@ pub use feed_steps::Unsent;
 #[doc(hidden)]
 pub use hub_cell::HubCell;
 #[doc(hidden)]
-pub use hub_lanes::{JournalAndLanes, SpareLane};
+pub use hub_lanes::{ConsolidatorState, SpareLane};
 #[doc(hidden)]
 pub use venue_lines::VenueCell;
 

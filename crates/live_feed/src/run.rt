@@ -146,8 +146,8 @@ where
         watcher,
     } = parts;
     attended.set_polling(true);
-    let bells = feed.venues.bells();
-    let log_threads = start_subscribers(rt, scope, signals, bells, logs, strategies, log_threads);
+    let wakeups = feed.venues.wakeups();
+    let log_threads = start_subscribers(rt, scope, signals, wakeups, logs, strategies, log_threads);
     let line_threads = start_lines(rt, scope, &feed.venues, signals, lines, line_threads);
     let consolidator = start_consolidator(rt, scope, feed, signals);
     let venues = &feed.venues;

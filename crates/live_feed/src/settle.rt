@@ -33,7 +33,7 @@ use crate::subscriber::Subscriber;
 use crossbeam_utils::CachePadded;
 use feed_steps::FeedName;
 use feed_types::Genuine;
-use live_wakeups::Bells;
+use live_wakeups::Wakeups;
 use std::alloc::Global;
 use std::sync::{Arc, Mutex, Wait};
 use venue_lines::{LineSeat, LockedVenue, VenueLock, VenueLocks};
@@ -44,7 +44,7 @@ struct Unlocked<G: Genuine, N: FeedName> {
     venues: Vec<LockedVenue<G, N>>,
     hub: HubCell<G, N>,
     locks: Vec<VenueLock<G, N>>,
-    bells: Arc<Bells, Global>,
+    wakeups: Arc<Wakeups, Global>,
     log_size: LogSize<N>,
 }
 
@@ -69,7 +69,7 @@ fn unlock<G: Genuine, N: FeedName>(
         hub,
         log_size,
     } = feed;
-    let (venue_locks, bells) = venue_locks.into_parts();
+    let (venue_locks, wakeups) = venue_locks.into_parts();
     Ok(Unlocked {
         venues: made_of_each(
             venue_locks,
@@ -78,7 +78,7 @@ fn unlock<G: Genuine, N: FeedName>(
         ),
         hub: hub.into_inner().into_inner(),
         locks,
-        bells,
+        wakeups,
         log_size,
     })
 }
@@ -93,7 +93,7 @@ fn relock<G: Genuine, N: FeedName>(unlocked: Unlocked<G, N>) -> OpenFeed<G, N>
         venues,
         hub,
         locks,
-        bells,
+        wakeups,
         log_size,
     } = unlocked;
     let locks = made_of_each(
@@ -102,7 +102,7 @@ fn relock<G: Genuine, N: FeedName>(unlocked: Unlocked<G, N>) -> OpenFeed<G, N>
         &|_, venue| CachePadded::new(Mutex::new(venue)),
     );
     OpenFeed {
-        venues: VenueLocks::new(locks, bells),
+        venues: VenueLocks::new(locks, wakeups),
         hub: CachePadded::new(HubLock::new(hub)),
         log_size,
     }
@@ -178,7 +178,7 @@ fn close_lanes<G: Genuine, N: FeedName, W: Wait>(
         venues,
         hub,
         locks: _,
-        bells: _,
+        wakeups: _,
         log_size: _,
     } = unlocked;
     let (journal, receivers, senders) = hub.core.into_parts();

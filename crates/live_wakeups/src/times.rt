@@ -100,7 +100,7 @@ impl TimeRing {
 /// The times of a venue's items. The items are counted through all sessions, from 1: in this order
 /// they get ready, are pushed and are journaled.
 #[derive(Drop)]
-struct VenueTimes {
+struct VenueClock {
     /// The times of datagrams, each under the count of the first item that it brings. The items
     /// after that one up to the next time have the same.
     datagrams: TimeRing,
@@ -109,10 +109,10 @@ struct VenueTimes {
     offset: AtomicU64,
 }
 
-impl VenueTimes {
+impl VenueClock {
     /// The times of a venue to which nothing came, of at most as many items at a time.
-    fn new(alloc: Global, items: usize) -> Result<VenueTimes, AllocError> {
-        Ok(VenueTimes {
+    fn new(alloc: Global, items: usize) -> Result<VenueClock, AllocError> {
+        Ok(VenueClock {
             datagrams: TimeRing::new(alloc, items)?,
             offset: AtomicU64::new(0),
         })
@@ -137,7 +137,7 @@ impl JournaledItems {
     }
 
     /// Counts one more item, whose venue has these times.
-    fn add_one(&mut self, times: &VenueTimes) {
+    fn add_one(&mut self, times: &VenueClock) {
         self.count = self.count.wrapping_add(1);
         if let Some(time) = times.datagrams.time_of(self.count) {
             self.last = time;
@@ -181,7 +181,7 @@ impl NotedTimes {
 #[derive(Drop)]
 pub struct FeedTimes {
     /// Those of each venue; none where no times are asked for.
-    venues: Vec<VenueTimes>,
+    venues: Vec<VenueClock>,
     /// Those of the latest changes.
     changes: TimeRing,
 }
@@ -207,7 +207,7 @@ impl FeedTimes {
     ) -> Result<FeedTimes, AllocError> {
         let mut of_venues = Vec::with_capacity(alloc, venues)?;
         for _ in 0..venues {
-            of_venues.push(VenueTimes::new(alloc, items)?)?;
+            of_venues.push(VenueClock::new(alloc, items)?)?;
         }
         Ok(FeedTimes {
             venues: of_venues,

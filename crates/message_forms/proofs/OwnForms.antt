@@ -1,14 +1,13 @@
 -- What has none of this project's forms is no quotation and no halt of it.
 use Rattle.std.proofs.Common.{◌≡◌, ◌⊎◌, ℕ, Bool, true, false, ◌&&◌, ◌||◌, List, length, refl, sym, ap, ◌∙◌, cond, inl, inr}
-use Rattle.std.specs.Prelude.{IsTrue, ◌==◌, nat_le, if◌then◌else◌}
-use Rattle.std.specs.List.{list_any}
+use Rattle.std.specs.Prelude.{IsTrue, ◌==◌, nat_le}
 use Rattle.std.proofs.lemmas.Bool.{or_parts}
 use Rattle.feed_types.specs.Symbols.{is_symbol_field}
 use Rattle.feed_types.specs.declared.item.Item.{Item}
 use Rattle.feed_types.specs.declared.item.Item.TheVariants as item
 use Rattle.quote_payload.specs.Payload.{item_of, state_at, symbol_at, type_at, version1_of, version2_of}
 use Rattle.itch_messages.specs.Events.{is_form}
-use Rattle.message_forms.specs.Payloads.{is_own, own_forms}
+use Rattle.message_forms.specs.Payloads.{is_own}
 
 none_is : false ≡ true → ⊥
 none_is e = cc

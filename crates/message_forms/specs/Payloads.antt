@@ -1,6 +1,8 @@
 -- The payload that messages look like, by their types and lengths.
-use Rattle.std.specs.Prelude.{ℕ, Bool, true, false, ◌||◌, List, [], ◌∷◌, ◌++◌, if◌then◌else◌}
-use Rattle.std.specs.List.{list_any}
+use Rattle.std.specs.Prelude.{ℕ, Bool, true, false, ◌||◌, List, [], ◌∷◌, ◌++◌, length, if◌then◌else◌}
+use Rattle.std.specs.List.{list_any, position_or_len}
+use Rattle.quote_payload.specs.Payload.{type_at}
+use Rattle.itch_messages.specs.Events.{is_form}
 use Rattle.itch_messages.specs.Forms.{is_one_of, silent_forms, telling_forms}
 use Rattle.message_forms.specs.declared.payload.Payload.{Payload}
 use Rattle.message_forms.specs.declared.payload.Payload.TheVariants.{Neither, Itch, Own}
@@ -18,6 +20,16 @@ is_own message = is_one_of own_forms message
 
 abbrev pub is_itch : List ℕ → Bool
 is_itch message = is_one_of itch_forms message
+
+-- a message of this type and length
+abbrev pub fits_form : List ℕ → ℕ × ℕ → Bool
+fits_form message form = is_form form.0 form.1 (type_at message) (length message)
+
+-- the place of the first form of the standard that a message has, or how many there are
+unfoldable pub itch_place : List ℕ → ℕ
+itch_place message = position_or_len (fits_form message) itch_forms
+
+-- ---- what messages look like
 
 abbrev pub is_look_own : Payload → Bool
 is_look_own Neither = false

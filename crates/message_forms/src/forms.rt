@@ -1,9 +1,10 @@
 //! The forms of messages.
-ghost use Rattle.std.specs.Prelude.{◌≡◌};
+ghost use Rattle.std.specs.Prelude.{◌≡◌, ◌≤◌, length};
+ghost use Rattle.std.specs.List.{position_or_len};
 ghost use Rattle.quote_payload.specs.Payload.{type_at};
 ghost use Rattle.itch_messages.specs.Events.{is_form};
 ghost use Rattle.itch_messages.specs.Forms.{is_one_of};
-ghost use Rattle.message_forms.specs.Payloads.{is_itch, is_own};
+ghost use Rattle.message_forms.specs.Payloads.{is_itch, is_own, itch_place};
 
 /// A form of messages: its type, which is the first byte, and its length.
 type Form = (u8, usize);
@@ -64,6 +65,21 @@ fn is_one_of(forms: &[Form], message: &[u8]) -> bool
     forms.iter().any(|form| has_form(form, kind, len))
 }
 
+/// Returns the place of the first form that a message of this type and length has, or how many
+/// forms there are.
+fn place_of(forms: &[Form], kind: u8, len: usize) -> usize
+    ensures place { result
+        ≡ position_or_len (λ form. is_form form.0 form.1 kind len) forms.now }
+    ensures within { result ≤ length forms.now }
+{
+    for place in 0..forms.len() {
+        if has_form(&forms[place], kind, len) {
+            return place;
+        }
+    }
+    forms.len()
+}
+
 /// Returns whether a message has one of the three forms of this project's own messages.
 pub fn is_own(message: &[u8]) -> bool
     ensures { result ≡ is_own message.now }
@@ -76,4 +92,14 @@ pub fn is_itch(message: &[u8]) -> bool
     ensures { result ≡ is_itch message.now }
 {
     is_one_of(&ITCH_FORMS, message)
+}
+
+/// Returns the place of a message's form among the 23 of TotalView-ITCH 5.0, 23 where it has none
+/// of them.
+#[tactic(auto, unfolding(crate::specs::Payloads::itch_place))]
+pub fn itch_place(message: &[u8]) -> usize
+    ensures place { result ≡ itch_place message.now }
+    ensures within { result ≤ 23 }
+{
+    place_of(&ITCH_FORMS, type_of(message), message.len())
 }

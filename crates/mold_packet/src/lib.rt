@@ -1,12 +1,12 @@
 //! MoldUDP64 packets and requests, read from datagrams and written into buffers. No call takes
 //! memory: a packet that was read borrows its messages from the datagram.
 //!
-//! One relation says what bytes a packet is spelled by, `Spells` of `specs/Content.antt`, and both
+//! One relation, `Spells` of `specs/Content.antt`, states which bytes encode a packet, and both
 //! directions keep it. [`read_packet`] returns exactly the packet that the bytes spell, or exactly
 //! the first fault that fits, for any bytes. [`write_packet`] leaves a spelling in the first bytes
-//! of a buffer, and nothing where it doesn't fit. The law [`one_reading`] says that there is no
-//! other answer, and [`reads_back`] that what was written reads back. Requests are spelled by
-//! `SpellsRequest` of `specs/Request.antt`, likewise both ways.
+//! of a buffer, and nothing where it doesn't fit. By the law [`one_reading`] there is no other
+//! answer, and by [`reads_back`] what was written reads back. `SpellsRequest` of
+//! `specs/Request.antt` states the same of requests, both ways.
 //!
 //! Begin at [`read_packet`], which has the layout, and then [`Packet`], its readers. The standard
 //! is Nasdaq's MoldUDP64 Protocol Specification 1.00.

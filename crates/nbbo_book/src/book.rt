@@ -14,8 +14,8 @@ use crate::change::Change;
 use crate::fault::BookFault;
 use crate::row::Row;
 use crate::steps::{Step, apply_step};
-use crate::table::{Table, find, symbol_table};
-use crate::venues::Venues;
+use crate::table::{SymbolTable, find, symbol_table};
+use crate::venues::VenueStates;
 use feed_types::{Best, Entry, MAX_VENUES, National, Side, SymbolName, VenueId};
 use std::alloc::{AllocError, Global};
 use std::marker::Model;
@@ -26,9 +26,9 @@ const FEW_SYMBOLS: usize = 512;
 /// The protected sides of the configured symbols, and the best of them.
 #[derive(Drop)]
 pub struct Book {
-    table: Table,
+    table: SymbolTable,
     rows: Vec<Row>,
-    venues: Venues,
+    venues: VenueStates,
     last: u64,
     applied: u64,
     /// What was prefetched, mixed: it is kept so that it is read at all.
@@ -83,7 +83,7 @@ impl Book {
         Ok(Book {
             table,
             rows,
-            venues: Venues {
+            venues: VenueStates {
                 count: venue_count,
                 helped: [false; MAX_VENUES],
             },

@@ -33,6 +33,7 @@ pub type Ranks = ArrayVec<Best, MAX_VENUES>;
 
 /// Where the ranks of one side of a symbol stand, and how many they are. It lies beside the symbol,
 /// apart from the ranks, so that an entry reads of these those alone that its venue's side passes.
+/// A venue that was never ranked has a place past all ranks, and none of them is read for it.
 #[derive(Clone, Copy)]
 pub struct RankPlaces {
     /// The place of each venue's side, under the venue's number. It counts where the side there is
@@ -224,7 +225,7 @@ impl RankPlaces {
         ensures { HasPlaces result [] }
     {
         RankPlaces {
-            places: [0; MAX_VENUES],
+            places: [u8::MAX; MAX_VENUES],
             count: 0,
         }
     }

@@ -12,27 +12,28 @@ use crate::ranks::{RankPlaces, Ranks};
 use crate::side_quote::{bid_of, offer_of};
 use crate::venue_side::VenueSide;
 use crate::venue_sides::VenueSides;
-use crate::venues::Venues;
+use crate::venues::VenueStates;
 use arrayvec::ArrayVec;
 use feed_types::{Best, MAX_VENUES, National, Quote, Side, SymbolName, VenueId};
 use std::marker::Model;
 
-/// The part of a book for one symbol. A quotation reads a line of 64 bytes from `symbol` to
-/// `offer_places`, one of `sides`, and of the ranks and their vectors' lengths what it needs.
+/// The part of a book for one symbol. A quotation reads a line of 64 bytes, from the length of
+/// `bids` to `halted`, one of `sides`, of the ranks those that its venue's sides pass, and the
+/// length of `offers` where it adds one.
 ///
-/// So that its parts keep to lines, a row takes whole ones, and its first part lies 16 bytes past
-/// one, as the C library places what is large.
+/// So that its parts keep to lines, a row takes whole ones, and `bids` lies 48 bytes past its
+/// start, which is 16 past that of a line, as the C library places what is large.
 #[derive(Drop)]
 pub struct Row {
+    before: [u64; 6],
     bids: Ranks,
-    between: u64,
-    offers: Ranks,
-    before: [u64; 3],
     symbol: SymbolName,
-    /// The venues that halt the symbol.
-    halted: [bool; MAX_VENUES],
     bid_places: RankPlaces,
     offer_places: RankPlaces,
+    /// The venues that halt the symbol.
+    halted: [bool; MAX_VENUES],
+    offers: Ranks,
+    between: [u64; 6],
     sides: VenueSides,
     after: [u64; 2],
 }
@@ -61,14 +62,14 @@ impl Row {
         ensures { result ≡ empty_row symbol }
     {
         Row {
+            before: [0; 6],
             bids: ArrayVec::new(),
-            between: 0,
-            offers: ArrayVec::new(),
-            before: [0; 3],
             symbol,
-            halted: [false; MAX_VENUES],
             bid_places: RankPlaces::new(),
             offer_places: RankPlaces::new(),
+            halted: [false; MAX_VENUES],
+            offers: ArrayVec::new(),
+            between: [0; 6],
             sides: VenueSides::new(),
             after: [0; 2],
         }
@@ -92,7 +93,13 @@ impl Row {
 
     /// Takes a quotation of the symbol. Returns whether the national best differs then.
     #[inline(always)]
-    pub fn take_quote(&mut self, venues: &Venues, venue: VenueId, quote: &Quote, age: u64) -> bool
+    pub fn take_quote(
+        &mut self,
+        venues: &VenueStates,
+        venue: VenueId,
+        quote: &Quote,
+        age: u64,
+    ) -> bool
         requires { IsRowRanked age self.old }
         ensures row { self.new ≡ row_quoted venues.now.helped venue quote.now age self.old }
         ensures changed { result
@@ -152,7 +159,7 @@ impl Row {
     /// Ranks the venue's sides anew by the flags of self-help and the halts. Returns whether the
     /// national best differs then.
     #[inline(always)]
-    pub fn recheck(&mut self, venues: &Venues, venue: VenueId) -> bool
+    pub fn recheck(&mut self, venues: &VenueStates, venue: VenueId) -> bool
         requires bids { IsRanked Bid (side_at Bid self.old) }
         requires offers { IsRanked Offer (side_at Offer self.old) }
         ensures row { self.new ≡ row_helped venues.now.helped venue self.old }
@@ -180,7 +187,7 @@ impl Row {
     /// Takes a halt of the symbol at the venue, or its end. Returns whether the national best
     /// differs then. It is a call of its own, since halts are rare.
     #[inline(never)]
-    pub fn take_halt(&mut self, venues: &Venues, venue: VenueId, halted: bool) -> bool
+    pub fn take_halt(&mut self, venues: &VenueStates, venue: VenueId, halted: bool) -> bool
         requires bids { IsRanked Bid (side_at Bid self.old) }
         requires offers { IsRanked Offer (side_at Offer self.old) }
         ensures row { self.new ≡ row_halted venues.now.helped venue halted self.old }

@@ -10,8 +10,8 @@ ghost use Rattle.nbbo_book.specs.Tables.{IsTable, symbols_in_rows};
 
 use crate::change::Change;
 use crate::row::Row;
-use crate::table::{Table, find};
-use crate::venues::Venues;
+use crate::table::{SymbolTable, find};
+use crate::venues::VenueStates;
 use feed_types::{Best, Entry, Item, National, Numbered, Quote, VenueId};
 
 /// One more entry, with its position.
@@ -19,7 +19,7 @@ use feed_types::{Best, Entry, Item, National, Numbered, Quote, VenueId};
 pub struct Step<'a> {
     pub entry: &'a Entry,
     /// The venues, with the flags of self-help after the entry.
-    pub venues: &'a Venues,
+    pub venues: &'a VenueStates,
     /// Its place in the order of all.
     pub age: u64,
     pub position: u64,
@@ -88,7 +88,7 @@ fn recheck_rows(rows: &mut [Row], step: &Step<'_>, venue: VenueId, out: &mut Vec
 /// that a quotation is told by one compare.
 #[inline(never)]
 fn apply_other(
-    table: &Table,
+    table: &SymbolTable,
     rows: &mut [Row],
     step: &Step<'_>,
     venue: VenueId,
@@ -121,7 +121,7 @@ fn apply_other(
 /// Applies the entry to the symbols that it concerns, and appends their changes in order; the
 /// flags of self-help are those after it.
 #[inline(always)]
-pub fn apply_step(table: &Table, rows: &mut [Row], step: &Step<'_>, out: &mut Vec<Change>)
+pub fn apply_step(table: &SymbolTable, rows: &mut [Row], step: &Step<'_>, out: &mut Vec<Change>)
     requires table { IsTable (symbols_in_rows rows.old) table.now.symbols.keys }
     requires ranked { AllByRecursion (IsRowRanked step.now.age) rows.old }
     requires room { vec_len out.old + length rows.old ≤ vec_capacity out.old }

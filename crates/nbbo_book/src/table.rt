@@ -17,7 +17,7 @@ pub type SymbolKeys = IndexSet<u64>;
 
 /// The symbols' keys, in order, and a cache of where each symbol stands.
 #[derive(Drop)]
-pub struct Table {
+pub struct SymbolTable {
     pub symbols: SymbolKeys,
     pub cache: SymbolCache,
 }
@@ -50,7 +50,7 @@ pub fn are_distinct(alloc: Global, symbols: &[SymbolName]) -> Result<bool, Alloc
 }
 
 /// Makes the table of these symbols.
-pub fn symbol_table(alloc: Global, symbols: &[SymbolName]) -> Result<Table, BookFault>
+pub fn symbol_table(alloc: Global, symbols: &[SymbolName]) -> Result<SymbolTable, BookFault>
     ensures table { IfOk result (λ table. IsTable symbols.now table.symbols.keys) }
     ensures distinct { OnOk result (IsDistinct bytes_eq symbols.now) }
     ensures duplicate { IsErrOf result BookFault.DuplicateSymbol
@@ -67,7 +67,7 @@ pub fn symbol_table(alloc: Global, symbols: &[SymbolName]) -> Result<Table, Book
         Err(_) => return Err(BookFault::NoMemory),
     };
     match SymbolCache::of(alloc, symbols) {
-        Ok(cache) => Ok(Table {
+        Ok(cache) => Ok(SymbolTable {
             symbols: keys,
             cache,
         }),
@@ -86,7 +86,7 @@ fn search_keys(symbols: &SymbolKeys, key: u64) -> Option<usize>
 
 /// Returns where the symbol stands. Most often the cache has it.
 #[inline(always)]
-pub fn find(table: &Table, rows: &[Row], symbol: SymbolName) -> Option<usize>
+pub fn find(table: &SymbolTable, rows: &[Row], symbol: SymbolName) -> Option<usize>
     requires { IsTable (symbols_in_rows rows.now) table.now.symbols.keys }
     ensures { result ≡ position (bytes_eq symbol) (symbols_in_rows rows.now) }
 {

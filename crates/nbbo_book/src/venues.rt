@@ -8,12 +8,12 @@ use feed_types::{Entry, MAX_VENUES, VenueId};
 
 /// The venues of a book: how many there are, and on which self-help is declared.
 #[derive(Clone, Copy)]
-pub struct Venues {
+pub struct VenueStates {
     pub count: usize,
     pub helped: [bool; MAX_VENUES],
 }
 
-impl Venues {
+impl VenueStates {
     /// Returns the venue, and whether it may be ranked in a symbol that these venues halt.
     #[inline(always)]
     pub fn quoter(&self, halted: &[bool; MAX_VENUES], venue: VenueId) -> Quoter

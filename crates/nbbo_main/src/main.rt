@@ -1,11 +1,11 @@
 //! The program `nbbo`.
 //!
-//! It replays captures, counts what is in them, lists the lines of packet captures and converts
-//! these (`nbbo_runs`), and listens on live lines (`udp_listening`). `command_words` has the words
-//! of its command line, and their help.
+//! It replays captures, counts what is in them, lists the lines of packet captures, converts these,
+//! and normalises captures of ITCH (`nbbo_runs`); and it listens on live lines (`udp_listening`).
+//! `command_words` has the words of its command line, and their help.
 //!
 //! The contract is that of `nbbo_runs::run`: of any words, over any input, output and standard
-//! error, it says what is read, what is written where, and the status, or that the words ask to
+//! error, it states what is read, what is written where, and the status, or that the words ask to
 //! listen or to normalise. Outside of it stand, here, the opening of the three streams, of files in
 //! their place (`streams.rt`) and of the sockets, the words as the system and files give them
 //! (`word_files.rt`), the hints beside it, and the exit; and listening itself (`udp_listening`),
@@ -19,19 +19,18 @@ ghost use Rattle.command_words.specs.declared.refusal.Refusal.TheVariants.{NoMem
 
 mod opening;
 mod recording;
+mod snapshot_files;
 mod streams;
 mod word_files;
 
 use crate::opening::{why_unwritten, write_unopened};
 use crate::recording::{end_recording, open_recording, start_recording};
+use crate::snapshot_files::snapshot_files;
 use crate::streams::opened_streams;
 use crate::word_files::{WordsFault, words_of, write_unread};
 use command_words::{Refusal, StreamFiles, explanation_of, settings, stream_files, symbol_words};
 use line_recordings::{RecordingState, SkipRecords};
-use nbbo_runs::{
-    Next, ProgramRun, RunFacts, Terminals, hint_at_file, journal_hint, refuse, run,
-    run_normalisation,
-};
+use nbbo_runs::{Next, ProgramRun, RunFacts, Terminals, hint_at_file, journal_hint, refuse, run};
 use run_settings::ListenSettings;
 use std::alloc::{AllocError, Global};
 use std::fs::File;
@@ -219,6 +218,9 @@ fn run_over<C: Ledger, R: Ledger, W: Ledger, E: TextOut>(
     counts: StreamCounts<C, R, W>,
     errors: &mut E,
 ) -> ProgramEnd {
+    let Some(snapshots) = snapshot_files(rt, words, errors) else {
+        return ProgramEnd::Status(1);
+    };
     let Some((input, output)) = opened_streams(rt, files, errors) else {
         return ProgramEnd::Status(1);
     };
@@ -231,21 +233,19 @@ fn run_over<C: Ledger, R: Ledger, W: Ledger, E: TextOut>(
     }
     let input = StreamIn::new(input, counts.calls, counts.reads);
     let output = StreamOut::new(output, counts.writes);
-    let ProgramRun {
-        next,
-        mut input,
-        mut output,
-        facts,
-    } = run(rt.alloc(), words, terminals, input, output, errors);
+    let snapshots = snapshots.as_slice();
+    let ProgramRun { next, facts, .. } = run(
+        rt.alloc(),
+        words,
+        terminals,
+        snapshots,
+        input,
+        output,
+        errors,
+    );
     write_hints(rt, words, &facts, errors);
     match next {
         Next::Ended(status) => {
-            write_unwhole(files, status, errors);
-            ProgramEnd::Status(status)
-        }
-        Next::Normalises(settings) => {
-            let (input, output) = (&mut input, &mut output);
-            let status = run_normalisation(rt.alloc(), &settings, terminals, input, output, errors);
             write_unwhole(files, status, errors);
             ProgramEnd::Status(status)
         }

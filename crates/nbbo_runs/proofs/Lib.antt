@@ -10,3 +10,6 @@ pub mod SinkPrints
 pub mod SinkRuns
 pub mod SpanRuns
 pub mod LateRuns
+pub mod WatchedSteps
+pub mod SnapshotPlaces
+pub mod Replaying

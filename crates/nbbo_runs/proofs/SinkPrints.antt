@@ -1,6 +1,6 @@
 -- A replay to a sink that writes a text of events prints it.
-use Rattle.std.proofs.Common.{◌≡◌, ℕ, ◌+◌, List, [], ◌++◌, Ok, Err, ap, subst, ◌∙◌}
-use Rattle.std.specs.Prelude.{⊤, IfOk, Result}
+use Rattle.std.proofs.Common.{◌≡◌, ℕ, ◌+◌, List, [], ◌∷◌, ◌++◌, Ok, Err, ap, refl, subst, ◌∙◌}
+use Rattle.std.specs.Prelude.{⊤, IfOk, Result, flat_map}
 use Rattle.feed_text.specs.declared.replay.ReplayConfig.{ReplayConfig}
 use Rattle.event_sinks.specs.declared.replay_stop.ReplayStop.{ReplayStop}
 use Rattle.event_sinks.specs.declared.text_page.TextPage.{TextPage}
@@ -10,48 +10,47 @@ use Rattle.capture_records.specs.Formats.{Parsing}
 use Rattle.feed_text.specs.ReplayStates.{SinkTaking}
 use Rattle.event_sinks.specs.SinkEvents.{TimedEvent}
 use Rattle.event_sinks.specs.TextPages.{FailsPage}
-use Rattle.feed_text.specs.Told.{ToldFacts}
 use Rattle.best_rows.specs.declared.style.RowStyle.{RowStyle}
-use Rattle.replay_reports.specs.declared.row_sink.BestRows.{BestRows}
-use Rattle.replay_reports.specs.rows.RowLaws.{rows_are_written, rows_failed}
-use Rattle.replay_reports.specs.rows.RowSinks.{FailsBestRows, IsNewRows, TakesBestRows, text_of_rows}
+use Rattle.best_rows.specs.RowTexts.{event_row, header_of}
+use Rattle.replay_reports.specs.BestRowMakers.{IsInStyle, style_rows, text_of_rows}
+use Rattle.replay_reports.specs.declared.best_row_maker.BestRowMaker.{BestRowMaker}
 use Rattle.report_rows.specs.RowHistories.{MakesHistory, TellsHistory, rows_told}
-use Rattle.report_rows.specs.RowHistoryLaws.{rows_are_written as history_is_written, rows_failed as history_failed}
+use Rattle.report_rows.specs.RowHistoryLaws.{rows_are_written, rows_failed}
 use Rattle.report_rows.specs.RowSinks as sinks
 use Rattle.report_rows.specs.declared.row_sink.RowSink.{RowSink}
 use Rattle.replay_run.specs.Printed.{facts_of_run}
 use Rattle.run_settings.specs.declared.time_span.TimeSpan.{TimeSpan}
-use Rattle.nbbo_runs.specs.Printing.{IsSinkBefore, PrintsEvents, WritesRows, printing, span_events, taking_in}
+use Rattle.nbbo_runs.specs.Printing.{IsSinkBefore, PrintedRows, PrintsRows, WritesRows, printing_rows, rows_of_text, span_events, taking_in}
 use Rattle.nbbo_runs.proofs.SinkRuns.{run_as}
 
--- Of a sink before a writer: where it shows all that it took, the writer took the text of the
--- events; where it failed, a front of it.
-pub record WritesText {K W : Type 0} (writing : Writing W) (taking : SinkTaking K)
-    (Shown : K → Type 0) (writer_of : K → W) (text : List TimedEvent → List ℕ)
-    (writer : W) (old new : K) : Type 0 where
+-- Of a sink before a writer: where it shows all that it took, the writer took that; where it
+-- failed, the writer did.
+pub record WritesSink {K W : Type 0} (taking : SinkTaking K) (Shown : K → Type 0)
+    (writer_of : K → W) (printed : SinkTaking W) (writer : W) (old new : K) : Type 0 where
   pub same : writer_of old ≡ writer
   pub written : (told : List TimedEvent) → taking.takes old told new → Shown new
-      → writing.adds writer (text told) (writer_of new)
+      → printed.takes writer told (writer_of new)
   pub failed : (told : List TimedEvent) → taking.fails old told new
-      → Wrote writing.adds writer (text told) (writer_of new)
-      × (writing.failures (writer_of new) ≡ writing.failures writer + 1)
+      → printed.fails writer told (writer_of new)
 
-module _ {R S F W K : Type 0} (reading : Reading R) (writing : Writing W) (parsing : Parsing S F)
-    (config : ReplayConfig) (facts : ToldFacts) (taking : SinkTaking K) (Shown : K → Type 0)
-    (writer_of : K → W) (text : List TimedEvent → List ℕ) (writer : W) (old new : K)
-    (writes : WritesText writing taking Shown writer_of text writer old new) where
-  pub sink_printed : (from to : R) (start finish : S)
-      (outcome : Result (Unit {0}) (ReplayStop F))
-      → AnswersRun reading parsing taking Shown config facts from to start finish old new outcome
-      → AnswersRun reading parsing (printing writing text) (λ output. ⊤) config facts
-      from to start finish writer (writer_of new) outcome
-  sink_printed from to start finish outcome run =
-      run_as reading parsing config facts taking Shown (printing writing text) (λ output. ⊤)
-      old new writer (writer_of new) (record {
-        took = λ told took. (writes.written told took.0 took.1, tt);
-        failed = writes.failed;
-        same = λ kept. ap writer_of kept ∙ writes.same;
-      }) from to start finish outcome run
+-- a replay to such a sink, of the events in a span
+pub span_prints : {R S F W K : Type 0} (reading : Reading R) (parsing : Parsing S F)
+    (config : ReplayConfig) (from to : R) (start finish : S)
+    (outcome : Result (Unit {0}) (ReplayStop F)) (span : TimeSpan) (taking : SinkTaking K)
+    {Shown : K → Type 0} {writer_of : K → W} (printed : SinkTaking W) {writer : W} (old new : K)
+    → WritesSink taking Shown writer_of printed writer old new
+    → AnswersRun reading parsing (taking_in span taking) Shown config
+    (facts_of_run config) from to start finish old new outcome
+    → PrintsRows reading printed span S F parsing config from to start finish writer (writer_of new)
+    outcome
+span_prints reading parsing config from to start finish outcome span taking {Shown} {writer_of}
+    printed {writer} old new writes run =
+    run_as reading parsing config (facts_of_run config) (taking_in span taking) Shown
+    (taking_in span printed) (λ output. ⊤) old new writer (writer_of new) (record {
+      took = λ told took. (writes.written (span_events span told) took.0 took.1, tt);
+      failed = λ told failed. writes.failed (span_events span told) failed;
+      same = λ kept. ap writer_of kept ∙ writes.same;
+    }) from to start finish outcome run
 
 -- ---- of each sink
 
@@ -65,25 +64,6 @@ module _ {W : Type 0} (writing : Writing W) where
     subst (λ (w : W). writing.failures q.writer ≡ writing.failures w + 1) same failed.failed,
   )
 
-  abbrev pub rows_taking : SinkTaking (BestRows W)
-  rows_taking = record {
-    takes = TakesBestRows writing.adds writing.failures;
-    fails = FailsBestRows writing.adds writing.failures;
-  }
-
-  pub rows_write : (writer : W) (style : RowStyle) (old new : BestRows W)
-      → IsNewRows writer style old
-      → WritesText writing rows_taking (λ s. s.page.text.items ≡ []) (λ s. s.page.writer)
-      (text_of_rows style) writer old new
-  rows_write writer style old new is = record {
-    same = is.writer_is;
-    written = λ told took shown. rows_are_written writing.adds writing.failures writer style old new
-        told is took shown;
-    failed = λ told failed. page_failed writer (text_of_rows style told) old.page new.page
-        is.writer_is
-        (rows_failed writing.adds writing.failures writer style old new told is failed);
-  }
-
   -- a sink of rows of a maker
   module _ {M : Type 0} (makes : M → List TimedEvent → List ℕ → M → Type 0)
       (tells : M → List TimedEvent → List ℕ → Type 0) where
@@ -93,11 +73,11 @@ module _ {W : Type 0} (writing : Writing W) where
       fails = sinks.FailsRows tells writing.adds writing.failures;
     }
 
-    pub sink_writes : (text : List TimedEvent → List ℕ) (writer : W) (old new : RowSink W M)
-        → WritesRows writing makes tells text writer old
-        → WritesText writing sink_taking (λ s. s.page.text.items ≡ []) (λ s. s.page.writer) text
-        writer old new
-    sink_writes text writer old new is = record {
+    pub sink_writes : (kind : PrintedRows) (writer : W) (old new : RowSink W M)
+        → WritesRows writing makes tells kind writer old
+        → WritesSink sink_taking (λ s. s.page.text.items ≡ []) (λ s. s.page.writer)
+        (printing_rows writing kind) writer old new
+    sink_writes kind writer old new is = record {
       same = is.same;
       written = λ told took shown. is.written told new took shown;
       failed = λ told failed. is.failed told new failed;
@@ -106,59 +86,48 @@ module _ {W : Type 0} (writing : Writing W) where
   -- one whose rows go by the events before them
   pub history_writes : {M C : Type 0} (Are : C → List TimedEvent → M → Type 0)
       (rows : C → TimedEvent → List TimedEvent → List ℕ) (header : List ℕ) (setting : C)
-      (writer : W) (maker : M) (sink : RowSink W M)
-      → sinks.IsNewRowSink writer maker header sink → Are setting [] maker
+      (writer : W) (sink : RowSink W M) → IsSinkBefore Are header setting writer sink
       → WritesRows writing (MakesHistory Are rows) (TellsHistory Are rows)
-      (λ told. header ++ rows_told (rows setting) [] told) writer sink
-  history_writes Are rows header setting writer maker sink is are = record {
-    same = is.writer_is;
+      (rows_of_text (λ told. header ++ rows_told (rows setting) [] told)) writer sink
+  history_writes Are rows header setting writer sink is = record {
+    same = is.is.writer_is;
     written = λ told after took shown.
-        history_is_written Are rows writing.adds writing.failures writer maker header setting sink
-        after told is are took shown;
+        rows_are_written Are rows writing.adds writing.failures writer sink.maker header setting
+        sink after told is.is is.are took shown;
     failed = λ told after failed.
         page_failed writer (header ++ rows_told (rows setting) [] told) sink.page after.page
-        is.writer_is
-        (history_failed Are rows writing.adds writing.failures writer maker header setting sink
-        after told is are failed);
+        is.is.writer_is
+        (rows_failed Are rows writing.adds writing.failures writer sink.maker header setting sink
+        after told is.is is.are failed);
   }
 
+  rows_alone : (style : RowStyle) (earlier events : List TimedEvent)
+      → rows_told (style_rows style) earlier events ≡ flat_map (event_row style) events
+  rows_alone style earlier [] = refl
+  rows_alone style earlier (e ∷ es) =
+      ap (λ (l : List ℕ). event_row style e ++ l) (rows_alone style (e ∷ earlier) es)
+
+  -- one of the rows of national bests
+  pub bests_write : (style : RowStyle) (writer : W) (sink : RowSink W BestRowMaker)
+      → IsSinkBefore IsInStyle (header_of style.format style.timed) style writer sink
+      → WritesRows writing (MakesHistory IsInStyle style_rows) (TellsHistory IsInStyle style_rows)
+      (rows_of_text (text_of_rows style)) writer sink
+  bests_write style writer sink is =
+      let header = header_of style.format style.timed in
+      let history = history_writes IsInStyle style_rows header style writer sink is in
+      record {
+        same = history.same;
+        written = λ told after took shown.
+            subst (λ (rows : List ℕ). writing.adds writer (header ++ rows) after.page.writer)
+            (rows_alone style [] told) (history.written told after took shown);
+        failed = λ told after failed.
+            subst (λ (rows : List ℕ). Wrote writing.adds writer (header ++ rows) after.page.writer
+            × (writing.failures after.page.writer ≡ writing.failures writer + 1))
+            (rows_alone style [] told) (history.failed told after failed);
+      }
+
 -- of a sink that was made before the output, if it was
-pub made_writes : {W M C : Type 0} (writing : Writing W) (Are : C → List TimedEvent → M → Type 0)
-    (rows : C → TimedEvent → List TimedEvent → List ℕ) (header : List ℕ) (setting : C) (writer : W)
-    (made : Result (RowSink W M) W) → IfOk made (IsSinkBefore Are header setting writer)
-    → IfOk made (WritesRows writing (MakesHistory Are rows) (TellsHistory Are rows)
-    (λ told. header ++ rows_told (rows setting) [] told) writer)
-made_writes writing Are rows header setting writer (Ok sink) is =
-    history_writes writing Are rows header setting writer sink.maker sink is.is is.are
-made_writes writing Are rows header setting writer (Err back) is = tt
-
--- ---- a replay to such a sink, of the events in a span
-
-span_writes : {K W : Type 0} (writing : Writing W) (span : TimeSpan) (taking : SinkTaking K)
-    (Shown : K → Type 0) (writer_of : K → W) (text : List TimedEvent → List ℕ)
-    (writer : W) (old new : K)
-    → WritesText writing taking Shown writer_of text writer old new
-    → WritesText writing (taking_in span taking) Shown writer_of
-    (λ told. text (span_events span told)) writer old new
-span_writes writing span taking Shown writer_of text writer old new writes = record {
-  same = writes.same;
-  written = λ told took shown. writes.written (span_events span told) took shown;
-  failed = λ told failed. writes.failed (span_events span told) failed;
-}
-
-pub span_prints : {R S F W K : Type 0} (reading : Reading R) {writing : Writing W}
-    (parsing : Parsing S F) (config : ReplayConfig) (from to : R) (start finish : S)
-    (outcome : Result (Unit {0}) (ReplayStop F)) (span : TimeSpan) (taking : SinkTaking K)
-    {Shown : K → Type 0} {writer_of : K → W} {text : List TimedEvent → List ℕ} {writer : W}
-    (old new : K)
-    → WritesText writing taking Shown writer_of text writer old new
-    → AnswersRun reading parsing (taking_in span taking) Shown config
-    (facts_of_run config) from to start finish old new outcome
-    → PrintsEvents reading writing parsing config (λ told. text (span_events span told))
-    from to start finish writer (writer_of new) outcome
-span_prints reading {writing} parsing config from to start finish outcome span taking {Shown}
-    {writer_of} {text} {writer} old new writes run =
-    sink_printed reading writing parsing config (facts_of_run config)
-    (taking_in span taking) Shown writer_of (λ told. text (span_events span told)) writer
-    old new (span_writes writing span taking Shown writer_of text writer old new writes)
-    from to start finish outcome run
+pub made_writes : {W M : Type 0} {Is Other : RowSink W M → Type 0} (made : Result (RowSink W M) W)
+    → ((sink : RowSink W M) → Is sink → Other sink) → IfOk made Is → IfOk made Other
+made_writes (Ok sink) each is = each sink is
+made_writes (Err back) each is = tt

@@ -9,7 +9,7 @@ use Rattle.capture_records.specs.Formats.{Parsing}
 use Rattle.feed_text.specs.ReplayStates.{SinkTaking}
 use Rattle.event_sinks.specs.SinkEvents.{TimedEvent}
 use Rattle.report_rows.specs.SpanEvents.{FailsSpan, IsNewSpan, TakesSpan, events_in}
-use Rattle.report_rows.specs.declared.span_sink.SpanSink.{SpanSink}
+use Rattle.report_rows.specs.declared.span_sink.SpanFilter.{SpanFilter}
 use Rattle.replay_run.specs.Printed.{facts_of_run}
 use Rattle.run_settings.specs.declared.time_span.TimeSpan.{TimeSpan}
 use Rattle.run_settings.specs.TimeSpans.{is_bounded}
@@ -57,10 +57,10 @@ module _ {R S F K : Type 0} (reading : Reading R) (parsing : Parsing S F)
         same = λ kept. kept;
       }) from to start finish outcome run
 
-  abbrev spanned : SinkTaking (SpanSink K)
+  abbrev spanned : SinkTaking (SpanFilter K)
   spanned = record { takes = TakesSpan taking.takes; fails = FailsSpan taking.fails }
 
-  in_span : (sink : K) (old : SpanSink K) (P : K → List TimedEvent → Type 0)
+  in_span : (sink : K) (old : SpanFilter K) (P : K → List TimedEvent → Type 0)
       (told : List TimedEvent) → IsNewSpan sink span old
       → P old.sink (events_in old.span old.begun told) → P sink (span_events span told)
   in_span sink old P told is h =
@@ -69,7 +69,7 @@ module _ {R S F K : Type 0} (reading : Reading R) (parsing : Parsing S F)
       (subst (λ (b : Bool). P old.sink (events_in old.span b told)) is.begun h))
 
   -- of a sink of the events of a span
-  pub run_of_span : (sink : K) (old new : SpanSink K) → IsNewSpan sink span old
+  pub run_of_span : (sink : K) (old new : SpanFilter K) → IsNewSpan sink span old
       → AnswersRun reading parsing spanned (λ s. Shown s.sink) config (facts_of_run config)
       from to start finish old new outcome
       → AnswersRun reading parsing (taking_in span taking) Shown config (facts_of_run config)
@@ -83,5 +83,5 @@ module _ {R S F K : Type 0} (reading : Reading R) (parsing : Parsing S F)
         );
         failed = λ told failed.
             in_span sink old (λ k events. taking.fails k events new.sink) told is failed;
-        same = λ kept. ap (λ (s : SpanSink K). s.sink) kept ∙ is.sink_is;
+        same = λ kept. ap (λ (s : SpanFilter K). s.sink) kept ∙ is.sink_is;
       }) from to start finish outcome run

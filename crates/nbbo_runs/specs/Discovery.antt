@@ -8,7 +8,7 @@ use Rattle.text_out.specs.StandardError.{SaysEach}
 use Rattle.line_captures.specs.declared.bad_piece.BadPiece.{BadPiece}
 use Rattle.line_captures.specs.Conversions.{AnswersConversion}
 use Rattle.line_captures.specs.DropCounts.{dropped_of}
-use Rattle.line_discovery.specs.declared.survey.LineSurvey.{LineSurvey}
+use Rattle.line_discovery.specs.declared.survey.EndpointSurvey.{EndpointSurvey}
 use Rattle.line_discovery.specs.Surveys.{is_begun, new_survey, survey_parsing}
 use Rattle.line_discovery.specs.SurveyTexts.{text_of_survey}
 use Rattle.line_discovery.specs.Tables.{up_to_most}
@@ -23,7 +23,7 @@ use Rattle.nbbo_runs.specs.declared.terminals.Terminals.{Terminals}
 
 -- The lines of a survey are printed in the form once a capture has begun in it; else nothing is.
 abbrev pub PrintsSurvey : {W : Type 0} (writing : Writing W) (form : SurveyForm)
-    (survey : LineSurvey) (before after : W)
+    (survey : EndpointSurvey) (before after : W)
     → Result (Unit {0}) (ReplayStop BadPiece) → Type 0
 PrintsSurvey writing form survey before after printed =
     (is_begun survey
@@ -34,7 +34,7 @@ PrintsSurvey writing form survey before after printed =
 -- A packet capture was read to its end, or up to a fault, and its lines were printed. A fault of
 -- printing comes before that of reading.
 pub record Discovers {R W : Type 0} (reading : Reading R) (writing : Writing W)
-    (form : SurveyForm) (from to : R) (start finish : LineSurvey) (before after : W)
+    (form : SurveyForm) (from to : R) (start finish : EndpointSurvey) (before after : W)
     (outcome : Result (Unit {0}) (ReplayStop BadPiece)) : Type 0 where
   pub read : Result (Unit {0}) (ReplayStop BadPiece)
   pub mid : W
@@ -58,7 +58,7 @@ survey_outcome_texts (Err stop) position packets =
 
 -- after a survey: the frames without a datagram by their kinds, those out of time order, those that
 -- were dropped, the outcome, and where a second capture seems to begin
-abbrev pub survey_texts : LineSurvey → Result (Unit {0}) (ReplayStop BadPiece)
+abbrev pub survey_texts : EndpointSurvey → Result (Unit {0}) (ReplayStop BadPiece)
     → List (List ℕ)
 survey_texts s outcome =
     let progress = s.counts.progress in
@@ -73,7 +73,7 @@ survey_texts s outcome =
 -- said of the outcome.
 pub record RunsDiscovery {R W E : Type 0} (devices : Devices R W E) (form : SurveyForm)
     (terminals : Terminals) (before after : Streams R W E) (status : ℕ) : Type 0 where
-  pub finish : LineSurvey
+  pub finish : EndpointSurvey
   pub outcome : Result (Unit {0}) (ReplayStop BadPiece)
   pub discovers : Discovers devices.reading devices.writing form before.input after.input
       new_survey finish before.output after.output outcome

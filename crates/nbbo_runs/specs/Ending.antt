@@ -6,8 +6,8 @@ use Rattle.event_sinks.specs.declared.replay_stop.ReplayStop.TheVariants.{ReadFa
 use Rattle.nbbo_runs.specs.Hints.{format_hint}
 use Rattle.nbbo_runs.specs.declared.own_capture.BadRecord.{BadRecord}
 
--- 0 after a replay that came to its end, else 1
-abbrev pub ending_status : {F : Type 0} → Result (Unit {0}) (ReplayStop F) → ℕ
+-- 0 after a run that came to its end, else 1
+abbrev pub ending_status : {E : Type 0} → Result (Unit {0}) E → ℕ
 ending_status (Ok done) = 0
 ending_status (Err stop) = 1
 

@@ -1,7 +1,7 @@
 -- What is told of the messages that venues lack at the end of a replay.
 use Rattle.std.specs.Prelude.{ℕ, Bool, true, false, ◌||◌, List, [], flat_map, Result, Ok}
 use Rattle.event_sinks.specs.LackTexts.{lack_texts}
-use Rattle.event_sinks.specs.declared.lack.Lack.{Lack}
+use Rattle.event_sinks.specs.declared.lack.MissingRange.{MissingRange}
 use Rattle.run_settings.specs.declared.skip_rule.SkipRule.{SkipRule}
 use Rattle.run_settings.specs.declared.skip_rule.SkipRule.TheVariants as skips
 use Rattle.run_settings.specs.declared.run_input.RunInput.{RunInput}
@@ -42,6 +42,7 @@ tells_lacks settings terminals =
 
 -- After a run that ended well a line for each venue that lacks anything, if that is told; after
 -- another one it isn't known what they lack.
-abbrev pub told_lacks : {F : Type 0} → Result (Unit {0}) F → Bool → List Lack → List (List ℕ)
+abbrev pub told_lacks : {F : Type 0} → Result (Unit {0}) F → Bool → List MissingRange
+    → List (List ℕ)
 told_lacks (Ok done) true lacks = flat_map lack_texts lacks
 told_lacks outcome is_told lacks = []

@@ -10,7 +10,7 @@ use Rattle.text_out.specs.Devices.{Reading, Writing, Wrote}
 use Rattle.feed_text.specs.EventReplays.{AnswersRun, venues_in}
 use Rattle.capture_records.specs.Formats.{Parsing}
 use Rattle.feed_text.specs.Lacks.{AppendsLacks}
-use Rattle.event_sinks.specs.declared.lack.Lack.{Lack}
+use Rattle.event_sinks.specs.declared.lack.MissingRange.{MissingRange}
 use Rattle.feed_text.specs.ReplayStates.{SinkTaking}
 use Rattle.feed_text.specs.Replays.{text_told}
 use Rattle.event_sinks.specs.SinkEvents.{TimedEvent}
@@ -20,7 +20,7 @@ use Rattle.period_rows.specs.CountStates.{state_told}
 use Rattle.gap_rows.specs.GapCells.{gap_names}
 use Rattle.gap_rows.specs.GapMakers.{TellsGaps}
 use Rattle.gap_rows.specs.declared.gap_maker.GapMaker.{GapMaker}
-use Rattle.replay_reports.specs.rows.RowSinks.{text_of_rows}
+use Rattle.replay_reports.specs.BestRowMakers.{text_of_rows}
 use Rattle.report_rows.specs.RowSinks.{FailsRows, IsNewRowSink, TakesRows}
 use Rattle.report_rows.specs.RowTexts.{header_text}
 use Rattle.report_rows.specs.SpanEvents.{events_in}
@@ -58,30 +58,22 @@ taking_in span taking = record {
   fails = λ before told after. taking.fails before (span_events span told) after;
 }
 
--- A replay was printed as it went on: what the writer took is the text of the events of a run of
--- the machine over what was read.
-abbrev pub PrintsEvents : {R S F W : Type 0} (reading : Reading R) (writing : Writing W)
-    (parsing : Parsing S F) (config : ReplayConfig) (text_of : List TimedEvent → List ℕ)
-    (from to : R) (start finish : S) (before after : W)
-    → Result (Unit {0}) (ReplayStop F) → Type 0
-PrintsEvents reading writing parsing config text_of from to start finish before after outcome =
-    AnswersRun reading parsing (printing writing text_of) (λ output. ⊤)
-    config (facts_of_run config) from to start finish before after outcome
+-- How a replay is printed, for any format of captures: a relation of its settings, of the reader
+-- and the format before and after, of the writer before and after, and of the outcome.
+abbrev pub Output : (R W : Type 0) → Type 1
+Output R W = (S F : Type 0) → Parsing S F → ReplayConfig → (from to : R) (start finish : S)
+    (before after : W) → Result (Unit {0}) (ReplayStop F) → Type 0
 
--- A new sink of rows prints this text of events: where it shows all that it took, the writer took
--- the text of the events, and where it failed, a front of it.
-pub record WritesRows {W M : Type 0} (writing : Writing W)
-    (makes : M → List TimedEvent → List ℕ → M → Type 0)
-    (tells : M → List TimedEvent → List ℕ → Type 0) (text_of : List TimedEvent → List ℕ)
-    (writer : W) (sink : RowSink W M) : Type 0 where
-  pub same : sink.page.writer ≡ writer
-  pub written : (told : List TimedEvent) (after : RowSink W M)
-      → TakesRows makes writing.adds writing.failures sink told after
-      → after.page.text.items ≡ [] → writing.adds writer (text_of told) after.page.writer
-  pub failed : (told : List TimedEvent) (after : RowSink W M)
-      → FailsRows tells writing.adds writing.failures sink told after
-      → Wrote writing.adds writer (text_of told) after.page.writer
-      × (writing.failures after.page.writer ≡ writing.failures writer + 1)
+-- A replay was printed so as it went on: the writer took the events of a run of the machine over
+-- what was read.
+abbrev pub PrintsEvents : {R W : Type 0} → Reading R → SinkTaking W → Output R W
+PrintsEvents reading printed S F parsing config from to start finish before after outcome =
+    AnswersRun reading parsing printed (λ output. ⊤) config (facts_of_run config) from to
+    start finish before after outcome
+
+-- the same of the events in a span
+abbrev pub PrintsRows : {R W : Type 0} → Reading R → SinkTaking W → TimeSpan → Output R W
+PrintsRows reading printed span = PrintsEvents reading (taking_in span printed)
 
 -- A sink of rows that was made before a writer: nothing came to its maker, whose rows go by the
 -- events before them, and the header waits.
@@ -147,12 +139,6 @@ pub record LeavesMissing {R S F : Type 0} (reading : Reading R) (parsing : Parsi
   pub absent : OnOk outcome (LeavesAbsent reading parsing config from to start finish outcome
       before.is_watched (symbols_with after.absent config.symbols.now) after.ordinals)
 
--- How a replay is printed, for any format of captures: a relation of its settings, of the reader
--- and the format before and after, of the writer before and after, and of the outcome.
-abbrev pub Output : (R W : Type 0) → Type 1
-Output R W = (S F : Type 0) → Parsing S F → ReplayConfig → (from to : R) (start finish : S)
-    (before after : W) → Result (Unit {0}) (ReplayStop F) → Type 0
-
 -- A replay was printed by an output, and what is missing at its end was left.
 pub record PrintsWatched {R S F W : Type 0} (reading : Reading R) (parsing : Parsing S F)
     (Prints : Output R W) (config : ReplayConfig) (from to : R) (start finish : S)
@@ -193,14 +179,12 @@ LeavesLate reading parsing config span from to start finish late outcome _ = lat
 
 -- all rows
 abbrev pub PrintsAllRows : {R W : Type 0} → Reading R → Writing W → Output R W
-PrintsAllRows reading writing S F parsing config =
-    PrintsEvents reading writing parsing config text_told
+PrintsAllRows reading writing = PrintsEvents reading (printing writing text_told)
 
 -- the rows of best lines alone, of the events in a span
 abbrev pub PrintsBestRows : {R W : Type 0} → Reading R → Writing W → RowStyle → TimeSpan
     → Output R W
-PrintsBestRows reading writing style span S F parsing config =
-    PrintsEvents reading writing parsing config (λ told. text_of_rows style (span_events span told))
+PrintsBestRows reading writing style = PrintsRows reading (printing writing (text_of_rows style))
 
 -- the statistics of the events in a span, `timed` where the records have times
 abbrev pub PrintsStatistics : {R W : Type 0} → Reading R → Writing W → Bool → TimeSpan
@@ -208,12 +192,6 @@ abbrev pub PrintsStatistics : {R W : Type 0} → Reading R → Writing W → Boo
 PrintsStatistics reading writing timed span S F parsing config =
     PrintsFigures reading writing parsing config
     (λ told. IsStatsText config timed (span_events span told))
-
--- the rows of a sink, of the events in a span
-abbrev pub PrintsRows : {R W : Type 0} → Reading R → Writing W → (List TimedEvent → List ℕ)
-    → TimeSpan → Output R W
-PrintsRows reading writing text_of span S F parsing config =
-    PrintsEvents reading writing parsing config (λ told. text_of (span_events span told))
 
 -- the header, and then the rows of the gaps that venues end at these events
 pub record IsGapText (format : RowFormat) (told : List TimedEvent) (text : List ℕ) : Type 0 where
@@ -242,33 +220,54 @@ printing_gaps writing format = record {
   fails = λ before told after. FailsGaps writing format told before after;
 }
 
+-- the rows that a sink prints: a text of events, or the rows of gaps
+pub data PrintedRows : Type 0 where
+  rows_of_text : (List TimedEvent → List ℕ) → PrintedRows
+  rows_of_gaps : RowFormat → PrintedRows
+
+abbrev pub printing_rows : {W : Type 0} → Writing W → PrintedRows → SinkTaking W
+printing_rows writing (rows_of_text text_of) = printing writing text_of
+printing_rows writing (rows_of_gaps format) = printing_gaps writing format
+
+-- A new sink prints these rows: where it shows all that it took, the writer took them, and where it
+-- failed, the writer did.
+pub record WritesRows {W M : Type 0} (writing : Writing W)
+    (makes : M → List TimedEvent → List ℕ → M → Type 0)
+    (tells : M → List TimedEvent → List ℕ → Type 0) (rows : PrintedRows)
+    (writer : W) (sink : RowSink W M) : Type 0 where
+  pub same : sink.page.writer ≡ writer
+  pub written : (told : List TimedEvent) (after : RowSink W M)
+      → TakesRows makes writing.adds writing.failures sink told after
+      → after.page.text.items ≡ []
+      → (printing_rows writing rows).takes writer told after.page.writer
+  pub failed : (told : List TimedEvent) (after : RowSink W M)
+      → FailsRows tells writing.adds writing.failures sink told after
+      → (printing_rows writing rows).fails writer told after.page.writer
+
 -- the rows of the gaps of the events in a span
 abbrev pub PrintsGapRows : {R W : Type 0} → Reading R → Writing W → RowFormat → TimeSpan
     → Output R W
-PrintsGapRows reading writing format span S F parsing config from to start finish before after
-    outcome =
-    AnswersRun reading parsing (taking_in span (printing_gaps writing format)) (λ output. ⊤)
-    config (facts_of_run config) from to start finish before after outcome
+PrintsGapRows reading writing format = PrintsRows reading (printing_gaps writing format)
 
 -- the rows of the periods in a span
 abbrev pub PrintsPeriods : {R W : Type 0} → Reading R → Writing W → PeriodStyle → TimeSpan
     → Output R W
 PrintsPeriods reading writing style span S F parsing config =
-    PrintsRows reading writing
-    (text_of_counts (record { style = style; lines = 2 * venues_in config })) span S F parsing
+    PrintsRows reading (printing writing
+    (text_of_counts (record { style = style; lines = 2 * venues_in config }))) span S F parsing
     config
 
 -- the rows of how long national bests stood in the periods of a span
 abbrev pub PrintsBestTimes : {R W : Type 0} → Reading R → Writing W → PeriodStyle → TimeSpan
     → Output R W
 PrintsBestTimes reading writing style span S F parsing config =
-    PrintsRows reading writing
+    PrintsRows reading (printing writing
     (text_of_bests (record {
       style = style;
       venues = venues_in config;
       symbols = config.symbols.now;
       from = span.from;
-    })) span S F parsing config
+    }))) span S F parsing config
 
 -- The output that is asked for. Rows of best lines and statistics are `timed` where the records
 -- have times.
@@ -305,7 +304,7 @@ pub record IsConfigOf (settings : RunSettings) (config : ReplayConfig) : Type 0 
 -- for the periods that were kept.
 pub record PrintsAsked {R S F W : Type 0} (reading : Reading R) (parsing : Parsing S F)
     (Prints : Output R W) (settings : RunSettings) (is_watched : Bool) (from to : R)
-    (start finish : S) (before after : W) (old new : List Lack) (absent : List (List ℕ))
+    (start finish : S) (before after : W) (old new : List MissingRange) (absent : List (List ℕ))
     (ordinals : List ℕ) (late : ℕ) (outcome : Result (Unit {0}) (ReplayStop F)) : Type 0 where
   pub config : ReplayConfig
   pub is : IsConfigOf settings config

@@ -6,7 +6,7 @@ use Rattle.event_sinks.specs.declared.replay_stop.ReplayStop.{ReplayStop}
 use Rattle.text_out.specs.Devices.{Writing, Wrote}
 use Rattle.capture_records.specs.Formats.{Parsing}
 use Rattle.text_out.specs.StandardError.{Says, SaysEach}
-use Rattle.event_sinks.specs.declared.lack.Lack.{Lack}
+use Rattle.event_sinks.specs.declared.lack.MissingRange.{MissingRange}
 use Rattle.run_settings.specs.declared.captured_line.CapturedLine.{CapturedLine}
 use Rattle.line_captures.specs.declared.bad_piece.BadPiece.{BadPiece}
 use Rattle.line_captures.specs.Conversions.{AnswersConversion}
@@ -17,22 +17,24 @@ use Rattle.run_settings.specs.declared.run_input.RunInput.{RunInput}
 use Rattle.run_settings.specs.declared.run_input.RunInput.TheVariants.{Own, Packets}
 use Rattle.run_settings.specs.declared.run_settings.RunSettings.{RunSettings}
 use Rattle.command_words.specs.declared.task.Task.{Task}
-use Rattle.command_words.specs.declared.task.Task.TheVariants.{Listen, Normalise}
+use Rattle.command_words.specs.declared.task.Task.TheVariants.{Listen}
 use Rattle.nbbo_runs.specs.AbsentSymbols.{told_absent}
 use Rattle.nbbo_runs.specs.CaptureTexts.{capture_texts, is_timed_capture, late_texts}
 use Rattle.nbbo_runs.specs.Discovery.{Discovered}
 use Rattle.nbbo_runs.specs.Ending.{ending_status, of_any_sessions, own_end_texts, write_failed_text}
 use Rattle.nbbo_runs.specs.Hints.{hint_text}
 use Rattle.nbbo_runs.specs.Lacks.{tells_lacks, told_lacks}
+use Rattle.nbbo_runs.specs.NormaliseRuns.{Normalised}
 use Rattle.nbbo_runs.specs.OwnCaptures.{new_own_capture, own_capture_parsing}
 use Rattle.nbbo_runs.specs.Printing.{Output, PrintsAsked, output_asked}
 use Rattle.nbbo_runs.specs.Streams.{Devices, Streams}
 use Rattle.nbbo_runs.specs.SymbolHints.{symbol_hint}
 use Rattle.nbbo_runs.specs.Timeless.{with_times}
+use Rattle.nbbo_runs.specs.TypeRuns.{CountedTypes}
 use Rattle.nbbo_runs.specs.Watches.{IsWatched, watched_texts, watching}
 use Rattle.nbbo_runs.specs.declared.watched_format.WatchedFormat.{WatchedFormat}
 use Rattle.nbbo_runs.specs.declared.program_run.Next.{Next}
-use Rattle.nbbo_runs.specs.declared.program_run.Next.TheVariants.{Ended, Listens, Normalises}
+use Rattle.nbbo_runs.specs.declared.program_run.Next.TheVariants.{Ended, Listens}
 use Rattle.nbbo_runs.specs.declared.terminals.Terminals.{Terminals}
 
 -- A capture of a format was replayed with these settings, and printed by an output. Standard error
@@ -46,7 +48,7 @@ pub record RunsOver {R W E S F : Type 0} (devices : Devices R W E) (parsing : Pa
     (before after : Streams R W E) (status : ℕ) : Type 0 where
   pub finish : S
   pub outcome : Result (Unit {0}) (ReplayStop F)
-  pub lacks : List Lack
+  pub lacks : List MissingRange
   pub absent : List (List ℕ)
   pub ordinals : List ℕ
   pub late : ℕ
@@ -171,15 +173,16 @@ pub record LeavesTask {R W E : Type 0} (words : List Text) (task : Task)
   pub asked : Asks words task
   pub untouched : after ≡ before
 
--- The result of any run: its end, or that it is left to listen or to normalise.
+-- The result of any run, where these are the bytes of the files of snapshots that the words name:
+-- its end, or that it is left to listen.
 abbrev pub Leads : {R W E : Type 0} (devices : Devices R W E) (words : List Text)
-    (terminals : Terminals) (before after : Streams R W E) → Next → Type 0
-Leads devices words terminals before after (Ended status) =
+    (terminals : Terminals) (files : List (List ℕ)) (before after : Streams R W E) → Next → Type 0
+Leads devices words terminals files before after (Ended status) =
     Ran devices words terminals before after status
     ⊎ Converted devices words terminals before after status
     ⊎ Discovered devices words terminals before after status
+    ⊎ Normalised devices words terminals files before after status
+    ⊎ CountedTypes devices words terminals before after status
     ⊎ Refused devices words before after status
-Leads devices words terminals before after (Listens settings) =
+Leads devices words terminals files before after (Listens settings) =
     LeavesTask words (Listen settings) before after
-Leads devices words terminals before after (Normalises settings) =
-    LeavesTask words (Normalise settings) before after

@@ -12,9 +12,12 @@ use Rattle.run_settings.specs.declared.captured_line.CapturedLine.{CapturedLine}
 use Rattle.run_settings.specs.declared.next_session.NextSession.{NextSession}
 use Rattle.run_settings.specs.declared.run_input.RunInput.{RunInput}
 use Rattle.run_settings.specs.declared.run_input.RunInput.TheVariants.{Own, Packets}
+use Rattle.message_forms.specs.declared.payload.Payload.{Payload}
+use Rattle.message_forms.specs.declared.payload.Payload.TheVariants.{Neither}
 use Rattle.nbbo_runs.specs.declared.venue_watch.VenueWatch.{VenueWatch}
 use Rattle.nbbo_runs.specs.declared.watched_format.WatchedFormat.{WatchedFormat}
 use Rattle.nbbo_runs.specs.Sessions.{named_sightings, session_rows, sessions_texts, sightings_of}
+use Rattle.nbbo_runs.specs.VenueLooks.{SeesLooks, look_at, look_texts}
 
 -- ---- what is watched
 
@@ -44,11 +47,12 @@ watched_by ws _ = ws
 
 -- ---- a format that is watched
 
--- what is said at the end is of these lines and sessions
+-- what is said at the end is of these lines, messages and sessions
 abbrev pub WatchedReads : {S : Type 0} (reads : S → List ℕ → List TimedRecord → S → List ℕ → Type 0)
     → WatchedFormat S → List ℕ → List TimedRecord → WatchedFormat S → List ℕ → Type 0
 WatchedReads reads s xs rs t ys =
     reads s.format xs rs t.format ys × (t.venues ≡ watched_after s.venues rs)
+    × SeesLooks s.looks rs t.looks
     × (t.seen ≡ s.seen ++ sightings_of s.sessions.now rs) × (t.sessions ≡ s.sessions)
     × (t.next ≡ s.next) × (t.input ≡ s.input)
 
@@ -66,6 +70,7 @@ pub record IsWatched {S : Type 0} (format : S) (input : RunInput) (sessions : Li
     (next : List NextSession) (w : WatchedFormat S) : Type 0 where
   pub format_is : w.format ≡ format
   pub venues_are : w.venues ≡ replicate 16 unwatched
+  pub looks_are : w.looks ≡ replicate 16 Neither
   pub seen_is : w.seen ≡ named_sightings next
   pub sessions_are : w.sessions.now ≡ sessions
   pub next_are : w.next.now ≡ next
@@ -88,21 +93,27 @@ is_given Own venue line = true
 is_given (Packets lines) venue line = list_any (is_line venue line) lines.items
 
 -- of the venue's lines that are given
-abbrev pub venue_texts : RunInput → ℕ → VenueWatch → List (List ℕ)
-venue_texts input venue w =
+abbrev pub silent_lines_texts : RunInput → ℕ → VenueWatch → List (List ℕ)
+silent_lines_texts input venue w =
     silent_texts venue (codes "A") (w.a || not (is_given input venue A))
     ++ silent_texts venue (codes "B") (w.b || not (is_given input venue B))
 
--- of the first venues, this many
-abbrev pub first_venues_texts : RunInput → List VenueWatch → ℕ → List (List ℕ)
-first_venues_texts input ws zero = []
-first_venues_texts input ws (suc n) =
-    first_venues_texts input ws n ++ venue_texts input n (slice_index_or ws n unwatched)
+-- and of its messages
+abbrev pub venue_texts : RunInput → ℕ → VenueWatch → Payload → List (List ℕ)
+venue_texts input venue w look = silent_lines_texts input venue w ++ look_texts venue look
 
--- of the venues' lines, and then of sessions, where the venues' last ones have these ordinals
+-- of the first venues, this many
+abbrev pub first_venues_texts : RunInput → List VenueWatch → List Payload → ℕ → List (List ℕ)
+first_venues_texts input ws looks zero = []
+first_venues_texts input ws looks (suc n) =
+    first_venues_texts input ws looks n
+    ++ venue_texts input n (slice_index_or ws n unwatched) (look_at looks n)
+
+-- of the venues' lines and messages, and then of sessions, where the venues' last ones have these
+-- ordinals
 abbrev pub seen_texts : {S : Type 0} → WatchedFormat S → (ordinals : List ℕ) → List (List ℕ)
 seen_texts s ordinals =
-    first_venues_texts s.input.now s.venues (length s.sessions.now)
+    first_venues_texts s.input.now s.venues s.looks (length s.sessions.now)
     ++ sessions_texts s.next.now ordinals (session_rows s.seen)
 
 -- after a run that came to its end

@@ -1,4 +1,5 @@
 //! What is said of symbols of which no item came, after a run of the program.
+ghost use Rattle.text_out.specs.Members.{writing_of};
 ghost use Rattle.text_out.specs.StandardError.{SaysEach};
 ghost use Rattle.nbbo_runs.specs.AbsentSymbols.{told_absent};
 ghost use Rattle.run_notes.specs.AbsentSymbols.{symbols_with};
@@ -15,7 +16,7 @@ pub(crate) fn tell_absent<F, E: TextOut>(
     absent: &AbsentSymbols,
     errors: &mut E,
 )
-    ensures { SaysEach (record { adds = E.adds; failures = E.failures })
+    ensures { SaysEach (writing_of E.TextOut)
         (told_absent outcome.now is_told (symbols_with absent.now symbols.now))
         errors.old errors.new }
 {

@@ -1,4 +1,5 @@
 //! What is said of a packet capture on standard error.
+ghost use Rattle.text_out.specs.Members.{writing_of};
 ghost use Rattle.std.specs.Prelude.{◌≡◌, ◌∷◌, [], codes, decimal};
 ghost use Rattle.text_out.specs.StandardError.{SaysEach};
 ghost use Rattle.nbbo_runs.specs.CaptureTexts.{bad_capture_texts, capture_fault_text, capture_outcome_texts, count_texts, datagrams_texts, dropped_texts, frame_texts, frames_texts, is_second, late_texts, lost_texts, no_line_texts, order_texts, other_texts, packed_at, protocols_texts, second_at, second_now, second_texts, start_texts};
@@ -16,7 +17,7 @@ const IN_ORDER: &str =
 
 /// Writes a line with a number.
 fn write_counted<E: TextOut>(label: &str, count: u64, errors: &mut E)
-    ensures { SaysEach (record { adds = E.adds; failures = E.failures })
+    ensures { SaysEach (writing_of E.TextOut)
         (label.now ∷ decimal count ∷ codes "\n" ∷ []) errors.old errors.new }
 {
     write_stderr(label, errors);
@@ -26,8 +27,7 @@ fn write_counted<E: TextOut>(label: &str, count: u64, errors: &mut E)
 
 /// Writes a line with a count, unless that is 0.
 fn write_count<E: TextOut>(label: &str, count: u64, errors: &mut E)
-    ensures { SaysEach (record { adds = E.adds; failures = E.failures })
-        (count_texts label.now count) errors.old errors.new }
+    ensures { SaysEach (writing_of E.TextOut) (count_texts label.now count) errors.old errors.new }
 {
     if count == 0 {
         return;
@@ -37,8 +37,7 @@ fn write_count<E: TextOut>(label: &str, count: u64, errors: &mut E)
 
 /// Writes how many frames there are where not all go to lines.
 fn write_frames<E: TextOut>(counts: &FrameCounts, errors: &mut E)
-    ensures { SaysEach (record { adds = E.adds; failures = E.failures })
-        (frames_texts counts.now) errors.old errors.new }
+    ensures { SaysEach (writing_of E.TextOut) (frames_texts counts.now) errors.old errors.new }
 {
     let all = counts.total();
     if all == counts.to_lines {
@@ -49,7 +48,7 @@ fn write_frames<E: TextOut>(counts: &FrameCounts, errors: &mut E)
 
 /// Writes how many frames there are, and how many of them carry whole datagrams.
 fn write_datagrams<E: TextOut>(all: u64, counts: &FrameCounts, errors: &mut E)
-    ensures { SaysEach (record { adds = E.adds; failures = E.failures })
+    ensures { SaysEach (writing_of E.TextOut)
         (datagrams_texts all counts.now) errors.old errors.new }
 {
     write_count("nbbo: frames in all: ", all, errors);
@@ -63,8 +62,7 @@ fn write_datagrams<E: TextOut>(all: u64, counts: &FrameCounts, errors: &mut E)
 
 /// Writes how many frames carry another protocol.
 pub(crate) fn write_protocols<E: TextOut>(counts: &FrameCounts, errors: &mut E)
-    ensures { SaysEach (record { adds = E.adds; failures = E.failures })
-        (protocols_texts counts.now) errors.old errors.new }
+    ensures { SaysEach (writing_of E.TextOut) (protocols_texts counts.now) errors.old errors.new }
 {
     write_count(
         "nbbo: frames without IP passed over: ",
@@ -80,8 +78,7 @@ pub(crate) fn write_protocols<E: TextOut>(counts: &FrameCounts, errors: &mut E)
 
 /// Writes what a line may have lost.
 pub(crate) fn write_lost<E: TextOut>(counts: &FrameCounts, errors: &mut E)
-    ensures { SaysEach (record { adds = E.adds; failures = E.failures })
-        (lost_texts counts.now) errors.old errors.new }
+    ensures { SaysEach (writing_of E.TextOut) (lost_texts counts.now) errors.old errors.new }
 {
     write_count("nbbo: fragments passed over: ", counts.fragments, errors);
     write_count("nbbo: cut frames passed over: ", counts.cut, errors);
@@ -94,8 +91,7 @@ pub(crate) fn write_lost<E: TextOut>(counts: &FrameCounts, errors: &mut E)
 
 /// Writes what to do where frames are out of time order, as this many are.
 fn write_order<E: TextOut>(disordered: u64, errors: &mut E)
-    ensures { SaysEach (record { adds = E.adds; failures = E.failures })
-        (order_texts disordered) errors.old errors.new }
+    ensures { SaysEach (writing_of E.TextOut) (order_texts disordered) errors.old errors.new }
 {
     if disordered == 0 {
         return;
@@ -105,8 +101,7 @@ fn write_order<E: TextOut>(disordered: u64, errors: &mut E)
 
 /// Writes what else is to be known of the frames.
 pub(crate) fn write_other<E: TextOut>(counts: &FrameCounts, errors: &mut E)
-    ensures { SaysEach (record { adds = E.adds; failures = E.failures })
-        (other_texts counts.now) errors.old errors.new }
+    ensures { SaysEach (writing_of E.TextOut) (other_texts counts.now) errors.old errors.new }
 {
     write_count(
         "nbbo: frames that can't be read passed over: ",
@@ -123,8 +118,7 @@ pub(crate) fn write_other<E: TextOut>(counts: &FrameCounts, errors: &mut E)
 
 /// Writes the counts of the frames.
 pub fn write_counts<E: TextOut>(counts: &FrameCounts, errors: &mut E)
-    ensures { SaysEach (record { adds = E.adds; failures = E.failures })
-        (frame_texts counts.now) errors.old errors.new }
+    ensures { SaysEach (writing_of E.TextOut) (frame_texts counts.now) errors.old errors.new }
 {
     write_frames(counts, errors);
     write_protocols(counts, errors);
@@ -134,8 +128,7 @@ pub fn write_counts<E: TextOut>(counts: &FrameCounts, errors: &mut E)
 
 /// Writes how many frames were dropped before the capture, as it says itself.
 pub fn write_dropped<E: TextOut>(dropped: &DroppedFrames, errors: &mut E)
-    ensures { SaysEach (record { adds = E.adds; failures = E.failures })
-        (dropped_texts dropped.now) errors.old errors.new }
+    ensures { SaysEach (writing_of E.TextOut) (dropped_texts dropped.now) errors.old errors.new }
 {
     write_count(
         "nbbo: frames that the capture says were dropped before packets: ",
@@ -190,7 +183,7 @@ fn packed_at(start: u32, position: u64) -> &'static str
 /// Writes at which byte a piece begins that is bad, why, and what to do where the capture is to be
 /// unpacked.
 fn write_bad_capture<E: TextOut>(bad: &BadPiece, position: u64, errors: &mut E)
-    ensures { SaysEach (record { adds = E.adds; failures = E.failures })
+    ensures { SaysEach (writing_of E.TextOut)
         (bad_capture_texts bad.now position) errors.old errors.new }
 {
     write_stderr("nbbo: bad capture at byte ", errors);
@@ -201,8 +194,7 @@ fn write_bad_capture<E: TextOut>(bad: &BadPiece, position: u64, errors: &mut E)
 
 /// Writes that no datagram goes to a line, where none does.
 fn write_no_line<E: TextOut>(to_lines: u64, errors: &mut E)
-    ensures { SaysEach (record { adds = E.adds; failures = E.failures })
-        (no_line_texts to_lines) errors.old errors.new }
+    ensures { SaysEach (writing_of E.TextOut) (no_line_texts to_lines) errors.old errors.new }
 {
     if to_lines != 0 {
         return;
@@ -218,7 +210,7 @@ pub fn write_outcome<E: TextOut>(
     to_lines: u64,
     errors: &mut E,
 )
-    ensures { SaysEach (record { adds = E.adds; failures = E.failures })
+    ensures { SaysEach (writing_of E.TextOut)
         (capture_outcome_texts outcome.now position to_lines) errors.old errors.new }
 {
     match outcome {
@@ -231,8 +223,7 @@ pub fn write_outcome<E: TextOut>(
 
 /// Writes where a second capture seems to begin, if one does.
 fn write_start<E: TextOut>(second_start: Option<u64>, errors: &mut E)
-    ensures { SaysEach (record { adds = E.adds; failures = E.failures })
-        (start_texts second_start) errors.old errors.new }
+    ensures { SaysEach (writing_of E.TextOut) (start_texts second_start) errors.old errors.new }
 {
     match second_start {
         None => {}
@@ -281,7 +272,7 @@ pub fn write_second<E: TextOut>(
     position: u64,
     errors: &mut E,
 )
-    ensures { SaysEach (record { adds = E.adds; failures = E.failures })
+    ensures { SaysEach (writing_of E.TextOut)
         (second_texts outcome.now second_start position) errors.old errors.new }
 {
     match outcome {
@@ -293,8 +284,7 @@ pub fn write_second<E: TextOut>(
 
 /// Writes how many frames came in a period before the earliest of those that were kept.
 pub fn write_late<E: TextOut>(late: u64, errors: &mut E)
-    ensures { SaysEach (record { adds = E.adds; failures = E.failures })
-        (late_texts late) errors.old errors.new }
+    ensures { SaysEach (writing_of E.TextOut) (late_texts late) errors.old errors.new }
 {
     write_count(
         "nbbo: frames earlier than the 16 periods that are kept: ",

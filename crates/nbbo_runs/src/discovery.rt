@@ -1,4 +1,5 @@
 //! Runs that list the lines of a packet capture.
+ghost use Rattle.text_out.specs.Members.{reading_of, writing_of};
 ghost use Rattle.std.specs.Prelude.{codes};
 ghost use Rattle.text_out.specs.StandardError.{SaysEach};
 ghost use Rattle.nbbo_runs.specs.Discovery.{Discovers, PrintsSurvey, RunsDiscovery, no_packet_texts, survey_outcome_texts, survey_texts};
@@ -15,7 +16,7 @@ use crate::terminals::Terminals;
 use capture_records::RecordFormat;
 use event_sinks::ReplayStop;
 use line_captures::{BadPiece, convert};
-use line_discovery::LineSurvey;
+use line_discovery::EndpointSurvey;
 use std::alloc::Global;
 use text_out::{CaptureIn, TextOut, write_stderr};
 
@@ -26,11 +27,10 @@ type Outcome = Result<(), ReplayStop<BadPiece>>;
 fn print_survey<W: TextOut>(
     alloc: Global,
     form: SurveyForm,
-    survey: &LineSurvey,
+    survey: &EndpointSurvey,
     output: &mut W,
 ) -> Outcome
-    ensures { PrintsSurvey (record { adds = W.adds; failures = W.failures }) form survey.now
-        output.old output.new result }
+    ensures { PrintsSurvey (writing_of W.TextOut) form survey.now output.old output.new result }
 {
     if !survey.may_end() {
         return Ok(());
@@ -43,13 +43,12 @@ fn print_survey<W: TextOut>(
 fn discover<R: CaptureIn, W: TextOut>(
     alloc: Global,
     form: SurveyForm,
-    survey: &mut LineSurvey,
+    survey: &mut EndpointSurvey,
     input: &mut R,
     output: &mut W,
 ) -> Outcome
     ensures { Discovers
-        (record { gives = R.gives; ends = R.ends; failures = R.failures; fails = R.fails })
-        (record { adds = W.adds; failures = W.failures })
+        (reading_of R.CaptureIn) (writing_of W.TextOut)
         form input.old input.new survey.old survey.new output.old output.new result }
 {
     let read = convert(alloc, MAX_TURNS, survey, input, output);
@@ -59,8 +58,7 @@ fn discover<R: CaptureIn, W: TextOut>(
 
 /// Writes that no datagram is a packet, where none is.
 fn write_no_packet<E: TextOut>(packets: u64, errors: &mut E)
-    ensures { SaysEach (record { adds = E.adds; failures = E.failures })
-        (no_packet_texts packets) errors.old errors.new }
+    ensures { SaysEach (writing_of E.TextOut) (no_packet_texts packets) errors.old errors.new }
 {
     if packets != 0 {
         return;
@@ -70,7 +68,7 @@ fn write_no_packet<E: TextOut>(packets: u64, errors: &mut E)
 
 /// Writes the line of an outcome, if it has one.
 fn write_survey_outcome<E: TextOut>(outcome: &Outcome, position: u64, packets: u64, errors: &mut E)
-    ensures { SaysEach (record { adds = E.adds; failures = E.failures })
+    ensures { SaysEach (writing_of E.TextOut)
         (survey_outcome_texts outcome.now position packets) errors.old errors.new }
 {
     match outcome {
@@ -80,8 +78,8 @@ fn write_survey_outcome<E: TextOut>(outcome: &Outcome, position: u64, packets: u
 }
 
 /// Writes what there is to say of a capture that was surveyed.
-fn write_survey<E: TextOut>(survey: &LineSurvey, outcome: &Outcome, errors: &mut E)
-    ensures { SaysEach (record { adds = E.adds; failures = E.failures })
+fn write_survey<E: TextOut>(survey: &EndpointSurvey, outcome: &Outcome, errors: &mut E)
+    ensures { SaysEach (writing_of E.TextOut)
         (survey_texts survey.now outcome.now) errors.old errors.new }
 {
     let frames = survey.frames();
@@ -105,21 +103,16 @@ pub fn run_discovery<R: CaptureIn, W: TextOut, E: TextOut>(
 ) -> u8
     ensures { RunsDiscovery
         (record {
-          reading = record {
-            gives = R.gives;
-            ends = R.ends;
-            failures = R.failures;
-            fails = R.fails;
-          };
-          writing = record { adds = W.adds; failures = W.failures };
-          telling = record { adds = E.adds; failures = E.failures };
+          reading = reading_of R.CaptureIn;
+          writing = writing_of W.TextOut;
+          telling = writing_of E.TextOut;
         })
         form terminals
         (record { input = input.old; output = output.old; errors = errors.old })
         (record { input = input.new; output = output.new; errors = errors.new }) result }
 {
     write_stderr(input_hint(terminals.input), errors);
-    let Ok(mut survey) = LineSurvey::new(alloc) else {
+    let Ok(mut survey) = EndpointSurvey::new(alloc) else {
         let outcome: Outcome = Err(ReplayStop::NoMemory);
         write_outcome(&outcome, 0, 0, errors);
         return status_of(&outcome);

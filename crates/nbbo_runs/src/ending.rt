@@ -46,8 +46,8 @@ fn first_hint(bad: &BadRecord) -> &'static str
     }
 }
 
-/// The status of the program: 0 after a replay that came to its end, else 1.
-pub fn status_of<F>(outcome: &Result<(), ReplayStop<F>>) -> u8
+/// The status of the program: 0 after a run that came to its end, else 1.
+pub fn status_of<T>(outcome: &Result<(), T>) -> u8
     ensures { result ≡ ending_status outcome.now }
 {
     match outcome {

@@ -1,7 +1,7 @@
 //! A sink that is asked whether anything came to it.
 
-use event_sinks::{Event, EventSink, SinkStop};
-use report_rows::SpannedSink;
+use event_sinks::{EventSink, ReplayedEvent, SinkStop};
+use report_rows::SpanAware;
 
 /// A sink, and whether an event came to it.
 #[derive(Drop)]
@@ -26,7 +26,7 @@ impl<K: EventSink> EventSink for FedSink<K> {
     ghost fails_longer = { λ s t xs ys a. K.fails_longer s.sink t.sink xs ys a };
 
     #[inline(always)]
-    fn take(&mut self, time: Option<u64>, event: &Event<'_>) -> Result<(), SinkStop> {
+    fn take(&mut self, time: Option<u64>, event: &ReplayedEvent<'_>) -> Result<(), SinkStop> {
         self.is_fed = true;
         self.sink.take(time, event)
     }
@@ -36,8 +36,8 @@ impl<K: EventSink> EventSink for FedSink<K> {
     }
 }
 
-impl<K: SpannedSink> SpannedSink for FedSink<K> {
-    fn take_before(&mut self, time: Option<u64>, event: &Event<'_>) {
+impl<K: SpanAware> SpanAware for FedSink<K> {
+    fn take_before(&mut self, time: Option<u64>, event: &ReplayedEvent<'_>) {
         self.is_fed = true;
         self.sink.take_before(time, event);
     }

@@ -1,10 +1,11 @@
 //! What is told of the messages that venues lack at the end of a replay.
+ghost use Rattle.text_out.specs.Members.{writing_of};
 ghost use Rattle.std.specs.Prelude.{◌≡◌};
 ghost use Rattle.text_out.specs.StandardError.{SaysEach};
 ghost use Rattle.nbbo_runs.specs.Lacks.{has_rule, is_packet_input, is_part, tells_lacks, told_lacks};
 
 use crate::terminals::Terminals;
-use event_sinks::{Lack, write_lacks};
+use event_sinks::{MissingRange, write_lacks};
 use run_settings::{RunInput, RunOutput, RunSettings, SkipRule};
 use text_out::TextOut;
 
@@ -58,10 +59,10 @@ pub fn tells_lacks(settings: &RunSettings, terminals: Terminals) -> bool
 pub fn tell_lacks<F, E: TextOut>(
     outcome: &Result<(), F>,
     is_told: bool,
-    lacks: &[Lack],
+    lacks: &[MissingRange],
     errors: &mut E,
 )
-    ensures { SaysEach (record { adds = E.adds; failures = E.failures })
+    ensures { SaysEach (writing_of E.TextOut)
         (told_lacks outcome.now is_told lacks.now) errors.old errors.new }
 {
     match outcome {

@@ -7,7 +7,7 @@ ghost use Rattle.event_sinks.specs.SinkEvents.{told_by};
 ghost use Rattle.nbbo_runs.specs.NamedSessions.{first_ordinals, never_begins, ordinals_with};
 
 use crate::session_row::VenueSession;
-use event_sinks::Event;
+use event_sinks::ReplayedEvent;
 use run_settings::NextSession;
 
 /// The most venues of a capture.
@@ -25,11 +25,11 @@ pub(crate) fn first_ordinals() -> Ordinals
 
 /// Notes the ordinal of the session that began by an event, if one did.
 #[inline(always)]
-pub(crate) fn note_renewal(ordinals: &mut Ordinals, event: &Event<'_>)
+pub(crate) fn note_renewal(ordinals: &mut Ordinals, event: &ReplayedEvent<'_>)
     ensures { ordinals.new ≡ ordinals_with ordinals.old (told_by event.now) }
 {
     match event {
-        Event::Renewal {
+        ReplayedEvent::Renewal {
             venue,
             answer: Ok(ordinal),
         } => {

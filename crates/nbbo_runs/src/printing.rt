@@ -1,17 +1,18 @@
 //! What is printed of a replay.
+ghost use Rattle.text_out.specs.Members.{reading_of, writing_of};
 ghost use Rattle.std.specs.Prelude.{◌≡◌, ◌≤◌, ◌*◌, ⊤, ℕ, List, [], Err, IfErr, IfOk, IsOkAnd, vec_len};
 ghost use Rattle.event_sinks.specs.declared.replay_stop.ReplayStop.TheVariants.{NoMemory};
 ghost use Rattle.feed_text.specs.EventReplays.{AnswersRun, venues_in};
 ghost use Rattle.feed_text.specs.Replays.{CanReplay};
-ghost use Rattle.event_sinks.specs.SinkEvents.{TimedEvent};
 ghost use Rattle.period_rows.specs.BestMakers.{AreBests};
 ghost use Rattle.period_rows.specs.BestRows.{best_names};
 ghost use Rattle.period_rows.specs.CountRows.{ArePeriodCounts, count_names};
-ghost use Rattle.replay_reports.specs.rows.RowSinks.{IsNewRows};
+ghost use Rattle.best_rows.specs.RowTexts.{header_of};
+ghost use Rattle.replay_reports.specs.BestRowMakers.{IsInStyle};
 ghost use Rattle.report_rows.specs.RowTexts.{header_text};
 ghost use Rattle.replay_run.specs.Printed.{facts_of_run};
 ghost use Rattle.run_notes.specs.AbsentSymbols.{symbols_with};
-ghost use Rattle.nbbo_runs.specs.Printing.{IsGapSink, IsSinkBefore, PrintsAllRows, PrintsAsked, PrintsBestRows, PrintsGapRows, PrintsPeriods, PrintsRows, PrintsStatistics, PrintsText, PrintsWatched, WritesRows, counting_late, late_told, output_asked};
+ghost use Rattle.nbbo_runs.specs.Printing.{IsGapSink, IsSinkBefore, PrintedRows, PrintsAllRows, PrintsAsked, PrintsPeriods, PrintsRows, PrintsStatistics, PrintsText, PrintsWatched, WritesRows, counting_late, late_told, output_asked, printing_rows};
 
 use crate::config::{RunConfig, config_of};
 use crate::fed_sink::FedSink;
@@ -24,7 +25,7 @@ use event_sinks::{ReplayStop, Replayed, TextPage, TextSink};
 use gap_rows::{GapMaker, new_gap_rows};
 use line_gaps::new_gaps;
 use period_rows::{BestMaker, PeriodCounter, new_best_rows, new_count_rows};
-use replay_reports::{BestRows, ReplayStats};
+use replay_reports::{BestRowMaker, ReplayStats, new_best_row_sink};
 use report_rows::{RowMaker, RowSink};
 use run_settings::{PeriodStyle, ReportFormat, RowFormat, RunOutput, RunSettings};
 use std::alloc::{AllocError, Global};
@@ -90,12 +91,10 @@ fn print_lines<R: CaptureIn, F: RecordFormat, W: TextOut>(
     requires can { CanReplay config.now.replay }
     requires of_venues { F.venues format.old ≡ venues_in config.now.replay }
     ensures { PrintsWatched
-        (record { gives = R.gives; ends = R.ends; failures = R.failures; fails = R.fails })
+        (reading_of R.CaptureIn)
         (record { reads = F.reads; wants = F.wants; is_bad = F.is_bad; is_whole = F.is_whole })
         (PrintsAllRows
-        (record { gives = R.gives; ends = R.ends; failures = R.failures; fails = R.fails })
-        (record { adds = W.adds; failures = W.failures }))
-        config.now.replay
+        (reading_of R.CaptureIn) (writing_of W.TextOut)) config.now.replay
         input.old input.new format.old format.new output result.sink missing.old missing.new
         result.outcome }
 {
@@ -118,49 +117,14 @@ fn print_lines<R: CaptureIn, F: RecordFormat, W: TextOut>(
 }
 
 /// The rows of best lines, before the output. Where memory is refused the output is returned.
-fn rows_before<W>(alloc: Global, style: RowStyle, output: W) -> Result<BestRows<W>, W>
-    ensures rows { IfOk result (IsNewRows output style) }
+fn rows_before<W>(alloc: Global, style: RowStyle, output: W) -> Result<RowSink<W, BestRowMaker>, W>
+    ensures rows { IfOk result (IsSinkBefore IsInStyle
+        (header_of style.format style.timed) style output) }
     ensures refused { IfErr result (λ back. back ≡ output) }
 {
     match page_before(alloc, output) {
-        Ok(page) => Ok(BestRows::new(page, style)),
+        Ok(page) => Ok(new_best_row_sink(page, style)),
         Err(output) => Err(output),
-    }
-}
-
-/// Replays a capture, and prints the rows of its best lines in a style. Returns the output beside
-/// the outcome. What is missing at the end is left in `missing`.
-fn print_bests<R: CaptureIn, F: RecordFormat, W: TextOut + Drop>(
-    alloc: Global,
-    config: &RunConfig<'_>,
-    style: RowStyle,
-    format: &mut F,
-    input: &mut R,
-    output: W,
-    missing: &mut Missing,
-) -> Replayed<W, F::Fault>
-    requires can { CanReplay config.now.replay }
-    requires of_venues { F.venues format.old ≡ venues_in config.now.replay }
-    ensures { PrintsWatched
-        (record { gives = R.gives; ends = R.ends; failures = R.failures; fails = R.fails })
-        (record { reads = F.reads; wants = F.wants; is_bad = F.is_bad; is_whole = F.is_whole })
-        (PrintsBestRows
-        (record { gives = R.gives; ends = R.ends; failures = R.failures; fails = R.fails })
-        (record { adds = W.adds; failures = W.failures })
-        style config.now.span)
-        config.now.replay
-        input.old input.new format.old format.new output result.sink missing.old missing.new
-        result.outcome }
-{
-    match rows_before(alloc, style, output) {
-        Ok(rows) => {
-            let replayed = replay_in_span(alloc, config, format, input, rows, missing);
-            Replayed {
-                sink: replayed.sink.into_writer(),
-                outcome: replayed.outcome,
-            }
-        }
-        Err(output) => without_memory(output),
     }
 }
 
@@ -180,42 +144,6 @@ fn gaps_before<W>(
     match page_before(alloc, output) {
         Ok(page) => Ok(new_gap_rows(page, format, venues)),
         Err(output) => Err(output),
-    }
-}
-
-/// Replays a capture, and prints the rows of its gaps in a format. Returns the output beside the
-/// outcome. What is missing at the end is left in `missing`.
-fn print_gaps<R: CaptureIn, F: RecordFormat, W: TextOut + Drop>(
-    alloc: Global,
-    config: &RunConfig<'_>,
-    rows: RowFormat,
-    format: &mut F,
-    input: &mut R,
-    output: W,
-    missing: &mut Missing,
-) -> Replayed<W, F::Fault>
-    requires can { CanReplay config.now.replay }
-    requires of_venues { F.venues format.old ≡ venues_in config.now.replay }
-    ensures { PrintsWatched
-        (record { gives = R.gives; ends = R.ends; failures = R.failures; fails = R.fails })
-        (record { reads = F.reads; wants = F.wants; is_bad = F.is_bad; is_whole = F.is_whole })
-        (PrintsGapRows
-        (record { gives = R.gives; ends = R.ends; failures = R.failures; fails = R.fails })
-        (record { adds = W.adds; failures = W.failures })
-        rows config.now.span)
-        config.now.replay
-        input.old input.new format.old format.new output result.sink missing.old missing.new
-        result.outcome }
-{
-    match gaps_before(alloc, config, rows, output) {
-        Ok(rows) => {
-            let replayed = replay_in_span(alloc, config, format, input, rows, missing);
-            Replayed {
-                sink: replayed.sink.into_writer(),
-                outcome: replayed.outcome,
-            }
-        }
-        Err(output) => without_memory(output),
     }
 }
 
@@ -288,18 +216,14 @@ fn print_rows<R: CaptureIn, F: RecordFormat, W: TextOut + Drop, M: RowMaker + Dr
 ) -> Replayed<W, F::Fault>
     requires can { CanReplay config.now.replay }
     requires of_venues { F.venues format.old ≡ venues_in config.now.replay }
-    ensures { (text_of : List TimedEvent → List ℕ) (output : W)
-        → IfOk made (WritesRows (record { adds = W.adds; failures = W.failures })
-        M.makes M.tells text_of output)
+    ensures { (kind : PrintedRows) (output : W)
+        → IfOk made (WritesRows (writing_of W.TextOut) M.makes M.tells kind output)
         → IfErr made (λ back. back ≡ output)
         → PrintsWatched
-        (record { gives = R.gives; ends = R.ends; failures = R.failures; fails = R.fails })
+        (reading_of R.CaptureIn)
         (record { reads = F.reads; wants = F.wants; is_bad = F.is_bad; is_whole = F.is_whole })
-        (PrintsRows
-        (record { gives = R.gives; ends = R.ends; failures = R.failures; fails = R.fails })
-        (record { adds = W.adds; failures = W.failures })
-        text_of config.now.span)
-        config.now.replay
+        (PrintsRows (reading_of R.CaptureIn) (printing_rows (writing_of W.TextOut) kind)
+        config.now.span) config.now.replay
         input.old input.new format.old format.new output result.sink missing.old missing.new
         result.outcome }
 {
@@ -341,17 +265,14 @@ fn print_periods<R: CaptureIn, F: RecordFormat, W: TextOut + Drop>(
     requires of_venues { F.venues format.old ≡ venues_in config.now.replay }
     requires few { venues_in config.now.replay ≤ 16 }
     ensures printed { PrintsWatched
-        (record { gives = R.gives; ends = R.ends; failures = R.failures; fails = R.fails })
+        (reading_of R.CaptureIn)
         (record { reads = F.reads; wants = F.wants; is_bad = F.is_bad; is_whole = F.is_whole })
         (PrintsPeriods
-        (record { gives = R.gives; ends = R.ends; failures = R.failures; fails = R.fails })
-        (record { adds = W.adds; failures = W.failures })
-        style config.now.span)
-        config.now.replay
+        (reading_of R.CaptureIn) (writing_of W.TextOut) style config.now.span) config.now.replay
         input.old input.new format.old format.new output result.output missing.old missing.new
         result.outcome }
     ensures late { AnswersRun
-        (record { gives = R.gives; ends = R.ends; failures = R.failures; fails = R.fails })
+        (reading_of R.CaptureIn)
         (record { reads = F.reads; wants = F.wants; is_bad = F.is_bad; is_whole = F.is_whole })
         (counting_late style.length config.now.span) (λ late. ⊤) config.now.replay
         (facts_of_run config.now.replay) input.old input.new format.old format.new
@@ -376,7 +297,7 @@ pub fn write_text<W: TextOut, F>(
     made: Result<Vec<u8>, AllocError>,
     output: &mut W,
 ) -> Result<(), ReplayStop<F>>
-    ensures { PrintsText (record { adds = W.adds; failures = W.failures })
+    ensures { PrintsText (writing_of W.TextOut)
         (λ text. IsOkAnd made (λ bytes. bytes.items ≡ text)) output.old output.new result }
 {
     let Ok(text) = made else {
@@ -422,12 +343,10 @@ fn print_stats<R: CaptureIn, F: RecordFormat, W: TextOut>(
     requires can { CanReplay config.now.replay }
     requires of_venues { F.venues format.old ≡ venues_in config.now.replay }
     ensures { PrintsWatched
-        (record { gives = R.gives; ends = R.ends; failures = R.failures; fails = R.fails })
+        (reading_of R.CaptureIn)
         (record { reads = F.reads; wants = F.wants; is_bad = F.is_bad; is_whole = F.is_whole })
         (PrintsStatistics
-        (record { gives = R.gives; ends = R.ends; failures = R.failures; fails = R.fails })
-        (record { adds = W.adds; failures = W.failures })
-        form.has_times config.now.span)
+        (reading_of R.CaptureIn) (writing_of W.TextOut) form.has_times config.now.span)
         config.now.replay
         input.old input.new format.old format.new output result.sink missing.old missing.new
         result.outcome }
@@ -464,12 +383,10 @@ pub fn print<R: CaptureIn, F: RecordFormat, W: TextOut + Drop>(
 ) -> Printed<W, F::Fault>
     requires { F.venues format.old ≡ vec_len settings.now.feed.sessions }
     ensures { PrintsAsked
-        (record { gives = R.gives; ends = R.ends; failures = R.failures; fails = R.fails })
+        (reading_of R.CaptureIn)
         (record { reads = F.reads; wants = F.wants; is_bad = F.is_bad; is_whole = F.is_whole })
         (output_asked
-        (record { gives = R.gives; ends = R.ends; failures = R.failures; fails = R.fails })
-        (record { adds = W.adds; failures = W.failures })
-        settings.now)
+        (reading_of R.CaptureIn) (writing_of W.TextOut) settings.now)
         settings.now missing.old.is_watched input.old input.new format.old format.new
         output result.output missing.old.lacks.items missing.new.lacks.items
         (symbols_with missing.new.absent settings.now.feed.symbols.items) missing.new.ordinals
@@ -486,8 +403,8 @@ pub fn print<R: CaptureIn, F: RecordFormat, W: TextOut + Drop>(
                 format: rows,
                 timed,
             };
-            let printed = print_bests(alloc, &config, style, format, input, output, missing);
-            without_periods(printed)
+            let made = rows_before(alloc, style, output);
+            without_periods(print_rows(alloc, &config, made, format, input, missing))
         }
         RunOutput::Periods(style) => {
             print_periods(alloc, &config, style, format, input, output, missing)
@@ -504,8 +421,8 @@ pub fn print<R: CaptureIn, F: RecordFormat, W: TextOut + Drop>(
             without_periods(print_stats(alloc, &config, form, format, input, output, missing))
         }
         RunOutput::Gaps(rows) => {
-            let printed = print_gaps(alloc, &config, rows, format, input, output, missing);
-            without_periods(printed)
+            let made = gaps_before(alloc, &config, rows, output);
+            without_periods(print_rows(alloc, &config, made, format, input, missing))
         }
     }
 }

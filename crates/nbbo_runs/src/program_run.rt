@@ -1,14 +1,17 @@
 //! A run of the program over any input, output and standard error.
+ghost use Rattle.text_out.specs.Members.{reading_of, writing_of};
 ghost use Rattle.std.specs.Prelude.{◌≡◌, map, string_bytes};
 ghost use Rattle.nbbo_runs.specs.Runs.{Leads, TellsRefusal};
 
 use crate::discovery::run_discovery;
 use crate::ending::WRITE_FAILED;
+use crate::normalisation::run_normalisation;
 use crate::runs::{RunEnd, run_conversion, run_settings};
 use crate::survey_form::SurveyForm;
 use crate::terminals::Terminals;
+use crate::type_counts::run_types;
 use command_words::{Refusal, Task, settings};
-use run_settings::{ListenSettings, NormaliseSettings};
+use run_settings::ListenSettings;
 use std::alloc::Global;
 use text_out::{CaptureIn, TextOut, write_all, write_stderr};
 
@@ -19,8 +22,6 @@ pub enum Next {
     Ended(u8),
     /// The words ask to listen, and nothing else was done.
     Listens(ListenSettings),
-    /// The words ask to normalise, and nothing else was done.
-    Normalises(NormaliseSettings),
 }
 
 /// What hints are made of after a run.
@@ -47,8 +48,7 @@ pub struct ProgramRun<R, W> {
 /// program.
 pub fn refuse<W: TextOut, E: TextOut>(refusal: &Refusal, output: &mut W, errors: &mut E) -> u8
     ensures { TellsRefusal
-        (record { adds = W.adds; failures = W.failures })
-        (record { adds = E.adds; failures = E.failures })
+        (writing_of W.TextOut) (writing_of E.TextOut)
         refusal.now output.old output.new errors.old errors.new result }
 {
     let status = refusal.status();
@@ -97,32 +97,30 @@ fn left<R, W>(next: Next, input: R, output: W) -> ProgramRun<R, W>
 }
 
 /// Does what the words ask for, of which the first is the program's name, except listening, which
-/// takes sockets and threads, and normalising: then the settings for it are returned.
+/// takes sockets and threads: then the settings for it are returned.
 ///
-/// The input is read only for a replay, a conversion, statistics or the lines of a capture. The
-/// lines of a replay, the rows of its best lines, its statistics, the converted capture, or the
-/// lines of a capture are all that is written on the output. Before a terminal is read, standard
-/// error says so.
+/// The input is read only for a replay, a conversion, statistics, the lines of a capture, counts of
+/// messages by type, or to be normalised. The lines of a replay, the rows of its best lines, its
+/// statistics, the converted or normalised capture, the lines of a capture, or the counts by type
+/// are all that is written on the output. Before a terminal is read, standard error says so.
+/// `files` are the bytes of the files of snapshots that the words name, in their order.
 pub fn run<R: CaptureIn + Drop, W: TextOut + Drop, E: TextOut>(
     alloc: Global,
     words: &[String],
     terminals: Terminals,
+    files: &[Vec<u8>],
     mut input: R,
     mut output: W,
     errors: &mut E,
 ) -> ProgramRun<R, W>
     ensures { Leads
         (record {
-          reading = record {
-            gives = R.gives;
-            ends = R.ends;
-            failures = R.failures;
-            fails = R.fails;
-          };
-          writing = record { adds = W.adds; failures = W.failures };
-          telling = record { adds = E.adds; failures = E.failures };
+          reading = reading_of R.CaptureIn;
+          writing = writing_of W.TextOut;
+          telling = writing_of E.TextOut;
         })
         (map (λ word. string_bytes word) words.now) terminals
+        (map (λ of. of.items) files.now)
         (record { input = input; output = output; errors = errors.old })
         (record { input = result.input; output = result.output; errors = errors.new })
         result.next }
@@ -150,8 +148,17 @@ pub fn run<R: CaptureIn + Drop, W: TextOut + Drop, E: TextOut>(
             let status = run_discovery(alloc, form, terminals, &mut input, &mut output, errors);
             ended(status, input, output, RunFacts::default())
         }
+        Ok(Task::CountTypes(settings)) => {
+            let (from, to) = (&mut input, &mut output);
+            let status = run_types(alloc, &settings, terminals, from, to, errors);
+            ended(status, input, output, RunFacts::default())
+        }
         Ok(Task::Listen(settings)) => left(Next::Listens(settings), input, output),
-        Ok(Task::Normalise(settings)) => left(Next::Normalises(settings), input, output),
+        Ok(Task::Normalise(request)) => {
+            let (from, to) = (&mut input, &mut output);
+            let status = run_normalisation(alloc, &request, files, terminals, from, to, errors);
+            ended(status, input, output, RunFacts::default())
+        }
         Err(refusal) => {
             let status = refuse(&refusal, &mut output, errors);
             let facts = RunFacts {

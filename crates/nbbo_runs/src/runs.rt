@@ -1,4 +1,5 @@
 //! Runs over captures: replays that are printed, and conversions.
+ghost use Rattle.text_out.specs.Members.{reading_of, writing_of};
 ghost use Rattle.std.specs.Prelude.{◌≡◌, vec_len};
 ghost use Rattle.run_settings.specs.Lists.{AreOfVenues};
 ghost use Rattle.nbbo_runs.specs.Printing.{output_asked};
@@ -8,6 +9,7 @@ ghost use Rattle.nbbo_runs.specs.Timeless.{with_times};
 use crate::absent_report::tell_absent;
 use crate::capture_report::write_late;
 use crate::config::MAX_TURNS;
+use crate::end_report::EndReport;
 use crate::ending::status_of;
 use crate::hints::input_hint;
 use crate::lacks::{tell_lacks, tells_lacks};
@@ -16,7 +18,6 @@ use crate::printing::print;
 use crate::symbol_hint::symbol_hint;
 use crate::terminals::Terminals;
 use crate::timeless::tell_timeless;
-use crate::told_format::ToldFormat;
 use crate::watched_format::WatchedFormat;
 use crate::watched_sink::Missing;
 use event_sinks::ReplayStop;
@@ -42,7 +43,7 @@ fn is_journal_full<F>(outcome: &Result<(), ReplayStop<F>>) -> bool {
 
 /// Replays a capture of a format, of which nothing was read, and prints it as the settings say.
 /// Returns its end.
-fn run_over<R: CaptureIn, F: ToldFormat + Drop, W: TextOut + Drop, E: TextOut>(
+fn run_over<R: CaptureIn, F: EndReport + Drop, W: TextOut + Drop, E: TextOut>(
     alloc: Global,
     settings: &RunSettings,
     terminals: Terminals,
@@ -54,20 +55,13 @@ fn run_over<R: CaptureIn, F: ToldFormat + Drop, W: TextOut + Drop, E: TextOut>(
     requires { F.venues format ≡ vec_len settings.now.feed.sessions }
     ensures { RunsOver
         (record {
-          reading = record {
-            gives = R.gives;
-            ends = R.ends;
-            failures = R.failures;
-            fails = R.fails;
-          };
-          writing = record { adds = W.adds; failures = W.failures };
-          telling = record { adds = E.adds; failures = E.failures };
+          reading = reading_of R.CaptureIn;
+          writing = writing_of W.TextOut;
+          telling = writing_of E.TextOut;
         })
         (record { reads = F.reads; wants = F.wants; is_bad = F.is_bad; is_whole = F.is_whole })
         (output_asked
-        (record { gives = R.gives; ends = R.ends; failures = R.failures; fails = R.fails })
-        (record { adds = W.adds; failures = W.failures })
-        settings.now)
+        (reading_of R.CaptureIn) (writing_of W.TextOut) settings.now)
         (with_times settings.now F.is_timed F.end_texts) settings.now terminals format
         (record { input = input.old; output = output; errors = errors.old })
         (record { input = input.new; output = result.output; errors = errors.new })
@@ -81,7 +75,7 @@ fn run_over<R: CaptureIn, F: ToldFormat + Drop, W: TextOut + Drop, E: TextOut>(
     tell_lacks(&printed.outcome, is_told, missing.lacks.as_slice(), errors);
     let symbols = settings.feed.symbols.as_slice();
     tell_absent(&printed.outcome, is_told, symbols, &missing.absent, errors);
-    format.tell_end(&missing.ordinals, &printed.outcome, errors);
+    format.write_end_report(&missing.ordinals, &printed.outcome, errors);
     tell_timeless(settings, format.has_times(), &printed.outcome, errors);
     write_late(printed.late, errors);
     RunEnd {
@@ -103,20 +97,12 @@ pub fn run_settings<R: CaptureIn, W: TextOut + Drop, E: TextOut>(
 ) -> RunEnd<W>
     ensures { RunsBy
         (record {
-          reading = record {
-            gives = R.gives;
-            ends = R.ends;
-            failures = R.failures;
-            fails = R.fails;
-          };
-          writing = record { adds = W.adds; failures = W.failures };
-          telling = record { adds = E.adds; failures = E.failures };
+          reading = reading_of R.CaptureIn;
+          writing = writing_of W.TextOut;
+          telling = writing_of E.TextOut;
         })
         (output_asked
-        (record { gives = R.gives; ends = R.ends; failures = R.failures; fails = R.fails })
-        (record { adds = W.adds; failures = W.failures })
-        settings.now)
-        settings.now terminals
+        (reading_of R.CaptureIn) (writing_of W.TextOut) settings.now) settings.now terminals
         (record { input = input.old; output = output; errors = errors.old })
         (record { input = input.new; output = result.output; errors = errors.new })
         result.status settings.now.input }
@@ -152,14 +138,9 @@ pub fn run_conversion<R: CaptureIn, W: TextOut, E: TextOut>(
     requires { AreOfVenues 16 lines.now }
     ensures { RunsConversion
         (record {
-          reading = record {
-            gives = R.gives;
-            ends = R.ends;
-            failures = R.failures;
-            fails = R.fails;
-          };
-          writing = record { adds = W.adds; failures = W.failures };
-          telling = record { adds = E.adds; failures = E.failures };
+          reading = reading_of R.CaptureIn;
+          writing = writing_of W.TextOut;
+          telling = writing_of E.TextOut;
         })
         lines.now terminals
         (record { input = input.old; output = output.old; errors = errors.old })
@@ -168,6 +149,6 @@ pub fn run_conversion<R: CaptureIn, W: TextOut, E: TextOut>(
     write_stderr(input_hint(terminals.input), errors);
     let mut format = PacketFormat::new(lines, VENUES);
     let outcome = convert(alloc, MAX_TURNS, &mut format, input, output);
-    format.tell_end(&[], &outcome, errors);
+    format.write_end_report(&[], &outcome, errors);
     status_of(&outcome)
 }

@@ -1,5 +1,6 @@
 //! What is said of sessions that nothing names, and of named ones that never began, on standard
 //! error.
+ghost use Rattle.text_out.specs.Members.{writing_of};
 ghost use Rattle.std.specs.Prelude.{◌≡◌, false, flat_map};
 ghost use Rattle.text_out.specs.StandardError.{SaysEach};
 ghost use Rattle.nbbo_runs.specs.NamedSessions.{never_begins};
@@ -32,8 +33,7 @@ fn datagrams(count: u64) -> &'static str
 
 /// Writes which venue refused how many datagrams.
 fn write_refused<E: TextOut>(venue: VenueId, count: u64, errors: &mut E)
-    ensures { SaysEach (record { adds = E.adds; failures = E.failures })
-        (refused_texts venue count) errors.old errors.new }
+    ensures { SaysEach (writing_of E.TextOut) (refused_texts venue count) errors.old errors.new }
 {
     write_stderr("nbbo: venue ", errors);
     write_number(venue.index() as u64, errors);
@@ -44,8 +44,7 @@ fn write_refused<E: TextOut>(venue: VenueId, count: u64, errors: &mut E)
 
 /// Writes what was refused of a session, and why.
 fn write_row<E: TextOut>(row: &SessionRow, why: &str, errors: &mut E)
-    ensures { SaysEach (record { adds = E.adds; failures = E.failures })
-        (row_texts why.now row.now) errors.old errors.new }
+    ensures { SaysEach (writing_of E.TextOut) (row_texts why.now row.now) errors.old errors.new }
 {
     write_refused(row.session.venue, row.datagrams, errors);
     write_session_name(&row.session.name, errors);
@@ -54,7 +53,7 @@ fn write_row<E: TextOut>(row: &SessionRow, why: &str, errors: &mut E)
 
 /// Writes what was refused of a session that is named, if it came and never began.
 fn write_named<E: TextOut>(row: &SessionRow, never_begins: bool, errors: &mut E)
-    ensures { SaysEach (record { adds = E.adds; failures = E.failures })
+    ensures { SaysEach (writing_of E.TextOut)
         (named_texts never_begins row.now) errors.old errors.new }
 {
     if row.datagrams > 0 && never_begins {
@@ -64,7 +63,7 @@ fn write_named<E: TextOut>(row: &SessionRow, never_begins: bool, errors: &mut E)
 
 /// Writes what was refused of a session, if nothing names it or it never began.
 fn write_session<E: TextOut>(named: &NamedSessions<'_>, row: &SessionRow, errors: &mut E)
-    ensures { SaysEach (record { adds = E.adds; failures = E.failures })
+    ensures { SaysEach (writing_of E.TextOut)
         (session_texts named.now.next.now named.now.ordinals.now row.now) errors.old errors.new }
 {
     if row.is_named {
@@ -76,7 +75,7 @@ fn write_session<E: TextOut>(named: &NamedSessions<'_>, row: &SessionRow, errors
 
 /// Writes what was refused of these sessions.
 fn write_rows<E: TextOut>(named: &NamedSessions<'_>, rows: &[SessionRow], errors: &mut E)
-    ensures { SaysEach (record { adds = E.adds; failures = E.failures })
+    ensures { SaysEach (writing_of E.TextOut)
         (flat_map (session_texts named.now.next.now named.now.ordinals.now) rows.now)
         errors.old errors.new }
 {
@@ -87,8 +86,7 @@ fn write_rows<E: TextOut>(named: &NamedSessions<'_>, rows: &[SessionRow], errors
 
 /// Writes that there are as many rows as can be, where there are.
 fn write_full<E: TextOut>(rows: usize, errors: &mut E)
-    ensures { SaysEach (record { adds = E.adds; failures = E.failures })
-        (full_texts rows) errors.old errors.new }
+    ensures { SaysEach (writing_of E.TextOut) (full_texts rows) errors.old errors.new }
 {
     if rows < MOST {
         return;
@@ -102,7 +100,7 @@ pub(crate) fn write_sessions<E: TextOut>(
     rows: &[SessionRow],
     errors: &mut E,
 )
-    ensures { SaysEach (record { adds = E.adds; failures = E.failures })
+    ensures { SaysEach (writing_of E.TextOut)
         (sessions_texts named.now.next.now named.now.ordinals.now rows.now) errors.old errors.new }
 {
     write_rows(named, rows, errors);

@@ -1,4 +1,5 @@
 //! What has no effect, since nothing that was read had a time.
+ghost use Rattle.text_out.specs.Members.{writing_of};
 ghost use Rattle.text_out.specs.StandardError.{SaysEach};
 ghost use Rattle.std.specs.Prelude.{◌≡◌};
 ghost use Rattle.nbbo_runs.specs.Timeless.{output_hint, skips_hint, span_hint, timeless_texts, untimed_texts};
@@ -42,8 +43,7 @@ fn skips_hint(skips: SkipRule) -> &'static str
 
 /// Writes which of the settings have no effect, where nothing had a time.
 fn tell_untimed<E: TextOut>(settings: &RunSettings, errors: &mut E)
-    ensures { SaysEach (record { adds = E.adds; failures = E.failures })
-        (untimed_texts settings.now) errors.old errors.new }
+    ensures { SaysEach (writing_of E.TextOut) (untimed_texts settings.now) errors.old errors.new }
 {
     write_stderr(output_hint(settings.output), errors);
     write_stderr(span_hint(settings.span), errors);
@@ -58,7 +58,7 @@ pub(crate) fn tell_timeless<F, E: TextOut>(
     outcome: &Result<(), F>,
     errors: &mut E,
 )
-    ensures { SaysEach (record { adds = E.adds; failures = E.failures })
+    ensures { SaysEach (writing_of E.TextOut)
         (timeless_texts settings.now is_timed outcome.now) errors.old errors.new }
 {
     match outcome {

@@ -1,21 +1,24 @@
 //! A format of captures whose datagrams are watched.
+ghost use Rattle.text_out.specs.Members.{writing_of};
 ghost use Rattle.std.specs.Prelude.{◌≡◌, [], ◌∷◌, ◌++◌, IfNone, IfSome, None, Some, length, slice_get, slice_index_or};
 ghost use Rattle.text_out.specs.StandardError.{SaysEach};
 ghost use Rattle.nbbo_runs.specs.Sessions.{datagram_sightings, is_first, name_in, named_sightings, sighted_by, sighting_of};
-ghost use Rattle.nbbo_runs.specs.Watches.{IsWatched, WatchedReads, first_venues_texts, seen_texts, silent_texts, unwatched, venue_texts, watch_texts, watched_by, watched_texts};
+ghost use Rattle.nbbo_runs.specs.VenueLooks.{LooksBy, LooksWith, step_datagram, look_at, look_texts};
+ghost use Rattle.nbbo_runs.specs.Watches.{IsWatched, WatchedReads, first_venues_texts, seen_texts, silent_lines_texts, silent_texts, unwatched, venue_texts, watch_texts, watched_by, watched_texts};
 ghost use Rattle.nbbo_runs.specs.WatchLaws.{watched_longer, watched_more, watched_none};
 
+use crate::end_report::EndReport;
 use crate::given_lines::is_given;
 use crate::named_sessions::NamedSessions;
 use crate::session_name::is_same_name;
 use crate::session_report::write_sessions;
 use crate::session_row::{SessionSighting, VenueSession};
 use crate::session_table::SessionTable;
-use crate::told_format::ToldFormat;
 use crate::venue_watch::VenueWatch;
 use capture_records::{Record, RecordFormat, Step};
 use event_sinks::ReplayStop;
 use feed_types::{LineId, VenueId};
+use message_forms::{Payload, look_after};
 use run_settings::{NextSession, RunInput, RunSettings};
 use text_out::{TextOut, write_number, write_stderr};
 
@@ -26,12 +29,13 @@ const VENUES: usize = 16;
 const HEADER: usize = 20;
 
 /// A format of captures, and what is watched of the datagrams that it reads: which lines have one,
-/// and which are of another session than their venue's first. The sessions that follow that are
-/// named.
+/// what the venues' messages look like, and which are of another session than their venue's first.
+/// The sessions that follow that are named.
 #[derive(Drop)]
 pub struct WatchedFormat<'a, F> {
     format: F,
     venues: [VenueWatch; VENUES],
+    looks: [Payload; VENUES],
     seen: SessionTable,
     sessions: &'a [[u8; 10]],
     next: &'a [NextSession],
@@ -54,6 +58,48 @@ fn watch<F>(venues: &mut [VenueWatch], step: &Step<'_, F>)
             }
         }
         _ => {}
+    }
+}
+
+/// Notes what the messages of a datagram make those of its venue look like.
+#[inline(always)]
+fn note_look(looks: &mut [Payload], venue: VenueId, bytes: &[u8])
+    ensures { LooksWith looks.old venue bytes.now looks.new }
+{
+    let place = venue.index();
+    if place >= looks.len() {
+        return;
+    }
+    let before = look_at(looks, place);
+    if before.is_own() {
+        return;
+    }
+    looks[place] = look_after(before, bytes);
+}
+
+/// Returns the venue and the bytes of a datagram, where one came.
+#[inline(always)]
+fn step_datagram<'b, F>(step: &Step<'b, F>) -> Option<(VenueId, &'b [u8])>
+    ensures found { IfSome result (λ d. step_datagram step.now ≡ Some (d.0, d.1.now)) }
+    ensures none { IfNone result (step_datagram step.now ≡ None) }
+{
+    match step {
+        Step::Came {
+            record: Record::Datagram { venue, bytes, .. },
+            ..
+        } => Some((*venue, *bytes)),
+        _ => None,
+    }
+}
+
+/// Notes what a record makes the messages of its venue look like.
+#[inline(always)]
+fn note_looks<F>(looks: &mut [Payload], step: &Step<'_, F>)
+    ensures { LooksBy looks.old (step_datagram step.now) looks.new }
+{
+    match step_datagram(step) {
+        Some((venue, bytes)) => note_look(looks, venue, bytes),
+        None => {}
     }
 }
 
@@ -149,7 +195,7 @@ fn note_session<F>(seen: &mut SessionTable, sessions: &[[u8; 10]], step: &Step<'
 
 /// Writes that a line had no datagram, where it had none.
 fn write_silent<E: TextOut>(venue: usize, line: &str, heard: bool, errors: &mut E)
-    ensures { SaysEach (record { adds = E.adds; failures = E.failures })
+    ensures { SaysEach (writing_of E.TextOut)
         (silent_texts venue line.now heard) errors.old errors.new }
 {
     if heard {
@@ -172,10 +218,38 @@ fn watch_at(venues: &[VenueWatch], place: usize) -> VenueWatch
     VenueWatch::new()
 }
 
-/// Writes what was watched of a venue's lines that are given.
-fn write_venue<E: TextOut>(input: &RunInput, venue: usize, w: &VenueWatch, errors: &mut E)
-    ensures { SaysEach (record { adds = E.adds; failures = E.failures })
-        (venue_texts input.now venue w.now) errors.old errors.new }
+/// Returns what the messages of the venue at a place look like.
+#[inline(always)]
+fn look_at(looks: &[Payload], place: usize) -> Payload
+    ensures { result ≡ look_at looks.now place }
+{
+    if place < looks.len() {
+        return looks[place];
+    }
+    Payload::Neither
+}
+
+/// Writes that the messages of a venue look like ITCH, if they do.
+fn write_look<E: TextOut>(venue: usize, look: Payload, errors: &mut E)
+    ensures { SaysEach (writing_of E.TextOut) (look_texts venue look) errors.old errors.new }
+{
+    match look {
+        Payload::Itch => {
+            write_stderr("nbbo: venue ", errors);
+            write_number(venue as u64, errors);
+            write_stderr(
+                "'s messages look like ITCH; normalise turns them into quotations\n",
+                errors,
+            );
+        }
+        Payload::Neither | Payload::Own => {}
+    }
+}
+
+/// Writes which of a venue's lines that are given had no datagram.
+fn write_silent_lines<E: TextOut>(input: &RunInput, venue: usize, w: &VenueWatch, errors: &mut E)
+    ensures { SaysEach (writing_of E.TextOut)
+        (silent_lines_texts input.now venue w.now) errors.old errors.new }
 {
     let a = w.a || !is_given(input, venue, LineId::A);
     let b = w.b || !is_given(input, venue, LineId::B);
@@ -183,34 +257,58 @@ fn write_venue<E: TextOut>(input: &RunInput, venue: usize, w: &VenueWatch, error
     write_silent(venue, "B", b, errors);
 }
 
-/// Writes what was watched of the lines of the first venues.
-fn write_venues<E: TextOut>(input: &RunInput, count: usize, venues: &[VenueWatch], errors: &mut E)
-    ensures { SaysEach (record { adds = E.adds; failures = E.failures })
-        (first_venues_texts input.now venues.now count) errors.old errors.new }
+/// Writes what was watched of a venue's lines that are given, and of its messages.
+fn write_venue<E: TextOut>(
+    input: &RunInput,
+    venue: usize,
+    w: &VenueWatch,
+    look: Payload,
+    errors: &mut E,
+)
+    ensures { SaysEach (writing_of E.TextOut)
+        (venue_texts input.now venue w.now look) errors.old errors.new }
+{
+    write_silent_lines(input, venue, w, errors);
+    write_look(venue, look, errors);
+}
+
+/// Writes what was watched of the lines and messages of the first venues.
+fn write_venues<E: TextOut>(
+    input: &RunInput,
+    count: usize,
+    venues: &[VenueWatch],
+    looks: &[Payload],
+    errors: &mut E,
+)
+    ensures { SaysEach (writing_of E.TextOut)
+        (first_venues_texts input.now venues.now looks.now count) errors.old errors.new }
 {
     for venue in 0..count {
-        write_venue(input, venue, &watch_at(venues, venue), errors);
+        let look = look_at(looks, venue);
+        write_venue(input, venue, &watch_at(venues, venue), look, errors);
     }
 }
 
 impl<F> WatchedFormat<'_, F> {
-    /// Writes what was watched of the venues' lines, and of sessions, where the venues' last ones
-    /// have these ordinals.
+    /// Writes what was watched of the venues' lines and messages, and of sessions, where the
+    /// venues'
+    /// last ones have these ordinals.
     fn write_seen<E: TextOut>(&self, ordinals: &[u64], errors: &mut E)
-        ensures { SaysEach (record { adds = E.adds; failures = E.failures })
+        ensures { SaysEach (writing_of E.TextOut)
             (seen_texts self.now ordinals.now) errors.old errors.new }
     {
         let named = NamedSessions {
             next: self.next,
             ordinals,
         };
-        write_venues(self.input, self.sessions.len(), &self.venues, errors);
+        let count = self.sessions.len();
+        write_venues(self.input, count, &self.venues, &self.looks, errors);
         write_sessions(&named, self.seen.rows(), errors);
     }
 
     /// Writes it after a run that came to its end.
     fn write_watch<O, E: TextOut>(&self, ordinals: &[u64], outcome: &Result<(), O>, errors: &mut E)
-        ensures { SaysEach (record { adds = E.adds; failures = E.failures })
+        ensures { SaysEach (writing_of E.TextOut)
             (watch_texts outcome.now self.now ordinals.now) errors.old errors.new }
     {
         match outcome {
@@ -233,6 +331,7 @@ impl<'a, F> WatchedFormat<'a, F> {
         WatchedFormat {
             format,
             venues: [VenueWatch::new(); VENUES],
+            looks: [Payload::Neither; VENUES],
             seen,
             sessions: settings.feed.sessions.as_slice(),
             next,
@@ -267,6 +366,7 @@ impl<F: RecordFormat> RecordFormat for WatchedFormat<'_, F> {
     fn next<'b>(&mut self, bytes: &'b [u8]) -> Step<'b, F::Fault> {
         let step = self.format.next(bytes);
         watch(&mut self.venues, &step);
+        note_looks(&mut self.looks, &step);
         note_session(&mut self.seen, self.sessions, &step);
         step
     }
@@ -276,7 +376,7 @@ impl<F: RecordFormat> RecordFormat for WatchedFormat<'_, F> {
     }
 }
 
-impl<F: ToldFormat> ToldFormat for WatchedFormat<'_, F> {
+impl<F: EndReport> EndReport for WatchedFormat<'_, F> {
     ghost end_texts = { watched_texts F.end_texts };
 
     ghost is_timed = { λ s. F.is_timed s.format };
@@ -285,13 +385,13 @@ impl<F: ToldFormat> ToldFormat for WatchedFormat<'_, F> {
         self.format.has_times()
     }
 
-    fn tell_end<E: TextOut>(
+    fn write_end_report<E: TextOut>(
         &self,
         ordinals: &[u64],
         outcome: &Result<(), ReplayStop<F::Fault>>,
         errors: &mut E,
     ) {
         self.write_watch(ordinals, outcome, errors);
-        self.format.tell_end(ordinals, outcome, errors);
+        self.format.write_end_report(ordinals, outcome, errors);
     }
 }

@@ -1,4 +1,5 @@
 //! A sink whose symbols are watched.
+ghost use Rattle.text_out.specs.Members.{reading_of};
 ghost use Rattle.std.specs.Prelude.{◌≡◌, ℕ, ◌&&◌, not, true, IfOk, OnOk};
 ghost use Rattle.feed_text.specs.EventReplays.{AnswersRun, venues_in};
 ghost use Rattle.feed_text.specs.Lacks.{AppendsLacks};
@@ -10,7 +11,7 @@ ghost use Rattle.run_notes.specs.AbsentSymbols.{AreKeysOf, has_key, symbols_with
 
 use crate::named_sessions::{Ordinals, first_ordinals, note_renewal};
 use capture_records::RecordFormat;
-use event_sinks::{Event, EventSink, Lack, ReplayStop, Replayed, SinkStop};
+use event_sinks::{EventSink, MissingRange, ReplayStop, Replayed, ReplayedEvent, SinkStop};
 use feed_text::replay::ReplayConfig;
 use feed_types::SymbolName;
 use replay_run::replay;
@@ -29,12 +30,12 @@ pub struct WatchedSink<K> {
 
 /// Takes out the symbol of an event, if that is an item.
 #[inline(always)]
-fn note_event(absent: &mut AbsentSymbols, event: &Event<'_>)
+fn note_event(absent: &mut AbsentSymbols, event: &ReplayedEvent<'_>)
     ensures { (key : ℕ) → has_key absent.new key
         ≡ (has_key absent.old key && not (brings_item key (told_by event.now))) }
 {
     match event {
-        Event::Item { item, .. } => absent.note_any(&item.item),
+        ReplayedEvent::Item { item, .. } => absent.note_any(&item.item),
         _ => {}
     }
 }
@@ -58,7 +59,7 @@ impl<K: EventSink> EventSink for WatchedSink<K> {
     ghost fails_longer = { λ s t xs ys a. K.fails_longer s.sink t.sink xs ys a };
 
     #[inline(always)]
-    fn take(&mut self, time: Option<u64>, event: &Event<'_>) -> Result<(), SinkStop> {
+    fn take(&mut self, time: Option<u64>, event: &ReplayedEvent<'_>) -> Result<(), SinkStop> {
         note_event(&mut self.absent, event);
         note_renewal(&mut self.ordinals, event);
         self.sink.take(time, event)
@@ -75,7 +76,7 @@ pub struct Missing {
     /// Whether symbols are watched.
     pub(crate) is_watched: bool,
     /// The messages that venues lack.
-    pub(crate) lacks: Vec<Lack>,
+    pub(crate) lacks: Vec<MissingRange>,
     /// The symbols of which no item came, where they are watched.
     pub(crate) absent: AbsentSymbols,
     /// The ordinals of the venues' last sessions.
@@ -123,18 +124,18 @@ pub(crate) fn replay_watched<R: CaptureIn, F: RecordFormat, K: EventSink>(
     requires can { CanReplay config.now }
     requires of_venues { F.venues format.old ≡ venues_in config.now }
     ensures headline { AnswersRun
-        (record { gives = R.gives; ends = R.ends; failures = R.failures; fails = R.fails })
+        (reading_of R.CaptureIn)
         (record { reads = F.reads; wants = F.wants; is_bad = F.is_bad; is_whole = F.is_whole })
         (record { takes = K.takes; fails = K.fails }) K.is_shown
         config.now (facts_of_run config.now) reader.old reader.new format.old format.new
         sink result.sink result.outcome }
     ensures lacks { OnOk result.outcome (AppendsLacks
-        (record { gives = R.gives; ends = R.ends; failures = R.failures; fails = R.fails })
+        (reading_of R.CaptureIn)
         (record { reads = F.reads; wants = F.wants; is_bad = F.is_bad; is_whole = F.is_whole })
         config.now reader.old reader.new format.old format.new
         missing.old.lacks.items missing.new.lacks.items) }
     ensures absent { OnOk result.outcome (LeavesAbsent
-        (record { gives = R.gives; ends = R.ends; failures = R.failures; fails = R.fails })
+        (reading_of R.CaptureIn)
         (record { reads = F.reads; wants = F.wants; is_bad = F.is_bad; is_whole = F.is_whole })
         config.now reader.old reader.new format.old format.new result.outcome
         missing.old.is_watched (symbols_with missing.new.absent config.now.symbols.now)

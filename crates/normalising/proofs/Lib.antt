@@ -1,6 +1,9 @@
-mod Forms
+mod Heartbeats
 mod Packing
-mod Runs
+mod Running
+mod Sendings
 mod Sent
+mod Steps
 mod Taking
 mod Venue
+mod Venues

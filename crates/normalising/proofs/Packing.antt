@@ -1,59 +1,35 @@
 -- Packets that carry items, one after another.
-use Rattle.std.proofs.Common.{◌≡◌, ◌⊎◌, ℕ, zero, suc, ◌+◌, ◌-◌, ◌≤◌, Bor, List, [], ◌∷◌, ◌++◌, length, map, take, drop, refl, sym, ap, ap₂, subst, ◌∙◌, inl, inr, arith, append-nil, length-append, length-drop, length-take, take-add}
+use Rattle.std.proofs.Common.{◌≡◌, ◌⊎◌, ℕ, ◌+◌, ◌≤◌, Bor, List, [], ◌∷◌, ◌++◌, length, map, take, drop, refl, sym, ap, ap₂, subst, ◌∙◌, inl, inr, arith, Result, Ok, Err, IfErr, OnErr, append-nil, append_assoc, length-drop}
 use Rattle.std.specs.List.{AllByRecursion}
 use Rattle.std.proofs.lemmas.List.{map-append, take_all}
 use Rattle.std.proofs.lemmas.List.Concat.{flat_map-append}
 use Rattle.feed_types.specs.declared.item.Item.{Item}
 use Rattle.feed_types.specs.declared.item.Numbered.{Numbered}
 use Rattle.feed_types.specs.Sessions.{numbered_from, end_item}
-use Rattle.text_out.specs.Devices.{Writing}
+use Rattle.text_out.specs.Devices.{Writing, Wrote}
 use Rattle.mold_packet.specs.declared.packet.Kind.TheVariants as kinds
-use Rattle.mold_packet.specs.Block.{block, IsMessage}
 use Rattle.mold_packet.specs.Body.{body_kind, body_messages, lent_bytes, packet_of}
 use Rattle.mold_packet.specs.declared.body.Body.{Body}
 use Rattle.mold_packet.specs.Content.{Content, IsContent, Spells, spelling}
-use Rattle.packet_building.specs.Fitting.{IsMost}
 use Rattle.quote_payload.specs.Payload.{item_of}
-use Rattle.normalising.specs.Carried.{BeatsAt, IsMessageItem, IsShortMessage, RunsFrom, end_of_kind, numbered_item, items_carried}
+use Rattle.normalising.specs.Carried.{AreWritten, BeatsAt, IsMessageItem, RunsFrom, end_of_kind, items_carried}
+use Rattle.item_packets.specs.laws.Parts.{all_append, items_carried_more, row_back, row_front}
 use Rattle.normalising.specs.Texts.{datagram_text}
-use Rattle.normalising.specs.Writes.{PutsPackets, PutsText, text_of}
+use Rattle.normalising.specs.Writes.{PutsFront, PutsPackets, PutsText, StopsPut, text_of}
 use Rattle.normalising.specs.declared.output_form.OutputForm.{OutputForm}
 use Rattle.normalising.specs.declared.packet_origin.PacketOrigin.{PacketOrigin}
-use Rattle.normalising.proofs.Taking.{takes_both}
+use Rattle.normalising.specs.declared.venue_stop.VenueStop.{VenueStop}
+use Rattle.normalising.specs.declared.venue_stop.VenueStop.TheVariants.{Book, Sink}
+use Rattle.normalising.proofs.Taking.{takes_both, wrote_after}
 
 -- ---- lists
-
-pub all_append : {A : Type 0} (P : A → Type 0) (xs ys : List A) → AllByRecursion P xs
-    → AllByRecursion P ys → AllByRecursion P (xs ++ ys)
-all_append P [] ys a b = b
-all_append P (x ∷ xs) ys a b = (a.0, all_append P xs ys a.1 b)
-
-pub numbered_append : (n : ℕ) (xs ys : List Item)
-    → numbered_from n (xs ++ ys) ≡ numbered_from n xs ++ numbered_from (n + length xs) ys
-numbered_append n [] ys = ap (λ (k : ℕ). numbered_from k ys) (omega arith)
-numbered_append n (x ∷ xs) ys =
-    ap (λ (rest : List Numbered). record { number = n; item = x } ∷ rest)
-    (numbered_append (n + 1) xs ys
-    ∙ ap (λ (k : ℕ). numbered_from (n + 1) xs ++ numbered_from k ys) (omega arith))
-
-pub items_numbered : (n : ℕ) (its : List Item) → map numbered_item (numbered_from n its) ≡ its
-items_numbered n [] = refl
-items_numbered n (x ∷ xs) = ap (λ (rest : List Item). x ∷ rest) (items_numbered (n + 1) xs)
-
-pub length-numbered : (n : ℕ) (its : List Item) → length (numbered_from n its) ≡ length its
-length-numbered n [] = refl
-length-numbered n (x ∷ xs) = ap suc (length-numbered (n + 1) xs)
-
-pub length-map-of : {A B : Type 0} (f : A → B) (xs : List A) → length (map f xs) ≡ length xs
-length-map-of f [] = refl
-length-map-of f (x ∷ xs) = ap suc (length-map-of f xs)
 
 -- ---- packets
 
 pub puts_none : {W : Type 0} (writing : Writing W) → ((s : W) → writing.adds s [] s)
-    → (form : OutputForm) (origin : PacketOrigin) (known : ℕ) (w : W) (old : List ℕ)
-    → PutsPackets writing form origin known [] w w old old
-puts_none writing none form origin known w old = record {
+    → (form : OutputForm) (origin : PacketOrigin) (last : ℕ) (w : W) (old : List ℕ)
+    → PutsPackets writing form origin last [] w w old old
+puts_none writing none form origin last w old = record {
   datagrams = [];
   written = record {
     packets = [];
@@ -65,12 +41,12 @@ puts_none writing none form origin known w old = record {
 }
 
 pub puts_one : {W : Type 0} (writing : Writing W) (form : OutputForm) (origin : PacketOrigin)
-    (known : ℕ) (from to : W) (old new : List ℕ) (p : Content) (bytes : List ℕ)
+    (last : ℕ) (from to : W) (old new : List ℕ) (p : Content) (bytes : List ℕ)
     → Spells bytes p [] → p.session ≡ origin.session
-    → (p.kind ≡ kinds.Heartbeat → p.number ≡ known + 1)
+    → (p.kind ≡ kinds.Heartbeat → p.number ≡ last + 1)
     → PutsText writing from to old (datagram_text form origin.venue origin.time bytes) new
-    → PutsPackets writing form origin known (items_carried p) from to old new
-puts_one writing form origin known from to old new p bytes s name beat t = record {
+    → PutsPackets writing form origin last (items_carried p) from to old new
+puts_one writing form origin last from to old new p bytes s name beat t = record {
   datagrams = bytes ∷ [];
   written = record {
     packets = p ∷ [];
@@ -86,30 +62,33 @@ puts_one writing form origin known from to old new p bytes s name beat t = recor
       (sym (append-nil (datagram_text form origin.venue origin.time bytes))) t;
 }
 
+pub written_both : (name : List ℕ) (last : ℕ) (xs ys : List Numbered) (ds es : List (List ℕ))
+    → AreWritten name last xs ds → AreWritten name last ys es
+    → AreWritten name last (xs ++ ys) (ds ++ es)
+written_both name last xs ys ds es a b = record {
+  packets = a.packets ++ b.packets;
+  carry = record {
+    each = all_append IsContent a.packets b.packets a.carry.each b.carry.each;
+    session = all_append (λ (p : Content). p.session ≡ name) a.packets b.packets
+        a.carry.session b.carry.session;
+    carried = flat_map-append items_carried a.packets b.packets
+        ∙ ap₂ (λ (u v : List Numbered). u ++ v) a.carry.carried b.carry.carried;
+  };
+  heartbeats = all_append (BeatsAt last) a.packets b.packets a.heartbeats b.heartbeats;
+  spelled = ap₂ (λ (u v : List (List ℕ)). u ++ v) a.spelled b.spelled
+      ∙ sym (map-append spelling a.packets b.packets);
+}
+
 pub puts_both : {W : Type 0} (writing : Writing W) (form : OutputForm) (origin : PacketOrigin)
-    (known : ℕ) (xs ys : List Numbered) (from mid to : W) (old between new : List ℕ)
+    (last : ℕ) (xs ys : List Numbered) (from mid to : W) (old between new : List ℕ)
     → ((s t u : W) (cs bs : List ℕ) → writing.adds s cs t → writing.adds t bs u
     → writing.adds s (cs ++ bs) u)
-    → PutsPackets writing form origin known xs from mid old between
-    → PutsPackets writing form origin known ys mid to between new
-    → PutsPackets writing form origin known (xs ++ ys) from to old new
-puts_both writing form origin known xs ys from mid to old between new adds_more a b = record {
+    → PutsPackets writing form origin last xs from mid old between
+    → PutsPackets writing form origin last ys mid to between new
+    → PutsPackets writing form origin last (xs ++ ys) from to old new
+puts_both writing form origin last xs ys from mid to old between new adds_more a b = record {
   datagrams = a.datagrams ++ b.datagrams;
-  written = record {
-    packets = a.written.packets ++ b.written.packets;
-    carry = record {
-      each = all_append IsContent a.written.packets b.written.packets a.written.carry.each
-          b.written.carry.each;
-      session = all_append (λ (p : Content). p.session ≡ origin.session) a.written.packets
-          b.written.packets a.written.carry.session b.written.carry.session;
-      carried = flat_map-append items_carried a.written.packets b.written.packets
-          ∙ ap₂ (λ (u v : List Numbered). u ++ v) a.written.carry.carried b.written.carry.carried;
-    };
-    heartbeats = all_append (BeatsAt known) a.written.packets b.written.packets
-        a.written.heartbeats b.written.heartbeats;
-    spelled = ap₂ (λ (u v : List (List ℕ)). u ++ v) a.written.spelled b.written.spelled
-        ∙ sym (map-append spelling a.written.packets b.written.packets);
-  };
+  written = written_both origin.session last xs ys a.datagrams b.datagrams a.written b.written;
   text = subst (λ (z : List ℕ). PutsText writing from to old z new)
       (sym (flat_map-append (datagram_text form origin.venue origin.time) a.datagrams
       b.datagrams))
@@ -119,70 +98,14 @@ puts_both writing form origin known xs ys from mid to old between new adds_more 
 
 -- ---- messages in packets
 
--- the first message always fits
-pub fits_one : (room : ℕ) (rest : List (Bor (List ℕ))) → room ≡ 65507 → 1 ≤ length rest
-    → AllByRecursion IsShortMessage (lent_bytes rest) → IsMost room rest 0 → ⊥
-fits_one room [] is some each most = omega (arith, some)
-fits_one room (m ∷ ms) is some each most =
-    let long = most.most (omega arith) (omega arith) in
-    let len = length-append (block m.now) [] in
-    let short = each.0 in
-    omega (arith, long, len, short, is)
-
-pub short_rest : (ms : List (Bor (List ℕ))) (n : ℕ)
-    → AllByRecursion IsShortMessage (lent_bytes ms)
-    → AllByRecursion IsShortMessage (lent_bytes (drop n ms))
-short_rest ms zero each = each
-short_rest [] (suc n) each = tt
-short_rest (m ∷ ms) (suc n) each = short_rest ms n each.1
-
-pub are_messages : (ms : List (Bor (List ℕ))) → AllByRecursion IsShortMessage (lent_bytes ms)
-    → AllByRecursion IsMessage (lent_bytes ms)
-are_messages [] each = tt
-are_messages (m ∷ ms) each = (let short = each.0 in omega (arith, short), are_messages ms each.1)
-
--- what the messages up to a place carry, and those of one more packet
-pub carried_more : (messages : List (Bor (List ℕ))) (number from k : ℕ) → from ≤ length messages
-    → numbered_from number (map item_of (lent_bytes (take from messages)))
-    ++ (numbered_from (number + from)
-    (map item_of (lent_bytes (take k (drop from messages)))) ++ [])
-    ≡ numbered_from number (map item_of (lent_bytes (take (from + k) messages)))
-carried_more messages number from k within =
-    let front = take from messages in
-    let more = take k (drop from messages) in
-    let its : List Item = map item_of (lent_bytes front) in
-    let next : List Item = map item_of (lent_bytes more) in
-    let len : length its ≡ from = length-map-of item_of (lent_bytes front)
-    ∙ length-map-of (λ (m : Bor (List ℕ)). m.now) front
-    ∙ (let l = length-take from messages in omega (arith, l)) in
-    let joined : its ++ next ≡ map item_of (lent_bytes (front ++ more)) =
-    sym (map-append item_of (lent_bytes front) (lent_bytes more))
-    ∙ ap (map item_of) (sym (map-append (λ (m : Bor (List ℕ)). m.now) front more)) in
-    ap (λ (z : List Numbered). numbered_from number its ++ z)
-    (append-nil (numbered_from (number + from) next)
-    ∙ ap (λ (j : ℕ). numbered_from (number + j) next) (sym len))
-    ∙ sym (numbered_append number its next)
-    ∙ ap (numbered_from number) joined
-    ∙ ap (λ (z : List (Bor (List ℕ))). numbered_from number (map item_of (lent_bytes z)))
-    (sym (take-add from k messages))
-
-pub rest_is : (messages : List (Bor (List ℕ))) (from : ℕ) → from ≤ length messages
-    → take (length messages - from) (drop from messages) ≡ drop from messages
-rest_is messages from within = take_all (length messages - from) (drop from messages)
-    (let l = length-drop from messages in omega (arith, l, within))
-
-pub all_taken : (messages : List (Bor (List ℕ))) (from : ℕ) → length messages ≤ from
-    → take from messages ≡ messages
-all_taken messages from past = take_all from messages past
-
 -- one packet more
 pub packet_more : {W : Type 0} (writing : Writing W)
     → ((s t u : W) (cs bs : List ℕ) → writing.adds s cs t → writing.adds t bs u
     → writing.adds s (cs ++ bs) u)
-    → (form now : OutputForm) (origin : PacketOrigin) (known number from k : ℕ)
+    → (form now : OutputForm) (origin : PacketOrigin) (last number from k : ℕ)
     (messages rest : List (Bor (List ℕ))) (bytes : List ℕ) (w1 w2 w3 : W) (p1 p2 p3 : List ℕ)
     → now ≡ form → from ≤ length messages → rest ≡ drop from messages
-    → PutsPackets writing form origin known
+    → PutsPackets writing form origin last
     (numbered_from number (map item_of (lent_bytes (take from messages)))) w1 w2 p1 p2
     → Spells bytes (record {
       session = origin.session;
@@ -192,101 +115,224 @@ pub packet_more : {W : Type 0} (writing : Writing W)
       ignored = 0;
     }) []
     → PutsText writing w2 w3 p2 (datagram_text now origin.venue origin.time bytes) p3
-    → PutsPackets writing form origin known
+    → PutsPackets writing form origin last
     (numbered_from number (map item_of (lent_bytes (take (from + k) messages)))) w1 w3 p1 p3
-packet_more writing adds_more form now origin known number from k messages rest bytes w1 w2 w3 p1 p2
+packet_more writing adds_more form now origin last number from k messages rest bytes w1 w2 w3 p1 p2
     p3 same within is before spelled taken =
-    subst (λ (z : List Numbered). PutsPackets writing form origin known z w1 w3 p1 p3)
+    subst (λ (z : List Numbered). PutsPackets writing form origin last z w1 w3 p1 p3)
     (ap (λ (r : List (Bor (List ℕ))).
     numbered_from number (map item_of (lent_bytes (take from messages)))
     ++ (numbered_from (number + from) (map item_of (lent_bytes (take k r))) ++ [])) is
-    ∙ carried_more messages number from k within)
-    (puts_both writing form origin known _ _ w1 w2 w3 p1 p2 p3 adds_more before
-    (puts_one writing form origin known w2 w3 p2 p3 _ bytes spelled refl (λ e. absurd cc)
+    ∙ items_carried_more messages number from k within)
+    (puts_both writing form origin last _ _ w1 w2 w3 p1 p2 p3 adds_more before
+    (puts_one writing form origin last w2 w3 p2 p3 _ bytes spelled refl (λ e. absurd cc)
     (subst (λ (f : OutputForm).
     PutsText writing w2 w3 p2 (datagram_text f origin.venue origin.time bytes) p3) same taken)))
 
 -- a packet without messages
 pub empty_packet : {W : Type 0} (writing : Writing W) (form : OutputForm) (origin : PacketOrigin)
-    (known number : ℕ) (body : Body) (bytes : List ℕ) (from to : W) (old new : List ℕ)
+    (last number : ℕ) (body : Body) (bytes : List ℕ) (from to : W) (old new : List ℕ)
     → body_messages body ≡ []
     → Spells bytes (packet_of origin.session number body) []
     → PutsText writing from to old (datagram_text form origin.venue origin.time bytes) new
-    → (body_kind body ≡ kinds.Heartbeat → number ≡ known + 1)
-    → PutsPackets writing form origin known (end_of_kind (body_kind body) number) from to old new
-empty_packet writing form origin known number body bytes from to old new none spelled taken beat =
-    subst (λ (z : List Numbered). PutsPackets writing form origin known z from to old new)
+    → (body_kind body ≡ kinds.Heartbeat → number ≡ last + 1)
+    → PutsPackets writing form origin last (end_of_kind (body_kind body) number) from to old new
+empty_packet writing form origin last number body bytes from to old new none spelled taken beat =
+    subst (λ (z : List Numbered). PutsPackets writing form origin last z from to old new)
     (ap (λ (ms : List (List ℕ)).
     numbered_from number (map item_of ms) ++ end_of_kind (body_kind body) number) none)
-    (puts_one writing form origin known from to old new (packet_of origin.session number body) bytes
+    (puts_one writing form origin last from to old new (packet_of origin.session number body) bytes
     spelled refl beat taken)
 
 -- ---- items in a row
 
-pub rest_of : {A : Type 0} (xs : List A) (n : ℕ) → take (length xs - n) (drop n xs) ≡ drop n xs
-rest_of xs n = take_all (length xs - n) (drop n xs)
-    (let l = length-drop n xs in omega (arith, l))
+-- a row is its messages, and then its end
+record IsParted (first count : ℕ) (items front rest : List Numbered)
+    (its : List Item) : Type 0 where
+  row : front ≡ numbered_from first its
+  end : (rest ≡ []) ⊎ (rest ≡ end_item (first + length its) ∷ [])
+  whole : front ++ rest ≡ items
 
-row_front : (first : ℕ) (its : List Item) (ends : List Numbered)
-    → take (length its) (numbered_from first its ++ ends) ≡ numbered_from first its
-row_front first [] ends = refl
-row_front first (x ∷ xs) ends =
-    ap (λ (z : List Numbered). record { number = first; item = x } ∷ z)
-    (row_front (first + 1) xs ends)
-
-row_back : (first : ℕ) (its : List Item) (ends : List Numbered)
-    → drop (length its) (numbered_from first its ++ ends) ≡ ends
-row_back first [] ends = refl
-row_back first (x ∷ xs) ends = row_back (first + 1) xs ends
-
--- messages that are the items of a row
-pub run_is : (items : List Numbered) (number first : ℕ) (its made : List Item)
-    → items ≡ numbered_from first its → number ≡ first → made ≡ map numbered_item items
-    → numbered_from number made ≡ items
-run_is items number first its made is same reads =
-    ap₂ (λ (n : ℕ) (z : List Item). numbered_from n z) same
-    (reads ∙ ap (map numbered_item) is ∙ items_numbered first its)
-    ∙ sym is
-
-pub items_each : (items : List Numbered) (first : ℕ) (its : List Item)
-    → items ≡ numbered_from first its → AllByRecursion IsMessageItem its
-    → AllByRecursion IsMessageItem (map numbered_item items)
-items_each items first its is each =
-    subst (λ (z : List Item). AllByRecursion IsMessageItem z)
-    (sym (ap (map numbered_item) is ∙ items_numbered first its)) each
-
--- the messages of a row, and then its end
-pub items_put : {W : Type 0} (writing : Writing W)
-    → ((s t u : W) (cs bs : List ℕ) → writing.adds s cs t → writing.adds t bs u
-    → writing.adds s (cs ++ bs) u)
-    → (form now : OutputForm) (origin : PacketOrigin) (known first count : ℕ)
-    (items front rest : List Numbered) (w1 w2 w3 : W) (p1 p2 p3 : List ℕ)
-    → now ≡ form → (run : RunsFrom first items) → 1 ≤ first → count ≡ length run.items
-    → front ≡ take count items → rest ≡ drop count items
-    → ((known first : ℕ) (its : List Item) → 1 ≤ first → front ≡ numbered_from first its
-    → AllByRecursion IsMessageItem its
-    → PutsPackets writing form origin known front w1 w2 p1 p2)
-    → ((known number : ℕ) → 1 ≤ number → (rest ≡ []) ⊎ (rest ≡ end_item number ∷ [])
-    → PutsPackets writing now origin known rest w2 w3 p2 p3)
-    → PutsPackets writing form origin known items w1 w3 p1 p3
-items_put writing adds_more form now origin known first count items front rest w1 w2 w3 p1 p2 p3
-    same run one len fronts rests puts ends =
+parted : (first count : ℕ) (items front rest : List Numbered) (run : RunsFrom first items)
+    → count ≡ length run.items → front ≡ take count items → rest ≡ drop count items
+    → IsParted first count items front rest run.items
+parted first count items front rest run len fronts rests =
     let row : front ≡ numbered_from first run.items =
     fronts ∙ ap₂ (λ (n : ℕ) (z : List Numbered). take n z) len run.is
     ∙ row_front first run.items run.ends in
     let tail : rest ≡ run.ends =
     rests ∙ ap₂ (λ (n : ℕ) (z : List Numbered). drop n z) len run.is
     ∙ row_back first run.items run.ends in
-    let whole : front ++ rest ≡ items =
-    ap₂ (λ (a b : List Numbered). a ++ b) row tail ∙ sym run.is in
-    subst (λ (z : List Numbered). PutsPackets writing form origin known z w1 w3 p1 p3) whole
-    (puts_both writing form origin known front rest w1 w2 w3 p1 p2 p3 adds_more
-    (puts known first run.items one row run.each)
-    (subst (λ (f : OutputForm). PutsPackets writing f origin known rest w2 w3 p2 p3) same
-    (ends known (first + length run.items) (omega (arith, one)) (by_end tail run.end))))
+    record {
+      row = row;
+      end = by_end tail run.end;
+      whole = ap₂ (λ (a b : List Numbered). a ++ b) row tail ∙ sym run.is;
+    }
   where
     by_end : rest ≡ run.ends
         → (run.ends ≡ []) ⊎ (run.ends ≡ end_item (first + length run.items) ∷ [])
         → (rest ≡ []) ⊎ (rest ≡ end_item (first + length run.items) ∷ [])
     by_end tail (inl h) = inl (tail ∙ h)
     by_end tail (inr h) = inr (tail ∙ h)
+
+-- the messages of a row, and then its end
+pub items_put : {W : Type 0} (writing : Writing W)
+    → ((s t u : W) (cs bs : List ℕ) → writing.adds s cs t → writing.adds t bs u
+    → writing.adds s (cs ++ bs) u)
+    → (form now : OutputForm) (origin : PacketOrigin) (last first count : ℕ)
+    (items front rest : List Numbered) (w1 w2 w3 : W) (p1 p2 p3 : List ℕ)
+    → now ≡ form → (run : RunsFrom first items) → 1 ≤ first → count ≡ length run.items
+    → front ≡ take count items → rest ≡ drop count items
+    → ((last first : ℕ) (its : List Item) → 1 ≤ first → front ≡ numbered_from first its
+    → AllByRecursion IsMessageItem its
+    → PutsPackets writing form origin last front w1 w2 p1 p2)
+    → ((last number : ℕ) → 1 ≤ number → (rest ≡ []) ⊎ (rest ≡ end_item number ∷ [])
+    → PutsPackets writing now origin last rest w2 w3 p2 p3)
+    → PutsPackets writing form origin last items w1 w3 p1 p3
+items_put writing adds_more form now origin last first count items front rest w1 w2 w3 p1 p2 p3
+    same run one len fronts rests puts ends =
+    let p = parted first count items front rest run len fronts rests in
+    subst (λ (z : List Numbered). PutsPackets writing form origin last z w1 w3 p1 p3) p.whole
+    (puts_both writing form origin last front rest w1 w2 w3 p1 p2 p3 adds_more
+    (puts last first run.items one p.row run.each)
+    (subst (λ (f : OutputForm). PutsPackets writing f origin last rest w2 w3 p2 p3) same
+    (ends last (first + length run.items) (omega (arith, one)) p.end)))
+
+-- ---- a writer that failed
+
+pub front_none : {W : Type 0} (writing : Writing W) (form : OutputForm) (origin : PacketOrigin)
+    (last : ℕ) (output : List Numbered) (from to : W) (old : List ℕ)
+    → Wrote writing.adds from old to → writing.failures to ≡ writing.failures from + 1
+    → PutsFront writing form origin last output from to old
+front_none writing form origin last output from to old part failed = record {
+  front = [];
+  rest = output;
+  is = refl;
+  datagrams = [];
+  written = record {
+    packets = [];
+    carry = record { each = tt; session = tt; carried = refl };
+    heartbeats = tt;
+    spelled = refl;
+  };
+  wrote = subst (λ (z : List ℕ). Wrote writing.adds from z to) (sym (append-nil old)) part;
+  failed = failed;
+}
+
+-- after packets that were written
+pub front_after : {W : Type 0} (writing : Writing W) (form : OutputForm) (origin : PacketOrigin)
+    (last : ℕ) (xs ys : List Numbered) (from mid to : W) (old between : List ℕ)
+    → ((s t u : W) (cs bs : List ℕ) → writing.adds s cs t → writing.adds t bs u
+    → writing.adds s (cs ++ bs) u)
+    → PutsPackets writing form origin last xs from mid old between
+    → PutsFront writing form origin last ys mid to between
+    → PutsFront writing form origin last (xs ++ ys) from to old
+front_after writing form origin last xs ys from mid to old between adds_more a b = record {
+  front = xs ++ b.front;
+  rest = b.rest;
+  is = ap (λ (z : List Numbered). xs ++ z) b.is ∙ sym (append_assoc xs b.front b.rest);
+  datagrams = a.datagrams ++ b.datagrams;
+  written = written_both origin.session last xs b.front a.datagrams b.datagrams a.written
+      b.written;
+  wrote = subst (λ (z : List ℕ). Wrote writing.adds from (old ++ z) to)
+      (sym (flat_map-append (datagram_text form origin.venue origin.time) a.datagrams
+      b.datagrams))
+      (wrote_after writing.adds adds_more from mid to old (text_of form origin a.datagrams)
+      between (text_of form origin b.datagrams) a.text.shown a.text.wrote a.text.all b.wrote);
+  failed = b.failed ∙ ap (λ (n : ℕ). n + 1) a.text.kept;
+}
+
+-- a front of the first is one of both
+pub front_longer : {W : Type 0} (writing : Writing W) (form : OutputForm) (origin : PacketOrigin)
+    (last : ℕ) (xs ys : List Numbered) (from to : W) (old : List ℕ)
+    → PutsFront writing form origin last xs from to old
+    → PutsFront writing form origin last (xs ++ ys) from to old
+front_longer writing form origin last xs ys from to old a = record {
+  front = a.front;
+  rest = a.rest ++ ys;
+  is = ap (λ (z : List Numbered). z ++ ys) a.is ∙ append_assoc a.front a.rest ys;
+  datagrams = a.datagrams;
+  written = a.written;
+  wrote = a.wrote;
+  failed = a.failed;
+}
+
+-- the messages up to a place, and those from there on
+pub carried_split : (messages : List (Bor (List ℕ))) (number from : ℕ) → from ≤ length messages
+    → numbered_from number (map item_of (lent_bytes (take from messages)))
+    ++ numbered_from (number + from) (map item_of (lent_bytes (drop from messages)))
+    ≡ numbered_from number (map item_of (lent_bytes messages))
+carried_split messages number from within =
+    let back = drop from messages in
+    ap (λ (r : List (Bor (List ℕ))).
+    numbered_from number (map item_of (lent_bytes (take from messages)))
+    ++ numbered_from (number + from) (map item_of (lent_bytes r)))
+    (sym (take_all (length messages) back (let l = length-drop from messages in omega (arith, l))))
+    ∙ ap (λ (z : List Numbered).
+    numbered_from number (map item_of (lent_bytes (take from messages))) ++ z)
+    (sym (append-nil (numbered_from (number + from)
+    (map item_of (lent_bytes (take (length messages) back))))))
+    ∙ items_carried_more messages number from (length messages) within
+    ∙ ap (λ (r : List (Bor (List ℕ))). numbered_from number (map item_of (lent_bytes r)))
+    (take_all (from + length messages) messages (omega arith))
+
+pub front_on_err : {W A E : Type 0} (writing : Writing W) (form : OutputForm)
+    (origin : PacketOrigin) (output : List Numbered) (from to : W) (old : List ℕ)
+    (r : Result A E) → OnErr r (Wrote writing.adds from old to)
+    → OnErr r (writing.failures to ≡ writing.failures from + 1)
+    → OnErr r ((last : ℕ) → PutsFront writing form origin last output from to old)
+front_on_err writing form origin output from to old (Ok x) part failed = tt
+front_on_err writing form origin output from to old (Err e) part failed = λ last.
+    front_none writing form origin last output from to old part failed
+
+pub if_err_weaker : {A E : Type 0} {P Q : E → Type 0} (r : Result A E)
+    → ((e : E) → P e → Q e) → IfErr r P → IfErr r Q
+if_err_weaker (Ok x) f p = tt
+if_err_weaker (Err e) f p = f e p
+
+pub on_err_weaker_of : {A E P Q : Type 0} (r : Result A E) → (P → Q) → OnErr r P → OnErr r Q
+on_err_weaker_of (Ok x) f p = tt
+on_err_weaker_of (Err e) f p = f p
+
+-- what stopped the messages of a row stopped the row
+pub run_stopped : {W : Type 0} (writing : Writing W) (form : OutputForm) (origin : PacketOrigin)
+    (last first count : ℕ) (items front rest : List Numbered) (w1 w2 : W) (p1 p2 : List ℕ)
+    (stop : VenueStop) → (run : RunsFrom first items) → 1 ≤ first → count ≡ length run.items
+    → front ≡ take count items → rest ≡ drop count items
+    → ((last first : ℕ) (its : List Item) → 1 ≤ first → front ≡ numbered_from first its
+    → AllByRecursion IsMessageItem its
+    → StopsPut writing form origin last front w1 w2 p1 p2 stop)
+    → StopsPut writing form origin last items w1 w2 p1 p2 stop
+run_stopped writing form origin last first count items front rest w1 w2 p1 p2 (Sink stop) run one
+    len fronts rests stopped =
+    let p = parted first count items front rest run len fronts rests in
+    subst (λ (z : List Numbered). PutsFront writing form origin last z w1 w2 p1) p.whole
+    (front_longer writing form origin last front rest w1 w2 p1
+    (stopped last first run.items one p.row run.each))
+run_stopped writing form origin last first count items front rest w1 w2 p1 p2 (Book fault) run one
+    len fronts rests stopped =
+    let p = parted first count items front rest run len fronts rests in
+    stopped last first run.items one p.row run.each
+
+-- the writer failed at the end of a row
+pub end_stopped : {W : Type 0} (writing : Writing W)
+    → ((s t u : W) (cs bs : List ℕ) → writing.adds s cs t → writing.adds t bs u
+    → writing.adds s (cs ++ bs) u)
+    → (form now : OutputForm) (origin : PacketOrigin) (last first count : ℕ)
+    (items front rest : List Numbered) (w1 w2 w3 : W) (p1 p2 : List ℕ)
+    → now ≡ form → (run : RunsFrom first items) → 1 ≤ first → count ≡ length run.items
+    → front ≡ take count items → rest ≡ drop count items
+    → ((last first : ℕ) (its : List Item) → 1 ≤ first → front ≡ numbered_from first its
+    → AllByRecursion IsMessageItem its
+    → PutsPackets writing form origin last front w1 w2 p1 p2)
+    → ((last number : ℕ) → 1 ≤ number → (rest ≡ []) ⊎ (rest ≡ end_item number ∷ [])
+    → PutsFront writing now origin last rest w2 w3 p2)
+    → PutsFront writing form origin last items w1 w3 p1
+end_stopped writing adds_more form now origin last first count items front rest w1 w2 w3 p1 p2
+    same run one len fronts rests puts ends =
+    let p = parted first count items front rest run len fronts rests in
+    subst (λ (z : List Numbered). PutsFront writing form origin last z w1 w3 p1) p.whole
+    (front_after writing form origin last front rest w1 w2 w3 p1 p2 adds_more
+    (puts last first run.items one p.row run.each)
+    (subst (λ (f : OutputForm). PutsFront writing f origin last rest w2 w3 p2) same
+    (ends last (first + length run.items) (omega (arith, one)) p.end)))

@@ -1,5 +1,5 @@
 -- Packets that carry the items of a session are of the session.
-use Rattle.std.proofs.Common.{◌≡◌, ◌⊎◌, ℕ, zero, suc, ◌+◌, ◌-◌, ◌<◌, ◌≤◌, List, [], ◌∷◌, ◌++◌, length, map, refl, sym, ap, subst, ◌∙◌, inl, inr, arith}
+use Rattle.std.proofs.Common.{◌≡◌, ◌⊎◌, ℕ, zero, suc, ◌+◌, ◌-◌, ◌<◌, ◌≤◌, List, [], ◌∷◌, ◌++◌, length, map, refl, sym, ap, subst, ◌∙◌, inl, inr, arith, length-append}
 use Rattle.std.specs.Prelude.{Some, slice_get, slice_index_or}
 use Rattle.std.specs.List.{flat_map, AllByRecursion}
 use Rattle.feed_types.specs.declared.item.Item.{Item}
@@ -11,8 +11,8 @@ use Rattle.mold_packet.specs.declared.packet.Kind.TheVariants as kinds
 use Rattle.mold_packet.specs.Content.{Content}
 use Rattle.quote_payload.specs.Payload.{item_of}
 use Rattle.quote_payload.specs.ItemLaws.{item_of-never_end}
-use Rattle.normalising.specs.Carried.{IsMessageItem, end_of_kind, items_carried}
-use Rattle.normalising.specs.OfSession.{IsSentOf}
+use Rattle.line_arbiter.specs.OfSession.{IsOfSession}
+use Rattle.normalising.specs.Carried.{BeatsWithin, IsMessageItem, end_of_kind, items_carried}
 
 -- an item of a row with its number, or the end after it
 record InRow (first : ℕ) (its : List Item) (e : Numbered) : Type 0 where
@@ -103,16 +103,16 @@ at_end P kinds.Heartbeat n e a = absurd cc
 at_end P kinds.End n e a = a.0
 
 sent : (name : List ℕ) (its : List Item) (p : Content) → p.session ≡ name
-    → AllByRecursion (InRow 1 its) (items_carried p)
-    → IsSentOf (record { name = name; items = its }) p
-sent name its p is a other = record {
+    → AllByRecursion (InRow 1 its) (items_carried p) → BeatsWithin (length its) p
+    → IsOfSession (record { name = name; items = its }) p
+sent name its p is a beats = record {
   name = is;
   messages = λ k lt.
       let r = at_place (InRow 1 its) p.number p.messages k lt
       (all_front (InRow 1 its) (numbered_from p.number (map item_of p.messages))
       (end_of_kind p.kind p.number) a) in
       (r.message (item_of-never_end (slice_index_or p.messages k []))).1;
-  heartbeat = λ beat. absurd (other beat);
+  heartbeat = beats;
   end = λ end.
       let r = at_end (InRow 1 its) p.kind p.number end
       (all_back (InRow 1 its) (numbered_from p.number (map item_of p.messages))
@@ -126,22 +126,64 @@ sent name its p is a other = record {
 all_sent : (name : List ℕ) (its : List Item) (ps : List Content)
     → AllByRecursion (λ p. p.session ≡ name) ps
     → AllByRecursion (InRow 1 its) (flat_map items_carried ps)
-    → AllByRecursion (IsSentOf (record { name = name; items = its })) ps
-all_sent name its [] names a = tt
-all_sent name its (p ∷ ps) names a = (
-  sent name its p names.0 (all_front (InRow 1 its) (items_carried p) (flat_map items_carried ps) a),
+    → AllByRecursion (BeatsWithin (length its)) ps
+    → AllByRecursion (IsOfSession (record { name = name; items = its })) ps
+all_sent name its [] names a beats = tt
+all_sent name its (p ∷ ps) names a beats = (
+  sent name its p names.0 (all_front (InRow 1 its) (items_carried p) (flat_map items_carried ps) a)
+      beats.0,
   all_sent name its ps names.1
-      (all_back (InRow 1 its) (items_carried p) (flat_map items_carried ps) a),
+      (all_back (InRow 1 its) (items_carried p) (flat_map items_carried ps) a) beats.1,
 )
 
+-- a row of later numbers, after items that nothing carries
+get_past : (pad its : List Item) (k : ℕ)
+    → slice_get (pad ++ its) (length pad + k) ≡ slice_get its k
+get_past [] its k = ap (slice_get its) (none k)
+  where
+    none : (n : ℕ) → 0 + n ≡ n
+    none n = omega arith
+get_past (x ∷ pad) its k =
+    ap (slice_get (x ∷ (pad ++ its))) (moved (length pad) k) ∙ get_past pad its k
+  where
+    moved : (n m : ℕ) → suc n + m ≡ suc (n + m)
+    moved n m = omega arith
+
+in_padded : (first : ℕ) (pad its : List Item) (e : Numbered) → length pad + 1 ≡ first
+    → InRow first its e → InRow 1 (pad ++ its) e
+in_padded first pad its e len r = record {
+  message = λ other. let m = r.message other in (
+    omega (arith, m.0, len),
+    ap (slice_get (pad ++ its)) (place e.number (length pad) m.0 len)
+        ∙ get_past pad its (e.number - first) ∙ m.1,
+  );
+  end = λ is. r.end is ∙ past (length pad) (length its) (length (pad ++ its)) len
+      (length-append pad its);
+}
+  where
+    place : (n k : ℕ) → first ≤ n → k + 1 ≡ first → n - 1 ≡ k + (n - first)
+    place n k from is = omega arith
+
+    past : (k n all : ℕ) → k + 1 ≡ first → all ≡ k + n → first + n ≡ 1 + all
+    past k n all is sum = omega arith
+
+all_padded : (first : ℕ) (pad its : List Item) (es : List Numbered) → length pad + 1 ≡ first
+    → AllByRecursion (InRow first its) es → AllByRecursion (InRow 1 (pad ++ its)) es
+all_padded first pad its [] len a = tt
+all_padded first pad its (e ∷ es) len a =
+    (in_padded first pad its e len a.0, all_padded first pad its es len a.1)
+
 -- packets that carry a row are of the session of its items
-pub row_sent : (name : List ℕ) (its : List Item) (ends : List Numbered) (ps : List Content)
-    → AllByRecursion IsMessageItem its
-    → (ends ≡ []) ⊎ (ends ≡ end_item (1 + length its) ∷ [])
+pub row_sent : (first : ℕ) (name : List ℕ) (pad its : List Item) (ends : List Numbered)
+    (ps : List Content) → length pad + 1 ≡ first → AllByRecursion IsMessageItem its
+    → (ends ≡ []) ⊎ (ends ≡ end_item (first + length its) ∷ [])
     → AllByRecursion (λ p. p.session ≡ name) ps
-    → flat_map items_carried ps ≡ numbered_from 1 its ++ ends
-    → AllByRecursion (IsSentOf (record { name = name; items = its })) ps
-row_sent name its ends ps each end names carried =
-    all_sent name its ps names
-    (subst (λ (z : List Numbered). AllByRecursion (InRow 1 its) z) (sym carried)
-    (in_row 1 its ends each end))
+    → flat_map items_carried ps ≡ numbered_from first its ++ ends
+    → AllByRecursion (BeatsWithin (length (pad ++ its))) ps
+    → AllByRecursion (IsOfSession (record { name = name; items = pad ++ its })) ps
+row_sent first name pad its ends ps len each end names carried beats =
+    all_sent name (pad ++ its) ps names
+    (all_padded first pad its (flat_map items_carried ps) len
+    (subst (λ (z : List Numbered). AllByRecursion (InRow first its) z) (sym carried)
+    (in_row first its ends each end)))
+    beats

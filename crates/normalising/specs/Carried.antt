@@ -1,60 +1,33 @@
--- What the packets of a session carry.
-use Rattle.std.specs.Prelude.{◌≡◌, ◌⊎◌, ℕ, ◌+◌, ◌≤◌, List, [], ◌∷◌, ◌++◌, length, map}
-use Rattle.std.specs.List.{flat_map, AllByRecursion}
-use Rattle.feed_types.specs.declared.item.Item.{Item}
-use Rattle.feed_types.specs.declared.item.Item.TheVariants as items
+-- What the packets of a session carry, and how they are written.
+use Rattle.std.specs.Prelude.{◌≡◌, ℕ, ◌+◌, ◌≤◌, List, map}
+use Rattle.std.specs.List.{AllByRecursion}
 use Rattle.feed_types.specs.declared.item.Numbered.{Numbered}
-use Rattle.feed_types.specs.Sessions.{numbered_from, end_item}
-use Rattle.mold_packet.specs.declared.packet.Kind.{Kind}
+use Rattle.line_arbiter.specs.Packets.{Input}
+use Rattle.line_arbiter.specs.Streams.{front_of}
 use Rattle.mold_packet.specs.declared.packet.Kind.TheVariants as kinds
-use Rattle.mold_packet.specs.Content.{Content, IsContent, spelling}
-use Rattle.quote_payload.specs.Payload.{item_of}
+use Rattle.mold_packet.specs.Content.{Content, spelling}
+use Rattle.venue_normaliser.specs.Brought.{before_skip_past}
+use Rattle.venue_normaliser.specs.Outputs.{Opening}
+pub use Rattle.item_packets.specs.Carried.{Carry, IsMessageItem, IsShortMessage, RunsFrom, end_of_kind, items_carried, numbered_item}
 
--- a message's item, which End and Skipped are not
-pub record IsMessageItem (item : Item) : Type 0 where
-  pub no_end : item ≡ items.End → ⊥
-  pub not_skipped : item ≡ items.Skipped → ⊥
+-- the number of the last message that is put out of a session, which began so: the one before its
+-- first gap
+abbrev pub last_put : Opening → List Input → ℕ
+last_put opening packets = front_of (before_skip_past opening.number packets)
 
-abbrev pub numbered_item : Numbered → Item
-numbered_item n = n.item
-
--- no message of this project's own is longer
-abbrev pub IsShortMessage : List ℕ → Type 0
-IsShortMessage message = length message ≤ 34
-
--- Items in a row, from this number on, of which the last may be the end.
-pub record RunsFrom (first : ℕ) (output : List Numbered) : Type 0 where
-  pub items : List Item
-  pub ends : List Numbered
-  pub each : AllByRecursion IsMessageItem items
-  pub is : output ≡ numbered_from first items ++ ends
-  pub end : (ends ≡ []) ⊎ (ends ≡ end_item (first + length items) ∷ [])
-
--- the end that a packet of this kind and number announces
-abbrev pub end_of_kind : Kind → ℕ → List Numbered
-end_of_kind kinds.Messages n = []
-end_of_kind kinds.Heartbeat n = []
-end_of_kind kinds.End n = end_item n ∷ []
-
--- what a packet carries: its messages as they read, with their numbers, or the end
-abbrev pub items_carried : Content → List Numbered
-items_carried p = numbered_from p.number (map item_of p.messages) ++ end_of_kind p.kind p.number
-
--- Packets of the session of this name carry together just this output: each item once, in order,
--- with its number.
-pub record Carry (name : List ℕ) (output : List Numbered) (packets : List Content) : Type 0 where
-  pub each : AllByRecursion IsContent packets
-  pub session : AllByRecursion (λ p. p.session ≡ name) packets
-  pub carried : flat_map items_carried packets ≡ output
-
--- a heartbeat has the number after the last message that is known of
+-- a heartbeat has the number after this last message
 abbrev pub BeatsAt : ℕ → Content → Type 0
-BeatsAt known p = p.kind ≡ kinds.Heartbeat → p.number ≡ known + 1
+BeatsAt last p = p.kind ≡ kinds.Heartbeat → p.number ≡ last + 1
 
--- The datagrams are packets of the session, which together carry just this output.
-pub record AreWritten (name : List ℕ) (known : ℕ) (output : List Numbered)
+-- a heartbeat has at most that number
+abbrev pub BeatsWithin : ℕ → Content → Type 0
+BeatsWithin last p = p.kind ≡ kinds.Heartbeat → p.number ≤ last + 1
+
+-- The datagrams are packets of the session, which together carry just this output, up to this last
+-- message.
+pub record AreWritten (name : List ℕ) (last : ℕ) (output : List Numbered)
     (datagrams : List (List ℕ)) : Type 0 where
   pub packets : List Content
   pub carry : Carry name output packets
-  pub heartbeats : AllByRecursion (BeatsAt known) packets
+  pub heartbeats : AllByRecursion (BeatsAt last) packets
   pub spelled : datagrams ≡ map spelling packets

@@ -1,8 +1,8 @@
--- The bytes that are written of a datagram, in the form of the output.
+-- The bytes that are written, in the form of the output.
 use Rattle.std.specs.Prelude.{ℕ, List, [], ◌∷◌, slice_index_or}
 use Rattle.feed_types.specs.declared.line.LineId.TheVariants as lines
 use Rattle.capture_writing.specs.declared.destination.Destination.{Destination}
-use Rattle.capture_writing.specs.Frames.{datagram_record_bytes}
+use Rattle.capture_writing.specs.Frames.{datagram_record_bytes, file_header}
 use Rattle.capture_records.specs.Capture.{CaptureRecord, datagram_record, bytes_of_record}
 use Rattle.normalising.specs.declared.output_form.OutputForm.{OutputForm}
 use Rattle.normalising.specs.declared.output_form.OutputForm.TheVariants.{Own, Capture}
@@ -22,3 +22,8 @@ datagram_text (Capture destinations) venue time bytes = datagram_record_bytes
 abbrev pub record_text : OutputForm → CaptureRecord → List ℕ
 record_text Own r = bytes_of_record r
 record_text (Capture destinations) r = []
+
+-- what the output begins with
+abbrev pub begun_text : OutputForm → List ℕ
+begun_text Own = []
+begun_text (Capture destinations) = file_header

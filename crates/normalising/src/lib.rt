@@ -5,20 +5,24 @@
 //! its venue, and what is put out is written as packets of the same session with the same numbers,
 //! in the form that is asked for ([`OutputForm`]).
 //!
-//! Contract, of one venue: where it is given a packet (`WritesPacket`) or a gap is given up
-//! (`WritesSkip`), the packets that are written carry just what its normaliser puts out more, each
-//! item once, in order, with its number (`WritesMore`, `Carry`), in the output's form
-//! (`datagram_text`). The law [`what_is_written_is_the_session`] says of a whole session that these
-//! are packets of the session whose item n is the one that message n makes. [`normalise`] itself
-//! has no contract yet: which venue a record goes to, and what a run reads, is tested.
+//! Contract: [`normalise`] answers by `AnswersNormalising`, over the records that it reads
+//! (`NormalisesAll`): each goes to its own venue, whose packets carry just what its normaliser puts
+//! out more, each item once, in order, with its number (`PutsOutMore`, `Carry`), in the output's
+//! form (`datagram_text`). The law [`a_run_sends_its_sessions`] says of each session of each venue
+//! that the packets written carry what is put out of it, and
+//! [`what_a_run_sends_is_the_session`] that these are packets of the session whose item n is the
+//! one that message n makes.
 //!
-//! Begin at `specs/Carried.antt`, then `specs/Writes.antt`; `normalised_venue.rt` has a venue,
+//! A venue's first session may begin with a snapshot (`BeginsWith`).
+//!
+//! Begin at `specs/Carried.antt`, then `specs/Normalised.antt`, `specs/Normalisations.antt` and
+//! `specs/Sendings.antt`; `normalised_venue.rt` has a venue, `normalised_venues.rt` all of them,
 //! `conversion.rt` a run.
 #![tactic(auto)]
 
+mod begin_fault;
 mod conversion;
 mod laws;
-mod message_forms;
 mod normalise_stop;
 mod normalised_feed;
 mod normalised_venue;
@@ -33,7 +37,10 @@ mod venue_report;
 mod venue_stop;
 
 pub use conversion::{Normalised, normalise};
-pub use laws::{packets_carry_on, what_is_written_is_the_session};
+pub use item_packets::packets_carry_on;
+pub use laws::{
+    a_run_sends_its_sessions, what_a_run_sends_is_the_session, what_is_written_is_the_session,
+};
 pub use normalise_stop::NormaliseStop;
 pub use normalised_feed::NormalisedFeed;
 pub use output_form::OutputForm;

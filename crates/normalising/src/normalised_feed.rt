@@ -3,14 +3,17 @@
 use crate::output_form::OutputForm;
 use feed_types::SymbolName;
 use run_settings::{NextSession, SkipRule};
-use venue_normaliser::NormaliserSettings;
+use venue_normaliser::{NormaliserSettings, Snapshot};
 
 /// What is normalised, and how.
 #[derive(Clone, Copy, Debug)]
 pub struct NormalisedFeed<'a> {
     /// The first session of each venue, 1 to 16.
     pub sessions: &'a [[u8; 10]],
-    /// The sessions that follow these, in the order in which those of a venue follow one another.
+    /// The snapshots with which the first sessions begin, by venues; those past its end have none.
+    pub snapshots: &'a [Option<Snapshot<'a>>],
+    /// The sessions that follow the first ones, in the order in which those of a venue follow one
+    /// another.
     pub next_sessions: &'a [NextSession],
     /// The symbols whose quotations are made.
     pub symbols: &'a [SymbolName],

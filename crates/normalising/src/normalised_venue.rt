@@ -1,11 +1,16 @@
 //! A venue whose lines are normalised.
-ghost use Rattle.std.specs.Prelude.{◌≡◌, ℕ, ◌≤◌, true, false, List, [], IfOk, MatchBool, OnOk};
-ghost use Rattle.feed_types.specs.declared.item.Numbered.{Numbered};
-ghost use Rattle.line_arbiter.specs.Packets.{Input, known_of};
-ghost use Rattle.venue_normaliser.specs.Outputs.{IsPutOut};
-ghost use Rattle.venue_normaliser.specs.States.{FitsPackets};
-ghost use Rattle.normalising.specs.Carried.{RunsFrom};
-ghost use Rattle.normalising.specs.Writes.{PutsPackets, WritesPacket, WritesSkip, origin_of};
+ghost use Rattle.text_out.specs.Members.{writing_of};
+ghost use Rattle.std.specs.Prelude.{◌≡◌, ℕ, ◌≤◌, List, [], IfErr, IfOk, IsErrOf, MatchBool, OnOk, Some, slice_index_or};
+ghost use Rattle.capture_records.specs.Capture.{datagram_record, renewal_record, skip_record};
+ghost use Rattle.line_arbiter.specs.Packets.{Input};
+ghost use Rattle.mold_packet.specs.Content.{Spells};
+ghost use Rattle.venue_normaliser.specs.Outputs.{Opening};
+ghost use Rattle.venue_normaliser.specs.States.{FitsOpened, FitsPackets, IsNewNormaliser, ShowsTooMuch};
+ghost use Rattle.normalising.specs.Carried.{RunsFrom, last_put};
+ghost use Rattle.normalising.specs.Keeping.{FollowsNew, FollowsVenue, IsSameVenue, TakesAtVenue};
+ghost use Rattle.normalising.specs.Normalised.{NormalisedHistory, quoted_keys, snapshot_at};
+ghost use Rattle.normalising.specs.Writes.{PutsPackets, StopsPut, origin_of};
+ghost use Rattle.normalising.specs.declared.normalised_feed.NormalisedFeed.{NormalisedFeed};
 
 use crate::output_packets::OutputPackets;
 use crate::packet_counts::PacketCounts;
@@ -20,16 +25,15 @@ use line_arbiter::{LineFault, Outcome};
 use mold_packet::{Body, Kind, Packet};
 use std::alloc::Global;
 use text_out::TextOut;
-use venue_normaliser::VenueNormaliser;
+use venue_normaliser::{ResumeFault, Snapshot, VenueNormaliser, what_a_snapshot_shows_is_put_out};
 
 /// A venue whose lines are normalised.
 #[derive(Drop)]
 pub(crate) struct NormalisedVenue {
     pub(crate) normaliser: VenueNormaliser,
-    ready: Vec<Numbered>,
+    /// What is put out and not written: what the snapshot shows, before anything is given.
+    pub(crate) ready: Vec<Numbered>,
     window: u32,
-    /// The greatest number up to which the output says that the session goes.
-    told: u64,
     standing: Option<StandingSince>,
     pub(crate) counts: PacketCounts,
 }
@@ -42,14 +46,6 @@ fn origin_at(normaliser: &VenueNormaliser, time: CaptureTime) -> PacketOrigin
         venue: normaliser.venue(),
         session: normaliser.session(),
         time,
-    }
-}
-
-/// Returns up to which number the output says that the session goes, once items are written.
-fn told_after(told: u64, items: &[Numbered]) -> u64 {
-    match items.last() {
-        Some(last) => told.max(last.number),
-        None => told,
     }
 }
 
@@ -72,7 +68,8 @@ impl NormalisedVenue {
         normaliser: VenueNormaliser,
         window: u32,
     ) -> Result<NormalisedVenue, BookFault>
-        ensures { IfOk result (λ v. v.normaliser ≡ normaliser) }
+        ensures normaliser { IfOk result (λ v. v.normaliser ≡ normaliser) }
+        ensures none { IfOk result (λ v. v.ready.items ≡ []) }
     {
         let Ok(ready) = Vec::with_capacity(alloc, 65_536) else {
             return Err(BookFault::NoMemory);
@@ -81,10 +78,32 @@ impl NormalisedVenue {
             normaliser,
             ready,
             window,
-            told: 0,
             standing: None,
             counts: PacketCounts::default(),
         })
+    }
+
+    /// Begins the first session with a snapshot. What it shows is ready then.
+    pub(crate) fn resume(
+        &mut self,
+        alloc: Global,
+        snapshot: &Snapshot<'_>,
+    ) -> Result<(), ResumeFault>
+        requires { self.old.ready.items ≡ [] }
+        ensures opened { OnOk result ((feed : NormalisedFeed) (place : ℕ) (name : List ℕ)
+            → slice_index_or feed.sessions.now place [] ≡ name
+            → snapshot_at feed.snapshots.now place ≡ Some snapshot.now
+            → FitsPackets self.old.normaliser []
+            → IsNewNormaliser self.old.normaliser place name (quoted_keys feed)
+            feed.normaliser.window feed.normaliser.end_number → FollowsNew feed place self.new) }
+        ensures too_few { FitsPackets self.old.normaliser []
+            → IsErrOf result ResumeFault.TooFewNumbers
+            → ShowsTooMuch self.old.normaliser.book.keys snapshot.now }
+        ensures begun { FitsPackets self.old.normaliser []
+            → IsErrOf result ResumeFault.HasBegun → ⊥ }
+    {
+        what_a_snapshot_shows_is_put_out();
+        self.normaliser.resume(alloc, snapshot, &mut self.ready)
     }
 
     /// Returns what is reported of the venue.
@@ -119,35 +138,45 @@ impl NormalisedVenue {
         output: &mut OutputPackets<'_>,
         writer: &mut W,
     ) -> Result<(), VenueStop>
-        ensures put { OnOk result ((known first : ℕ) → 1 ≤ first
+        ensures put { OnOk result ((last first : ℕ) → 1 ≤ first
             → RunsFrom first self.old.ready.items → PutsPackets
-            (record { adds = W.adds; failures = W.failures }) output.old.page.form
-            (origin_of self.old.normaliser time) known self.old.ready.items
+            (writing_of W.TextOut) output.old.page.form
+            (origin_of self.old.normaliser time) last self.old.ready.items
             writer.old writer.new output.old.page.page output.new.page.page) }
+        ensures stopped { IfErr result (λ stop. (last first : ℕ) → 1 ≤ first
+            → RunsFrom first self.old.ready.items → StopsPut
+            (writing_of W.TextOut) output.old.page.form
+            (origin_of self.old.normaliser time) last self.old.ready.items
+            writer.old writer.new output.old.page.page output.new.page.page stop) }
         ensures form { output.new.page.form ≡ output.old.page.form }
         ensures same { self.new.normaliser ≡ self.old.normaliser }
+        ensures written { OnOk result (self.new.ready.items ≡ []) }
     {
         let origin = origin_at(&self.normaliser, time);
         let items = self.ready.as_slice();
-        self.told = told_after(self.told, items);
-        output.put_items(&origin, items, writer)
+        output.put_items(&origin, items, writer)?;
+        self.ready.clear();
+        Ok(())
     }
 
-    /// Passes on how far the session is known to go: a heartbeat of the input, and what came past
-    /// a gap.
+    /// Passes on a heartbeat of the input, with the number after the last message that is put out.
     fn pass_on<W: TextOut>(
-        &mut self,
-        is_heartbeat: bool,
+        &self,
         time: CaptureTime,
         output: &mut OutputPackets<'_>,
         writer: &mut W,
     ) -> Result<(), VenueStop>
-        ensures put { OnOk result ((packets : List Input) → FitsPackets self.old.normaliser packets
-            → PutsPackets (record { adds = W.adds; failures = W.failures }) output.old.page.form
-            (origin_of self.old.normaliser time) (known_of packets) []
+        ensures put { OnOk result ((opening : Opening) (packets : List Input)
+            → FitsOpened self.now.normaliser opening packets
+            → PutsPackets (writing_of W.TextOut) output.old.page.form
+            (origin_of self.now.normaliser time) (last_put opening packets) []
             writer.old writer.new output.old.page.page output.new.page.page) }
+        ensures stopped { IfErr result (λ stop. (opening : Opening) (packets : List Input)
+            → FitsOpened self.now.normaliser opening packets
+            → StopsPut (writing_of W.TextOut) output.old.page.form
+            (origin_of self.now.normaliser time) (last_put opening packets) []
+            writer.old writer.new output.old.page.page output.new.page.page stop) }
         ensures form { output.new.page.form ≡ output.old.page.form }
-        ensures same { self.new.normaliser ≡ self.old.normaliser }
     {
         let status = self.normaliser.status();
         let is_over = match status.end {
@@ -157,18 +186,15 @@ impl NormalisedVenue {
         if self.normaliser.has_given_up() || is_over {
             return Ok(());
         }
-        let Some(number) = status.known.checked_add(1) else {
+        let Some(number) = status.front.checked_add(1) else {
             return Ok(());
         };
-        if status.known > self.told || is_heartbeat {
-            self.told = self.told.max(status.known);
-            let origin = origin_at(&self.normaliser, time);
-            output.put_empty(&origin, number, Body::Heartbeat, writer)?;
-        }
+        let origin = origin_at(&self.normaliser, time);
+        output.put_empty(&origin, number, Body::Heartbeat, writer)?;
         Ok(())
     }
 
-    /// Writes what is ready, or where nothing is, how far the session is known to go.
+    /// Writes what is ready, or where nothing is, a heartbeat of the input.
     fn write_more<W: TextOut>(
         &mut self,
         is_heartbeat: bool,
@@ -176,17 +202,29 @@ impl NormalisedVenue {
         output: &mut OutputPackets<'_>,
         writer: &mut W,
     ) -> Result<(), VenueStop>
-        ensures put { OnOk result ((packets : List Input) (first : ℕ)
-            → FitsPackets self.old.normaliser packets → 1 ≤ first
+        ensures put { OnOk result ((opening : Opening) (packets : List Input) (first : ℕ)
+            → FitsOpened self.old.normaliser opening packets → 1 ≤ first
             → RunsFrom first self.old.ready.items → PutsPackets
-            (record { adds = W.adds; failures = W.failures }) output.old.page.form
-            (origin_of self.old.normaliser time) (known_of packets) self.old.ready.items
+            (writing_of W.TextOut) output.old.page.form
+            (origin_of self.old.normaliser time) (last_put opening packets)
+            self.old.ready.items
             writer.old writer.new output.old.page.page output.new.page.page) }
+        ensures stopped { IfErr result (λ stop. (opening : Opening) (packets : List Input)
+            (first : ℕ) → FitsOpened self.old.normaliser opening packets → 1 ≤ first
+            → RunsFrom first self.old.ready.items → StopsPut
+            (writing_of W.TextOut) output.old.page.form
+            (origin_of self.old.normaliser time) (last_put opening packets)
+            self.old.ready.items
+            writer.old writer.new output.old.page.page output.new.page.page stop) }
         ensures form { output.new.page.form ≡ output.old.page.form }
         ensures same { self.new.normaliser ≡ self.old.normaliser }
+        ensures written { OnOk result (self.new.ready.items ≡ []) }
     {
         if is_none_ready(self.ready.as_slice()) {
-            return self.pass_on(is_heartbeat, time, output, writer);
+            if is_heartbeat {
+                return self.pass_on(time, output, writer);
+            }
+            return Ok(());
         }
         self.write_ready(time, output, writer)
     }
@@ -200,27 +238,25 @@ impl NormalisedVenue {
         output: &mut OutputPackets<'_>,
         writer: &mut W,
     ) -> Result<(), VenueStop>
-        ensures takes { OnOk result ((packets : List Input) (put : List Numbered)
-            → FitsPackets self.old.normaliser packets
-            → IsPutOut self.old.normaliser.book.keys packets put
-            → WritesPacket (record { adds = W.adds; failures = W.failures }) output.old.page.form
-            time line packet.now self.old.normaliser self.new.normaliser packets put
-            writer.old writer.new output.old.page.page output.new.page.page) }
+        ensures takes { (feed : NormalisedFeed) (place : ℕ) (h : NormalisedHistory)
+            (bytes more : List ℕ) → FollowsVenue feed place self.old h
+            → Spells bytes packet.now more → output.old.page.form ≡ feed.form
+            → TakesAtVenue (writing_of W.TextOut) feed time place
+            (datagram_record place line bytes) h self.new writer.old writer.new
+            output.old.page.page output.new.page.page result }
         ensures form { output.new.page.form ≡ output.old.page.form }
     {
         self.counts.count_packet(packet);
-        self.ready.clear();
         let answer = self.normaliser.take(line, packet, &mut self.ready)?;
         self.counts.count_answer(&answer);
         self.write_more(is_heartbeat(&answer), time, output, writer)
     }
 
-    /// Returns whether a packet lies past the window.
-    fn would_be_ahead(&self, packet: &Packet<'_>) -> bool {
-        let status = self.normaliser.status();
-        packet.kind() == Kind::Messages
-            && packet.session() == self.normaliser.session()
-            && packet.last_number() > status.sent.saturating_add(u64::from(self.window))
+    /// Counts a datagram that is no packet.
+    pub(crate) fn count_bad(&mut self)
+        ensures { IsSameVenue self.old self.new }
+    {
+        self.counts.count_bad();
     }
 
     /// Gives up what is missing below a number, where something is, and writes the end. Returns
@@ -232,19 +268,13 @@ impl NormalisedVenue {
         output: &mut OutputPackets<'_>,
         writer: &mut W,
     ) -> Result<bool, VenueStop>
-        ensures skips { IfOk result (λ skipped. skipped ≡ true
-            → (packets : List Input) (put : List Numbered)
-            → FitsPackets self.old.normaliser packets
-            → IsPutOut self.old.normaliser.book.keys packets put
-            → WritesSkip (record { adds = W.adds; failures = W.failures }) output.old.page.form
-            time number self.old.normaliser self.new.normaliser packets put
-            writer.old writer.new output.old.page.page output.new.page.page) }
-        ensures refused { IfOk result (λ skipped. skipped ≡ false
-            → (self.new.normaliser ≡ self.old.normaliser) × (writer.new ≡ writer.old)
-            × (output.new ≡ output.old)) }
+        ensures skips { (feed : NormalisedFeed) (place : ℕ) (h : NormalisedHistory)
+            → FollowsVenue feed place self.old h → output.old.page.form ≡ feed.form
+            → TakesAtVenue (writing_of W.TextOut) feed time place
+            (skip_record place number) h self.new writer.old writer.new
+            output.old.page.page output.new.page.page result }
         ensures form { output.new.page.form ≡ output.old.page.form }
     {
-        self.ready.clear();
         match self.normaliser.skip_to(number, &mut self.ready)? {
             Err(_) => Ok(false),
             Ok(()) => {
@@ -262,7 +292,14 @@ impl NormalisedVenue {
         time: CaptureTime,
         output: &mut OutputPackets<'_>,
         writer: &mut W,
-    ) -> Result<Option<GivenUp>, VenueStop> {
+    ) -> Result<Option<GivenUp>, VenueStop>
+        ensures skips { (feed : NormalisedFeed) (place : ℕ) (h : NormalisedHistory)
+            → FollowsVenue feed place self.old h → output.old.page.form ≡ feed.form
+            → TakesAtVenue (writing_of W.TextOut) feed time place
+            (skip_record place number) h self.new writer.old writer.new
+            output.old.page.page output.new.page.page result }
+        ensures form { output.new.page.form ≡ output.old.page.form }
+    {
         let first = self.normaliser.status().front.saturating_add(1);
         let was_quoted = !self.normaliser.has_given_up();
         if self.skip_to(number, time, output, writer)? && was_quoted {
@@ -275,37 +312,32 @@ impl NormalisedVenue {
         Ok(None)
     }
 
-    /// Gives up the gaps at the front until a packet has room in the window, and returns the first
-    /// one of the session.
-    pub(crate) fn make_room<W: TextOut>(
-        &mut self,
-        packet: &Packet<'_>,
-        time: CaptureTime,
-        output: &mut OutputPackets<'_>,
-        writer: &mut W,
-    ) -> Result<Option<GivenUp>, VenueStop> {
-        let mut given_up = None;
-        for _ in 0..self.window {
-            if !self.would_be_ahead(packet) {
-                break;
-            }
-            let to = match self.normaliser.gap() {
-                Some(gap) if self.normaliser.status().held > 0 => {
-                    gap.number.saturating_add(u64::from(gap.count))
-                }
-                _ => packet.number(),
-            };
-            let skipped = self.give_up(to.min(packet.number()), time, output, writer)?;
-            if skipped.is_some() {
-                given_up = skipped;
-            }
+    /// Returns whether a packet lies past the window.
+    fn would_be_ahead(&self, packet: &Packet<'_>) -> bool {
+        let status = self.normaliser.status();
+        packet.kind() == Kind::Messages
+            && packet.session() == self.normaliser.session()
+            && packet.last_number() > status.sent.saturating_add(u64::from(self.window))
+    }
+
+    /// Returns the number to go on from before a packet that lies past the window: the first one
+    /// past the gap at the front that has come, or the packet's.
+    pub(crate) fn gap_before(&self, packet: &Packet<'_>) -> Option<u64> {
+        if !self.would_be_ahead(packet) {
+            return None;
         }
-        Ok(given_up)
+        let to = match self.normaliser.gap() {
+            Some(gap) if self.normaliser.status().held > 0 => {
+                gap.number.saturating_add(u64::from(gap.count))
+            }
+            _ => packet.number(),
+        };
+        Some(to.min(packet.number()))
     }
 
     /// Notes since when a gap stands.
     pub(crate) fn note_gap(&mut self, time: u64)
-        ensures { self.new.normaliser ≡ self.old.normaliser }
+        ensures { IsSameVenue self.old self.new }
     {
         let status = self.normaliser.status();
         self.standing = StandingSince::after(self.standing, &status, time);
@@ -321,17 +353,30 @@ impl NormalisedVenue {
         gap.number.checked_add(u64::from(gap.count))
     }
 
-    /// Begins the venue's next session, and returns whether it began.
-    pub(crate) fn renew(&mut self, alloc: Global, session: [u8; 10]) -> Result<bool, BookFault>
-        ensures fits { IfOk result (λ began. began ≡ true → FitsPackets self.new.normaliser []) }
-        ensures refused { IfOk result (λ began. began ≡ false
-            → self.new.normaliser ≡ self.old.normaliser) }
+    /// Begins the venue's next session, where it may begin, and writes that. Returns whether it
+    /// began.
+    pub(crate) fn renew<W: TextOut>(
+        &mut self,
+        alloc: Global,
+        session: [u8; 10],
+        output: &mut OutputPackets<'_>,
+        writer: &mut W,
+    ) -> Result<bool, VenueStop>
+        ensures renews { (feed : NormalisedFeed) (time place : ℕ) (h : NormalisedHistory)
+            → FollowsVenue feed place self.old h → output.old.page.form ≡ feed.form
+            → TakesAtVenue (writing_of W.TextOut) feed time place
+            (renewal_record place session) h self.new writer.old writer.new
+            output.old.page.page output.new.page.page result }
+        ensures form { output.new.page.form ≡ output.old.page.form }
     {
-        let began = self.normaliser.renew(alloc, session)?.is_ok();
-        if began {
-            self.told = 0;
-            self.standing = None;
+        match self.normaliser.renew(alloc, session)? {
+            Err(_) => Ok(false),
+            Ok(_) => {
+                self.ready.clear();
+                self.standing = None;
+                output.put_renewal(self.normaliser.venue(), &session, writer)?;
+                Ok(true)
+            }
         }
-        Ok(began)
     }
 }

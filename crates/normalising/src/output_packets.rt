@@ -1,5 +1,5 @@
 //! Items as packets.
-ghost use Rattle.std.specs.Prelude.{◌≡◌, ◌⊎◌, ℕ, ◌+◌, ◌^◌, ◌≤◌, List, [], ◌∷◌, length, map, IfOk, OnErr, OnOk};
+ghost use Rattle.std.specs.Prelude.{◌≡◌, ◌⊎◌, ℕ, ◌+◌, ◌^◌, ◌≤◌, List, [], ◌∷◌, length, map, IfErr, IfOk, OnErr, OnOk};
 ghost use Rattle.std.specs.List.{AllByRecursion};
 ghost use Rattle.feed_types.specs.declared.item.Item.{Item};
 ghost use Rattle.feed_types.specs.Sessions.{end_item, numbered_from};
@@ -10,10 +10,10 @@ ghost use Rattle.venue_normaliser.specs.Forms.{form_bytes};
 ghost use Rattle.normalising.specs.Carried.{IsMessageItem, IsShortMessage, RunsFrom, end_of_kind};
 ghost use Rattle.capture_records.specs.Capture.{renewal_record, self_help_record};
 ghost use Rattle.text_out.specs.Devices.{Wrote};
-ghost use Rattle.normalising.specs.Texts.{record_text};
-ghost use Rattle.normalising.specs.Writes.{PutsPackets, PutsText};
+ghost use Rattle.text_out.specs.Members.{writing_of};
+ghost use Rattle.normalising.specs.Texts.{begun_text, record_text};
+ghost use Rattle.normalising.specs.Writes.{PutsFront, PutsPackets, PutsText, StopsPut};
 
-use crate::message_forms::{end_number, fill_forms, first_number, lend_all, messages_before_end};
 use crate::output_form::OutputForm;
 use crate::output_page::OutputPage;
 use crate::packet_origin::PacketOrigin;
@@ -22,6 +22,7 @@ use capture_writing::MOST_BYTES;
 use event_sinks::SinkStop;
 use feed_types::{Numbered, VenueId};
 use itch_book::BookFault;
+use item_packets::{end_number, fill_forms, first_number, lend_all, messages_before_end};
 use mold_packet::{Body, write_packet};
 use packet_building::build_packet;
 use std::alloc::{AllocError, Global};
@@ -51,12 +52,14 @@ fn put_messages<W: TextOut>(
     requires in_range { number + length messages.now ≤ 2 ^ 64 }
     requires short { AllByRecursion IsShortMessage (lent_bytes messages.now) }
     requires room { length packet.old ≡ 65507 }
-    ensures put { OnOk result ((known : ℕ) → PutsPackets
-        (record { adds = W.adds; failures = W.failures }) page.old.form origin.now known
+    ensures put { OnOk result ((last : ℕ) → PutsPackets
+        (writing_of W.TextOut) page.old.form origin.now last
         (numbered_from number (map item_of (lent_bytes messages.now)))
         writer.old writer.new page.old.page page.new.page) }
-    ensures kept { OnOk result (W.failures writer.new ≡ W.failures writer.old) }
-    ensures failed { OnErr result (W.failures writer.new ≡ W.failures writer.old + 1) }
+    ensures front { OnErr result ((last : ℕ) → PutsFront
+        (writing_of W.TextOut) page.old.form origin.now last
+        (numbered_from number (map item_of (lent_bytes messages.now)))
+        writer.old writer.new page.old.page) }
     ensures form { page.new.form ≡ page.old.form }
     ensures room { length packet.new ≡ 65507 }
 {
@@ -87,13 +90,15 @@ fn put_without_messages<W: TextOut>(
     requires empty { body_messages body ≡ [] }
     requires kind { body_kind body ≡ kinds.Messages → ⊥ }
     requires room { length packet.old ≡ 65507 }
-    ensures put { OnOk result ((known : ℕ)
-        → (body_kind body.entry ≡ kinds.Heartbeat → number ≡ known + 1)
-        → PutsPackets (record { adds = W.adds; failures = W.failures })
-        page.old.form origin.now known (end_of_kind (body_kind body.entry) number)
+    ensures put { OnOk result ((last : ℕ)
+        → (body_kind body.entry ≡ kinds.Heartbeat → number ≡ last + 1)
+        → PutsPackets (writing_of W.TextOut)
+        page.old.form origin.now last (end_of_kind (body_kind body.entry) number)
         writer.old writer.new page.old.page page.new.page) }
-    ensures kept { OnOk result (W.failures writer.new ≡ W.failures writer.old) }
-    ensures failed { OnErr result (W.failures writer.new ≡ W.failures writer.old + 1) }
+    ensures front { OnErr result ((last : ℕ)
+        → PutsFront (writing_of W.TextOut)
+        page.old.form origin.now last (end_of_kind (body_kind body.entry) number)
+        writer.old writer.new page.old.page) }
     ensures form { page.new.form ≡ page.old.form }
     ensures room { length packet.new ≡ 65507 }
 {
@@ -106,7 +111,8 @@ fn put_without_messages<W: TextOut>(
 impl<'a> OutputPackets<'a> {
     /// Takes the memory, and begins the file.
     pub(crate) fn new(alloc: Global, form: OutputForm<'a>) -> Result<OutputPackets<'a>, AllocError>
-        ensures { IfOk result (λ p. p.page.form ≡ form.entry) }
+        ensures form { IfOk result (λ p. p.page.form ≡ form.entry) }
+        ensures begun { IfOk result (λ p. p.page.page ≡ begun_text form.entry) }
     {
         let page = OutputPage::new(alloc, form)?;
         let packet = vec![in alloc; 0u8; MOST_BYTES]?;
@@ -140,9 +146,11 @@ impl<'a> OutputPackets<'a> {
         writer: &mut W,
     ) -> Result<(), SinkStop>
         ensures taken { OnOk result (PutsText
-            (record { adds = W.adds; failures = W.failures }) writer.old writer.new
+            (writing_of W.TextOut) writer.old writer.new
             self.old.page.page (record_text self.old.page.form (renewal_record venue session.now))
             self.new.page.page) }
+        ensures part { OnErr result (Wrote W.adds writer.old self.old.page.page writer.new) }
+        ensures failed { OnErr result (W.failures writer.new ≡ W.failures writer.old + 1) }
         ensures form { self.new.page.form ≡ self.old.page.form }
     {
         self.page.put_renewal(venue, session, writer)
@@ -156,9 +164,11 @@ impl<'a> OutputPackets<'a> {
         writer: &mut W,
     ) -> Result<(), SinkStop>
         ensures taken { OnOk result (PutsText
-            (record { adds = W.adds; failures = W.failures }) writer.old writer.new
+            (writing_of W.TextOut) writer.old writer.new
             self.old.page.page (record_text self.old.page.form (self_help_record venue on))
             self.new.page.page) }
+        ensures part { OnErr result (Wrote W.adds writer.old self.old.page.page writer.new) }
+        ensures failed { OnErr result (W.failures writer.new ≡ W.failures writer.old + 1) }
         ensures form { self.new.page.form ≡ self.old.page.form }
     {
         self.page.put_self_help(venue, on, writer)
@@ -175,13 +185,15 @@ impl<'a> OutputPackets<'a> {
         requires from_one { 1 ≤ number }
         requires empty { body_messages body ≡ [] }
         requires kind { body_kind body ≡ kinds.Messages → ⊥ }
-        ensures put { OnOk result ((known : ℕ)
-            → (body_kind body.entry ≡ kinds.Heartbeat → number ≡ known + 1)
-            → PutsPackets (record { adds = W.adds; failures = W.failures })
-            self.old.page.form origin.now known (end_of_kind (body_kind body.entry) number)
+        ensures put { OnOk result ((last : ℕ)
+            → (body_kind body.entry ≡ kinds.Heartbeat → number ≡ last + 1)
+            → PutsPackets (writing_of W.TextOut)
+            self.old.page.form origin.now last (end_of_kind (body_kind body.entry) number)
             writer.old writer.new self.old.page.page self.new.page.page) }
-        ensures kept { OnOk result (W.failures writer.new ≡ W.failures writer.old) }
-        ensures failed { OnErr result (W.failures writer.new ≡ W.failures writer.old + 1) }
+        ensures front { OnErr result ((last : ℕ)
+            → PutsFront (writing_of W.TextOut)
+            self.old.page.form origin.now last (end_of_kind (body_kind body.entry) number)
+            writer.old writer.new self.old.page.page) }
         ensures form { self.new.page.form ≡ self.old.page.form }
     {
         let packet = self.packet.as_mut_slice();
@@ -197,10 +209,14 @@ impl<'a> OutputPackets<'a> {
     ) -> Result<(), VenueStop>
         requires from_one { 1 ≤ number }
         requires in_range { number + length self.old.forms.items ≤ 2 ^ 64 }
-        ensures put { OnOk result ((known : ℕ) → PutsPackets
-            (record { adds = W.adds; failures = W.failures }) self.old.page.form origin.now known
+        ensures put { OnOk result ((last : ℕ) → PutsPackets
+            (writing_of W.TextOut) self.old.page.form origin.now last
             (numbered_from number (map (λ f. item_of (form_bytes f)) self.old.forms.items))
             writer.old writer.new self.old.page.page self.new.page.page) }
+        ensures stopped { IfErr result (λ stop. (last : ℕ) → StopsPut
+            (writing_of W.TextOut) self.old.page.form origin.now last
+            (numbered_from number (map (λ f. item_of (form_bytes f)) self.old.forms.items))
+            writer.old writer.new self.old.page.page self.new.page.page stop) }
         ensures form { self.new.page.form ≡ self.old.page.form }
     {
         let messages = match lend_all(self.alloc, self.forms.as_slice()) {
@@ -226,11 +242,16 @@ impl<'a> OutputPackets<'a> {
         items: &[Numbered],
         writer: &mut W,
     ) -> Result<(), VenueStop>
-        ensures put { OnOk result ((known first : ℕ) (its : List Item)
+        ensures put { OnOk result ((last first : ℕ) (its : List Item)
             → 1 ≤ first → items.now ≡ numbered_from first its
             → AllByRecursion IsMessageItem its → PutsPackets
-            (record { adds = W.adds; failures = W.failures }) self.old.page.form origin.now known
+            (writing_of W.TextOut) self.old.page.form origin.now last
             items.now writer.old writer.new self.old.page.page self.new.page.page) }
+        ensures stopped { IfErr result (λ stop. (last first : ℕ) (its : List Item)
+            → 1 ≤ first → items.now ≡ numbered_from first its
+            → AllByRecursion IsMessageItem its → StopsPut
+            (writing_of W.TextOut) self.old.page.form origin.now last
+            items.now writer.old writer.new self.old.page.page self.new.page.page stop) }
         ensures form { self.new.page.form ≡ self.old.page.form }
     {
         let Some(number) = first_number(items) else {
@@ -249,10 +270,14 @@ impl<'a> OutputPackets<'a> {
         ends: &[Numbered],
         writer: &mut W,
     ) -> Result<(), SinkStop>
-        ensures put { OnOk result ((known number : ℕ) → 1 ≤ number
+        ensures put { OnOk result ((last number : ℕ) → 1 ≤ number
             → (ends.now ≡ []) ⊎ (ends.now ≡ end_item number ∷ []) → PutsPackets
-            (record { adds = W.adds; failures = W.failures }) self.old.page.form origin.now known
+            (writing_of W.TextOut) self.old.page.form origin.now last
             ends.now writer.old writer.new self.old.page.page self.new.page.page) }
+        ensures front { OnErr result ((last number : ℕ) → 1 ≤ number
+            → (ends.now ≡ []) ⊎ (ends.now ≡ end_item number ∷ []) → PutsFront
+            (writing_of W.TextOut) self.old.page.form origin.now last
+            ends.now writer.old writer.new self.old.page.page) }
         ensures form { self.new.page.form ≡ self.old.page.form }
     {
         let Some(number) = end_number(ends) else {
@@ -268,10 +293,14 @@ impl<'a> OutputPackets<'a> {
         items: &[Numbered],
         writer: &mut W,
     ) -> Result<(), VenueStop>
-        ensures put { OnOk result ((known first : ℕ) → 1 ≤ first
+        ensures put { OnOk result ((last first : ℕ) → 1 ≤ first
             → RunsFrom first items.now → PutsPackets
-            (record { adds = W.adds; failures = W.failures }) self.old.page.form origin.now known
+            (writing_of W.TextOut) self.old.page.form origin.now last
             items.now writer.old writer.new self.old.page.page self.new.page.page) }
+        ensures stopped { IfErr result (λ stop. (last first : ℕ) → 1 ≤ first
+            → RunsFrom first items.now → StopsPut
+            (writing_of W.TextOut) self.old.page.form origin.now last
+            items.now writer.old writer.new self.old.page.page self.new.page.page stop) }
         ensures form { self.new.page.form ≡ self.old.page.form }
     {
         let count = messages_before_end(items);

@@ -3,7 +3,8 @@ ghost use Rattle.std.specs.Prelude.{◌≡◌, ◌+◌, ◌≤◌, ◌++◌, ◌
 ghost use Rattle.capture_writing.specs.Frames.{file_header};
 ghost use Rattle.capture_records.specs.Capture.{bytes_of_record, datagram_record, renewal_record, self_help_record};
 ghost use Rattle.text_out.specs.Devices.{Wrote};
-ghost use Rattle.normalising.specs.Texts.{datagram_text, nowhere, record_text};
+ghost use Rattle.text_out.specs.Members.{writing_of};
+ghost use Rattle.normalising.specs.Texts.{datagram_text, begun_text, nowhere, record_text};
 ghost use Rattle.normalising.specs.Writes.{PutsText};
 
 use crate::output_form::OutputForm;
@@ -65,7 +66,8 @@ fn put_own(page: &mut ReadBuffer<PAGE>, venue: VenueId, kind: u8, payload: &[u8]
 impl<'a> OutputPage<'a> {
     /// Takes the memory, and begins the file.
     pub(crate) fn new(alloc: Global, form: OutputForm<'a>) -> Result<OutputPage<'a>, AllocError>
-        ensures { IfOk result (λ p. p.form ≡ form.entry) }
+        ensures form { IfOk result (λ p. p.form ≡ form.entry) }
+        ensures begun { IfOk result (λ p. p.page ≡ begun_text form.entry) }
     {
         let mut page = ReadBuffer::new(alloc)?;
         if let OutputForm::Capture(_) = form {
@@ -96,8 +98,7 @@ impl<'a> OutputPage<'a> {
     /// Writes all that waits where a longest record has no room after it.
     fn make_room<W: TextOut>(&mut self, writer: &mut W) -> Result<(), SinkStop>
         ensures taken { OnOk result (PutsText
-            (record { adds = W.adds; failures = W.failures }) writer.old writer.new
-            self.old.page [] self.new.page) }
+            (writing_of W.TextOut) writer.old writer.new self.old.page [] self.new.page) }
         ensures room { OnOk result (length self.new.page ≤ 196000) }
         ensures part { OnErr result (Wrote W.adds writer.old self.old.page writer.new) }
         ensures failed { OnErr result (W.failures writer.new ≡ W.failures writer.old + 1) }
@@ -118,8 +119,7 @@ impl<'a> OutputPage<'a> {
     ) -> Result<(), SinkStop>
         requires { length bytes.now ≤ 65507 }
         ensures taken { OnOk result (PutsText
-            (record { adds = W.adds; failures = W.failures }) writer.old writer.new
-            self.old.page
+            (writing_of W.TextOut) writer.old writer.new self.old.page
             (datagram_text self.old.form origin.now.venue origin.now.time bytes.now)
             self.new.page) }
         ensures part { OnErr result (Wrote W.adds writer.old self.old.page writer.new) }
@@ -148,9 +148,11 @@ impl<'a> OutputPage<'a> {
         writer: &mut W,
     ) -> Result<(), SinkStop>
         ensures taken { OnOk result (PutsText
-            (record { adds = W.adds; failures = W.failures }) writer.old writer.new
+            (writing_of W.TextOut) writer.old writer.new
             self.old.page (record_text self.old.form (renewal_record venue session.now))
             self.new.page) }
+        ensures part { OnErr result (Wrote W.adds writer.old self.old.page writer.new) }
+        ensures failed { OnErr result (W.failures writer.new ≡ W.failures writer.old + 1) }
         ensures form { self.new.form ≡ self.old.form }
     {
         self.make_room(writer)?;
@@ -168,9 +170,11 @@ impl<'a> OutputPage<'a> {
         writer: &mut W,
     ) -> Result<(), SinkStop>
         ensures taken { OnOk result (PutsText
-            (record { adds = W.adds; failures = W.failures }) writer.old writer.new
+            (writing_of W.TextOut) writer.old writer.new
             self.old.page (record_text self.old.form (self_help_record venue on))
             self.new.page) }
+        ensures part { OnErr result (Wrote W.adds writer.old self.old.page writer.new) }
+        ensures failed { OnErr result (W.failures writer.new ≡ W.failures writer.old + 1) }
         ensures form { self.new.form ≡ self.old.form }
     {
         self.make_room(writer)?;

@@ -14,8 +14,8 @@ use Rattle.packet_capture.specs.declared.reader.Format.{Format}
 use Rattle.packet_capture.specs.declared.reader.Format.TheVariants.{Start, InSavefile, InSection}
 use Rattle.packet_capture.specs.declared.savefile.Magic.{Magic}
 use Rattle.packet_capture.specs.declared.savefile.Savefile.{Savefile}
-use Rattle.packet_capture.specs.declared.stop.Stop.{Stop}
-use Rattle.packet_capture.specs.declared.stop.Stop.TheVariants.{Bad, Wants}
+use Rattle.packet_capture.specs.declared.stop.NoPiece.{NoPiece}
+use Rattle.packet_capture.specs.declared.stop.NoPiece.TheVariants.{Bad, Wants}
 use Rattle.packet_capture.specs.Fields.{u16_in, u32_in, bytes_at}
 use Rattle.packet_capture.specs.Frames.{FrameContent}
 use Rattle.packet_capture.specs.Savefiles.{magic_at, savefile_at, BeginsSavefile, captured_at, record_time, IsPacketRecord}
@@ -31,11 +31,11 @@ use Rattle.packet_capture.proofs.Deciding.{option_cases}
 PieceOrStop : Format → Context → List ℕ → Type 0
 PieceOrStop format before bytes =
     ((piece : PieceContent) × (after : Context) × IsPieceIn format before bytes piece after)
-    ⊎ ((stop : Stop) × StopsIn format before bytes stop)
+    ⊎ ((stop : NoPiece) × StopsIn format before bytes stop)
 
 -- a savefile
 header_or_stop : (bytes : List ℕ) (magic : Magic) → magic_at bytes ≡ Some magic
-    → ((s : Savefile) × BeginsSavefile bytes s) ⊎ ((stop : Stop) × StopsInHeader bytes stop)
+    → ((s : Savefile) × BeginsSavefile bytes s) ⊎ ((stop : NoPiece) × StopsInHeader bytes stop)
 header_or_stop bytes magic is = elim (cases_lt (length bytes) 24) [
   | inl short ↦ inr (Wants 24, inl (short, refl))
   | inr there ↦ elim (cases_eq (u16_in magic.order bytes 4) 2) [
@@ -90,7 +90,7 @@ record_frame s bytes = record {
 }
 
 record_or_stop : (s : Savefile) (bytes : List ℕ) → ((f : FrameContent) × IsPacketRecord s bytes f)
-    ⊎ ((stop : Stop) × StopsInRecord s bytes stop)
+    ⊎ ((stop : NoPiece) × StopsInRecord s bytes stop)
 unfolding record_frame
 record_or_stop s bytes = elim (cases_lt (length bytes) 16) [
   | inl short ↦ inr (Wants 16, inl (short, refl))
@@ -127,7 +127,7 @@ len_or_not len = elim (cases_lt len 12) [
 
 block_or_stop : (section : ByteOrder) (bytes : List ℕ)
     → ((order : ByteOrder) × (block : List ℕ) × IsBlock section bytes order block)
-    ⊎ ((stop : Stop) × StopsInBlock section bytes stop)
+    ⊎ ((stop : NoPiece) × StopsInBlock section bytes stop)
 block_or_stop section bytes = elim (cases_lt (length bytes) 12) [
   | inl short ↦ inr (Wants 12, inl (short, refl))
   | inr there ↦ elim (option_cases (order_at section bytes)) [
@@ -332,7 +332,7 @@ event_or_fault is order block =
 -- a section's blocks
 section_piece_or_stop : (section : ByteOrder) (before : Context) (bytes : List ℕ)
     → length before.interfaces ≤ 256 → ((piece : PieceContent) × (after : Context)
-    × IsBlockPiece section before bytes piece after) ⊎ ((stop : Stop)
+    × IsBlockPiece section before bytes piece after) ⊎ ((stop : NoPiece)
     × StopsInSection section before bytes stop)
 unfolding EventOrFault
 section_piece_or_stop section before bytes few = elim (block_or_stop section bytes) [
@@ -359,7 +359,7 @@ section_piece_or_stop section before bytes few = elim (block_or_stop section byt
         → length (interfaces_after before.interfaces event) ≤ 256
         → IsBlock section bytes order block → BlockSays before.interfaces order block event
         → ((piece : PieceContent) × (after : Context) × IsBlockPiece section before bytes piece
-        after) ⊎ ((stop : Stop) × StopsInSection section before bytes stop)
+        after) ⊎ ((stop : NoPiece) × StopsInSection section before bytes stop)
     piece_of_block section before bytes order block event few whole says = inl (
       record {
         len = length block;
@@ -386,7 +386,7 @@ section_piece_or_stop section before bytes few = elim (block_or_stop section byt
         (order : ByteOrder) (block : List ℕ) (event : BlockEvent) → length before.interfaces ≤ 256
         → IsBlock section bytes order block → BlockSays before.interfaces order block event
         → ((piece : PieceContent) × (after : Context) × IsBlockPiece section before bytes piece
-        after) ⊎ ((stop : Stop) × StopsInSection section before bytes stop)
+        after) ⊎ ((stop : NoPiece) × StopsInSection section before bytes stop)
     event_piece_or_stop section before bytes order block section_begins few whole says =
         piece_of_block section before bytes order block section_begins (omega arith) whole says
     event_piece_or_stop section before bytes order block (frame_came f) few whole says =
@@ -477,6 +477,6 @@ piece_or_stop_in (InSection order) before bytes few = section_piece_or_stop orde
 
 pub piece_or_stop : (before : Context) (bytes : List ℕ) → length before.interfaces ≤ 256
     → ((piece : PieceContent) × (after : Context) × IsPiece before bytes piece after)
-    ⊎ ((stop : Stop) × StopsReading before bytes stop)
+    ⊎ ((stop : NoPiece) × StopsReading before bytes stop)
 unfolding PieceOrStop
 piece_or_stop before bytes few = piece_or_stop_in before.format before bytes few

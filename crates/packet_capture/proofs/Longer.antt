@@ -10,8 +10,8 @@ use Rattle.packet_capture.specs.declared.reader.Format.{Format}
 use Rattle.packet_capture.specs.declared.reader.Format.TheVariants.{Start, InSavefile, InSection}
 use Rattle.packet_capture.specs.declared.savefile.Magic.{Magic}
 use Rattle.packet_capture.specs.declared.savefile.Savefile.{Savefile}
-use Rattle.packet_capture.specs.declared.stop.Stop.{Stop}
-use Rattle.packet_capture.specs.declared.stop.Stop.TheVariants.{Bad, Wants}
+use Rattle.packet_capture.specs.declared.stop.NoPiece.{NoPiece}
+use Rattle.packet_capture.specs.declared.stop.NoPiece.TheVariants.{Bad, Wants}
 use Rattle.packet_capture.specs.Fields.{u16_in, u32_in, bytes_at}
 use Rattle.packet_capture.specs.Frames.{FrameContent}
 use Rattle.packet_capture.specs.Savefiles.{magic_of, magic_at, IsVersion, BeginsSavefile, HasOtherVersion, captured_at, IsPacketRecord}
@@ -235,7 +235,7 @@ pub piece_longer : (before after : Context) (xs more : List ℕ) (p : PieceConte
 piece_longer before after xs more p h = piece_longer_in before.format before after xs more p h
 
 -- faults
-abbrev is_wants : Stop → ℕ
+abbrev is_wants : NoPiece → ℕ
 is_wants (Bad f) = 0
 is_wants (Wants n) = 1
 

@@ -3,7 +3,7 @@ use Rattle.std.proofs.Common.{◌≡◌, ℕ, ◌+◌, ◌<◌, ◌≤◌, List,
 use Rattle.std.specs.Prelude.{Some, slice_get}
 use Rattle.std.proofs.lemmas.Option.{same_Some, none-some}
 use Rattle.packet_capture.specs.declared.fields.ByteOrder.{ByteOrder}
-use Rattle.packet_capture.specs.declared.stop.Stop.{Stop}
+use Rattle.packet_capture.specs.declared.stop.NoPiece.{NoPiece}
 use Rattle.packet_capture.specs.declared.interface.Interface.{Interface}
 use Rattle.packet_capture.specs.declared.content.BlockKind.{BlockKind}
 use Rattle.packet_capture.specs.declared.content.BlockKind.TheVariants.{SectionHeader, Description, Enhanced, Old, Simple, Unread}
@@ -27,7 +27,7 @@ same_block section bytes o p x y a b =
     a.block_is ∙ ap (λ (r : ByteOrder). take (u32_in r bytes 4) bytes) (same_order section bytes o p
     a.order_is b.order_is) ∙ sym b.block_is
 
-same_len_stop : (order : ByteOrder) (bytes : List ℕ) (s t : Stop) → StopsInLen order bytes s
+same_len_stop : (order : ByteOrder) (bytes : List ℕ) (s t : NoPiece) → StopsInLen order bytes s
     → StopsInLen order bytes t → s ≡ t
 same_len_stop order bytes s t (inl h) (inl k) = h.1 ∙ sym k.1
 same_len_stop order bytes s t (inl h) (inr (inl k)) = absurd (h.0 k.0)
@@ -52,7 +52,7 @@ same_len_stop order bytes s t (inr (inr (inr h))) (inr (inr (inl k))) = let a = 
     in absurd (omega arith)
 same_len_stop order bytes s t (inr (inr (inr h))) (inr (inr (inr k))) = h.4 ∙ sym k.4
 
-no_len_stop : (section : ByteOrder) (bytes : List ℕ) (o : ByteOrder) (x : List ℕ) (s : Stop)
+no_len_stop : (section : ByteOrder) (bytes : List ℕ) (o : ByteOrder) (x : List ℕ) (s : NoPiece)
     → IsBlock section bytes o x → StopsInLen o bytes s → ⊥
 no_len_stop section bytes o x s b (inl k) = k.0 b.counted
 no_len_stop section bytes o x s b (inr (inl k)) = let p = b.short in let q = k.1
@@ -61,11 +61,11 @@ no_len_stop section bytes o x s b (inr (inr (inl k))) = let p = b.whole in let q
     in absurd (omega arith)
 no_len_stop section bytes o x s b (inr (inr (inr k))) = k.3 b.again
 
-stop_at : (bytes : List ℕ) (s : Stop) (o p : ByteOrder) → o ≡ p
+stop_at : (bytes : List ℕ) (s : NoPiece) (o p : ByteOrder) → o ≡ p
     → StopsInLen o bytes s → StopsInLen p bytes s
 stop_at bytes s o p e h = let P : ByteOrder → Type 0 = λ r. StopsInLen r bytes s in subst P e h
 
-pub same_block_stop : (section : ByteOrder) (bytes : List ℕ) (s t : Stop)
+pub same_block_stop : (section : ByteOrder) (bytes : List ℕ) (s t : NoPiece)
     → StopsInBlock section bytes s → StopsInBlock section bytes t → s ≡ t
 same_block_stop section bytes s t (inl h) (inl k) = h.1 ∙ sym k.1
 same_block_stop section bytes s t (inl h) (inr (inl k)) = let a = h.0 in let b = k.0
@@ -85,7 +85,8 @@ same_block_stop section bytes s t (inr (inr h)) (inr (inr k)) =
     same_len_stop k.1.0 bytes s t (stop_at bytes s h.1.0 k.1.0 (same_order section bytes h.1.0 k.1.0
     h.1.1 k.1.1) h.1.2) k.1.2
 
-pub no_block_stop : (section : ByteOrder) (bytes : List ℕ) (o : ByteOrder) (x : List ℕ) (s : Stop)
+pub no_block_stop : (section : ByteOrder) (bytes : List ℕ) (o : ByteOrder) (x : List ℕ) (s :
+    NoPiece)
     → IsBlock section bytes o x → StopsInBlock section bytes s → ⊥
 no_block_stop section bytes o x s b (inl k) = let p = b.there in let q = k.0 in absurd (omega arith)
 no_block_stop section bytes o x s b (inr (inl k)) = none-some o (sym k.1 ∙ b.order_is)

@@ -9,8 +9,8 @@ use Rattle.packet_capture.specs.declared.interface.Interface.{Interface}
 use Rattle.packet_capture.specs.declared.reader.Format.{Format}
 use Rattle.packet_capture.specs.declared.reader.Format.TheVariants.{Start, InSavefile, InSection}
 use Rattle.packet_capture.specs.declared.savefile.Savefile.{Savefile}
-use Rattle.packet_capture.specs.declared.stop.Stop.{Stop}
-use Rattle.packet_capture.specs.declared.stop.Stop.TheVariants.{Bad}
+use Rattle.packet_capture.specs.declared.stop.NoPiece.{NoPiece}
+use Rattle.packet_capture.specs.declared.stop.NoPiece.TheVariants.{Bad}
 use Rattle.packet_capture.specs.Frames.{FrameContent}
 use Rattle.packet_capture.specs.Contents.{BlockEvent, interface_added, BlockSays, HasBlockFault}
 use Rattle.packet_capture.specs.DropReports.{report_of}
@@ -138,7 +138,7 @@ content_fault_at is o p x y f e d h =
     let Q : List ℕ → Type 0 = λ z. content_fault is p z f in
     subst Q d (subst P e h)
 
-same_section_stop : (section : ByteOrder) (before : Context) (bytes : List ℕ) (s t : Stop)
+same_section_stop : (section : ByteOrder) (before : Context) (bytes : List ℕ) (s t : NoPiece)
     → StopsInSection section before bytes s → StopsInSection section before bytes t → s ≡ t
 same_section_stop section before bytes s t (inl h) (inl k) = same_block_stop section bytes s t h k
 same_section_stop section before bytes s t (inl h) (inr k) =
@@ -150,14 +150,14 @@ same_section_stop section before bytes s t (inr h) (inr k) =
     h.is_block.order_is k.is_block.order_is in
     let block : h.block ≡ k.block = same_block section bytes h.order k.order h.block k.block
     h.is_block k.is_block in
-    let B : CaptureFault → Stop = λ f. Bad f in
+    let B : CaptureFault → NoPiece = λ f. Bad f in
     let there = block_len section bytes k.order k.block k.is_block in
     let fault : h.fault ≡ k.fault = same_content_fault before.interfaces k.order k.block h.fault
     k.fault there (content_fault_at before.interfaces h.order k.order h.block k.block h.fault
     order block h.why) k.why in
     h.stop_is ∙ ap B fault ∙ sym k.stop_is
 
-same_start_stop : (before : Context) (bytes : List ℕ) (s t : Stop) → StopsAtStart before bytes s
+same_start_stop : (before : Context) (bytes : List ℕ) (s t : NoPiece) → StopsAtStart before bytes s
     → StopsAtStart before bytes t → s ≡ t
 same_start_stop before bytes s t (inl h) (inl k) = h.1 ∙ sym k.1
 same_start_stop before bytes s t (inl h) (inr (inl k)) = let a = h.0 in let b = k.0
@@ -188,19 +188,20 @@ same_start_stop before bytes s t (inr (inr (inr h))) (inr (inr (inl k))) =
 same_start_stop before bytes s t (inr (inr (inr h))) (inr (inr (inr k))) = same_section_stop Big
     before bytes s t h.3 k.3
 
-same_stop_in : (format : Format) (before : Context) (bytes : List ℕ) (s t : Stop)
+same_stop_in : (format : Format) (before : Context) (bytes : List ℕ) (s t : NoPiece)
     → StopsIn format before bytes s → StopsIn format before bytes t → s ≡ t
 same_stop_in Start before bytes s t h k = same_start_stop before bytes s t h k
 same_stop_in (InSavefile f) before bytes s t h k = same_record_stop f bytes s t h k
 same_stop_in (InSection order) before bytes s t h k = same_section_stop order before bytes s t h k
 
-pub same_stop : (before : Context) (bytes : List ℕ) (s t : Stop) → StopsReading before bytes s
+pub same_stop : (before : Context) (bytes : List ℕ) (s t : NoPiece) → StopsReading before bytes s
     → StopsReading before bytes t → s ≡ t
 same_stop before bytes s t h k = same_stop_in before.format before bytes s t h k
 
 -- a piece is there, or it stops
 no_section_stop : (section : ByteOrder) (before after : Context) (bytes : List ℕ) (p : PieceContent)
-    (s : Stop) → IsBlockPiece section before bytes p after → StopsInSection section before bytes s
+    (s : NoPiece) → IsBlockPiece section before bytes p after
+    → StopsInSection section before bytes s
     → ⊥
 no_section_stop section before after bytes p s h (inl k) = no_block_stop section bytes
     h.order h.block s h.is_block k
@@ -215,7 +216,7 @@ no_section_stop section before after bytes p s h (inr k) =
     k.fault order block k.why)
 
 no_stop_in : (format : Format) (before after : Context) (bytes : List ℕ) (p : PieceContent)
-    (s : Stop) → IsPieceIn format before bytes p after → StopsIn format before bytes s → ⊥
+    (s : NoPiece) → IsPieceIn format before bytes p after → StopsIn format before bytes s → ⊥
 no_stop_in Start before after bytes p s (inl h) (inl k) = let a = h.there in let b = k.0
     in absurd (omega arith)
 no_stop_in Start before after bytes p s (inl h) (inr (inl k)) = none-some h.begins.magic
@@ -236,6 +237,6 @@ no_stop_in (InSavefile f) before after bytes p s h k = no_record_stop f bytes
 no_stop_in (InSection order) before after bytes p s h k = no_section_stop order
     before after bytes p s h k
 
-pub no_stop : (before after : Context) (bytes : List ℕ) (p : PieceContent) (s : Stop)
+pub no_stop : (before after : Context) (bytes : List ℕ) (p : PieceContent) (s : NoPiece)
     → IsPiece before bytes p after → StopsReading before bytes s → ⊥
 no_stop before after bytes p s h k = no_stop_in before.format before after bytes p s h k

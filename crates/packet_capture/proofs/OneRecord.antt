@@ -3,7 +3,7 @@ use Rattle.std.proofs.Common.{◌≡◌, ℕ, List, sym, ap, subst, ◌∙◌, a
 use Rattle.std.proofs.lemmas.Option.{same_Some}
 use Rattle.packet_capture.specs.declared.savefile.Magic.{Magic}
 use Rattle.packet_capture.specs.declared.savefile.Savefile.{Savefile}
-use Rattle.packet_capture.specs.declared.stop.Stop.{Stop}
+use Rattle.packet_capture.specs.declared.stop.NoPiece.{NoPiece}
 use Rattle.packet_capture.specs.Frames.{FrameContent}
 use Rattle.packet_capture.specs.Savefiles.{IsVersion, savefile_at, BeginsSavefile, HasOtherVersion, IsPacketRecord}
 use Rattle.packet_capture.specs.Stops.{StopsInHeader, StopsInRecord}
@@ -21,12 +21,12 @@ no_other_version bytes s a b =
     let P : Magic → Type 0 = λ m. IsVersion m bytes in
     b.other (subst P magic a.version)
 
-pub no_header_stop : (bytes : List ℕ) (s : Savefile) (stop : Stop) → BeginsSavefile bytes s
+pub no_header_stop : (bytes : List ℕ) (s : Savefile) (stop : NoPiece) → BeginsSavefile bytes s
     → StopsInHeader bytes stop → ⊥
 no_header_stop bytes s stop a (inl k) = let x = a.there in let y = k.0 in absurd (omega arith)
 no_header_stop bytes s stop a (inr k) = no_other_version bytes s a k.0
 
-pub same_header_stop : (bytes : List ℕ) (s t : Stop) → StopsInHeader bytes s
+pub same_header_stop : (bytes : List ℕ) (s t : NoPiece) → StopsInHeader bytes s
     → StopsInHeader bytes t → s ≡ t
 same_header_stop bytes s t (inl h) (inl k) = h.1 ∙ sym k.1
 same_header_stop bytes s t (inr h) (inr k) = h.1 ∙ sym k.1
@@ -44,7 +44,7 @@ same_record s bytes f g a b =
     let bytes_are : f.bytes ≡ g.bytes = a.bytes_are ∙ sym b.bytes_are in
     λ i. record { link = link i; time = time i; wire_len = wire_len i; bytes = bytes_are i }
 
-pub no_record_stop : (s : Savefile) (bytes : List ℕ) (f : FrameContent) (stop : Stop)
+pub no_record_stop : (s : Savefile) (bytes : List ℕ) (f : FrameContent) (stop : NoPiece)
     → IsPacketRecord s bytes f → StopsInRecord s bytes stop → ⊥
 no_record_stop s bytes f stop a (inl k) = let x = a.there in let y = k.0 in absurd (omega arith)
 no_record_stop s bytes f stop a (inr (inl k)) = let x = a.short in let y = k.1
@@ -52,7 +52,7 @@ no_record_stop s bytes f stop a (inr (inl k)) = let x = a.short in let y = k.1
 no_record_stop s bytes f stop a (inr (inr k)) = let x = a.whole in let y = k.2
     in absurd (omega arith)
 
-pub same_record_stop : (s : Savefile) (bytes : List ℕ) (x y : Stop) → StopsInRecord s bytes x
+pub same_record_stop : (s : Savefile) (bytes : List ℕ) (x y : NoPiece) → StopsInRecord s bytes x
     → StopsInRecord s bytes y → x ≡ y
 same_record_stop s bytes x y (inl h) (inl k) = h.1 ∙ sym k.1
 same_record_stop s bytes x y (inl h) (inr (inl k)) = let a = h.0 in let b = k.0

@@ -4,7 +4,7 @@ use Rattle.packet_capture.specs.declared.fields.ByteOrder.{ByteOrder}
 use Rattle.packet_capture.specs.declared.fault.CaptureFault.{CaptureFault}
 use Rattle.packet_capture.specs.declared.interface.Interface.{Interface}
 use Rattle.packet_capture.specs.declared.reader.Format.TheVariants.{InSection}
-use Rattle.packet_capture.specs.declared.stop.Stop.TheVariants.{Bad}
+use Rattle.packet_capture.specs.declared.stop.NoPiece.TheVariants.{Bad}
 use Rattle.packet_capture.specs.Blocks.{IsBlock}
 use Rattle.packet_capture.specs.Contents.{BlockEvent, BlockSays, HasBlockFault, frame_came}
 use Rattle.packet_capture.specs.Frames.{FrameContent}

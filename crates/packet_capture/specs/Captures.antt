@@ -14,8 +14,8 @@ use Rattle.packet_capture.specs.declared.reader.Format.TheVariants.{Start, InSav
 use Rattle.packet_capture.specs.declared.reader.Piece.{Piece}
 use Rattle.packet_capture.specs.declared.savefile.Magic.{Magic}
 use Rattle.packet_capture.specs.declared.savefile.Savefile.{Savefile}
-use Rattle.packet_capture.specs.declared.stop.Stop.{Stop}
-use Rattle.packet_capture.specs.declared.stop.Stop.TheVariants.{Bad, Wants}
+use Rattle.packet_capture.specs.declared.stop.NoPiece.{NoPiece}
+use Rattle.packet_capture.specs.declared.stop.NoPiece.TheVariants.{Bad, Wants}
 use Rattle.packet_capture.specs.Frames.{FrameContent, frame_of}
 use Rattle.packet_capture.specs.Savefiles.{magic_at, BeginsSavefile, IsPacketRecord, captured_at}
 use Rattle.packet_capture.specs.Blocks.{BeginsSection, IsBlock}
@@ -130,7 +130,7 @@ pub record IsOneTooMany (interfaces : List Interface) (event : BlockEvent) (faul
   pub fault_is : fault ≡ TooManyInterfaces
 
 -- a whole block that can't be read, or that would be one interface too many
-pub record StopsInContent (section : ByteOrder) (before : Context) (bytes : List ℕ) (stop : Stop)
+pub record StopsInContent (section : ByteOrder) (before : Context) (bytes : List ℕ) (stop : NoPiece)
     : Type 0 where
   pub order : ByteOrder
   pub block : List ℕ
@@ -141,12 +141,12 @@ pub record StopsInContent (section : ByteOrder) (before : Context) (bytes : List
       ⊎ ((event : BlockEvent) × BlockSays before.interfaces order block event
       × IsOneTooMany before.interfaces event fault)
 
-abbrev pub StopsInSection : ByteOrder → Context → List ℕ → Stop → Type 0
+abbrev pub StopsInSection : ByteOrder → Context → List ℕ → NoPiece → Type 0
 StopsInSection section before bytes stop =
     StopsInBlock section bytes stop ⊎ StopsInContent section before bytes stop
 
 -- at the start: too little to see the format, no capture, or what stops in the first piece
-abbrev pub StopsAtStart : Context → List ℕ → Stop → Type 0
+abbrev pub StopsAtStart : Context → List ℕ → NoPiece → Type 0
 StopsAtStart before bytes stop =
     ((length bytes < 4) × (stop ≡ Wants 4))
     ⊎ ((4 ≤ length bytes) × (magic_at bytes ≡ None) × (BeginsSection bytes → ⊥)
@@ -157,12 +157,12 @@ StopsAtStart before bytes stop =
     × StopsInSection Big before bytes stop)
 
 -- why no piece is read from the bytes in this context
-abbrev pub StopsIn : Format → Context → List ℕ → Stop → Type 0
+abbrev pub StopsIn : Format → Context → List ℕ → NoPiece → Type 0
 StopsIn Start before bytes stop = StopsAtStart before bytes stop
 StopsIn (InSavefile s) before bytes stop = StopsInRecord s bytes stop
 StopsIn (InSection order) before bytes stop = StopsInSection order before bytes stop
 
-abbrev pub StopsReading : Context → List ℕ → Stop → Type 0
+abbrev pub StopsReading : Context → List ℕ → NoPiece → Type 0
 StopsReading before bytes stop = StopsIn before.format before bytes stop
 
 -- the bytes are these pieces, one after the other, and then a rest

@@ -4,7 +4,7 @@ use Rattle.packet_capture.specs.declared.fields.ByteOrder.TheVariants.{Big}
 use Rattle.packet_capture.specs.declared.link.IpVersion.{IpVersion}
 use Rattle.packet_capture.specs.declared.link.LinkType.{LinkType}
 use Rattle.packet_capture.specs.declared.datagram.Address.{Address}
-use Rattle.packet_capture.specs.declared.datagram.Datagram.{Datagram}
+use Rattle.packet_capture.specs.declared.datagram.UdpDatagram.{UdpDatagram}
 use Rattle.packet_capture.specs.Fields.{u16_in, bytes_at}
 use Rattle.packet_capture.specs.Links.{number_of, link_len, version_in, packet_in}
 use Rattle.packet_capture.specs.Packets.{IsIp, IsUdp, packet_len, obstacle_in, destination_in, segment_in}
@@ -15,7 +15,7 @@ pub record DatagramContent : Type 0 where
   pub port : ℕ
   pub bytes : List ℕ
 
-abbrev pub datagram_content : Datagram → DatagramContent
+abbrev pub datagram_content : UdpDatagram → DatagramContent
 datagram_content d = record { address = d.address; port = d.port; bytes = d.bytes.now }
 
 -- the datagram of a packet that has one

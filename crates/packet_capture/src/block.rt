@@ -10,7 +10,7 @@ use crate::content::ENHANCED_PACKET;
 use crate::fault::CaptureFault;
 use crate::fields::{ByteOrder, read_u32};
 use crate::savefile::LONGEST;
-use crate::stop::Stop;
+use crate::stop::NoPiece;
 
 /// The number of bytes that show a block's order and length.
 pub(crate) const BLOCK_FRONT: usize = 12;
@@ -62,7 +62,7 @@ fn order_at(section: ByteOrder, bytes: &[u8]) -> Option<ByteOrder>
 
 /// The bytes of the block at the front, whose numbers are in this order.
 #[inline(always)]
-fn read_len(order: ByteOrder, bytes: &[u8]) -> Result<&[u8], Stop>
+fn read_len(order: ByteOrder, bytes: &[u8]) -> Result<&[u8], NoPiece>
     requires { 12 ≤ length bytes.now }
     ensures counted { IfOk result (λ _. IsBlockLen (u32_in order bytes.now 4)) }
     ensures short { IfOk result (λ _. u32_in order bytes.now 4 ≤ 1048576) }
@@ -74,17 +74,17 @@ fn read_len(order: ByteOrder, bytes: &[u8]) -> Result<&[u8], Stop>
 {
     let len = read_u32(order, bytes, 4);
     if len < 12 || len % 4 != 0 {
-        return Err(Stop::Bad(CaptureFault::BadBlockLength));
+        return Err(NoPiece::Bad(CaptureFault::BadBlockLength));
     }
     if len > LONGEST {
-        return Err(Stop::Bad(CaptureFault::TooLong));
+        return Err(NoPiece::Bad(CaptureFault::TooLong));
     }
     let end = len as usize;
     if bytes.len() < end {
-        return Err(Stop::Wants(end));
+        return Err(NoPiece::Wants(end));
     }
     if read_u32(order, bytes, end - 4) != len {
-        return Err(Stop::Bad(CaptureFault::LengthsDiffer));
+        return Err(NoPiece::Bad(CaptureFault::LengthsDiffer));
     }
     Ok(&bytes[..end])
 }
@@ -133,15 +133,15 @@ pub(crate) fn read_plain_block(section: ByteOrder, bytes: &[u8]) -> Option<&[u8]
 
 /// Returns the block at the front, in a section of this order.
 #[inline(always)]
-pub(crate) fn read_block(section: ByteOrder, bytes: &[u8]) -> Result<Block<'_>, Stop>
+pub(crate) fn read_block(section: ByteOrder, bytes: &[u8]) -> Result<Block<'_>, NoPiece>
     ensures block { IfOk result (λ b. IsBlock section bytes.now b.order b.bytes.now) }
     ensures stop { IfErr result (StopsInBlock section bytes.now) }
 {
     if bytes.len() < BLOCK_FRONT {
-        return Err(Stop::Wants(BLOCK_FRONT));
+        return Err(NoPiece::Wants(BLOCK_FRONT));
     }
     let Some(order) = order_at(section, bytes) else {
-        return Err(Stop::Bad(CaptureFault::BadByteOrder));
+        return Err(NoPiece::Bad(CaptureFault::BadByteOrder));
     };
     match read_len(order, bytes) {
         Ok(block) => Ok(Block {

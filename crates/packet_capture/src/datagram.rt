@@ -16,7 +16,7 @@ pub enum Address {
 
 /// A UDP datagram, which borrows its bytes from the frame.
 #[derive(Clone, Copy, Debug, PartialEq, Eq)]
-pub struct Datagram<'a> {
+pub struct UdpDatagram<'a> {
     /// The address that it is sent to: one machine, or a group.
     pub address: Address,
     /// The port that it is sent to.
@@ -38,7 +38,7 @@ pub struct Datagram<'a> {
 /// looked at: a card that computes them leaves them wrong in what it sends. The sources are the
 /// registry of link-layer header types of tcpdump.org, IEEE 802.1Q, RFC 791, RFC 8200 and RFC 768.
 #[inline(always)]
-pub fn read_datagram(link: u16, frame: &[u8]) -> Result<Datagram<'_>, FrameFault>
+pub fn read_datagram(link: u16, frame: &[u8]) -> Result<UdpDatagram<'_>, FrameFault>
     ensures carried { IfOk result (λ d. CarriesDatagram link frame.now (datagram_content d)) }
     ensures short { IfOk result (λ d. length d.bytes.now ≤ 65527) }
     ensures fault { IfErr result (HasFrameFault link frame.now) }
@@ -59,7 +59,7 @@ pub fn read_datagram(link: u16, frame: &[u8]) -> Result<Datagram<'_>, FrameFault
 /// before it, as the frames of most feeds do; and `None` of any other frame, which
 /// [`read_datagram`] may read.
 #[inline(always)]
-pub fn read_plain_datagram(link: u16, frame: &[u8]) -> Option<Datagram<'_>>
+pub fn read_plain_datagram(link: u16, frame: &[u8]) -> Option<UdpDatagram<'_>>
     ensures carried { IfSome result (λ d. CarriesDatagram link frame.now (datagram_content d)) }
     ensures short { IfSome result (λ d. length d.bytes.now ≤ 65527) }
 {

@@ -4,9 +4,9 @@ ghost use Rattle.std.specs.List.{AllByRecursion};
 ghost use Rattle.packet_capture.specs.declared.fault.CaptureFault.{CaptureFault};
 ghost use Rattle.packet_capture.specs.declared.fault.FrameFault.{FrameFault};
 ghost use Rattle.packet_capture.specs.declared.datagram.Address.TheVariants as addresses;
-ghost use Rattle.packet_capture.specs.declared.stop.Stop.TheVariants.{Bad};
+ghost use Rattle.packet_capture.specs.declared.stop.NoPiece.TheVariants.{Bad};
 ghost use Rattle.packet_capture.specs.declared.fields.ByteOrder.{ByteOrder};
-ghost use Rattle.packet_capture.specs.declared.stop.Stop.{Stop};
+ghost use Rattle.packet_capture.specs.declared.stop.NoPiece.{NoPiece};
 ghost use Rattle.packet_capture.specs.Datagrams.{DatagramContent, CarriesDatagram};
 ghost use Rattle.packet_capture.specs.FrameFaults.{HasFrameFault};
 ghost use Rattle.packet_capture.specs.Frames.{FrameContent};
@@ -36,13 +36,13 @@ pub fn one_datagram()
 pub fn told_once()
     ensures piece { (before a b : Context) (bytes : List ℕ) (p q : PieceContent)
         → IsPiece before bytes p a → IsPiece before bytes q b → (p ≡ q) × (a ≡ b) }
-    ensures stop { (before : Context) (bytes : List ℕ) (s t : Stop)
+    ensures stop { (before : Context) (bytes : List ℕ) (s t : NoPiece)
         → StopsReading before bytes s → StopsReading before bytes t → s ≡ t }
-    ensures not_both { (before after : Context) (bytes : List ℕ) (p : PieceContent) (s : Stop)
+    ensures not_both { (before after : Context) (bytes : List ℕ) (p : PieceContent) (s : NoPiece)
         → IsPiece before bytes p after → StopsReading before bytes s → ⊥ }
     ensures one { (before : Context) (bytes : List ℕ) → length before.interfaces ≤ 256
         → ((p : PieceContent) × (after : Context) × IsPiece before bytes p after)
-        ⊎ ((s : Stop) × StopsReading before bytes s) }
+        ⊎ ((s : NoPiece) × StopsReading before bytes s) }
 {}
 
 /// A capture has one reading: the same bytes have the same frames. The function does nothing: its

@@ -33,7 +33,7 @@ mod reader;
 mod savefile;
 mod stop;
 
-pub use datagram::{Address, Datagram, read_datagram, read_plain_datagram};
+pub use datagram::{Address, UdpDatagram, read_datagram, read_plain_datagram};
 pub use drop_report::DropReport;
 pub use fault::{CaptureFault, FrameFault};
 pub use fields::ByteOrder;
@@ -44,4 +44,4 @@ pub use laws::{
 };
 pub use link::{IpVersion, LinkType};
 pub use reader::{CaptureReader, Piece};
-pub use stop::Stop;
+pub use stop::NoPiece;

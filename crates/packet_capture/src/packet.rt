@@ -7,7 +7,7 @@ ghost use Rattle.packet_capture.specs.Packets.{IsIp, IsUdp, version_number, leas
 ghost use Rattle.packet_capture.specs.Datagrams.{HasUdp, datagram_content, datagram_in};
 ghost use Rattle.packet_capture.specs.FrameFaults.{HasPacketFault};
 
-use crate::datagram::{Address, Datagram};
+use crate::datagram::{Address, UdpDatagram};
 use crate::fault::FrameFault;
 use crate::fields::{ByteOrder, read_u16};
 use crate::link::IpVersion;
@@ -157,7 +157,7 @@ fn is_plain(packet: &[u8]) -> bool
 /// Returns the datagram of a packet of IPv4 without options, or `None` where it has some, or no
 /// whole datagram.
 #[inline(always)]
-pub(crate) fn read_plain_packet(packet: &[u8]) -> Option<Datagram<'_>>
+pub(crate) fn read_plain_packet(packet: &[u8]) -> Option<UdpDatagram<'_>>
     ensures whole { IfSome result (λ _. HasUdp V4 packet.now) }
     ensures value { IfSome result (λ d. datagram_content d ≡ datagram_in V4 packet.now) }
     ensures short { IfSome result (λ d. length d.bytes.now ≤ 65527) }
@@ -171,7 +171,7 @@ pub(crate) fn read_plain_packet(packet: &[u8]) -> Option<Datagram<'_>>
     }
     let udp = &packet[header_len(IpVersion::V4, packet)..end];
     let len = udp_len(udp)?;
-    Some(Datagram {
+    Some(UdpDatagram {
         address: destination_in(IpVersion::V4, packet),
         port: read_u16(ByteOrder::Big, udp, 2),
         bytes: &udp[8..len],
@@ -180,7 +180,7 @@ pub(crate) fn read_plain_packet(packet: &[u8]) -> Option<Datagram<'_>>
 
 /// Returns the datagram of a packet of this version, or the first fault that fits.
 #[inline(always)]
-pub(crate) fn read_packet(version: IpVersion, packet: &[u8]) -> Result<Datagram<'_>, FrameFault>
+pub(crate) fn read_packet(version: IpVersion, packet: &[u8]) -> Result<UdpDatagram<'_>, FrameFault>
     ensures whole { IfOk result (λ _. HasUdp version packet.now) }
     ensures value { IfOk result (λ d. datagram_content d ≡ datagram_in version packet.now) }
     ensures short { IfOk result (λ d. length d.bytes.now ≤ 65527) }
@@ -203,7 +203,7 @@ pub(crate) fn read_packet(version: IpVersion, packet: &[u8]) -> Result<Datagram<
     let Some(len) = udp_len(segment) else {
         return Err(FrameFault::BadUdpLength);
     };
-    Ok(Datagram {
+    Ok(UdpDatagram {
         address: destination_in(version, packet),
         port: read_u16(ByteOrder::Big, segment, 2),
         bytes: &segment[8..len],

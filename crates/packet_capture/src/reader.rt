@@ -16,7 +16,7 @@ use crate::savefile::{
     Magic, RECORD_HEADER, SAVEFILE_HEADER, Savefile, magic_at, read_record, read_savefile,
     whole_record,
 };
-use crate::stop::Stop;
+use crate::stop::NoPiece;
 use arrayvec::ArrayVec;
 use std::marker::Model;
 
@@ -114,7 +114,7 @@ impl CaptureReader {
     }
 
     /// The header of a savefile of this magic.
-    fn read_header<'a>(&mut self, magic: Magic, bytes: &'a [u8]) -> Result<Piece<'a>, Stop>
+    fn read_header<'a>(&mut self, magic: Magic, bytes: &'a [u8]) -> Result<Piece<'a>, NoPiece>
         requires there { 4 ≤ length bytes.now }
         requires magic { magic_at bytes.now ≡ Some magic }
         ensures piece { IfOk result (λ p. IsHeaderPiece bytes.now (piece_of p) self.new) }
@@ -136,7 +136,7 @@ impl CaptureReader {
     }
 
     /// Reads the next packet record of the savefile.
-    fn read_frame<'a>(&self, savefile: Savefile, bytes: &'a [u8]) -> Result<Piece<'a>, Stop>
+    fn read_frame<'a>(&self, savefile: Savefile, bytes: &'a [u8]) -> Result<Piece<'a>, NoPiece>
         ensures piece { IfOk result (λ p.
             IsRecordPiece savefile self.now bytes.now (piece_of p) self.now) }
         ensures stop { IfErr result (StopsInRecord savefile bytes.now) }
@@ -166,14 +166,14 @@ impl CaptureReader {
     }
 
     /// Reads the first piece of a capture.
-    fn read_first<'a>(&mut self, bytes: &'a [u8]) -> Result<Piece<'a>, Stop>
+    fn read_first<'a>(&mut self, bytes: &'a [u8]) -> Result<Piece<'a>, NoPiece>
         requires { self.old.format ≡ Format.Start }
         ensures piece { IfOk result (λ p. IsPiece self.old bytes.now (piece_of p) self.new) }
         ensures stop { IfErr result (StopsReading self.old bytes.now) }
         ensures kept { OnErr result (self.new ≡ self.old) }
     {
         if bytes.len() < 4 {
-            return Err(Stop::Wants(4));
+            return Err(NoPiece::Wants(4));
         }
         if let Some(magic) = magic_at(bytes) {
             return self.read_header(magic, bytes);
@@ -181,7 +181,7 @@ impl CaptureReader {
         if read_u32(ByteOrder::Big, bytes, 0) == SECTION_HEADER {
             return self.read_any(ByteOrder::Big, bytes);
         }
-        Err(Stop::Bad(CaptureFault::NotCapture))
+        Err(NoPiece::Bad(CaptureFault::NotCapture))
     }
 
     /// Returns the piece at the front of `bytes`, which begin where the last piece ended, and goes
@@ -189,8 +189,8 @@ impl CaptureReader {
     ///
     /// A capture is a savefile or a pcapng file. A savefile has a header of 24 bytes and then
     /// packet records, a pcapng file blocks, of which those of other types are passed over.
-    /// `Stop::Wants` is the number of bytes that have to be there to go on, at most 1,048,592;
-    /// `Stop::Bad` the first fault that fits: `NotCapture`, `UnknownVersion` or `TooLong` of a
+    /// `NoPiece::Wants` is the number of bytes that have to be there to go on, at most 1,048,592;
+    /// `NoPiece::Bad` the first fault that fits: `NotCapture`, `UnknownVersion` or `TooLong` of a
     /// savefile, `BadByteOrder`, `BadBlockLength`, `TooLong` and `LengthsDiffer` of any block, and
     /// then `ShortBlock`, `UnknownVersion`, `OptionPastBlock`, `TooManyInterfaces`,
     /// `UnknownInterface` and `FramePastBlock` of those that are read.
@@ -198,7 +198,7 @@ impl CaptureReader {
     /// The sources are draft-ietf-opsawg-pcap and draft-ietf-opsawg-pcapng. The limits of 1,048,576
     /// bytes and 256 interfaces are this project's.
     #[inline(always)]
-    pub fn next_piece<'a>(&mut self, bytes: &'a [u8]) -> Result<Piece<'a>, Stop>
+    pub fn next_piece<'a>(&mut self, bytes: &'a [u8]) -> Result<Piece<'a>, NoPiece>
         ensures piece { IfOk result (λ p. IsPiece self.old bytes.now (piece_of p) self.new) }
         ensures stop { IfErr result (StopsReading self.old bytes.now) }
         ensures kept { OnErr result (self.new ≡ self.old) }
@@ -269,7 +269,7 @@ impl CaptureReader {
     }
 
     /// Reads the next block, of any kind, in a section of this order.
-    fn read_any<'a>(&mut self, section: ByteOrder, bytes: &'a [u8]) -> Result<Piece<'a>, Stop>
+    fn read_any<'a>(&mut self, section: ByteOrder, bytes: &'a [u8]) -> Result<Piece<'a>, NoPiece>
         ensures piece { IfOk result (λ p.
             IsBlockPiece section self.old bytes.now (piece_of p) self.new) }
         ensures stop { IfErr result (StopsInSection section self.old bytes.now) }
@@ -281,7 +281,7 @@ impl CaptureReader {
         };
         let content = match read_content(self.interfaces.as_slice(), block) {
             Ok(content) => content,
-            Err(fault) => return Err(Stop::Bad(fault)),
+            Err(fault) => return Err(NoPiece::Bad(fault)),
         };
         match after_block(&mut self.interfaces, content) {
             Ok(frame) => {
@@ -292,7 +292,7 @@ impl CaptureReader {
                     len: block.bytes.len(),
                 })
             }
-            Err(fault) => Err(Stop::Bad(fault)),
+            Err(fault) => Err(NoPiece::Bad(fault)),
         }
     }
 }

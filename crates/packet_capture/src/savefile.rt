@@ -7,7 +7,7 @@ ghost use Rattle.packet_capture.specs.Stops.{StopsInHeader, StopsInRecord};
 use crate::fault::CaptureFault;
 use crate::fields::{ByteOrder, read_u16, read_u32};
 use crate::frame::Frame;
-use crate::stop::Stop;
+use crate::stop::NoPiece;
 
 /// The number of bytes of a savefile's header.
 pub(crate) const SAVEFILE_HEADER: usize = 24;
@@ -71,16 +71,16 @@ fn is_version(magic: Magic, bytes: &[u8]) -> bool
 }
 
 /// Reads the savefile whose header, of this magic, is at the front.
-pub(crate) fn read_savefile(magic: Magic, bytes: &[u8]) -> Result<Savefile, Stop>
+pub(crate) fn read_savefile(magic: Magic, bytes: &[u8]) -> Result<Savefile, NoPiece>
     requires { Some magic ≡ magic_at bytes.now }
     ensures begins { IfOk result (BeginsSavefile bytes.now) }
     ensures stop { IfErr result (StopsInHeader bytes.now) }
 {
     if bytes.len() < SAVEFILE_HEADER {
-        return Err(Stop::Wants(SAVEFILE_HEADER));
+        return Err(NoPiece::Wants(SAVEFILE_HEADER));
     }
     if !is_version(magic, bytes) {
-        return Err(Stop::Bad(CaptureFault::UnknownVersion));
+        return Err(NoPiece::Bad(CaptureFault::UnknownVersion));
     }
     let link = read_u32(magic.order, bytes, 20) % 65536;
     Ok(Savefile {
@@ -138,20 +138,20 @@ pub(crate) fn whole_record(savefile: Savefile, bytes: &[u8]) -> Option<Frame<'_>
 }
 
 /// Reads the frame of the packet record at the front.
-pub(crate) fn read_record(savefile: Savefile, bytes: &[u8]) -> Result<Frame<'_>, Stop>
+pub(crate) fn read_record(savefile: Savefile, bytes: &[u8]) -> Result<Frame<'_>, NoPiece>
     ensures frame { IfOk result (λ f. IsPacketRecord savefile bytes.now (frame_of f)) }
     ensures stop { IfErr result (StopsInRecord savefile bytes.now) }
 {
     if bytes.len() < RECORD_HEADER {
-        return Err(Stop::Wants(RECORD_HEADER));
+        return Err(NoPiece::Wants(RECORD_HEADER));
     }
     let captured = read_u32(savefile.magic.order, bytes, 8);
     if captured > LONGEST {
-        return Err(Stop::Bad(CaptureFault::TooLong));
+        return Err(NoPiece::Bad(CaptureFault::TooLong));
     }
     let end = RECORD_HEADER + captured as usize;
     if bytes.len() < end {
-        return Err(Stop::Wants(end));
+        return Err(NoPiece::Wants(end));
     }
     Ok(frame_up_to(savefile, bytes, end))
 }

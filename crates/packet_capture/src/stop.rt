@@ -3,7 +3,7 @@ use crate::fault::CaptureFault;
 
 /// Why no piece of a capture could be read from some bytes.
 #[derive(Clone, Copy, Debug, PartialEq, Eq, Hash)]
-pub enum Stop {
+pub enum NoPiece {
     /// No piece begins with these bytes, however they go on.
     Bad(CaptureFault),
     /// The bytes end before the piece does: at least this many, from its first one on, have to be

@@ -11,7 +11,7 @@ use Rattle.line_arbiter.specs.declared.outcome.LineFault.{LineFault}
 use Rattle.line_arbiter.specs.declared.outcome.Outcome.{Outcome}
 use Rattle.line_arbiter.specs.declared.outcome.Outcome.TheVariants.{Ahead, Ended, Heartbeat, Taken}
 use Rattle.line_gaps.specs.declared.gap_line.GapLine.{GapLine}
-use Rattle.line_gaps.specs.declared.heard_packet.HeardPacket.{HeardPacket}
+use Rattle.line_gaps.specs.declared.heard_packet.TimedPacket.{TimedPacket}
 use Rattle.line_gaps.specs.Gaps.{any_has_come, beginning_stands, brings_messages, counts_on, far_on, far_that, far_with, goes_on, has_begun, highest_on, highest_skipped, highest_with, is_packet_of, latest, of_line, packet_heard}
 use Rattle.line_gaps.specs.Ends.{open_gap_of}
 use Rattle.line_gaps.specs.LineSteps.{highest_joined, joined_at}
@@ -38,30 +38,30 @@ is_not false e = refl
 
 -- ---- packets past the window, up to their time
 
-abbrev untimed : Option HeardPacket → Option HeardPacket
+abbrev untimed : Option TimedPacket → Option TimedPacket
 untimed None = None
 untimed (Some p) = Some (packet_heard p.line p.number p.count None)
 
-same_some : (o : Option HeardPacket) → is_some (untimed o) ≡ is_some o
+same_some : (o : Option TimedPacket) → is_some (untimed o) ≡ is_some o
 same_some None = refl
 same_some (Some p) = refl
 
-same_highest : (highest : ℕ) (o : Option HeardPacket)
+same_highest : (highest : ℕ) (o : Option TimedPacket)
     → highest_with highest (untimed o) ≡ highest_with highest o
 same_highest highest None = refl
 same_highest highest (Some p) = refl
 
-same_passed : (highest : ℕ) (o : Option HeardPacket)
+same_passed : (highest : ℕ) (o : Option TimedPacket)
     → passed_by highest (untimed o) ≡ passed_by highest o
 same_passed highest None = refl
 same_passed highest (Some p) = refl
 
-same_if : (b : Bool) (p : HeardPacket)
+same_if : (b : Bool) (p : TimedPacket)
     → (if b then untimed (Some p) else None) ≡ untimed (if b then Some p else None)
 same_if true p = refl
 same_if false p = refl
 
-same_far : (number : ℕ) (o : Option HeardPacket)
+same_far : (number : ℕ) (o : Option TimedPacket)
     → far_that number (untimed o) ≡ untimed (far_that number o)
 same_far number None = refl
 same_far number (Some p) = same_if (goes_on p number) p
@@ -78,16 +78,16 @@ same_line on.Recovery on.B e = cc e
 same_line on.Recovery on.Recovery e = refl
 
 -- it is of the line
-abbrev IsOn : LineId → Option HeardPacket → Type 0
+abbrev IsOn : LineId → Option TimedPacket → Type 0
 IsOn line None = Unit
 IsOn line (Some p) = p.line ≡ line
 
-is_on_if : (line : LineId) (b : Bool) (p : HeardPacket) → (b ≡ true → p.line ≡ line)
+is_on_if : (line : LineId) (b : Bool) (p : TimedPacket) → (b ≡ true → p.line ≡ line)
     → IsOn line (if b then Some p else None)
 is_on_if line true p e = e refl
 is_on_if line false p e = tt
 
-is_on_latest : (line : LineId) (o x : Option HeardPacket) → IsOn line o → IsOn line x
+is_on_latest : (line : LineId) (o x : Option TimedPacket) → IsOn line o → IsOn line x
     → IsOn line (latest o x)
 is_on_latest line None x a b = b
 is_on_latest line (Some p) x a b = a
@@ -116,7 +116,7 @@ far_is_on line (last ∷ earlier) =
     is_on_latest line (far_with line last.time last.event) (far_on line earlier)
     (far_with_on line last.time last.event) (far_is_on line earlier)
 
-that_is_on : (line : LineId) (number : ℕ) (o : Option HeardPacket) → IsOn line o
+that_is_on : (line : LineId) (number : ℕ) (o : Option TimedPacket) → IsOn line o
     → IsOn line (far_that number o)
 that_is_on line number None is = tt
 that_is_on line number (Some p) is = is_on_if line (goes_on p number) p (λ e. is)
@@ -162,7 +162,7 @@ gap_if high number false time is =
     let within : number ≤ high + 1 = grind (arith, nat_tests, is) in
     count_is (number - (high + 1)) ∙ omega (arith, within)
 
-gap_messages : (high : ℕ) (o : Option HeardPacket)
+gap_messages : (high : ℕ) (o : Option TimedPacket)
     → count_after 0 (passed_by high o) ≡ messages_of (gap_passed high o)
 gap_messages high None = refl
 gap_messages high (Some p) =
@@ -185,7 +185,7 @@ record IsNoted (line : LineId) (gap_line : GapLine) (last : TimedEvent) (own : L
   come : s.has_come ≡ any_has_come (last ∷ own)
 
 module _ (line : LineId) (gap_line : GapLine)
-    (own_is : (p : HeardPacket) → is_packet_of gap_line p ≡ is_same_line p.line line) where
+    (own_is : (p : TimedPacket) → is_packet_of gap_line p ≡ is_same_line p.line line) where
   abbrev Ties : List TimedEvent → LineSequence → Type 0
   Ties own s = IsTied line gap_line own s
 
@@ -201,7 +201,7 @@ module _ (line : LineId) (gap_line : GapLine)
     come = ap (λ (b : Bool). brings_messages event || b) t.come;
   }
 
-  own_that : (b : Bool) (o : Option HeardPacket) (l : LineId) → IsOn l o → is_same_line l line ≡ b
+  own_that : (b : Bool) (o : Option TimedPacket) (l : LineId) → IsOn l o → is_same_line l line ≡ b
       → of_line gap_line o ≡ (if b then o else None)
   own_that true None l is e = refl
   own_that false None l is e = refl
@@ -284,17 +284,17 @@ module _ (line : LineId) (gap_line : GapLine)
       let high = highest_skipped (beginning_stands gap_line own) (highest_on gap_line own)
       last.event in
       record {
-        begun = t.begun ∙ sym (ap (λ (o : Option HeardPacket). is_some o || before) counts);
+        begun = t.begun ∙ sym (ap (λ (o : Option TimedPacket). is_some o || before) counts);
         highest = t.highest ∙ sym skip
-            ∙ sym (ap (λ (o : Option HeardPacket). highest_with high o) counts);
+            ∙ sym (ap (λ (o : Option TimedPacket). highest_with high o) counts);
         far = t.far
-            ∙ sym (ap (λ (o : Option HeardPacket). untimed (latest o (far_on line own))) far);
+            ∙ sym (ap (λ (o : Option TimedPacket). untimed (latest o (far_on line own))) far);
         come = t.come;
       }
 
   -- a packet of it counts
   counted : (last : TimedEvent) (own : List TimedEvent) (s : LineSequence)
-      (now far : Option HeardPacket) → now ≡ untimed (counts_on gap_line own last)
+      (now far : Option TimedPacket) → now ≡ untimed (counts_on gap_line own last)
       → far ≡ untimed (far_on line (last ∷ own))
       → highest_skipped (beginning_stands gap_line own) (highest_on gap_line own) last.event
       ≡ highest_on gap_line own
@@ -304,10 +304,10 @@ module _ (line : LineId) (gap_line : GapLine)
       let before = has_begun gap_line own in
       record {
         begun = ap (λ (b : Bool). is_some now || b) t.begun
-            ∙ ap (λ (p : Option HeardPacket). is_some p || before) is
+            ∙ ap (λ (p : Option TimedPacket). is_some p || before) is
             ∙ ap (λ (b : Bool). b || before) (same_some o);
         highest = ap (λ (h : ℕ). highest_with h now) t.highest
-            ∙ ap (λ (p : Option HeardPacket). highest_with (highest_on gap_line own) p) is
+            ∙ ap (λ (p : Option TimedPacket). highest_with (highest_on gap_line own) p) is
             ∙ same_highest (highest_on gap_line own) o
             ∙ ap (λ (h : ℕ). highest_with h o) (sym skip);
         far = far_is;
@@ -320,7 +320,7 @@ module _ (line : LineId) (gap_line : GapLine)
       → Some (packet_heard l number count None) ≡ untimed (far_on line
       (timed_event time (told_packet venue l number count bytes (Ok Ahead)) ∷ own))
   ahead_far time venue l number count bytes own same =
-      sym (ap (λ (o : Option HeardPacket). untimed (latest o (far_on line own)))
+      sym (ap (λ (o : Option TimedPacket). untimed (latest o (far_on line own)))
       (if_yes (is_same_line l line) (Some (packet_heard l number count time)) None same))
 
   other_far : (time : Option ℕ) (venue : ℕ) (l : LineId) (number count bytes : ℕ)
@@ -467,7 +467,7 @@ module _ (line : LineId) (gap_line : GapLine)
       let t = tied earlier in
       let s = sequence_told line earlier in
       let o = counts_on gap_line (in_session earlier) last in
-      ap (λ (p : Option HeardPacket). count_after 0 (passed_by s.highest p))
+      ap (λ (p : Option TimedPacket). count_after 0 (passed_by s.highest p))
       (counts_same last.time last.event (in_session earlier) s t.far own)
       ∙ ap (λ (n : ℕ). count_after 0 n) (same_passed s.highest o)
       ∙ ap (λ (h : ℕ). count_after 0 (passed_by h o)) t.highest

@@ -9,7 +9,7 @@ use Rattle.run_settings.specs.declared.formats.RowFormat.TheVariants.{Csv, Json}
 use Rattle.run_settings.specs.declared.period_style.PeriodStyle.{PeriodStyle}
 use Rattle.report_rows.specs.FirstTexts.{first_texts}
 use Rattle.report_rows.specs.RowHistories.{rows_told}
-use Rattle.report_rows.specs.RowTexts.{CellValue, count, header_text, name, nothing, row_text, seconds, time}
+use Rattle.report_rows.specs.RowTexts.{CellValue, header_text, name, nothing, row_text, seconds, time, venue_at}
 use Rattle.report_rows.specs.SpanEvents.{ends_all}
 use Rattle.period_rows.specs.declared.best_shares.BestShares.{BestShares}
 use Rattle.report_rows.specs.EventFigures.{is_crossed, is_locked, is_normal}
@@ -47,7 +47,7 @@ shares_by length venue sum =
           (min (sum (in_state is_normal)) most_time);
     }
 
--- none stood
+-- none stood for a billionth of the period
 abbrev pub are_zero : BestShares → Bool
 are_zero s = max (max s.bid s.offer) (max s.normal (max s.locked s.crossed)) == 0
 
@@ -67,13 +67,13 @@ spread_cell (Some spread) = seconds spread
 
 abbrev pub best_values : RowFormat → ℕ → List ℕ → ℕ → BestShares → List CellValue
 best_values (Csv style) begin symbol venue s =
-    time (Some begin) ∷ name symbol ∷ count venue ∷ seconds s.bid ∷ seconds s.offer
+    time (Some begin) ∷ name symbol ∷ venue_at venue ∷ seconds s.bid ∷ seconds s.offer
     ∷ seconds s.normal ∷ seconds s.locked ∷ seconds s.crossed ∷ spread_cell s.spread ∷ []
 best_values (Json style) begin symbol venue s =
-    name symbol ∷ count venue ∷ seconds s.bid ∷ seconds s.offer ∷ seconds s.normal
+    name symbol ∷ venue_at venue ∷ seconds s.bid ∷ seconds s.offer ∷ seconds s.normal
     ∷ seconds s.locked ∷ seconds s.crossed ∷ spread_cell s.spread ∷ time (Some begin) ∷ []
 
--- the row of a venue, unless none stood
+-- the row of a venue, unless none stood for a billionth of the period
 abbrev pub best_row : RowFormat → ℕ → List ℕ → ℕ → BestShares → List ℕ
 best_row format begin symbol venue s =
     if are_zero s then []

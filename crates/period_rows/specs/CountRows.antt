@@ -7,7 +7,7 @@ use Rattle.run_settings.specs.declared.period_style.PeriodStyle.{PeriodStyle}
 use Rattle.report_rows.specs.FirstTexts.{first_texts}
 use Rattle.report_rows.specs.PeriodLists.{begun, over_with}
 use Rattle.report_rows.specs.RowHistories.{MakesHistory, TellsHistory, rows_told}
-use Rattle.report_rows.specs.RowTexts.{CellValue, count, header_text, row_text, time, word}
+use Rattle.report_rows.specs.RowTexts.{CellValue, count, header_text, row_text, time, venue_at, word}
 use Rattle.report_rows.specs.SpanEvents.{ends_all}
 use Rattle.period_rows.specs.CountStates.{CountPeriod, CountState, own_begin, state_after, state_told}
 use Rattle.period_rows.specs.LineFigures.{no_figures}
@@ -33,10 +33,10 @@ line_word place = if place % 2 == 0 then codes "A" else codes "B"
 -- the cells of the line at a place, of the period that began then
 abbrev pub count_values : RowFormat → ℕ → ℕ → LineFigures → List CellValue
 count_values (Csv style) begin place f =
-    time (Some begin) ∷ count (place / 2) ∷ word (line_word place) ∷ count f.packets
+    time (Some begin) ∷ venue_at (place / 2) ∷ word (line_word place) ∷ count f.packets
     ∷ count f.bytes ∷ count f.messages ∷ count f.first ∷ count f.missing ∷ []
 count_values (Json style) begin place f =
-    count (place / 2) ∷ word (line_word place) ∷ count f.packets ∷ count f.bytes
+    venue_at (place / 2) ∷ word (line_word place) ∷ count f.packets ∷ count f.bytes
     ∷ count f.messages ∷ count f.first ∷ count f.missing ∷ time (Some begin) ∷ []
 
 abbrev pub count_line_row : RowFormat → ℕ → ℕ → LineFigures → List ℕ

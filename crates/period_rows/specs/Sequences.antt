@@ -6,7 +6,7 @@ use Rattle.line_arbiter.specs.declared.outcome.Outcome.TheVariants.{Ahead}
 use Rattle.event_sinks.specs.SinkEvents.{SinkEvent, told_before, told_packet, told_renewal, told_skip}
 use Rattle.line_gaps.specs.Gaps.{brings_messages, far_that, packet_heard, highest_with}
 use Rattle.line_gaps.specs.LineSteps.{highest_joined, joined_at}
-use Rattle.line_gaps.specs.declared.heard_packet.HeardPacket.{HeardPacket}
+use Rattle.line_gaps.specs.declared.heard_packet.TimedPacket.{TimedPacket}
 use Rattle.period_rows.specs.declared.line_sequence.LineSequence.{LineSequence}
 
 -- ---- a line
@@ -17,20 +17,20 @@ no_sequence = record { begun = false; highest = 0; far = None; has_come = false 
 -- The packet that counts with an event of the line: its own, unless that was refused, or is past
 -- the window. One past the window counts with the line's next one of these, if that goes on from it
 -- (as for gaps).
-abbrev pub counts_now : Option HeardPacket → SinkEvent → Option HeardPacket
+abbrev pub counts_now : Option TimedPacket → SinkEvent → Option TimedPacket
 counts_now far (told_packet venue line number count bytes (Ok Ahead)) = far_that number far
 counts_now far (told_packet venue line number count bytes (Ok outcome)) =
     Some (packet_heard line number count None)
 counts_now far _ = None
 
 -- the line's latest packet past the window
-abbrev pub far_after : Option HeardPacket → SinkEvent → Option HeardPacket
+abbrev pub far_after : Option TimedPacket → SinkEvent → Option TimedPacket
 far_after far (told_packet venue line number count bytes (Ok Ahead)) =
     Some (packet_heard line number count None)
 far_after far _ = far
 
 -- the line's numbers after the packet that counts
-abbrev pub sequence_counted : LineSequence → Option HeardPacket → Option HeardPacket
+abbrev pub sequence_counted : LineSequence → Option TimedPacket → Option TimedPacket
     → LineSequence
 sequence_counted s counted far = record {
   begun = is_some counted || s.begun;
@@ -56,7 +56,7 @@ sequence_after s (told_skip venue number (Ok done)) =
 sequence_after s _ = s
 
 -- how many numbers a packet passes over: those between the highest one and its own
-abbrev pub passed_by : ℕ → Option HeardPacket → ℕ
+abbrev pub passed_by : ℕ → Option TimedPacket → ℕ
 passed_by highest None = 0
 passed_by highest (Some packet) = packet.number - (highest + 1)
 

@@ -5,13 +5,13 @@ ghost use Rattle.period_rows.specs.BestRows.{period_ended_by};
 ghost use Rattle.period_rows.specs.Bests.{begin_after, clock_after, time_of_event};
 
 use crate::times::period_begin;
-use event_sinks::Event;
+use event_sinks::ReplayedEvent;
 use report_rows::ends_all;
 use run_settings::PeriodLength;
 
 /// Returns the time of an event: the end of the capture has none.
 #[inline(always)]
-pub(crate) fn time_in(time: Option<u64>, event: &Event<'_>) -> Option<u64>
+pub(crate) fn time_in(time: Option<u64>, event: &ReplayedEvent<'_>) -> Option<u64>
     ensures { result ≡ time_of_event (told_by event.now) time }
 {
     if ends_all(event) {

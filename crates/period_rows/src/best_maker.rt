@@ -13,7 +13,7 @@ use crate::best_clock::{begin_after, clock_after, ended_by, first_clock, time_in
 use crate::best_table::BestTable;
 use crate::best_times::{PeriodOver, best_names, write_best_period};
 use crate::times::period_begin;
-use event_sinks::{Event, SinkStop, TextPage};
+use event_sinks::{ReplayedEvent, SinkStop, TextPage};
 use feed_types::SymbolName;
 use report_rows::{RowMaker, RowSink, ends_all};
 use run_settings::PeriodStyle;
@@ -127,7 +127,7 @@ impl BestMaker {
         &mut self,
         page: &mut TextPage<W>,
         time: Option<u64>,
-        event: &Event<'_>,
+        event: &ReplayedEvent<'_>,
     ) -> Result<(), SinkStop>
         ensures took { OnOk result (TakesPage W.adds W.failures page.old
             (live_text self.old (timed_event time (told_by event.now))) page.new) }
@@ -153,7 +153,7 @@ impl BestMaker {
 
     /// Takes an event with which the clock stands.
     #[inline(always)]
-    fn pass_on(&mut self, event: &Event<'_>)
+    fn pass_on(&mut self, event: &ReplayedEvent<'_>)
         ensures { IsPassed self.old (told_by event.now) self.new }
     {
         self.table.take(self.clock, event);
@@ -165,7 +165,7 @@ impl BestMaker {
         &mut self,
         page: &mut TextPage<W>,
         time: Option<u64>,
-        event: &Event<'_>,
+        event: &ReplayedEvent<'_>,
     ) -> Result<(), SinkStop>
         requires { self.old.over ≡ false }
         ensures took { OnOk result (TakesPage W.adds W.failures page.old
@@ -188,7 +188,7 @@ impl BestMaker {
         &mut self,
         page: &mut TextPage<W>,
         time: Option<u64>,
-        event: &Event<'_>,
+        event: &ReplayedEvent<'_>,
     ) -> Result<(), SinkStop>
         ensures took { OnOk result (TakesPage W.adds W.failures page.old
             (best_made_text self.old (timed_event time (told_by event.now))) page.new) }
@@ -206,7 +206,7 @@ impl BestMaker {
 
 impl BestMaker {
     /// Takes an event before all that has rows.
-    fn take_before(&mut self, event: &Event<'_>)
+    fn take_before(&mut self, event: &ReplayedEvent<'_>)
         ensures over { self.old.over ≡ true → self.new ≡ self.old }
         ensures passed { self.old.over ≡ false → IsPassed self.old (told_by event.now) self.new }
     {
@@ -240,12 +240,12 @@ impl RowMaker for BestMaker {
         &mut self,
         page: &mut TextPage<W>,
         time: Option<u64>,
-        event: &Event<'_>,
+        event: &ReplayedEvent<'_>,
     ) -> Result<(), SinkStop> {
         self.step(page, time, event)
     }
 
-    fn pass(&mut self, _time: Option<u64>, event: &Event<'_>) {
+    fn pass(&mut self, _time: Option<u64>, event: &ReplayedEvent<'_>) {
         self.take_before(event);
     }
 

@@ -5,7 +5,7 @@ ghost use Rattle.event_sinks.specs.SinkEvents.{told_by};
 ghost use Rattle.period_rows.specs.BestHolding.{AreBegun, AreBegunIf, AreChanged, AreNewTimes, AreRestarted, AreBestsTaken, IsNewTable, IsTakenAt, is_another};
 
 use crate::symbol_times::SymbolTimes;
-use event_sinks::Event;
+use event_sinks::ReplayedEvent;
 use feed_types::{National, SymbolName};
 use indexmap::IndexSet;
 use std::alloc::{AllocError, Global};
@@ -164,23 +164,23 @@ impl BestTable {
     }
 
     /// Takes an event at a time.
-    pub(crate) fn take(&mut self, at: u64, event: &Event<'_>)
+    pub(crate) fn take(&mut self, at: u64, event: &ReplayedEvent<'_>)
         ensures keys { self.new.keys ≡ self.old.keys }
         ensures taken { AreBestsTaken self.old.keys.keys at (told_by event.now) self.old.times.items
             self.new.times.items }
     {
         match event {
-            Event::Best { change, .. } => {
+            ReplayedEvent::Best { change, .. } => {
                 self.change(change.symbol.key(), at, &change.national);
             }
-            Event::Packet { .. }
-            | Event::Refusal { .. }
-            | Event::Item { .. }
-            | Event::Gap { .. }
-            | Event::Renewal { .. }
-            | Event::Skip { .. }
-            | Event::Declaration { .. }
-            | Event::Last { .. } => {}
+            ReplayedEvent::Packet { .. }
+            | ReplayedEvent::Refusal { .. }
+            | ReplayedEvent::Item { .. }
+            | ReplayedEvent::Gap { .. }
+            | ReplayedEvent::Renewal { .. }
+            | ReplayedEvent::Skip { .. }
+            | ReplayedEvent::Declaration { .. }
+            | ReplayedEvent::Last { .. } => {}
         }
     }
 }

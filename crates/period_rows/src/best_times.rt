@@ -66,7 +66,7 @@ fn best_cells(
 {
     let time = Cell::Time(Some(begin));
     let name = Cell::Name(symbol);
-    let venue = Cell::Count(venue as u64);
+    let venue = Cell::Venue(venue);
     let bid = Cell::Seconds(shares.bid);
     let offer = Cell::Seconds(shares.offer);
     let normal = Cell::Seconds(shares.normal);

@@ -5,7 +5,7 @@ ghost use Rattle.period_rows.specs.CountStates.{counted_at, counted_in, counted_
 
 use crate::line_figures::{LineFigures, NO_FIGURES};
 use crate::line_sequence::{LineSequence, line_place};
-use event_sinks::Event;
+use event_sinks::ReplayedEvent;
 use report_rows::KeptPeriod;
 
 /// The figures of the lines of a capture: A and B of venue 0, then those of venue 1, and so on.
@@ -15,20 +15,20 @@ pub type CountFigures = [LineFigures; 32];
 pub(crate) const NO_LINES: CountFigures = [NO_FIGURES; 32];
 
 /// Returns the place of the line that a datagram came on, if it has one.
-fn datagram_line(event: &Event<'_>) -> Option<usize>
+fn datagram_line(event: &ReplayedEvent<'_>) -> Option<usize>
     ensures line { result ≡ datagram_line (told_by event.now) }
     ensures within { IfSome result (λ place. place < 32) }
 {
     match event {
-        Event::Packet { venue, line, .. } => line_place(*venue, *line),
-        Event::Refusal { venue, line, .. } => line_place(*venue, *line),
-        Event::Item { .. }
-        | Event::Best { .. }
-        | Event::Gap { .. }
-        | Event::Renewal { .. }
-        | Event::Skip { .. }
-        | Event::Declaration { .. }
-        | Event::Last { .. } => None,
+        ReplayedEvent::Packet { venue, line, .. } => line_place(*venue, *line),
+        ReplayedEvent::Refusal { venue, line, .. } => line_place(*venue, *line),
+        ReplayedEvent::Item { .. }
+        | ReplayedEvent::Best { .. }
+        | ReplayedEvent::Gap { .. }
+        | ReplayedEvent::Renewal { .. }
+        | ReplayedEvent::Skip { .. }
+        | ReplayedEvent::Declaration { .. }
+        | ReplayedEvent::Last { .. } => None,
     }
 }
 
@@ -37,7 +37,7 @@ fn count_at(
     figures: &mut [LineFigures],
     sequences: &[LineSequence],
     place: usize,
-    event: &Event<'_>,
+    event: &ReplayedEvent<'_>,
 )
     requires figures { length figures.old ≡ 32 }
     requires sequences { length sequences.now ≡ 32 }
@@ -49,7 +49,7 @@ fn count_at(
 }
 
 /// Counts a datagram, by the numbers that its line has brought.
-fn count_in(figures: &mut [LineFigures], sequences: &[LineSequence], event: &Event<'_>)
+fn count_in(figures: &mut [LineFigures], sequences: &[LineSequence], event: &ReplayedEvent<'_>)
     requires figures { length figures.old ≡ 32 }
     requires sequences { length sequences.now ≡ 32 }
     ensures { figures.new ≡ counted_in figures.old sequences.now (told_by event.now)
@@ -66,7 +66,7 @@ pub(crate) fn count_in_period(
     periods: &mut [KeptPeriod<CountFigures>],
     place: usize,
     sequences: &[LineSequence],
-    event: &Event<'_>,
+    event: &ReplayedEvent<'_>,
 )
     requires within { place < length periods.old }
     requires sequences { length sequences.now ≡ 32 }

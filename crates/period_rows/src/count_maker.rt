@@ -12,7 +12,7 @@ use crate::count_figures::{CountFigures, NO_LINES, count_in_period};
 use crate::count_rows::{count_names, write_over, write_periods};
 use crate::line_sequence::{LineSequence, take_sequences};
 use crate::times::period_begin;
-use event_sinks::{Event, SinkStop, TextPage};
+use event_sinks::{ReplayedEvent, SinkStop, TextPage};
 use report_rows::{KeptPeriods, RowMaker, RowSink, ends_all};
 use run_settings::{PeriodLength, PeriodStyle};
 use text_out::TextOut;
@@ -31,12 +31,12 @@ pub struct PeriodCounter {
 }
 
 /// Returns when the period of a datagram began, where its time is known.
-fn own_begin(length: PeriodLength, time: Option<u64>, event: &Event<'_>) -> Option<u64>
+fn own_begin(length: PeriodLength, time: Option<u64>, event: &ReplayedEvent<'_>) -> Option<u64>
     ensures { result ≡ own_begin length (timed_event time (told_by event.now)) }
 {
     match (event, time) {
-        (Event::Packet { .. }, Some(time)) => Some(period_begin(length, time)),
-        (Event::Refusal { .. }, Some(time)) => Some(period_begin(length, time)),
+        (ReplayedEvent::Packet { .. }, Some(time)) => Some(period_begin(length, time)),
+        (ReplayedEvent::Refusal { .. }, Some(time)) => Some(period_begin(length, time)),
         _ => None,
     }
 }
@@ -88,7 +88,7 @@ impl PeriodCounter {
         &mut self,
         page: &mut TextPage<W>,
         begin: u64,
-        event: &Event<'_>,
+        event: &ReplayedEvent<'_>,
     ) -> Result<(), SinkStop>
         ensures took { OnOk result (TakesPage W.adds W.failures page.old
             (over_text self.old.style.format self.old.lines
@@ -104,7 +104,7 @@ impl PeriodCounter {
             ≡ late_by (Some begin) (count_state_of self.old)) }
     {
         let entered = self.periods.enter(begin, &NO_LINES);
-        write_over(page, self.style.format, self.lines, &entered.over)?;
+        write_over(page, &self.style.format, self.lines, &entered.over)?;
         let periods = self.periods.kept.as_mut_slice();
         count_in_period(periods, entered.place, &self.sequences, event);
         Ok(())
@@ -115,7 +115,7 @@ impl PeriodCounter {
         &mut self,
         page: &mut TextPage<W>,
         begin: Option<u64>,
-        event: &Event<'_>,
+        event: &ReplayedEvent<'_>,
     ) -> Result<(), SinkStop>
         ensures took { OnOk result (TakesPage W.adds W.failures page.old
             (left_text self.old.style.format self.old.lines begin self.old.periods.kept.items)
@@ -140,7 +140,7 @@ impl PeriodCounter {
         &mut self,
         page: &mut TextPage<W>,
         time: Option<u64>,
-        event: &Event<'_>,
+        event: &ReplayedEvent<'_>,
     ) -> Result<(), SinkStop>
         ensures took { OnOk result (TakesPage W.adds W.failures page.old
             (made_text self.old (timed_event time (told_by event.now))) page.new) }
@@ -193,12 +193,12 @@ impl RowMaker for PeriodCounter {
         &mut self,
         page: &mut TextPage<W>,
         time: Option<u64>,
-        event: &Event<'_>,
+        event: &ReplayedEvent<'_>,
     ) -> Result<(), SinkStop> {
         self.step(page, time, event)
     }
 
-    fn pass(&mut self, _time: Option<u64>, event: &Event<'_>) {
+    fn pass(&mut self, _time: Option<u64>, event: &ReplayedEvent<'_>) {
         take_sequences(&mut self.sequences, event);
     }
 

@@ -48,7 +48,7 @@ fn line_cells(
     ensures short { AllByRecursion IsShortCell result }
 {
     let time = Cell::Time(Some(begin));
-    let venue = Cell::Count(place as u64 / 2);
+    let venue = Cell::Venue(place / 2);
     let line = Cell::Word(line_word(place));
     let packets = Cell::Count(figures.packets);
     let bytes = Cell::Count(figures.bytes);
@@ -111,17 +111,17 @@ pub(crate) fn write_period<W: TextOut>(
 /// Writes the rows of a period that is over, if one is.
 pub(crate) fn write_over<W: TextOut>(
     page: &mut TextPage<W>,
-    format: RowFormat,
+    format: &RowFormat,
     lines: usize,
     over: &Option<KeptPeriod<CountFigures>>,
 ) -> Result<(), SinkStop>
     ensures took { OnOk result (TakesPage W.adds W.failures page.old
-        (over_text format lines over.now) page.new) }
+        (over_text format.now lines over.now) page.new) }
     ensures failed { OnErr result (FailsPage W.adds W.failures page.old
-        (page.old.text.items ++ over_text format lines over.now) page.new) }
+        (page.old.text.items ++ over_text format.now lines over.now) page.new) }
 {
     match over {
-        Some(period) => write_period(page, format, lines, period),
+        Some(period) => write_period(page, *format, lines, period),
         None => Ok(()),
     }
 }

@@ -5,7 +5,7 @@ ghost use Rattle.event_sinks.specs.SinkEvents.{told_by};
 ghost use Rattle.report_rows.specs.EventFigures.{bytes_in, first_in, repeated_in};
 ghost use Rattle.period_rows.specs.LineFigures.{figures_after};
 
-use event_sinks::Event;
+use event_sinks::ReplayedEvent;
 use line_arbiter::Outcome;
 
 /// What a line brought in a period. A figure stays at 2^64 - 1 once it is there.
@@ -33,21 +33,21 @@ pub(crate) const NO_FIGURES: LineFigures = LineFigures {
 };
 
 /// Returns how many bytes a packet's datagram has.
-fn bytes_in(event: &Event<'_>) -> u64
+fn bytes_in(event: &ReplayedEvent<'_>) -> u64
     ensures { result ≡ bytes_in (told_by event.now) }
 {
     match event {
-        Event::Packet { bytes, .. } => *bytes,
+        ReplayedEvent::Packet { bytes, .. } => *bytes,
         _ => 0,
     }
 }
 
 /// Returns how many messages came first with a packet.
-fn first_in(event: &Event<'_>) -> u64
+fn first_in(event: &ReplayedEvent<'_>) -> u64
     ensures { result ≡ first_in (told_by event.now) }
 {
     match event {
-        Event::Packet {
+        ReplayedEvent::Packet {
             answer: Ok(Outcome::Taken { new, .. }),
             ..
         } => u64::from(*new),
@@ -56,11 +56,11 @@ fn first_in(event: &Event<'_>) -> u64
 }
 
 /// Returns how many messages of a packet had come before.
-fn repeated_in(event: &Event<'_>) -> u64
+fn repeated_in(event: &ReplayedEvent<'_>) -> u64
     ensures { result ≡ repeated_in (told_by event.now) }
 {
     match event {
-        Event::Packet {
+        ReplayedEvent::Packet {
             answer: Ok(Outcome::Taken { repeated, .. }),
             ..
         } => u64::from(*repeated),
@@ -77,7 +77,7 @@ pub(crate) fn raised(count: u64, more: u64) -> u64
 
 impl LineFigures {
     /// Counts a datagram, whose number passes over this many messages.
-    pub(crate) fn add(&mut self, passed: u64, event: &Event<'_>)
+    pub(crate) fn add(&mut self, passed: u64, event: &ReplayedEvent<'_>)
         ensures { self.new ≡ figures_after self.old passed (told_by event.now) }
     {
         self.packets = raised(self.packets, 1);

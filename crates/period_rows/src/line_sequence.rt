@@ -5,10 +5,10 @@ ghost use Rattle.line_gaps.specs.Gaps.{brings_messages, packet_heard};
 ghost use Rattle.line_gaps.specs.LineSteps.{highest_joined, joined_at};
 ghost use Rattle.period_rows.specs.Sequences.{both_come, both_sequences, come_after, come_at, counts_now, line_place, packet_sequences, passed_over, sequence_after, sequence_at, sequence_counted, sequences_after};
 
-use event_sinks::Event;
+use event_sinks::ReplayedEvent;
 use feed_types::{LineId, VenueId};
 use line_arbiter::Outcome;
-use line_gaps::HeardPacket;
+use line_gaps::TimedPacket;
 
 /// Which numbers the packets of a line have brought.
 #[derive(Clone, Copy, Debug, Default, PartialEq, Eq)]
@@ -19,16 +19,16 @@ pub struct LineSequence {
     /// a heartbeat's or an end's.
     pub highest: u64,
     /// The latest packet past the window.
-    pub far: Option<HeardPacket>,
+    pub far: Option<TimedPacket>,
     /// Whether a message of the venue's present session came, on any of its lines.
     pub has_come: bool,
 }
 
 /// Returns a packet of a line, without its time.
-fn heard(line: LineId, number: u64, count: u16) -> HeardPacket
+fn heard(line: LineId, number: u64, count: u16) -> TimedPacket
     ensures { result ≡ packet_heard line number count None }
 {
-    HeardPacket {
+    TimedPacket {
         line,
         number,
         count,
@@ -38,12 +38,12 @@ fn heard(line: LineId, number: u64, count: u16) -> HeardPacket
 
 /// Returns whether messages came with a packet.
 #[inline(always)]
-fn brings_messages(event: &Event<'_>) -> bool
+fn brings_messages(event: &ReplayedEvent<'_>) -> bool
     ensures { result ≡ brings_messages (told_by event.now) }
 {
     matches!(
         event,
-        Event::Packet {
+        ReplayedEvent::Packet {
             answer: Ok(Outcome::Taken { .. }),
             ..
         }
@@ -53,7 +53,7 @@ fn brings_messages(event: &Event<'_>) -> bool
 impl LineSequence {
     /// Notes whether a message came with an event of the venue.
     #[inline(always)]
-    fn note(&mut self, event: &Event<'_>)
+    fn note(&mut self, event: &ReplayedEvent<'_>)
         ensures { self.new ≡ come_after self.old (told_by event.now) }
     {
         self.has_come = brings_messages(event) || self.has_come;
@@ -74,11 +74,11 @@ impl LineSequence {
 
     /// Returns the packet that counts with an event of the line: its own, but of packets past the
     /// window the one before, where this one goes on from it.
-    fn counts_now(&self, event: &Event<'_>) -> Option<HeardPacket>
+    fn counts_now(&self, event: &ReplayedEvent<'_>) -> Option<TimedPacket>
         ensures { result ≡ counts_now self.now.far (told_by event.now) }
     {
         match event {
-            Event::Packet {
+            ReplayedEvent::Packet {
                 line,
                 number,
                 count,
@@ -88,7 +88,7 @@ impl LineSequence {
                 Some(earlier) if heard(*line, *number, *count).goes_on(&earlier) => Some(earlier),
                 _ => None,
             },
-            Event::Packet {
+            ReplayedEvent::Packet {
                 line,
                 number,
                 count,
@@ -100,7 +100,7 @@ impl LineSequence {
     }
 
     /// Returns how many numbers a packet passes over.
-    pub(crate) fn passed_over(&self, event: &Event<'_>) -> u64
+    pub(crate) fn passed_over(&self, event: &ReplayedEvent<'_>) -> u64
         ensures { result ≡ passed_over self.now (told_by event.now) }
     {
         match self.counts_now(event) {
@@ -110,7 +110,7 @@ impl LineSequence {
     }
 
     /// Takes the packet that counts with an event.
-    fn count(&mut self, packet: Option<HeardPacket>)
+    fn count(&mut self, packet: Option<TimedPacket>)
         ensures { self.new ≡ sequence_counted self.old packet self.old.far }
     {
         if let Some(packet) = packet {
@@ -120,12 +120,12 @@ impl LineSequence {
     }
 
     /// Takes an event of the line or of its venue.
-    pub(crate) fn take(&mut self, event: &Event<'_>)
+    pub(crate) fn take(&mut self, event: &ReplayedEvent<'_>)
         ensures { self.new ≡ sequence_after self.old (told_by event.now) }
     {
         let packet = self.counts_now(event);
         match event {
-            Event::Packet {
+            ReplayedEvent::Packet {
                 line,
                 number,
                 count,
@@ -135,9 +135,9 @@ impl LineSequence {
                 self.count(packet);
                 self.far = Some(heard(*line, *number, *count));
             }
-            Event::Packet { .. } => self.count(packet),
-            Event::Renewal { answer: Ok(_), .. } => *self = LineSequence::default(),
-            Event::Skip {
+            ReplayedEvent::Packet { .. } => self.count(packet),
+            ReplayedEvent::Renewal { answer: Ok(_), .. } => *self = LineSequence::default(),
+            ReplayedEvent::Skip {
                 number,
                 answer: Ok(()),
                 ..
@@ -160,7 +160,7 @@ pub(crate) fn line_place(venue: VenueId, line: LineId) -> Option<usize>
 }
 
 /// Takes an event of the line at a place.
-fn take_at(sequences: &mut [LineSequence], place: usize, event: &Event<'_>)
+fn take_at(sequences: &mut [LineSequence], place: usize, event: &ReplayedEvent<'_>)
     requires all { length sequences.old ≡ 32 }
     requires within { place < 32 }
     ensures { sequences.new ≡ sequence_at (told_by event.now) sequences.old place }
@@ -169,7 +169,7 @@ fn take_at(sequences: &mut [LineSequence], place: usize, event: &Event<'_>)
 }
 
 /// Takes an event of a venue.
-fn take_both(sequences: &mut [LineSequence], venue: VenueId, event: &Event<'_>)
+fn take_both(sequences: &mut [LineSequence], venue: VenueId, event: &ReplayedEvent<'_>)
     requires { length sequences.old ≡ 32 }
     ensures { sequences.new ≡ both_sequences (told_by event.now) sequences.old venue }
 {
@@ -179,7 +179,7 @@ fn take_both(sequences: &mut [LineSequence], venue: VenueId, event: &Event<'_>)
 
 /// Notes for the line at a place whether a message came with an event of its venue.
 #[inline(always)]
-fn note_at(sequences: &mut [LineSequence], place: usize, event: &Event<'_>)
+fn note_at(sequences: &mut [LineSequence], place: usize, event: &ReplayedEvent<'_>)
     requires all { length sequences.old ≡ 32 }
     requires within { place < 32 }
     ensures { sequences.new ≡ come_at (told_by event.now) sequences.old place }
@@ -189,7 +189,7 @@ fn note_at(sequences: &mut [LineSequence], place: usize, event: &Event<'_>)
 
 /// Notes for both lines of a venue whether a message came with an event.
 #[inline(always)]
-fn note_both(sequences: &mut [LineSequence], venue: VenueId, event: &Event<'_>)
+fn note_both(sequences: &mut [LineSequence], venue: VenueId, event: &ReplayedEvent<'_>)
     requires { length sequences.old ≡ 32 }
     ensures { sequences.new ≡ both_come (told_by event.now) sequences.old venue }
 {
@@ -198,7 +198,12 @@ fn note_both(sequences: &mut [LineSequence], venue: VenueId, event: &Event<'_>)
 }
 
 /// Takes a packet of a line.
-fn take_packet(sequences: &mut [LineSequence], venue: VenueId, line: LineId, event: &Event<'_>)
+fn take_packet(
+    sequences: &mut [LineSequence],
+    venue: VenueId,
+    line: LineId,
+    event: &ReplayedEvent<'_>,
+)
     requires { length sequences.old ≡ 32 }
     ensures { sequences.new ≡ packet_sequences (told_by event.now) sequences.old venue line }
 {
@@ -210,19 +215,19 @@ fn take_packet(sequences: &mut [LineSequence], venue: VenueId, line: LineId, eve
 }
 
 /// Takes an event of a capture of 32 lines.
-pub(crate) fn take_sequences(sequences: &mut [LineSequence], event: &Event<'_>)
+pub(crate) fn take_sequences(sequences: &mut [LineSequence], event: &ReplayedEvent<'_>)
     requires { length sequences.old ≡ 32 }
     ensures { sequences.new ≡ sequences_after sequences.old (told_by event.now) }
 {
     match event {
-        Event::Packet { venue, line, .. } => take_packet(sequences, *venue, *line, event),
-        Event::Renewal { venue, .. } => take_both(sequences, *venue, event),
-        Event::Skip { venue, .. } => take_both(sequences, *venue, event),
-        Event::Refusal { .. }
-        | Event::Item { .. }
-        | Event::Best { .. }
-        | Event::Gap { .. }
-        | Event::Declaration { .. }
-        | Event::Last { .. } => {}
+        ReplayedEvent::Packet { venue, line, .. } => take_packet(sequences, *venue, *line, event),
+        ReplayedEvent::Renewal { venue, .. } => take_both(sequences, *venue, event),
+        ReplayedEvent::Skip { venue, .. } => take_both(sequences, *venue, event),
+        ReplayedEvent::Refusal { .. }
+        | ReplayedEvent::Item { .. }
+        | ReplayedEvent::Best { .. }
+        | ReplayedEvent::Gap { .. }
+        | ReplayedEvent::Declaration { .. }
+        | ReplayedEvent::Last { .. } => {}
     }
 }

@@ -1,4 +1,4 @@
-pub mod rows
+pub mod BestRowMakers
 pub mod counts
 pub mod times
 pub mod stats

@@ -1,13 +1,14 @@
-//! A replay is a run of the machine over events, so that the headline holds of what it tells.
+//! A replay is a run of the reference machine, so the headline holds of what it gives its sink.
 //!
-//! A replay takes a record at a time, and keeps no list of events and no machine. All the same,
-//! what it emits of a capture is what the machine does over the capture's records as events, with
-//! each item that is ready pushed and consumed at once (`specs/Events.antt`); and where it stops
-//! since its journal is full, the machine refuses the next event for that reason
-//! (`specs/Full.antt`). So what a sink is told is that of a run (`specs/Printed.antt`), and
-//! [`replay`] says so, for any format of captures and any sink.
+//! A replay takes a record at a time, and keeps no list of events and no machine. All the same, it
+//! emits of a capture what the machine does over the capture's records as events, with each item
+//! that is ready pushed and consumed at once (`specs/Events.antt`). Where it stops since its
+//! journal is full, the machine refuses the next event for that reason (`specs/Full.antt`). So what
+//! a sink is given is that of a run (`specs/Printed.antt`). [`replay`] states that for any format
+//! of captures and any sink.
 #![tactic(auto)]
 
+ghost use Rattle.text_out.specs.Members.{reading_of};
 ghost use Rattle.std.specs.Prelude.{◌≡◌, ◌<◌, ◌≤◌, ◌+◌, ◌++◌, ◌^◌, ℕ, List, OnOk, Some, length, map, slice_get};
 ghost use Rattle.std.specs.List.{AllByRecursion};
 ghost use Rattle.mold_packet.specs.Block.{IsMessage};
@@ -31,7 +32,7 @@ ghost use Rattle.replay_run.specs.Moving.{ComesThrough};
 ghost use Rattle.replay_run.specs.Printed.{facts_of_run};
 
 use capture_records::RecordFormat;
-use event_sinks::{EventSink, Lack, Replayed};
+use event_sinks::{EventSink, MissingRange, Replayed};
 use feed_text::replay::{ReplayConfig, replay_events};
 use std::alloc::Global;
 use text_out::CaptureIn;
@@ -82,18 +83,18 @@ pub fn replay<R: CaptureIn, F: RecordFormat, K: EventSink>(
     format: &mut F,
     reader: &mut R,
     sink: K,
-    lacks: &mut Vec<Lack>,
+    lacks: &mut Vec<MissingRange>,
 ) -> Replayed<K, F::Fault>
     requires can { CanReplay config.now }
     requires of_venues { F.venues format.old ≡ venues_in config.now }
     ensures headline { AnswersRun
-        (record { gives = R.gives; ends = R.ends; failures = R.failures; fails = R.fails })
+        (reading_of R.CaptureIn)
         (record { reads = F.reads; wants = F.wants; is_bad = F.is_bad; is_whole = F.is_whole })
         (record { takes = K.takes; fails = K.fails }) K.is_shown
         config.now (facts_of_run config.now) reader.old reader.new format.old format.new
         sink result.sink result.outcome }
     ensures lacks { OnOk result.outcome (AppendsLacks
-        (record { gives = R.gives; ends = R.ends; failures = R.failures; fails = R.fails })
+        (reading_of R.CaptureIn)
         (record { reads = F.reads; wants = F.wants; is_bad = F.is_bad; is_whole = F.is_whole })
         config.now reader.old reader.new format.old format.new lacks.old.items lacks.new.items) }
 {

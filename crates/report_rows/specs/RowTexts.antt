@@ -5,12 +5,15 @@ use Rattle.feed_types.specs.Symbols.{name_of}
 use Rattle.run_settings.specs.declared.formats.RowFormat.{RowFormat}
 use Rattle.run_settings.specs.declared.formats.RowFormat.TheVariants.{Csv, Json}
 use Rattle.run_settings.specs.declared.formats.TimeStyle.{TimeStyle}
+use Rattle.run_settings.specs.declared.formats.ValueStyle.{ValueStyle}
+use Rattle.run_settings.specs.VenueNames.{venue_text}
 use Rattle.best_rows.specs.Quoting.{csv_text, quoted}
 use Rattle.best_rows.specs.Times.{json_time_value, seconds_text, time_text}
+use Rattle.best_rows.specs.VenueValues.{json_venue}
 use Rattle.report_rows.specs.declared.cell.Cell.{Cell}
 use Rattle.report_rows.specs.declared.cell.Cell.TheVariants as cells
 
--- what a cell shows: a word as its text, and a symbol as its field
+-- what a cell shows: a word as its text, a symbol as its field, and a venue as its place
 pub data CellValue : Type 0 where
   nothing : CellValue
   count : (n : ℕ) → CellValue
@@ -18,6 +21,7 @@ pub data CellValue : Type 0 where
   time : (at : Option ℕ) → CellValue
   word : (text : List ℕ) → CellValue
   name : (symbol : List ℕ) → CellValue
+  venue_at : (place : ℕ) → CellValue
 
 abbrev pub cells_shown : Cell → CellValue
 cells_shown cells.Nothing = nothing
@@ -26,20 +30,22 @@ cells_shown (cells.Seconds nanoseconds) = seconds nanoseconds
 cells_shown (cells.Time at) = time at
 cells_shown (cells.Word text) = word text.now
 cells_shown (cells.Name symbol) = name symbol
+cells_shown (cells.Venue place) = venue_at place
 
 abbrev pub all_shown : List Cell → List CellValue
 all_shown row = map cells_shown row
 
 -- ---- a cell of comma-separated values: empty where nothing is known
 
-abbrev pub csv_cell : TimeStyle → CellValue → List ℕ
+abbrev pub csv_cell : ValueStyle → CellValue → List ℕ
 csv_cell style nothing = []
 csv_cell style (count n) = decimal n
 csv_cell style (seconds nanoseconds) = seconds_text nanoseconds
 csv_cell style (time None) = []
-csv_cell style (time (Some at)) = time_text style at
+csv_cell style (time (Some at)) = time_text style.times at
 csv_cell style (word text) = text
 csv_cell style (name symbol) = csv_text (name_of symbol)
+csv_cell style (venue_at place) = venue_text style.venues place
 
 -- ---- a cell as a member of an object: null where nothing is known
 
@@ -62,18 +68,19 @@ json_time_cell style label at = json_styled style at ++ nanoseconds_member label
 abbrev pub json_word : List ℕ → List ℕ
 json_word text = codes "\"" ++ (text ++ codes "\"")
 
-abbrev pub json_value : TimeStyle → List ℕ → CellValue → List ℕ
+abbrev pub json_value : ValueStyle → List ℕ → CellValue → List ℕ
 json_value style label nothing = codes "null"
 json_value style label (count n) = decimal n
 json_value style label (seconds nanoseconds) = seconds_text nanoseconds
-json_value style label (time at) = json_time_cell style label at
+json_value style label (time at) = json_time_cell style.times label at
 json_value style label (word text) = json_word text
 json_value style label (name symbol) = quoted 92 (name_of symbol)
+json_value style label (venue_at place) = json_venue style.venues place
 
 abbrev pub json_label : List ℕ → List ℕ
 json_label label = codes "\"" ++ (label ++ codes "\":")
 
-abbrev pub json_member : TimeStyle → List ℕ → CellValue → List ℕ
+abbrev pub json_member : ValueStyle → List ℕ → CellValue → List ℕ
 json_member style label value = json_label label ++ json_value style label value
 
 -- ---- a row

@@ -3,7 +3,7 @@
 use Rattle.std.specs.Prelude.{◌≡◌, ℕ, Bool, true, false, not, nat_lt, ◌||◌, List, [], ◌∷◌, ◌++◌, Option, None, Some, if◌then◌else◌}
 use Rattle.event_sinks.specs.SinkEvents.{SinkEvent, TimedEvent, timed_event, told_before, told_last}
 use Rattle.run_settings.specs.declared.time_span.TimeSpan.{TimeSpan}
-use Rattle.report_rows.specs.declared.span_sink.SpanSink.{SpanSink}
+use Rattle.report_rows.specs.declared.span_sink.SpanFilter.{SpanFilter}
 
 -- the capture is over
 abbrev pub ends_all : SinkEvent → Bool
@@ -53,18 +53,18 @@ begun_after span begun (e ∷ es) = begun_after span (begun_by span begun e) es
 
 -- By what its sink makes of events: that of the events of the span.
 pub record TakesSpan {K : Type 0} (takes : K → List TimedEvent → K → Type 0)
-    (before : SpanSink K) (events : List TimedEvent) (after : SpanSink K) : Type 0 where
+    (before : SpanFilter K) (events : List TimedEvent) (after : SpanFilter K) : Type 0 where
   pub same_span : after.span ≡ before.span
   pub begun : after.begun ≡ begun_after before.span before.begun events
   pub takes_in : takes before.sink (events_in before.span before.begun events) after.sink
 
 abbrev pub FailsSpan : {K : Type 0} → (K → List TimedEvent → K → Type 0)
-    → SpanSink K → List TimedEvent → SpanSink K → Type 0
+    → SpanFilter K → List TimedEvent → SpanFilter K → Type 0
 FailsSpan fails before events after =
     fails before.sink (events_in before.span before.begun events) after.sink
 
 -- It took no event of the span yet.
-pub record IsNewSpan {K : Type 0} (sink : K) (span : TimeSpan) (new : SpanSink K) : Type 0 where
+pub record IsNewSpan {K : Type 0} (sink : K) (span : TimeSpan) (new : SpanFilter K) : Type 0 where
   pub sink_is : new.sink ≡ sink
   pub span_is : new.span ≡ span
   pub begun : new.begun ≡ false

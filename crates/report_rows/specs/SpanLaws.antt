@@ -2,7 +2,7 @@
 use Rattle.std.proofs.Common.{◌≡◌, Bool, List, [], ◌∷◌, ◌++◌, append_assoc, ap, refl, sym, subst, ◌∙◌}
 use Rattle.event_sinks.specs.SinkEvents.{TimedEvent}
 use Rattle.run_settings.specs.declared.time_span.TimeSpan.{TimeSpan}
-use Rattle.report_rows.specs.declared.span_sink.SpanSink.{SpanSink}
+use Rattle.report_rows.specs.declared.span_sink.SpanFilter.{SpanFilter}
 use Rattle.report_rows.specs.SpanEvents.{FailsSpan, TakesSpan, begun_after, begun_by, events_in, told_in}
 
 begun_twice : (span : TimeSpan) (begun : Bool) (xs ys : List TimedEvent)
@@ -22,12 +22,12 @@ told_twice span begun (x ∷ xs) ys =
     (events_in span (begun_after span (begun_by span begun x) xs) ys))
 
 module _ {K : Type 0} (takes fails : K → List TimedEvent → K → Type 0) where
-  pub takes_no_span : ((s : K) → takes s [] s) → (s : SpanSink K) → TakesSpan takes s [] s
+  pub takes_no_span : ((s : K) → takes s [] s) → (s : SpanFilter K) → TakesSpan takes s [] s
   takes_no_span none s = record { same_span = refl; begun = refl; takes_in = none s.sink }
 
   pub takes_more_span : ((s t u : K) (xs ys : List TimedEvent) → takes s xs t → takes t ys u
       → takes s (xs ++ ys) u)
-      → (s t u : SpanSink K) (xs ys : List TimedEvent)
+      → (s t u : SpanFilter K) (xs ys : List TimedEvent)
       → TakesSpan takes s xs t → TakesSpan takes t ys u → TakesSpan takes s (xs ++ ys) u
   takes_more_span more s t u xs ys a b =
       let mid = begun_after s.span s.begun xs in
@@ -48,7 +48,7 @@ module _ {K : Type 0} (takes fails : K → List TimedEvent → K → Type 0) whe
 
   pub fails_after_span : ((s t u : K) (xs ys : List TimedEvent) → takes s xs t → fails t ys u
       → fails s (xs ++ ys) u)
-      → (s t u : SpanSink K) (xs ys : List TimedEvent)
+      → (s t u : SpanFilter K) (xs ys : List TimedEvent)
       → TakesSpan takes s xs t → FailsSpan fails t ys u → FailsSpan fails s (xs ++ ys) u
   fails_after_span after s t u xs ys a b =
       let mid = begun_after s.span s.begun xs in
@@ -62,7 +62,7 @@ module _ {K : Type 0} (takes fails : K → List TimedEvent → K → Type 0) whe
 
   pub fails_longer_span : ((s t : K) (xs ys : List TimedEvent) → fails s xs t
       → fails s (xs ++ ys) t)
-      → (s t : SpanSink K) (xs ys : List TimedEvent)
+      → (s t : SpanFilter K) (xs ys : List TimedEvent)
       → FailsSpan fails s xs t → FailsSpan fails s (xs ++ ys) t
   fails_longer_span longer s t xs ys a =
       subst (λ (events : List TimedEvent). fails s.sink events t.sink)

@@ -15,4 +15,6 @@ pub enum Cell<'a> {
     /// A word of letters, digits, spaces and signs that need no quotation marks.
     Word(&'a str),
     Name(SymbolName),
+    /// A venue, by its place among the venues.
+    Venue(usize),
 }

@@ -4,8 +4,10 @@ ghost use Rattle.text_out.specs.Pages.{Appends};
 ghost use Rattle.report_rows.specs.RowTexts.{IsShortCell, row_cell_text, csv_cell, json_count, json_label, json_member, json_styled, json_time_cell, json_value, json_word, nanoseconds_member, cells_shown};
 
 use crate::cell::Cell;
-use best_rows::{put_csv_name, put_quoted, put_seconds, put_time, put_time_value};
-use run_settings::{RowFormat, TimeStyle};
+use best_rows::{
+    put_csv_name, put_quoted, put_seconds, put_time, put_time_value, put_venue, put_venue_value,
+};
+use run_settings::{RowFormat, TimeStyle, ValueStyle};
 use text_out::{LineBuffer, put_bytes, put_number};
 
 /// Appends bytes, one after the other.
@@ -27,19 +29,20 @@ pub(crate) fn put_text(text: &mut LineBuffer, part: &str)
 }
 
 /// Appends a cell as one of comma-separated values.
-fn put_csv_cell(text: &mut LineBuffer, style: TimeStyle, cell: &Cell<'_>)
+fn put_csv_cell(text: &mut LineBuffer, style: &ValueStyle, cell: &Cell<'_>)
     requires short { IsShortCell cell.now }
     requires room { 40 ≤ text.old.room }
-    ensures { Appends text.old (csv_cell style (cells_shown cell.now)) 40 text.new }
+    ensures { Appends text.old (csv_cell style.now (cells_shown cell.now)) 40 text.new }
 {
     match cell {
         Cell::Nothing => {}
         Cell::Count(count) => put_number(text, *count),
         Cell::Seconds(nanoseconds) => put_seconds(text, *nanoseconds),
         Cell::Time(None) => {}
-        Cell::Time(Some(time)) => put_time(text, style, *time),
+        Cell::Time(Some(time)) => put_time(text, style.times, *time),
         Cell::Word(word) => put_text(text, word),
         Cell::Name(name) => put_csv_name(text, *name),
+        Cell::Venue(venue) => put_venue(text, &style.venues, *venue),
     }
 }
 
@@ -98,10 +101,10 @@ fn put_json_time(text: &mut LineBuffer, style: TimeStyle, name: &str, time: Opti
 }
 
 /// Appends a cell as the value of a member of this name.
-fn put_json_value(text: &mut LineBuffer, style: TimeStyle, name: &str, cell: &Cell<'_>)
+fn put_json_value(text: &mut LineBuffer, style: &ValueStyle, name: &str, cell: &Cell<'_>)
     requires short { IsShortCell cell.now }
     requires room { 59 + length name.now ≤ text.old.room }
-    ensures { Appends text.old (json_value style name.now (cells_shown cell.now))
+    ensures { Appends text.old (json_value style.now name.now (cells_shown cell.now))
         (59 + length name.now)
         text.new }
 {
@@ -109,9 +112,10 @@ fn put_json_value(text: &mut LineBuffer, style: TimeStyle, name: &str, cell: &Ce
         Cell::Nothing => put_bytes(text, *b"null"),
         Cell::Count(count) => put_number(text, *count),
         Cell::Seconds(nanoseconds) => put_seconds(text, *nanoseconds),
-        Cell::Time(time) => put_json_time(text, style, name, *time),
+        Cell::Time(time) => put_json_time(text, style.times, name, *time),
         Cell::Word(word) => put_json_word(text, word),
         Cell::Name(symbol) => put_quoted(text, symbol.name(), b'\\'),
+        Cell::Venue(venue) => put_venue_value(text, &style.venues, *venue),
     }
 }
 
@@ -126,10 +130,10 @@ fn put_json_label(text: &mut LineBuffer, name: &str)
 }
 
 /// Appends a cell as a member of this name.
-fn put_json_member(text: &mut LineBuffer, style: TimeStyle, name: &str, cell: &Cell<'_>)
+fn put_json_member(text: &mut LineBuffer, style: &ValueStyle, name: &str, cell: &Cell<'_>)
     requires short { IsShortCell cell.now }
     requires room { 62 + 2 * length name.now ≤ text.old.room }
-    ensures { Appends text.old (json_member style name.now (cells_shown cell.now))
+    ensures { Appends text.old (json_member style.now name.now (cells_shown cell.now))
         (62 + 2 * length name.now) text.new }
 {
     put_json_label(text, name);
@@ -137,10 +141,10 @@ fn put_json_member(text: &mut LineBuffer, style: TimeStyle, name: &str, cell: &C
 }
 
 /// Appends a cell of the column of this name in the format.
-pub(crate) fn put_cell(text: &mut LineBuffer, format: RowFormat, name: &str, cell: &Cell<'_>)
+pub(crate) fn put_cell(text: &mut LineBuffer, format: &RowFormat, name: &str, cell: &Cell<'_>)
     requires short { IsShortCell cell.now }
     requires room { 62 + 2 * length name.now ≤ text.old.room }
-    ensures { Appends text.old (row_cell_text format name.now (cells_shown cell.now))
+    ensures { Appends text.old (row_cell_text format.now name.now (cells_shown cell.now))
         (62 + 2 * length name.now) text.new }
 {
     match format {

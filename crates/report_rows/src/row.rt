@@ -23,7 +23,7 @@ fn put_comma(text: &mut LineBuffer, place: usize)
 /// Appends the cell at a place, after a comma unless it is the first one.
 fn put_cell_at(
     text: &mut LineBuffer,
-    format: RowFormat,
+    format: &RowFormat,
     names: &[&str],
     cells: &[Cell<'_>],
     place: usize,
@@ -34,7 +34,7 @@ fn put_cell_at(
     requires room { 63 + 2 * length (slice_index_or (texts_of names.now) place [])
         ≤ text.old.room }
     ensures { Appends text.old (comma_at place
-        ++ row_cell_text format (slice_index_or (texts_of names.now) place [])
+        ++ row_cell_text format.now (slice_index_or (texts_of names.now) place [])
         (slice_index_or (all_shown cells.now) place nothing))
         (63 + 2 * length (slice_index_or (texts_of names.now) place [])) text.new }
 {
@@ -43,11 +43,11 @@ fn put_cell_at(
 }
 
 /// Appends all cells, with commas between them.
-fn put_cells(text: &mut LineBuffer, format: RowFormat, names: &[&str], cells: &[Cell<'_>])
+fn put_cells(text: &mut LineBuffer, format: &RowFormat, names: &[&str], cells: &[Cell<'_>])
     requires named { length cells.now ≡ length names.now }
     requires short { AllByRecursion IsShortCell cells.now }
     requires room { room_of (texts_of names.now) (length names.now) ≤ text.old.room }
-    ensures { Appends text.old (first_cells format (texts_of names.now) (all_shown cells.now)
+    ensures { Appends text.old (first_cells format.now (texts_of names.now) (all_shown cells.now)
         (length names.now)) (room_of (texts_of names.now) (length names.now)) text.new }
 {
     for place in 0..names.len() {
@@ -86,7 +86,7 @@ pub fn put_row(text: &mut LineBuffer, format: RowFormat, names: &[&str], cells: 
         (row_room (texts_of names.now)) text.new }
 {
     put_row_begin(text, format);
-    put_cells(text, format, names, cells);
+    put_cells(text, &format, names, cells);
     put_row_end(text, format);
 }
 

@@ -3,7 +3,7 @@ ghost use Rattle.std.specs.Prelude.{◌++◌, [], ◌∷◌, ℕ, List, OnErr, O
 ghost use Rattle.event_sinks.specs.SinkEvents.{TimedEvent, timed_event, told_before, told_by};
 ghost use Rattle.report_rows.specs.RowSinks.{FailsMaking, Makes};
 
-use event_sinks::{Event, SinkStop, TextPage};
+use event_sinks::{ReplayedEvent, SinkStop, TextPage};
 use text_out::TextOut;
 
 /// What makes the rows of events. What it makes is said by a relation between its states, with
@@ -21,7 +21,7 @@ pub trait RowMaker {
         &mut self,
         page: &mut TextPage<W>,
         time: Option<u64>,
-        event: &Event<'_>,
+        event: &ReplayedEvent<'_>,
     ) -> Result<(), SinkStop>
         ensures made { OnOk result (Makes makes W.adds W.failures self.old page.old
             (timed_event time (told_by event.now) ∷ []) self.new page.new) }
@@ -29,7 +29,7 @@ pub trait RowMaker {
             (timed_event time (told_by event.now) ∷ []) page.new) };
 
     /// Takes an event before all that has rows.
-    fn pass(&mut self, time: Option<u64>, event: &Event<'_>)
+    fn pass(&mut self, time: Option<u64>, event: &ReplayedEvent<'_>)
         ensures { makes self.old (timed_event time (told_before (told_by event.now)) ∷ []) []
             self.new };
 

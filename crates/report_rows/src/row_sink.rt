@@ -5,8 +5,8 @@ ghost use Rattle.report_rows.specs.RowTexts.{header_text, row_room, texts_of};
 
 use crate::row::put_header;
 use crate::row_maker::RowMaker;
-use crate::spanned_sink::SpannedSink;
-use event_sinks::{Event, EventSink, SinkStop, TextPage};
+use crate::spanned_sink::SpanAware;
+use event_sinks::{EventSink, ReplayedEvent, SinkStop, TextPage};
 use run_settings::RowFormat;
 use text_out::TextOut;
 
@@ -63,7 +63,7 @@ impl<W: TextOut, M: RowMaker + Drop> EventSink for RowSink<W, M> {
     ghost fails_longer = { fails_longer_rows M.makes M.tells W.adds W.failures };
 
     #[inline(always)]
-    fn take(&mut self, time: Option<u64>, event: &Event<'_>) -> Result<(), SinkStop> {
+    fn take(&mut self, time: Option<u64>, event: &ReplayedEvent<'_>) -> Result<(), SinkStop> {
         self.maker.make(&mut self.page, time, event)
     }
 
@@ -72,8 +72,8 @@ impl<W: TextOut, M: RowMaker + Drop> EventSink for RowSink<W, M> {
     }
 }
 
-impl<W: TextOut, M: RowMaker + Drop> SpannedSink for RowSink<W, M> {
-    fn take_before(&mut self, time: Option<u64>, event: &Event<'_>) {
+impl<W: TextOut, M: RowMaker + Drop> SpanAware for RowSink<W, M> {
+    fn take_before(&mut self, time: Option<u64>, event: &ReplayedEvent<'_>) {
         self.maker.pass(time, event);
     }
 }

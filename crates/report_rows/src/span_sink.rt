@@ -3,8 +3,8 @@ ghost use Rattle.std.specs.Prelude.{◌≡◌, ◌∷◌, [], false};
 ghost use Rattle.event_sinks.specs.SinkEvents.{timed_event, told_by};
 ghost use Rattle.report_rows.specs.SpanEvents.{IsNewSpan, begins_span, ends_all, is_told_in};
 
-use crate::spanned_sink::SpannedSink;
-use event_sinks::{Event, EventSink, SinkStop};
+use crate::spanned_sink::SpanAware;
+use event_sinks::{EventSink, ReplayedEvent, SinkStop};
 use run_settings::TimeSpan;
 
 /// A sink that takes the events of a span of time, those before it as such, and that the capture is
@@ -13,7 +13,7 @@ use run_settings::TimeSpan;
 /// The span begins with the first event at its first time or after it, and from then on an event
 /// that comes late is in it, too.
 #[derive(Drop)]
-pub struct SpanSink<K> {
+pub struct SpanFilter<K> {
     pub sink: K,
     pub span: TimeSpan,
     pub begun: bool,
@@ -21,25 +21,25 @@ pub struct SpanSink<K> {
 
 /// Returns whether the capture is over with an event.
 #[inline(always)]
-pub fn ends_all(event: &Event<'_>) -> bool
+pub fn ends_all(event: &ReplayedEvent<'_>) -> bool
     ensures { result ≡ ends_all (told_by event.now) }
 {
     match event {
-        Event::Last { .. } => true,
-        Event::Packet { .. }
-        | Event::Refusal { .. }
-        | Event::Item { .. }
-        | Event::Best { .. }
-        | Event::Gap { .. }
-        | Event::Renewal { .. }
-        | Event::Skip { .. }
-        | Event::Declaration { .. } => false,
+        ReplayedEvent::Last { .. } => true,
+        ReplayedEvent::Packet { .. }
+        | ReplayedEvent::Refusal { .. }
+        | ReplayedEvent::Item { .. }
+        | ReplayedEvent::Best { .. }
+        | ReplayedEvent::Gap { .. }
+        | ReplayedEvent::Renewal { .. }
+        | ReplayedEvent::Skip { .. }
+        | ReplayedEvent::Declaration { .. } => false,
     }
 }
 
 /// Returns whether the span begins with an event at this time, if it hasn't.
 #[inline(always)]
-fn begins_span(span: &TimeSpan, time: Option<u64>, event: &Event<'_>) -> bool
+fn begins_span(span: &TimeSpan, time: Option<u64>, event: &ReplayedEvent<'_>) -> bool
     ensures { result ≡ begins_span span.now (timed_event time (told_by event.now)) }
 {
     match (span.from, time) {
@@ -52,7 +52,7 @@ fn begins_span(span: &TimeSpan, time: Option<u64>, event: &Event<'_>) -> bool
 /// Returns whether an event at this time, after the span began, lies in it, or the capture is over
 /// with it.
 #[inline(always)]
-fn is_told_in(span: &TimeSpan, time: Option<u64>, event: &Event<'_>) -> bool
+fn is_told_in(span: &TimeSpan, time: Option<u64>, event: &ReplayedEvent<'_>) -> bool
     ensures { result ≡ is_told_in span.now (timed_event time (told_by event.now)) }
 {
     match (span.to, time) {
@@ -62,12 +62,12 @@ fn is_told_in(span: &TimeSpan, time: Option<u64>, event: &Event<'_>) -> bool
     }
 }
 
-impl<K: Drop> SpanSink<K> {
+impl<K: Drop> SpanFilter<K> {
     /// Gives the sink the events of the span from here on.
-    pub fn new(sink: K, span: TimeSpan) -> SpanSink<K>
+    pub fn new(sink: K, span: TimeSpan) -> SpanFilter<K>
         ensures { IsNewSpan sink span result }
     {
-        SpanSink {
+        SpanFilter {
             sink,
             span,
             begun: false,
@@ -75,7 +75,7 @@ impl<K: Drop> SpanSink<K> {
     }
 }
 
-impl<K: SpannedSink + Drop> EventSink for SpanSink<K> {
+impl<K: SpanAware + Drop> EventSink for SpanFilter<K> {
     ghost use Rattle.report_rows.specs.SpanEvents.{FailsSpan, TakesSpan};
     ghost use Rattle.report_rows.specs.SpanLaws.{fails_after_span, fails_longer_span, takes_more_span, takes_no_span};
 
@@ -94,7 +94,7 @@ impl<K: SpannedSink + Drop> EventSink for SpanSink<K> {
     ghost fails_longer = { fails_longer_span K.takes K.fails K.fails_longer };
 
     #[inline(always)]
-    fn take(&mut self, time: Option<u64>, event: &Event<'_>) -> Result<(), SinkStop> {
+    fn take(&mut self, time: Option<u64>, event: &ReplayedEvent<'_>) -> Result<(), SinkStop> {
         if !self.begun && !begins_span(&self.span, time, event) {
             self.sink.take_before(time, event);
             return Ok(());

@@ -1,11 +1,14 @@
 -- The metrics of a run that listens, in Prometheus' text format: of each metric a line with its
 -- help, one with its type, and a row for each value, with the value's labels. The names are this
--- project's own.
+-- project's own. A venue's label is its name or its number, neither of which has a byte that the
+-- format gives a meaning.
 use Rattle.std.specs.Prelude.{ℕ, ◌+◌, ◌/◌, ◌%◌, List, [], ◌∷◌, ◌++◌, Option, Some, None, codes, decimal, drop, flat_map, slice_index}
 use Rattle.venue_lines.specs.declared.line_counts.LineCounts.{LineCounts}
+use Rattle.run_settings.specs.VenueNames.{venue_text}
+use Rattle.run_settings.specs.declared.venue_names.VenueNames.{VenueNames}
 use Rattle.run_metrics.specs.LineFigures.{datagram_count, lacking, lag, message_count}
-use Rattle.run_metrics.specs.declared.figures.LineEnd.{LineEnd}
-use Rattle.run_metrics.specs.declared.figures.LineEnd.TheVariants as ends
+use Rattle.run_metrics.specs.declared.figures.LineEndReason.{LineEndReason}
+use Rattle.run_metrics.specs.declared.figures.LineEndReason.TheVariants as ends
 use Rattle.run_metrics.specs.declared.figures.LineState.{LineState}
 use Rattle.run_metrics.specs.declared.figures.RunFigures.{RunFigures}
 use Rattle.run_metrics.specs.declared.figures.VenueFigures.{VenueFigures}
@@ -35,37 +38,42 @@ head_text name help kind =
 unfoldable pub run_row : (name : List ℕ) → ℕ → List ℕ
 run_row name value = text_of_parts (name ∷ codes " " ∷ decimal value ∷ codes "\n" ∷ [])
 
--- of a venue
-unfoldable pub venue_row : (name : List ℕ) → (venue value : ℕ) → List ℕ
+-- how a row of a venue begins, up to the venue's label
+unfoldable pub row_start : (name venue : List ℕ) → List ℕ
+row_start name venue = text_of_parts (name ∷ codes "{venue=\"" ∷ venue ∷ [])
+
+-- of a venue, by its label
+unfoldable pub venue_row : (name venue : List ℕ) → ℕ → List ℕ
 venue_row name venue value =
-    text_of_parts
-    (name ∷ codes "{venue=\"" ∷ decimal venue ∷ codes "\"} " ∷ decimal value ∷ codes "\n" ∷ [])
+    row_start name venue
+    ++ text_of_parts (codes "\"} " ∷ decimal value ∷ codes "\n" ∷ [])
 
 -- of a line, by its letter
-unfoldable pub line_row : (name : List ℕ) → (venue : ℕ) → (line : List ℕ) → ℕ → List ℕ
+unfoldable pub line_row : (name venue line : List ℕ) → ℕ → List ℕ
 line_row name venue line value =
-    text_of_parts
-    (name ∷ codes "{venue=\"" ∷ decimal venue ∷ codes "\",line=\"" ∷ line ∷ codes "\"} "
-    ∷ decimal value ∷ codes "\n" ∷ [])
+    row_start name venue
+    ++ text_of_parts
+    (codes "\",line=\"" ∷ line ∷ codes "\"} " ∷ decimal value ∷ codes "\n" ∷ [])
 
 -- nanoseconds as seconds with nine places, which one digit more before them fills with zeros
 abbrev pub places_text : ℕ → List ℕ
 places_text time = drop 1 (decimal (1000000000 + time % 1000000000))
 
 -- the row of a time of a line
-unfoldable pub line_time_row : (name : List ℕ) → (venue : ℕ) → (line : List ℕ) → ℕ → List ℕ
+unfoldable pub line_time_row : (name venue line : List ℕ) → ℕ → List ℕ
 line_time_row name venue line time =
-    text_of_parts
-    (name ∷ codes "{venue=\"" ∷ decimal venue ∷ codes "\",line=\"" ∷ line ∷ codes "\"} "
-    ∷ decimal (time / 1000000000) ∷ codes "." ∷ [])
-    ++ (places_text time ++ codes "\n")
+    row_start name venue
+    ++ (text_of_parts
+    (codes "\",line=\"" ∷ line ∷ codes "\"} " ∷ decimal (time / 1000000000) ∷ codes "." ∷ [])
+    ++ (places_text time ++ codes "\n"))
 
 -- of a line's refusals of one number
-unfoldable pub refusal_row : (venue : ℕ) → (line number : List ℕ) → ℕ → List ℕ
+unfoldable pub refusal_row : (venue line number : List ℕ) → ℕ → List ℕ
 refusal_row venue line number value =
-    text_of_parts
-    (codes "nbbo_refused_packets_total{venue=\"" ∷ decimal venue ∷ codes "\",line=\"" ∷ line
-    ∷ codes "\",refusal=\"" ∷ number ∷ codes "\"} " ∷ decimal value ∷ codes "\n" ∷ [])
+    row_start (codes "nbbo_refused_packets_total") venue
+    ++ text_of_parts
+    (codes "\",line=\"" ∷ line ∷ codes "\",refusal=\"" ∷ number ∷ codes "\"} " ∷ decimal value
+    ∷ codes "\n" ∷ [])
 
 -- the rows of what there is, if it is there
 abbrev pub rows_if : {X : Type 0} → Option X → (X → List ℕ) → List ℕ
@@ -156,13 +164,18 @@ venue_value venues.Lacking v = lacking v.status
 venue_value venues.Requests v = v.status.requests
 venue_value venues.GivenUp v = v.given_up
 
-abbrev pub venue_row_of : VenueMetric → VenueFigures → List ℕ
-venue_row_of metric v = venue_row (venue_name metric) v.venue (venue_value metric v)
+-- what stands for it in its rows
+abbrev pub venue_label : VenueNames → VenueFigures → List ℕ
+venue_label names v = venue_text names v.venue
 
-unfoldable pub venue_family : List VenueFigures → VenueMetric → List ℕ
-venue_family all metric =
+abbrev pub venue_row_of : VenueNames → VenueMetric → VenueFigures → List ℕ
+venue_row_of names metric v =
+    venue_row (venue_name metric) (venue_label names v) (venue_value metric v)
+
+unfoldable pub venue_family : VenueNames → List VenueFigures → VenueMetric → List ℕ
+venue_family names all metric =
     head_text (venue_name metric) (venue_help metric) (venue_kind metric)
-    ++ flat_map (λ v. venue_row_of metric v) all
+    ++ flat_map (λ v. venue_row_of names metric v) all
 
 -- ---- metrics of lines
 
@@ -197,28 +210,30 @@ line_value lines.AheadPackets counts = counts.ahead
 line_value lines.OtherSessions counts = slice_index counts.refused 7
 
 -- line R's row, where the venue has that line
-abbrev pub recovery_row : LineMetric → VenueFigures → List ℕ
-recovery_row metric v =
+abbrev pub recovery_row : VenueNames → LineMetric → VenueFigures → List ℕ
+recovery_row names metric v =
     rows_if v.recovery
-    (λ _. line_row (line_name metric) v.venue (codes "R") (line_value metric v.status.recovery))
+    (λ _. line_row (line_name metric) (venue_label names v) (codes "R")
+    (line_value metric v.status.recovery))
 
 -- a venue's rows of a metric, of line A, of line B and of line R
-unfoldable pub line_rows : LineMetric → VenueFigures → List ℕ
-line_rows metric v =
-    line_row (line_name metric) v.venue (codes "A") (line_value metric v.status.a)
-    ++ (line_row (line_name metric) v.venue (codes "B") (line_value metric v.status.b)
-    ++ recovery_row metric v)
+unfoldable pub line_rows : VenueNames → LineMetric → VenueFigures → List ℕ
+line_rows names metric v =
+    let venue = venue_label names v in
+    line_row (line_name metric) venue (codes "A") (line_value metric v.status.a)
+    ++ (line_row (line_name metric) venue (codes "B") (line_value metric v.status.b)
+    ++ recovery_row names metric v)
 
-unfoldable pub line_family : List VenueFigures → LineMetric → List ℕ
-line_family all metric =
+unfoldable pub line_family : VenueNames → List VenueFigures → LineMetric → List ℕ
+line_family names all metric =
     head_text (line_name metric) (line_help metric) (codes "counter")
-    ++ flat_map (λ v. line_rows metric v) all
+    ++ flat_map (λ v. line_rows names metric v) all
 
 -- ---- refusals
 
 -- The datagrams of a line that were refused, by each number that a datagram's refusal can have: a
 -- packet's faults at 1 to 4, a line's at 7 to 11.
-unfoldable pub line_refusals : (venue : ℕ) → (line : List ℕ) → List ℕ → List ℕ
+unfoldable pub line_refusals : (venue line refused : List ℕ) → List ℕ
 line_refusals venue line refused =
     flat_map (λ (c : List ℕ × ℕ). refusal_row venue line c.0 c.1)
     ((codes "1", slice_index refused 1) ∷ (codes "2", slice_index refused 2)
@@ -228,21 +243,23 @@ line_refusals venue line refused =
     ∷ (codes "11", slice_index refused 11) ∷ [])
 
 -- line R's, where the venue has that line
-abbrev pub recovery_refusals : VenueFigures → List ℕ
-recovery_refusals v =
-    rows_if v.recovery (λ _. line_refusals v.venue (codes "R") v.status.recovery.refused)
+abbrev pub recovery_refusals : VenueNames → VenueFigures → List ℕ
+recovery_refusals names v =
+    rows_if v.recovery
+    (λ _. line_refusals (venue_label names v) (codes "R") v.status.recovery.refused)
 
-unfoldable pub venue_refusals : VenueFigures → List ℕ
-venue_refusals v =
-    line_refusals v.venue (codes "A") v.status.a.refused
-    ++ (line_refusals v.venue (codes "B") v.status.b.refused ++ recovery_refusals v)
+unfoldable pub venue_refusals : VenueNames → VenueFigures → List ℕ
+venue_refusals names v =
+    let venue = venue_label names v in
+    line_refusals venue (codes "A") v.status.a.refused
+    ++ (line_refusals venue (codes "B") v.status.b.refused ++ recovery_refusals names v)
 
-abbrev pub refusal_family : List VenueFigures → List ℕ
-refusal_family all =
+abbrev pub refusal_family : VenueNames → List VenueFigures → List ℕ
+refusal_family names all =
     head_text (codes "nbbo_refused_packets_total")
     (codes "Datagrams of the line that were refused, by the number of the refusal.")
     (codes "counter")
-    ++ flat_map (λ v. venue_refusals v) all
+    ++ flat_map (λ v. venue_refusals names v) all
 
 -- ---- what is known of lines
 
@@ -274,21 +291,22 @@ state_kind states.Heard = codes "gauge"
 state_kind states.Ended = codes "gauge"
 
 -- whether a line has ended by a cause
-unfoldable pub end_row : (venue : ℕ) → (line cause : List ℕ) → ℕ → List ℕ
+unfoldable pub end_row : (venue line cause : List ℕ) → ℕ → List ℕ
 end_row venue line cause value =
-    text_of_parts
-    (codes "nbbo_line_ended{venue=\"" ∷ decimal venue ∷ codes "\",line=\"" ∷ line
-    ∷ codes "\",by=\"" ∷ cause ∷ codes "\"} " ∷ decimal value ∷ codes "\n" ∷ [])
+    row_start (codes "nbbo_line_ended") venue
+    ++ text_of_parts
+    (codes "\",line=\"" ∷ line ∷ codes "\",by=\"" ∷ cause ∷ codes "\"} " ∷ decimal value
+    ∷ codes "\n" ∷ [])
 
 -- 1 at what has ended a line, and 0 at the other causes
-abbrev pub end_counts : Option LineEnd → List ℕ
+abbrev pub end_counts : Option LineEndReason → List ℕ
 end_counts None = 0 ∷ 0 ∷ 0 ∷ 0 ∷ []
 end_counts (Some ends.OwnSession) = 1 ∷ 0 ∷ 0 ∷ 0 ∷ []
 end_counts (Some ends.OtherSession) = 0 ∷ 1 ∷ 0 ∷ 0 ∷ []
 end_counts (Some ends.ReadOut) = 0 ∷ 0 ∷ 1 ∷ 0 ∷ []
 end_counts (Some ends.Failed) = 0 ∷ 0 ∷ 0 ∷ 1 ∷ []
 
-unfoldable pub line_end_rows : (venue : ℕ) → (line : List ℕ) → Option LineEnd → List ℕ
+unfoldable pub line_end_rows : (venue line : List ℕ) → Option LineEndReason → List ℕ
 line_end_rows venue line end =
     let counts = end_counts end in
     end_row venue line (codes "own_session") (slice_index counts 0)
@@ -298,7 +316,7 @@ line_end_rows venue line end =
 
 -- The rows of a metric of a line. What the system has dropped and when the last datagram came has a
 -- row where it is known.
-abbrev pub state_row : StateMetric → (venue : ℕ) → (line : List ℕ) → LineState → List ℕ
+abbrev pub state_row : StateMetric → (venue line : List ℕ) → LineState → List ℕ
 state_row states.OtherSenders venue line state =
     line_row (state_name states.OtherSenders) venue line state.foreign
 state_row states.Withheld venue line state =
@@ -314,16 +332,17 @@ state_row states.Heard venue line state =
 state_row states.Ended venue line state = line_end_rows venue line state.end
 
 -- a venue's rows of a metric, of line A, of line B, and of line R where it has that line
-unfoldable pub state_rows : StateMetric → VenueFigures → List ℕ
-state_rows metric v =
-    state_row metric v.venue (codes "A") v.a
-    ++ (state_row metric v.venue (codes "B") v.b
-    ++ rows_if v.recovery (state_row metric v.venue (codes "R")))
+unfoldable pub state_rows : VenueNames → StateMetric → VenueFigures → List ℕ
+state_rows names metric v =
+    let venue = venue_label names v in
+    state_row metric venue (codes "A") v.a
+    ++ (state_row metric venue (codes "B") v.b
+    ++ rows_if v.recovery (state_row metric venue (codes "R")))
 
-unfoldable pub state_family : List VenueFigures → StateMetric → List ℕ
-state_family all metric =
+unfoldable pub state_family : VenueNames → List VenueFigures → StateMetric → List ℕ
+state_family names all metric =
     head_text (state_name metric) (state_help metric) (state_kind metric)
-    ++ flat_map (λ v. state_rows metric v) all
+    ++ flat_map (λ v. state_rows names metric v) all
 
 -- ---- the page
 
@@ -352,7 +371,7 @@ abbrev pub page_text : RunFigures → List ℕ
 page_text figures =
     flat_map (λ m. run_family figures m) run_metrics
     ++ (latency_family figures
-    ++ (flat_map (λ m. venue_family figures.venues.now m) venue_metrics
-    ++ (flat_map (λ m. line_family figures.venues.now m) line_metrics
-    ++ (refusal_family figures.venues.now
-    ++ flat_map (λ m. state_family figures.venues.now m) state_metrics))))
+    ++ (flat_map (λ m. venue_family figures.names.now figures.venues.now m) venue_metrics
+    ++ (flat_map (λ m. line_family figures.names.now figures.venues.now m) line_metrics
+    ++ (refusal_family figures.names.now figures.venues.now
+    ++ flat_map (λ m. state_family figures.names.now figures.venues.now m) state_metrics))))

@@ -1,11 +1,12 @@
 //! What a run that listens has come to.
 
 use feed_types::VenueId;
+use run_settings::VenueNames;
 use venue_lines::VenueStatus;
 
 /// What has ended a line while a run goes on.
 #[derive(Clone, Copy, Debug, PartialEq, Eq)]
-pub enum LineEnd {
+pub enum LineEndReason {
     /// An end of its venue's session.
     OwnSession,
     /// An end of another session.
@@ -22,7 +23,7 @@ pub struct LineState {
     /// How many datagrams the system has dropped at its socket, where the system tells that.
     pub dropped: Option<u64>,
     /// What has ended it, if it has ended.
-    pub end: Option<LineEnd>,
+    pub end: Option<LineEndReason>,
     /// When its last datagram came, in nanoseconds from 1970 on in UTC, where one has come and the
     /// time is known.
     pub heard: Option<u64>,
@@ -78,4 +79,6 @@ pub struct RunFigures<'a> {
     /// How many texts standard error hasn't taken.
     pub untaken: u64,
     pub venues: &'a [VenueFigures],
+    /// What stands for a venue.
+    pub names: &'a VenueNames,
 }

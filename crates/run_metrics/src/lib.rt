@@ -25,7 +25,7 @@ mod run_metric;
 mod state_metric;
 mod venue_metric;
 
-pub use figures::{LineEnd, LineState, RunFigures, UNKNOWN_STATE, VenueFigures};
+pub use figures::{LineEndReason, LineState, RunFigures, UNKNOWN_STATE, VenueFigures};
 pub use line_figures::{datagram_count, lacking, lag, message_count, refused_count};
 pub use metrics_clients::MetricsClients;
 pub use page::put_page;

@@ -12,7 +12,7 @@ use crate::parts::{
 use crate::run_metric::RunMetric;
 use crate::state_metric::StateMetric;
 use crate::venue_metric::VenueMetric;
-use feed_types::VenueId;
+use run_settings::VenueNames;
 use std::alloc::AllocError;
 
 /// Appends a metric of the run.
@@ -60,14 +60,16 @@ fn put_latency_family(text: &mut Vec<u8>, figures: &RunFigures<'_>) -> Result<()
 /// Appends the rows of a venue's metric.
 fn put_venue_rows(
     text: &mut Vec<u8>,
+    names: &VenueNames,
     metric: VenueMetric,
     venues: &[VenueFigures],
 ) -> Result<(), AllocError>
     ensures { OnOk result (text.new.items
-        ≡ text.old.items ++ flat_map (λ v. venue_row_of metric v) venues.now) }
+        ≡ text.old.items ++ flat_map (λ v. venue_row_of names.now metric v) venues.now) }
 {
     for venue in venues {
-        put_venue_row(text, metric.name(), venue.venue, metric.value(venue))?;
+        let label = names.label(venue.venue);
+        put_venue_row(text, metric.name(), label.text(), metric.value(venue))?;
     }
     Ok(())
 }
@@ -76,26 +78,29 @@ fn put_venue_rows(
 #[tactic(auto, unfolding(crate::specs::Metrics::venue_family))]
 fn put_venue_family(
     text: &mut Vec<u8>,
+    names: &VenueNames,
     metric: VenueMetric,
     venues: &[VenueFigures],
 ) -> Result<(), AllocError>
-    ensures { OnOk result (text.new.items ≡ text.old.items ++ venue_family venues.now metric) }
+    ensures { OnOk result (text.new.items ≡ text.old.items
+        ++ venue_family names.now venues.now metric) }
 {
     put_head(text, metric.name(), metric.help(), metric.kind())?;
-    put_venue_rows(text, metric, venues)
+    put_venue_rows(text, names, metric, venues)
 }
 
 /// Appends metrics of venues.
 fn put_venue_families(
     text: &mut Vec<u8>,
+    names: &VenueNames,
     metrics: &[VenueMetric],
     venues: &[VenueFigures],
 ) -> Result<(), AllocError>
     ensures { OnOk result (text.new.items
-        ≡ text.old.items ++ flat_map (λ m. venue_family venues.now m) metrics.now) }
+        ≡ text.old.items ++ flat_map (λ m. venue_family names.now venues.now m) metrics.now) }
 {
     for metric in metrics {
-        put_venue_family(text, *metric, venues)?;
+        put_venue_family(text, names, *metric, venues)?;
     }
     Ok(())
 }
@@ -103,14 +108,17 @@ fn put_venue_families(
 /// Appends line R's row of a metric, where the venue has that line.
 fn put_recovery_row(
     text: &mut Vec<u8>,
+    names: &VenueNames,
     metric: LineMetric,
     venue: &VenueFigures,
 ) -> Result<(), AllocError>
-    ensures { OnOk result (text.new.items ≡ text.old.items ++ recovery_row metric venue.now) }
+    ensures { OnOk result (text.new.items ≡ text.old.items
+        ++ recovery_row names.now metric venue.now) }
 {
+    let label = names.label(venue.venue);
     let value = metric.value(&venue.status.recovery);
     match venue.recovery {
-        Some(_) => put_line_row(text, metric.name(), venue.venue, "R", value),
+        Some(_) => put_line_row(text, metric.name(), label.text(), "R", value),
         None => Ok(()),
     }
 }
@@ -119,28 +127,32 @@ fn put_recovery_row(
 #[tactic(auto, unfolding(crate::specs::Metrics::line_rows))]
 fn put_rows_of_lines(
     text: &mut Vec<u8>,
+    names: &VenueNames,
     metric: LineMetric,
     venue: &VenueFigures,
 ) -> Result<(), AllocError>
-    ensures { OnOk result (text.new.items ≡ text.old.items ++ line_rows metric venue.now) }
+    ensures { OnOk result (text.new.items ≡ text.old.items
+        ++ line_rows names.now metric venue.now) }
 {
     let name = metric.name();
-    put_line_row(text, name, venue.venue, "A", metric.value(&venue.status.a))?;
-    put_line_row(text, name, venue.venue, "B", metric.value(&venue.status.b))?;
-    put_recovery_row(text, metric, venue)
+    let label = names.label(venue.venue);
+    put_line_row(text, name, label.text(), "A", metric.value(&venue.status.a))?;
+    put_line_row(text, name, label.text(), "B", metric.value(&venue.status.b))?;
+    put_recovery_row(text, names, metric, venue)
 }
 
 /// Appends the rows of a metric of lines.
 fn put_line_rows(
     text: &mut Vec<u8>,
+    names: &VenueNames,
     metric: LineMetric,
     venues: &[VenueFigures],
 ) -> Result<(), AllocError>
     ensures { OnOk result (text.new.items
-        ≡ text.old.items ++ flat_map (λ v. line_rows metric v) venues.now) }
+        ≡ text.old.items ++ flat_map (λ v. line_rows names.now metric v) venues.now) }
 {
     for venue in venues {
-        put_rows_of_lines(text, metric, venue)?;
+        put_rows_of_lines(text, names, metric, venue)?;
     }
     Ok(())
 }
@@ -149,26 +161,29 @@ fn put_line_rows(
 #[tactic(auto, unfolding(crate::specs::Metrics::line_family))]
 fn put_line_family(
     text: &mut Vec<u8>,
+    names: &VenueNames,
     metric: LineMetric,
     venues: &[VenueFigures],
 ) -> Result<(), AllocError>
-    ensures { OnOk result (text.new.items ≡ text.old.items ++ line_family venues.now metric) }
+    ensures { OnOk result (text.new.items ≡ text.old.items
+        ++ line_family names.now venues.now metric) }
 {
     put_head(text, metric.name(), metric.help(), COUNTER)?;
-    put_line_rows(text, metric, venues)
+    put_line_rows(text, names, metric, venues)
 }
 
 /// Appends metrics of lines.
 fn put_line_families(
     text: &mut Vec<u8>,
+    names: &VenueNames,
     metrics: &[LineMetric],
     venues: &[VenueFigures],
 ) -> Result<(), AllocError>
     ensures { OnOk result (text.new.items
-        ≡ text.old.items ++ flat_map (λ m. line_family venues.now m) metrics.now) }
+        ≡ text.old.items ++ flat_map (λ m. line_family names.now venues.now m) metrics.now) }
 {
     for metric in metrics {
-        put_line_family(text, *metric, venues)?;
+        put_line_family(text, names, *metric, venues)?;
     }
     Ok(())
 }
@@ -176,12 +191,12 @@ fn put_line_families(
 /// Appends how many datagrams of a line were refused by each of these refusals.
 fn put_refusal_rows(
     text: &mut Vec<u8>,
-    venue: VenueId,
+    venue: &[u8],
     line: &str,
     counts: &[(&str, u64)],
 ) -> Result<(), AllocError>
     ensures { OnOk result (text.new.items ≡ text.old.items
-        ++ flat_map (λ c. refusal_row venue line.now c.0.now c.1) counts.now) }
+        ++ flat_map (λ c. refusal_row venue.now line.now c.0.now c.1) counts.now) }
 {
     for count in counts {
         put_refusal_row(text, venue, line, count.0, count.1)?;
@@ -193,12 +208,12 @@ fn put_refusal_rows(
 #[tactic(auto, unfolding(crate::specs::Metrics::line_refusals))]
 fn put_line_refusals(
     text: &mut Vec<u8>,
-    venue: VenueId,
+    venue: &[u8],
     line: &str,
     refused: &[u64; 12],
 ) -> Result<(), AllocError>
     ensures { OnOk result (text.new.items
-        ≡ text.old.items ++ line_refusals venue line.now refused.now) }
+        ≡ text.old.items ++ line_refusals venue.now line.now refused.now) }
 {
     let counts = [
         ("1", refused[1]),
@@ -215,39 +230,60 @@ fn put_line_refusals(
 }
 
 /// Appends how many datagrams of line R were refused, where the venue has that line.
-fn put_recovery_refusals(text: &mut Vec<u8>, venue: &VenueFigures) -> Result<(), AllocError>
-    ensures { OnOk result (text.new.items ≡ text.old.items ++ recovery_refusals venue.now) }
+fn put_recovery_refusals(
+    text: &mut Vec<u8>,
+    names: &VenueNames,
+    venue: &VenueFigures,
+) -> Result<(), AllocError>
+    ensures { OnOk result (text.new.items
+        ≡ text.old.items ++ recovery_refusals names.now venue.now) }
 {
+    let label = names.label(venue.venue);
     match venue.recovery {
-        Some(_) => put_line_refusals(text, venue.venue, "R", &venue.status.recovery.refused),
+        Some(_) => put_line_refusals(text, label.text(), "R", &venue.status.recovery.refused),
         None => Ok(()),
     }
 }
 
 /// Appends how many datagrams of a venue's lines were refused.
 #[tactic(auto, unfolding(crate::specs::Metrics::venue_refusals))]
-fn put_venue_refusals(text: &mut Vec<u8>, venue: &VenueFigures) -> Result<(), AllocError>
-    ensures { OnOk result (text.new.items ≡ text.old.items ++ venue_refusals venue.now) }
+fn put_venue_refusals(
+    text: &mut Vec<u8>,
+    names: &VenueNames,
+    venue: &VenueFigures,
+) -> Result<(), AllocError>
+    ensures { OnOk result (text.new.items
+        ≡ text.old.items ++ venue_refusals names.now venue.now) }
 {
-    put_line_refusals(text, venue.venue, "A", &venue.status.a.refused)?;
-    put_line_refusals(text, venue.venue, "B", &venue.status.b.refused)?;
-    put_recovery_refusals(text, venue)
+    let label = names.label(venue.venue);
+    put_line_refusals(text, label.text(), "A", &venue.status.a.refused)?;
+    put_line_refusals(text, label.text(), "B", &venue.status.b.refused)?;
+    put_recovery_refusals(text, names, venue)
 }
 
 /// Appends how many datagrams of each venue's lines were refused.
-fn put_all_refusals(text: &mut Vec<u8>, venues: &[VenueFigures]) -> Result<(), AllocError>
+fn put_all_refusals(
+    text: &mut Vec<u8>,
+    names: &VenueNames,
+    venues: &[VenueFigures],
+) -> Result<(), AllocError>
     ensures { OnOk result (text.new.items
-        ≡ text.old.items ++ flat_map (λ v. venue_refusals v) venues.now) }
+        ≡ text.old.items ++ flat_map (λ v. venue_refusals names.now v) venues.now) }
 {
     for venue in venues {
-        put_venue_refusals(text, venue)?;
+        put_venue_refusals(text, names, venue)?;
     }
     Ok(())
 }
 
 /// Appends the metric of refusals.
-fn put_refusal_family(text: &mut Vec<u8>, venues: &[VenueFigures]) -> Result<(), AllocError>
-    ensures { OnOk result (text.new.items ≡ text.old.items ++ refusal_family venues.now) }
+fn put_refusal_family(
+    text: &mut Vec<u8>,
+    names: &VenueNames,
+    venues: &[VenueFigures],
+) -> Result<(), AllocError>
+    ensures { OnOk result (text.new.items
+        ≡ text.old.items ++ refusal_family names.now venues.now) }
 {
     put_head(
         text,
@@ -255,7 +291,7 @@ fn put_refusal_family(text: &mut Vec<u8>, venues: &[VenueFigures]) -> Result<(),
         "Datagrams of the line that were refused, by the number of the refusal.",
         COUNTER,
     )?;
-    put_all_refusals(text, venues)
+    put_all_refusals(text, names, venues)
 }
 
 /// The metrics of a run.
@@ -305,10 +341,12 @@ const OF_STATES: [StateMetric; 7] = [
 pub fn put_page(text: &mut Vec<u8>, figures: &RunFigures<'_>) -> Result<(), AllocError>
     ensures { OnOk result (text.new.items ≡ text.old.items ++ page_text figures.now) }
 {
+    let names = figures.names;
+    let venues = figures.venues;
     put_run_families(text, &OF_RUN, figures)?;
     put_latency_family(text, figures)?;
-    put_venue_families(text, &OF_VENUES, figures.venues)?;
-    put_line_families(text, &OF_LINES, figures.venues)?;
-    put_refusal_family(text, figures.venues)?;
-    put_state_families(text, &OF_STATES, figures.venues)
+    put_venue_families(text, names, &OF_VENUES, venues)?;
+    put_line_families(text, names, &OF_LINES, venues)?;
+    put_refusal_family(text, names, venues)?;
+    put_state_families(text, names, &OF_STATES, venues)
 }

@@ -1,8 +1,7 @@
 //! The texts of which a page of metrics is made: the head of a metric, and rows.
 ghost use Rattle.std.specs.Prelude.{◌≡◌, ◌+◌, ◌++◌, ◌%◌, OnOk, codes, decimal, drop, flat_map};
-ghost use Rattle.run_metrics.specs.Metrics.{end_row, head_text, line_row, line_time_row, places_text, refusal_row, run_row, run_time_row, venue_row};
+ghost use Rattle.run_metrics.specs.Metrics.{end_row, head_text, line_row, line_time_row, places_text, refusal_row, row_start, run_row, run_time_row, venue_row};
 
-use feed_types::VenueId;
 use itoa::Buffer;
 use std::alloc::AllocError;
 
@@ -19,10 +18,10 @@ pub(crate) const SUMMARY: &str = "summary";
 const SECOND: u64 = 1_000_000_000;
 
 /// The name of the count of refusals.
-const REFUSED: &str = "nbbo_refused_packets_total{venue=\"";
+const REFUSED: &str = "nbbo_refused_packets_total";
 
 /// The name of what says which lines have ended.
-const ENDED: &str = "nbbo_line_ended{venue=\"";
+const ENDED: &str = "nbbo_line_ended";
 
 /// Appends texts, one after the other.
 pub(crate) fn put_texts(text: &mut Vec<u8>, parts: &[&str]) -> Result<(), AllocError>
@@ -71,52 +70,47 @@ pub(crate) fn put_run_row(text: &mut Vec<u8>, name: &str, value: u64) -> Result<
     put_texts(text, &[name, " ", digits.format(value), "\n"])
 }
 
+/// Appends how a row of a venue begins: a metric's name, and the venue's label.
+#[tactic(auto, unfolding(crate::specs::Metrics::row_start))]
+fn put_row_start(text: &mut Vec<u8>, name: &str, venue: &[u8]) -> Result<(), AllocError>
+    ensures { OnOk result (text.new.items ≡ text.old.items ++ row_start name.now venue.now) }
+{
+    put_texts(text, &[name, "{venue=\""])?;
+    text.extend_from_slice(venue)
+}
+
 /// Appends the row of a venue's figure.
 #[tactic(auto, unfolding(crate::specs::Metrics::venue_row))]
 pub(crate) fn put_venue_row(
     text: &mut Vec<u8>,
     name: &str,
-    venue: VenueId,
+    venue: &[u8],
     value: u64,
 ) -> Result<(), AllocError>
-    ensures { OnOk result (text.new.items ≡ text.old.items ++ venue_row name.now venue value) }
+    ensures { OnOk result (text.new.items ≡ text.old.items ++ venue_row name.now venue.now value) }
 {
-    let mut place = Buffer::new();
     let mut digits = Buffer::new();
-    let place = place.format(venue.index() as u64);
-    let digits = digits.format(value);
-    put_texts(text, &[name, "{venue=\"", place, "\"} ", digits, "\n"])
+    put_row_start(text, name, venue)?;
+    put_texts(text, &["\"} ", digits.format(value), "\n"])
 }
 
-/// Appends the row of a line's count. `line` is its letter.
+/// Appends the row of a line's count. `venue` is the venue's label,
+/// `line` the line's letter.
 #[tactic(auto, unfolding(crate::specs::Metrics::line_row))]
 pub(crate) fn put_line_row(
     text: &mut Vec<u8>,
     name: &str,
-    venue: VenueId,
+    venue: &[u8],
     line: &str,
     value: u64,
 ) -> Result<(), AllocError>
     ensures { OnOk result (text.new.items
-        ≡ text.old.items ++ line_row name.now venue line.now value) }
+        ≡ text.old.items ++ line_row name.now venue.now line.now value) }
 {
-    let mut place = Buffer::new();
     let mut digits = Buffer::new();
-    let place = place.format(venue.index() as u64);
     let digits = digits.format(value);
-    put_texts(
-        text,
-        &[
-            name,
-            "{venue=\"",
-            place,
-            "\",line=\"",
-            line,
-            "\"} ",
-            digits,
-            "\n",
-        ],
-    )
+    put_row_start(text, name, venue)?;
+    put_texts(text, &["\",line=\"", line, "\"} ", digits, "\n"])
 }
 
 /// Appends the nine places of a time in nanoseconds that is written as seconds, and ends the row.
@@ -132,35 +126,23 @@ fn put_places(text: &mut Vec<u8>, time: u64) -> Result<(), AllocError>
     text.extend_from_slice(b"\n")
 }
 
-/// Appends the row of a time of a line, in nanoseconds, as seconds. `line` is its letter.
+/// Appends the row of a time of a line, in nanoseconds, as seconds. `venue` is the venue's label,
+/// `line` the line's letter.
 #[tactic(auto, unfolding(crate::specs::Metrics::line_time_row))]
 pub(crate) fn put_line_time_row(
     text: &mut Vec<u8>,
     name: &str,
-    venue: VenueId,
+    venue: &[u8],
     line: &str,
     time: u64,
 ) -> Result<(), AllocError>
     ensures { OnOk result (text.new.items
-        ≡ text.old.items ++ line_time_row name.now venue line.now time) }
+        ≡ text.old.items ++ line_time_row name.now venue.now line.now time) }
 {
-    let mut place = Buffer::new();
     let mut digits = Buffer::new();
-    let place = place.format(venue.index() as u64);
     let seconds = digits.format(time / SECOND);
-    put_texts(
-        text,
-        &[
-            name,
-            "{venue=\"",
-            place,
-            "\",line=\"",
-            line,
-            "\"} ",
-            seconds,
-            ".",
-        ],
-    )?;
+    put_row_start(text, name, venue)?;
+    put_texts(text, &["\",line=\"", line, "\"} ", seconds, "."])?;
     put_places(text, time)
 }
 
@@ -179,23 +161,20 @@ pub(crate) fn put_run_time_row(text: &mut Vec<u8>, name: &str, time: u64) -> Res
 #[tactic(auto, unfolding(crate::specs::Metrics::refusal_row))]
 pub(crate) fn put_refusal_row(
     text: &mut Vec<u8>,
-    venue: VenueId,
+    venue: &[u8],
     line: &str,
     number: &str,
     value: u64,
 ) -> Result<(), AllocError>
     ensures { OnOk result (text.new.items
-        ≡ text.old.items ++ refusal_row venue line.now number.now value) }
+        ≡ text.old.items ++ refusal_row venue.now line.now number.now value) }
 {
-    let mut place = Buffer::new();
     let mut digits = Buffer::new();
-    let place = place.format(venue.index() as u64);
     let digits = digits.format(value);
+    put_row_start(text, REFUSED, venue)?;
     put_texts(
         text,
         &[
-            REFUSED,
-            place,
             "\",line=\"",
             line,
             "\",refusal=\"",
@@ -211,30 +190,19 @@ pub(crate) fn put_refusal_row(
 #[tactic(auto, unfolding(crate::specs::Metrics::end_row))]
 pub(crate) fn put_end_row(
     text: &mut Vec<u8>,
-    venue: VenueId,
+    venue: &[u8],
     line: &str,
     cause: &str,
     value: u64,
 ) -> Result<(), AllocError>
     ensures { OnOk result (text.new.items
-        ≡ text.old.items ++ end_row venue line.now cause.now value) }
+        ≡ text.old.items ++ end_row venue.now line.now cause.now value) }
 {
-    let mut place = Buffer::new();
     let mut digits = Buffer::new();
-    let place = place.format(venue.index() as u64);
     let digits = digits.format(value);
+    put_row_start(text, ENDED, venue)?;
     put_texts(
         text,
-        &[
-            ENDED,
-            place,
-            "\",line=\"",
-            line,
-            "\",by=\"",
-            cause,
-            "\"} ",
-            digits,
-            "\n",
-        ],
+        &["\",line=\"", line, "\",by=\"", cause, "\"} ", digits, "\n"],
     )
 }

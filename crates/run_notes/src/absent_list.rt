@@ -1,6 +1,6 @@
 //! The symbols of which no item came, or no change of the national best, by their names.
 ghost use Rattle.std.specs.Prelude.{◌≡◌, [], ◌∷◌, IfOk};
-ghost use Rattle.text_out.specs.Devices.{Writing};
+ghost use Rattle.text_out.specs.Members.{writing_of};
 ghost use Rattle.text_out.specs.StandardError.{SaysEach};
 ghost use Rattle.run_notes.specs.AbsentSymbols.{absent_among, absent_texts, symbols_with, unchanged_among, unchanged_texts};
 
@@ -91,8 +91,7 @@ impl AbsentList {
 
     /// Writes that these symbols never came: the names of the first of them, and how many more.
     pub fn write<E: TextOut>(&self, errors: &mut E)
-        ensures { SaysEach (record { adds = E.adds; failures = E.failures })
-            (absent_texts self.now) errors.old errors.new }
+        ensures { SaysEach (writing_of E.TextOut) (absent_texts self.now) errors.old errors.new }
     {
         write_absent(self.symbols.as_slice(), &self.absent, errors);
     }
@@ -100,8 +99,7 @@ impl AbsentList {
     /// Writes that these symbols never had a best: the names of the first of them, and how many
     /// more.
     pub fn write_unchanged<E: TextOut>(&self, errors: &mut E)
-        ensures { SaysEach (record { adds = E.adds; failures = E.failures })
-            (unchanged_texts self.now) errors.old errors.new }
+        ensures { SaysEach (writing_of E.TextOut) (unchanged_texts self.now) errors.old errors.new }
     {
         write_unchanged(self.symbols.as_slice(), &self.absent, errors);
     }

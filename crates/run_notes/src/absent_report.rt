@@ -1,5 +1,6 @@
 //! What is said on standard error of symbols of which no item came, or no change of the national
 //! best.
+ghost use Rattle.text_out.specs.Members.{writing_of};
 ghost use Rattle.std.specs.Prelude.{◌≡◌, ◌&&◌, flat_map, if◌then◌else◌, length, nat_lt, take};
 ghost use Rattle.text_out.specs.StandardError.{Says, SaysEach};
 ghost use Rattle.feed_types.specs.Symbols.{key_of, name_of};
@@ -20,15 +21,14 @@ const NEVER_CHANGED: &str = " never had a best\n";
 
 /// Writes the name of a symbol.
 fn write_name<E: TextOut>(symbol: &SymbolName, errors: &mut E)
-    ensures { Says (record { adds = E.adds; failures = E.failures })
-        (name_of symbol.now) errors.old errors.new }
+    ensures { Says (writing_of E.TextOut) (name_of symbol.now) errors.old errors.new }
 {
     let _ = write_all(symbol.name(), errors);
 }
 
 /// Writes that this is so of a symbol.
 fn write_symbol<E: TextOut>(what: &str, symbol: &SymbolName, errors: &mut E)
-    ensures { SaysEach (record { adds = E.adds; failures = E.failures })
+    ensures { SaysEach (writing_of E.TextOut)
         (symbol_texts what.now symbol.now) errors.old errors.new }
 {
     write_stderr("nbbo: symbol ", errors);
@@ -45,7 +45,7 @@ fn is_named(symbol: &SymbolName, absent: &AbsentSymbols, before: usize) -> bool
 
 /// Writes that this is so of a symbol, if it is to be named. Returns how many were named.
 fn write_if<E: TextOut>(is_named: bool, what: &str, symbol: &SymbolName, errors: &mut E) -> usize
-    ensures says { SaysEach (record { adds = E.adds; failures = E.failures })
+    ensures says { SaysEach (writing_of E.TextOut)
         (texts_if is_named what.now symbol.now) errors.old errors.new }
     ensures count { result ≡ (if is_named then 1 else 0) }
 {
@@ -63,7 +63,7 @@ fn write_first<E: TextOut>(
     absent: &AbsentSymbols,
     errors: &mut E,
 )
-    ensures { SaysEach (record { adds = E.adds; failures = E.failures })
+    ensures { SaysEach (writing_of E.TextOut)
         (flat_map (symbol_texts what.now) (take 8 (symbols_with absent.now symbols.now)))
         errors.old errors.new }
 {
@@ -93,7 +93,7 @@ fn more_symbols(count: u64) -> &'static str
 
 /// Writes of how many symbols more this is so, if of any.
 fn write_more<E: TextOut>(what: &str, count: u64, errors: &mut E)
-    ensures { SaysEach (record { adds = E.adds; failures = E.failures })
+    ensures { SaysEach (writing_of E.TextOut)
         (more_symbols_texts what.now count) errors.old errors.new }
 {
     if count == 0 {
@@ -113,7 +113,7 @@ fn write_listed<E: TextOut>(
     absent: &AbsentSymbols,
     errors: &mut E,
 )
-    ensures { SaysEach (record { adds = E.adds; failures = E.failures })
+    ensures { SaysEach (writing_of E.TextOut)
         (listed_texts what.now (symbols_with absent.now symbols.now)) errors.old errors.new }
 {
     write_first(what, symbols, absent, errors);
@@ -123,7 +123,7 @@ fn write_listed<E: TextOut>(
 
 /// Writes that the symbols that are absent never came.
 pub fn write_absent<E: TextOut>(symbols: &[SymbolName], absent: &AbsentSymbols, errors: &mut E)
-    ensures { SaysEach (record { adds = E.adds; failures = E.failures })
+    ensures { SaysEach (writing_of E.TextOut)
         (absent_texts (symbols_with absent.now symbols.now)) errors.old errors.new }
 {
     write_listed(NEVER_CAME, symbols, absent, errors);
@@ -131,7 +131,7 @@ pub fn write_absent<E: TextOut>(symbols: &[SymbolName], absent: &AbsentSymbols, 
 
 /// Writes that the symbols that are absent never had a best.
 pub fn write_unchanged<E: TextOut>(symbols: &[SymbolName], absent: &AbsentSymbols, errors: &mut E)
-    ensures { SaysEach (record { adds = E.adds; failures = E.failures })
+    ensures { SaysEach (writing_of E.TextOut)
         (unchanged_texts (symbols_with absent.now symbols.now)) errors.old errors.new }
 {
     write_listed(NEVER_CHANGED, symbols, absent, errors);

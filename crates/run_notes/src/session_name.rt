@@ -1,7 +1,7 @@
 //! The name of a session on standard error.
 ghost use Rattle.std.specs.Prelude.{◌≡◌};
 ghost use Rattle.std.specs.List.{list_all};
-ghost use Rattle.text_out.specs.Devices.{Writing};
+ghost use Rattle.text_out.specs.Members.{writing_of};
 ghost use Rattle.text_out.specs.StandardError.{Says, SaysEach};
 ghost use Rattle.run_notes.specs.SessionNames.{is_shown, name_texts};
 
@@ -16,16 +16,14 @@ fn is_shown(name: &[u8]) -> bool
 
 /// Writes a name as it is.
 fn write_bytes<E: TextOut>(name: &[u8; 10], errors: &mut E)
-    ensures { Says (record { adds = E.adds; failures = E.failures })
-        name.now errors.old errors.new }
+    ensures { Says (writing_of E.TextOut) name.now errors.old errors.new }
 {
     let _ = write_all(name, errors);
 }
 
 /// Writes the name of a session.
 pub fn write_session_name<E: TextOut>(name: &[u8; 10], errors: &mut E)
-    ensures { SaysEach (record { adds = E.adds; failures = E.failures })
-        (name_texts name.now) errors.old errors.new }
+    ensures { SaysEach (writing_of E.TextOut) (name_texts name.now) errors.old errors.new }
 {
     if !is_shown(name) {
         write_stderr("(bytes that can't be shown)", errors);

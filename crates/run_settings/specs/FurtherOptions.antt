@@ -4,7 +4,6 @@ use Rattle.std.specs.Prelude.{ℕ, Bool, true, false, ◌||◌, if◌then◌else
 use Rattle.run_settings.specs.declared.end_rule.EndRule.{EndRule}
 use Rattle.run_settings.specs.declared.end_rule.EndRule.TheVariants.{AnySession, OwnSession, NoSession}
 use Rattle.run_settings.specs.Senders.{are_named}
-use Rattle.run_settings.specs.declared.next_session.NextSession.{NextSession}
 use Rattle.run_settings.specs.declared.listen_settings.ListenSettings.{ListenSettings}
 
 -- not an end of each session ends a line
@@ -14,9 +13,9 @@ passes_ends OwnSession = true
 passes_ends NoSession = true
 
 -- there is one
-abbrev pub has_items : List NextSession → Bool
+abbrev pub has_items : {A : Type 0} → List A → Bool
 has_items [] = false
-has_items (next ∷ later) = true
+has_items (first ∷ later) = true
 
 -- there is an option beside those that say what is listened to, how much of it is read and kept,
 -- and where requests go
@@ -27,6 +26,7 @@ has_further_options settings =
     || (settings.follow || is_some settings.stats || is_some settings.metrics)
     || (are_named settings.senders || passes_ends settings.end)
     || (has_items settings.next.items || is_some settings.record)
+    || has_items settings.itch.venues.items
     || (is_some settings.request_after || is_some settings.silent_after)
     || (is_some settings.most_ahead || is_some settings.buffer)
 

@@ -4,4 +4,6 @@ pub mod Lists
 pub mod NextSessions
 pub mod RunInputs
 pub mod Senders
+pub mod Styles
 pub mod TimeSpans
+pub mod VenueNames

@@ -7,7 +7,7 @@ use Rattle.std.specs.declared.net.ip_addr.IpAddr.TheVariants.{V4, V6}
 use Rattle.std.specs.declared.net.ipv4_addr.Ipv4Addr.{Ipv4Addr}
 use Rattle.std.specs.declared.net.ipv6_addr.Ipv6Addr.{Ipv6Addr}
 use Rattle.std.specs.declared.net.socket_addr.SocketAddr.{SocketAddr}
-use Rattle.run_settings.specs.declared.sender.Sender.{Sender}
+use Rattle.run_settings.specs.declared.sender.AllowedSender.{AllowedSender}
 use Rattle.run_settings.specs.declared.sender.Senders.{Senders}
 use Rattle.run_settings.specs.declared.sender.Senders.TheVariants.{Any, These}
 
@@ -28,24 +28,24 @@ IsSameMachine (V6 one) (V4 other) = IsMappedFrom other one
 IsSameMachine one other = one ≡ other
 
 -- what comes from this address is the sender's
-abbrev pub IsOfSender : Sender → SocketAddr → Type 0
+abbrev pub IsOfSender : AllowedSender → SocketAddr → Type 0
 IsOfSender sender from =
     HasPort sender.port (socket_port from) × IsSameMachine sender.address (socket_ip from)
 
 -- it is that of one of the senders
-pub record HasSender (senders : List Sender) (from : SocketAddr) : Type 0 where
+pub record HasSender (senders : List AllowedSender) (from : SocketAddr) : Type 0 where
   pub place : ℕ
-  pub sender : Sender
+  pub sender : AllowedSender
   pub is : Some sender ≡ slice_get senders place
   pub sent : IsOfSender sender from
 
 -- the senders, where any are named
-abbrev pub senders_of : Senders → Option (List Sender)
+abbrev pub senders_of : Senders → Option (List AllowedSender)
 senders_of Any = None
 senders_of (These senders) = Some senders.items
 
 -- a datagram from this address is taken: from any where no senders are named
-abbrev pub IsTakenFrom : Option (List Sender) → SocketAddr → Type 0
+abbrev pub IsTakenFrom : Option (List AllowedSender) → SocketAddr → Type 0
 IsTakenFrom None from = Unit {0}
 IsTakenFrom (Some senders) from = HasSender senders from
 

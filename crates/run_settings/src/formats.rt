@@ -1,4 +1,8 @@
 //! The forms in which what a replay prints is passed on.
+ghost use Rattle.std.specs.Prelude.{◌≡◌};
+ghost use Rattle.run_settings.specs.Styles.{all_numbers};
+
+use crate::venue_names::VenueNames;
 
 /// How times are written.
 #[derive(Clone, Copy, Debug, PartialEq, Eq)]
@@ -9,26 +13,45 @@ pub enum TimeStyle {
     Utc,
 }
 
+/// How the values of rows are written.
+#[derive(Clone, Copy, Debug, PartialEq, Eq)]
+pub struct ValueStyle {
+    pub times: TimeStyle,
+    pub venues: VenueNames,
+}
+
+impl ValueStyle {
+    /// Times as numbers, and venues, too.
+    pub fn numbers() -> ValueStyle
+        ensures { result ≡ all_numbers }
+    {
+        ValueStyle {
+            times: TimeStyle::Seconds,
+            venues: VenueNames::Numbers,
+        }
+    }
+}
+
 /// The form of the best lines, where they alone are passed on.
 #[derive(Clone, Copy, Debug, PartialEq, Eq)]
 pub enum BestFormat {
     /// The lines as they are.
     Text,
     /// A header line, and then a row of comma-separated values for each.
-    Csv(TimeStyle),
+    Csv(ValueStyle),
     /// A JSON object for each, on a line of its own.
-    Json(TimeStyle),
+    Json(ValueStyle),
 }
 
 /// The form of the statistics of a capture.
 #[derive(Clone, Copy, Debug, PartialEq, Eq)]
 pub enum ReportFormat {
     /// Tables.
-    Table(TimeStyle),
+    Table(ValueStyle),
     /// A header line, and then a row of comma-separated values for each figure.
-    Csv(TimeStyle),
+    Csv(ValueStyle),
     /// One JSON object.
-    Json(TimeStyle),
+    Json(ValueStyle),
 }
 
 /// The form of the lines that a capture has, and of the counts of a run that listens.
@@ -44,7 +67,7 @@ pub enum StatsFormat {
 #[derive(Clone, Copy, Debug, PartialEq, Eq)]
 pub enum RowFormat {
     /// A header line, and then a row of comma-separated values for each.
-    Csv(TimeStyle),
+    Csv(ValueStyle),
     /// A JSON object for each, on a line of its own.
-    Json(TimeStyle),
+    Json(ValueStyle),
 }

@@ -34,9 +34,10 @@ impl ListenSettings {
         let prints = self.follow || self.stats.is_some() || self.metrics.is_some();
         let chooses = self.senders.are_named() || self.end.passes_ends();
         let records = !self.next.is_empty() || self.record.is_some();
+        let reads = !self.itch.venues.is_empty();
         let waits = self.request_after.is_some() || self.silent_after.is_some();
         let limits = self.most_ahead.is_some() || self.buffer.is_some();
-        ends || gives_up || prints || chooses || records || waits || limits
+        ends || gives_up || prints || chooses || records || reads || waits || limits
     }
 
     /// Returns for how many milliseconds a gap stands before its messages are asked for: as many as

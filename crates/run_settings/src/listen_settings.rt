@@ -4,9 +4,11 @@ ghost use Rattle.std.specs.Prelude.{◌≡◌, ◌*◌, vec_len};
 use crate::end_rule::EndRule;
 use crate::feed_settings::FeedSettings;
 use crate::formats::BestFormat;
+use crate::itch_settings::ItchSettings;
 use crate::listen_stats::ListenStats;
 use crate::next_session::NextSession;
 use crate::sender::Senders;
+use crate::venue_names::VenueNames;
 use std::net::SocketAddr;
 
 /// The settings of `nbbo listen`.
@@ -16,6 +18,8 @@ pub struct ListenSettings {
     pub feed: FeedSettings,
     /// The sessions that follow the venues' first ones, those of a venue in their order.
     pub next: Vec<NextSession>,
+    /// Which venues send ITCH, and how that is read.
+    pub itch: ItchSettings,
     /// The address where each line is received, `None` for a line that isn't there: line A's and
     /// then line B's, those of venue 0 first. Each venue has a line.
     pub lines: Vec<Option<SocketAddr>>,
@@ -58,5 +62,7 @@ pub struct ListenSettings {
     pub metrics: Option<SocketAddr>,
     /// The name of the file into which what the lines bring is recorded, if into any.
     pub record: Option<String>,
+    /// What stands for a venue in all that is printed but the lines of text on the output.
+    pub venues: VenueNames,
     ghost two_lines_each: { vec_len lines ≡ 2 * vec_len feed.sessions },
 }

@@ -29,14 +29,14 @@ fn is_same_machine(one: IpAddr, other: IpAddr) -> bool
 
 /// A sender of datagrams: a machine, with whichever port it sends from, or with one.
 #[derive(Clone, Copy, Debug, PartialEq, Eq)]
-pub struct Sender {
+pub struct AllowedSender {
     /// The machine's address.
     pub address: IpAddr,
     /// The port, where only what comes from one is the sender's.
     pub port: Option<u16>,
 }
 
-impl Sender {
+impl AllowedSender {
     /// Whether what comes from this address is the sender's.
     fn is_at(&self, from: &SocketAddr) -> bool
         ensures { IsTrue result ↔ IsOfSender self.now from.now }
@@ -50,7 +50,7 @@ impl Sender {
 }
 
 /// Whether what comes from this address is of one of the senders.
-fn has_sender(senders: &[Sender], from: &SocketAddr) -> bool
+fn has_sender(senders: &[AllowedSender], from: &SocketAddr) -> bool
     ensures found { result ≡ true → HasSender senders.now from.now }
     ensures not_found { result ≡ false → HasSender senders.now from.now → ⊥ }
 {
@@ -68,7 +68,7 @@ pub enum Senders {
     /// Any.
     Any,
     /// These alone.
-    These(Vec<Sender>),
+    These(Vec<AllowedSender>),
 }
 
 impl Senders {

@@ -5,6 +5,7 @@ use Rattle.std.specs.List.{range_with_len}
 use Rattle.std.proofs.lemmas.Bool.{cases_Bool}
 use Rattle.std.proofs.lemmas.List.{get_or-map, length-map, map-append}
 use Rattle.text_out.specs.Devices.{Writing}
+use Rattle.run_settings.specs.declared.venue_names.VenueNames.{VenueNames}
 use Rattle.text_out.specs.StandardError.{SaysEach}
 use Rattle.line_arbiter.specs.declared.arbiter.ArbiterStatus.{ArbiterStatus}
 use Rattle.mold_packet.specs.declared.request.Request.{Request}
@@ -25,41 +26,46 @@ use Rattle.run_watches.proofs.Telling.{one_news}
 -- ---- a gap
 
 -- nothing was said
-unsaid : {E : Type 0} (w : Writing E) (P : RunNews → Type 0) (s t : E) → t ≡ s → SaysNews w P s t
-unsaid w P s t same = subst (λ last. SaysNews w P s last) (sym same) (no_news w P s)
+unsaid : {E : Type 0} (w : Writing E) (names : VenueNames) (P : RunNews → Type 0) (s t : E)
+    → t ≡ s → SaysNews w names P s t
+unsaid w names P s t same =
+    subst (λ last. SaysNews w names P s last) (sym same) (no_news w names P s)
 
 -- what was said of messages, if there were any
-said_if_any : {E : Type 0} (w : Writing E) (rule : GapRule) (second venue : ℕ) (change : GapChange)
-    (run : Option MissingRun) (s t : E)
-    → MayHappen rule change → SaysEach w (gap_texts_if second venue change run) s t
-    → SaysNews w (IsNewsOfGap rule venue) s t
-said_if_any w rule second venue change None s t may said =
-    unsaid w (IsNewsOfGap rule venue) s t said
-said_if_any w rule second venue change (Some run) s t may said =
-    one_news w (IsNewsOfGap rule venue)
+pub said_if_any : {E : Type 0} (w : Writing E) (names : VenueNames) (rule : GapRule)
+    (second venue : ℕ) (change : GapChange) (run : Option MissingRun) (s t : E)
+    → MayHappen rule change → SaysEach w (gap_texts_if names second venue change run) s t
+    → SaysNews w names (IsNewsOfGap rule venue) s t
+said_if_any w names rule second venue change None s t may said =
+    unsaid w names (IsNewsOfGap rule venue) s t said
+said_if_any w names rule second venue change (Some run) s t may said =
+    one_news w names (IsNewsOfGap rule venue)
     (of_gap (record { second = second; venue = venue; change = change; run = run })) s t
     (refl, may) said
 
 -- the same where it may only happen if there are any
-said_of_any : {E : Type 0} (w : Writing E) (rule : GapRule) (second venue : ℕ) (change : GapChange)
-    (run : Option MissingRun) (s t : E)
+said_of_any : {E : Type 0} (w : Writing E) (names : VenueNames) (rule : GapRule)
+    (second venue : ℕ) (change : GapChange) (run : Option MissingRun) (s t : E)
     → ((r : MissingRun) → run ≡ Some r → MayHappen rule change)
-    → SaysEach w (gap_texts_if second venue change run) s t
-    → SaysNews w (IsNewsOfGap rule venue) s t
-said_of_any w rule second venue change None s t may said =
-    unsaid w (IsNewsOfGap rule venue) s t said
-said_of_any w rule second venue change (Some run) s t may said =
-    said_if_any w rule second venue change (Some run) s t (may run refl) said
+    → SaysEach w (gap_texts_if names second venue change run) s t
+    → SaysNews w names (IsNewsOfGap rule venue) s t
+said_of_any w names rule second venue change None s t may said =
+    unsaid w names (IsNewsOfGap rule venue) s t said
+said_of_any w names rule second venue change (Some run) s t may said =
+    said_if_any w names rule second venue change (Some run) s t (may run refl) said
 
 -- what was said where it was answered that the messages are given up
-said_if_done : {E : Type 0} (w : Writing E) (rule : GapRule) (second venue : ℕ) (due : DueGap)
+said_if_done : {E : Type 0} (w : Writing E) (names : VenueNames) (rule : GapRule)
+    (second venue : ℕ) (due : DueGap)
     (done : Bool) (s t : E)
     → gives_up rule ≡ true
-    → SaysEach w (if done then run_news_texts (of_gap (news_of second venue due)) else []) s t
-    → SaysNews w (IsNewsOfGap rule venue) s t
-said_if_done w rule second venue due false s t may said = unsaid w (IsNewsOfGap rule venue) s t said
-said_if_done w rule second venue due true s t may said =
-    one_news w (IsNewsOfGap rule venue) (of_gap (news_of second venue due)) s t (refl, may) said
+    → SaysEach w (if done then run_news_texts names (of_gap (news_of second venue due)) else []) s t
+    → SaysNews w names (IsNewsOfGap rule venue) s t
+said_if_done w names rule second venue due false s t may said =
+    unsaid w names (IsNewsOfGap rule venue) s t said
+said_if_done w names rule second venue due true s t may said =
+    one_news w names (IsNewsOfGap rule venue) (of_gap (news_of second venue due)) s t (refl, may)
+    said
 
 -- what is chosen is chosen by a test
 test_of_some : {X : Type 0} (b : Bool) (x y : X)
@@ -95,65 +101,68 @@ joined_given_up rule watch status run e =
     (test_of_some (rule.join && nat_lt watch.before_join status.before_join)
     (record { number = 1; count = status.before_join - watch.before_join }) run e)
 
-given_up_if_due : {E : Type 0} (w : Writing E) (answers : ℕ → Bool → Type 0) (rule : GapRule)
-    (second venue : ℕ) (due : Option DueGap) (s t : E)
+given_up_if_due : {E : Type 0} (w : Writing E) (names : VenueNames)
+    (answers : ℕ → Bool → Type 0) (rule : GapRule) (second venue : ℕ) (due : Option DueGap)
+    (s t : E)
     → ((d : DueGap) → due ≡ Some d → gives_up rule ≡ true)
     → MatchOption due (t ≡ s)
-    (λ d. TellsIfDone w (answers d.next) (news_of second venue d) s t)
-    → SaysNews w (IsNewsOfGap rule venue) s t
-given_up_if_due w answers rule second venue None s t may told =
-    unsaid w (IsNewsOfGap rule venue) s t told
-given_up_if_due w answers rule second venue (Some due) s t may told =
-    said_if_done w rule second venue due told.done s t (may due refl) told.tells
+    (λ d. TellsIfDone w names (answers d.next) (news_of second venue d) s t)
+    → SaysNews w names (IsNewsOfGap rule venue) s t
+given_up_if_due w names answers rule second venue None s t may told =
+    unsaid w names (IsNewsOfGap rule venue) s t told
+given_up_if_due w names answers rule second venue (Some due) s t may told =
+    said_if_done w names rule second venue due told.done s t (may due refl) told.tells
 
-module _ {E : Type 0} (w : Writing E) (answers : ℕ → Bool → Type 0) (rule : GapRule)
-    (watch : GapWatch) (now : ℕ) where
-  of_standing : (status : VenueStatus) (s t : E) → TellsStanding w watch now status s t
-      → SaysNews w (IsNewsOfGap rule watch.venue) s t
+module _ {E : Type 0} (w : Writing E) (names : VenueNames) (answers : ℕ → Bool → Type 0)
+    (rule : GapRule) (watch : GapWatch) (now : ℕ) where
+  of_standing : (status : VenueStatus) (s t : E) → TellsStanding w names watch now status s t
+      → SaysNews w names (IsNewsOfGap rule watch.venue) s t
   of_standing status s t told =
       let P = IsNewsOfGap rule watch.venue in
-      more_news w P s told.closed t
-      (said_if_any w rule (now / 1000) watch.venue Closed
+      more_news w names P s told.closed t
+      (said_if_any w names rule (now / 1000) watch.venue Closed
       (closed_run watch.told status.cursors.front) s told.closed tt told.says_closed)
-      (more_news w P told.closed told.lacking t
-      (said_if_any w rule (now / 1000) watch.venue Lacking
+      (more_news w names P told.closed told.lacking t
+      (said_if_any w names rule (now / 1000) watch.venue Lacking
       (lacking_of (told_still watch.told status.cursors.front) (stood_of watch.standing now)
       status.gap) told.closed told.lacking tt told.says_lacking)
-      (said_if_any w rule (now / 1000) watch.venue Unanswered
+      (said_if_any w names rule (now / 1000) watch.venue Unanswered
       (unanswered_of watch.has_told_unanswered watch.standing now status.requests status.gap)
       told.lacking t tt told.says_unanswered))
 
-of_gap_seen : {E : Type 0} (w : Writing E) (answers : ℕ → Bool → Type 0) (rule : GapRule)
-    (watch : GapWatch) (now : ℕ) (status : VenueStatus) (s t : E)
-    → SaysOfGap w answers rule watch now status s t → SaysNews w (IsNewsOfGap rule watch.venue) s t
-of_gap_seen w answers rule watch now status s t seen =
+of_gap_seen : {E : Type 0} (w : Writing E) (names : VenueNames)
+    (answers : ℕ → Bool → Type 0) (rule : GapRule) (watch : GapWatch) (now : ℕ)
+    (status : VenueStatus) (s t : E)
+    → SaysOfGap w names answers rule watch now status s t
+    → SaysNews w names (IsNewsOfGap rule watch.venue) s t
+of_gap_seen w names answers rule watch now status s t seen =
     let P = IsNewsOfGap rule watch.venue in
     let after = after_joins rule watch status in
-    more_news w P s seen.joined t
-    (said_of_any w rule (now / 1000) watch.venue GivenUp (joined_run rule watch status) s
+    more_news w names P s seen.joined t
+    (said_of_any w names rule (now / 1000) watch.venue GivenUp (joined_run rule watch status) s
     seen.joined (joined_given_up rule watch status) seen.tells_joins)
-    (more_news w P seen.joined seen.told t
-    (of_standing w answers rule after now status seen.joined seen.told seen.tells)
-    (given_up_if_due w answers rule (now / 1000) watch.venue
+    (more_news w names P seen.joined seen.told t
+    (of_standing w names answers rule after now status seen.joined seen.told seen.tells)
+    (given_up_if_due w names answers rule (now / 1000) watch.venue
     (due_of rule (stood_of after.standing now) status.cursors status.gap)
     seen.told t
     (some_given_up rule (stood_of after.standing now) status.cursors status.gap)
     seen.gives_up))
 
 -- what was said of a session, if one has begun
-of_session_if : {E : Type 0} (w : Writing E) (rule : GapRule) (watch : GapWatch) (now : ℕ)
-    (status : VenueStatus) (b : Bool) (s t : E)
-    → SaysBegunIf b w watch now status s t
-    → SaysNews w (IsNewsOfGap rule watch.venue) s t
-of_session_if w rule watch now status true s t said =
+of_session_if : {E : Type 0} (w : Writing E) (names : VenueNames) (rule : GapRule)
+    (watch : GapWatch) (now : ℕ) (status : VenueStatus) (b : Bool) (s t : E)
+    → SaysBegunIf b w names watch now status s t
+    → SaysNews w names (IsNewsOfGap rule watch.venue) s t
+of_session_if w names rule watch now status true s t said =
     let P = IsNewsOfGap rule watch.venue in
-    more_news w P s said.closed t
-    (said_if_any w rule (now / 1000) watch.venue Closed watch.told s said.closed tt
+    more_news w names P s said.closed t
+    (said_if_any w names rule (now / 1000) watch.venue Closed watch.told s said.closed tt
     said.says_closed)
-    (one_news w P (of_session (begun_news (now / 1000) watch status)) said.closed t refl
+    (one_news w names P (of_session (begun_news (now / 1000) watch status)) said.closed t refl
     said.says_begun)
-of_session_if w rule watch now status false s t said =
-    unsaid w (IsNewsOfGap rule watch.venue) s t said
+of_session_if w names rule watch now status false s t said =
+    unsaid w names (IsNewsOfGap rule watch.venue) s t said
 
 -- the watch stays its venue's
 pub begun_venue : (watch : GapWatch) (status : VenueStatus)
@@ -163,34 +172,38 @@ begun_venue watch status = elim (cases_Bool (nat_lt watch.ordinal status.ordinal
   | inr same ↦ rw same refl
 ]
 
-of_venue_seen : {E : Type 0} (w : Writing E) (answers : ℕ → Bool → Type 0) (rule : GapRule)
-    (watch : GapWatch) (now : ℕ) (status : VenueStatus) (s t : E)
-    → SaysOfVenue w answers rule watch now status s t
-    → SaysNews w (IsNewsOfGap rule watch.venue) s t
-of_venue_seen w answers rule watch now status s t seen =
-    more_news w (IsNewsOfGap rule watch.venue) s seen.begun t
-    (of_session_if w rule watch now status (nat_lt watch.ordinal status.ordinal) s seen.begun
+of_venue_seen : {E : Type 0} (w : Writing E) (names : VenueNames)
+    (answers : ℕ → Bool → Type 0) (rule : GapRule) (watch : GapWatch) (now : ℕ)
+    (status : VenueStatus) (s t : E)
+    → SaysOfVenue w names answers rule watch now status s t
+    → SaysNews w names (IsNewsOfGap rule watch.venue) s t
+of_venue_seen w names answers rule watch now status s t seen =
+    more_news w names (IsNewsOfGap rule watch.venue) s seen.begun t
+    (of_session_if w names rule watch now status (nat_lt watch.ordinal status.ordinal) s seen.begun
     seen.tells_session)
-    (subst (λ (v : ℕ). SaysNews w (IsNewsOfGap rule v) seen.begun t) (begun_venue watch status)
-    (of_gap_seen w answers rule (stands (watch_begun watch status) now status) now status seen.begun
-    t seen.gap))
+    (subst (λ (v : ℕ). SaysNews w names (IsNewsOfGap rule v) seen.begun t)
+    (begun_venue watch status)
+    (of_gap_seen w names answers rule (stands (watch_begun watch status) now status) now status
+    seen.begun t seen.gap))
 
-of_shown : {E : Type 0} (w : Writing E) (answers : ℕ → Bool → Type 0) (rule : GapRule)
-    (watch : GapWatch) (now : ℕ) (status : Option VenueStatus) (s t : E)
+of_shown : {E : Type 0} (w : Writing E) (names : VenueNames) (answers : ℕ → Bool → Type 0)
+    (rule : GapRule) (watch : GapWatch) (now : ℕ) (status : Option VenueStatus) (s t : E)
     → MatchOption status (t ≡ s)
-    (λ seen. SaysOfVenue w answers rule watch now seen s t)
-    → SaysNews w (IsNewsOfGap rule watch.venue) s t
-of_shown w answers rule watch now None s t said =
-    unsaid w (IsNewsOfGap rule watch.venue) s t said
-of_shown w answers rule watch now (Some status) s t said =
-    of_venue_seen w answers rule watch now status s t said
+    (λ seen. SaysOfVenue w names answers rule watch now seen s t)
+    → SaysNews w names (IsNewsOfGap rule watch.venue) s t
+of_shown w names answers rule watch now None s t said =
+    unsaid w names (IsNewsOfGap rule watch.venue) s t said
+of_shown w names answers rule watch now (Some status) s t said =
+    of_venue_seen w names answers rule watch now status s t said
 
 -- what is said of a gap at a look is news of it
-pub news_of_look : {E : Type 0} (w : Writing E) (shows : Option VenueStatus → Type 0)
-    (answers : ℕ → Bool → Type 0) (rule : GapRule) (watch : GapWatch) (now : ℕ) (s t : E)
-    → LooksAt w shows answers rule watch now s t → SaysNews w (IsNewsOfGap rule watch.venue) s t
-news_of_look w shows answers rule watch now s t looked =
-    of_shown w answers rule watch now looked.status s t looked.says
+pub news_of_look : {E : Type 0} (w : Writing E) (names : VenueNames)
+    (shows : Option VenueStatus → Type 0) (answers : ℕ → Bool → Type 0) (rule : GapRule)
+    (watch : GapWatch) (now : ℕ) (s t : E)
+    → LooksAt w names shows answers rule watch now s t
+    → SaysNews w names (IsNewsOfGap rule watch.venue) s t
+news_of_look w names shows answers rule watch now s t looked =
+    of_shown w names answers rule watch now looked.status s t looked.says
 
 -- ---- counts
 
@@ -220,7 +233,8 @@ run_news_of_counts w run s t counted a = record {
   named = all_made (λ n. IsNewsOf run n) of_counts a.texts (λ k d inside. counted);
   says =
       subst (λ texts. SaysEach w texts s t)
-      (sym (texts_of_made run_news_texts of_counts a.texts ∙ each_itself a.texts)) a.says;
+      (sym (texts_of_made (run_news_texts run.names) of_counts a.texts ∙ each_itself a.texts))
+      a.says;
 }
 
 -- ---- all of a run

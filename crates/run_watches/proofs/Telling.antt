@@ -5,6 +5,7 @@ use Rattle.std.proofs.lemmas.Bool.Decides.{nat_tests}
 use Rattle.std.proofs.lemmas.List.{append-nil, get_or-map, length-map, map-append}
 use Rattle.feed_types.specs.declared.line.LineId.{LineId}
 use Rattle.text_out.specs.Devices.{Writing}
+use Rattle.run_settings.specs.declared.venue_names.VenueNames.{VenueNames}
 use Rattle.text_out.specs.StandardError.{SaysEach}
 use Rattle.text_out.specs.laws.SaidTexts.{says_each}
 use Rattle.run_watches.specs.News.{LineTally, SaysNotes, SaysTotals, line_end_texts, notes_of, stranger_note, tally_texts, told_if, total_if, total_texts, totals_of, unheard_note}
@@ -34,18 +35,20 @@ of_some {X} P o x e p = subst (λ (q : Option X). IfSome q P) e p
 
 -- ---- news
 
-pub one_news : {E : Type 0} (w : Writing E) (P : RunNews → Type 0) (news : RunNews) (s t : E)
-    → P news → SaysEach w (run_news_texts news) s t → SaysNews w P s t
-one_news w P news s t is said = record {
+pub one_news : {E : Type 0} (w : Writing E) (names : VenueNames) (P : RunNews → Type 0)
+    (news : RunNews) (s t : E)
+    → P news → SaysEach w (run_news_texts names news) s t → SaysNews w names P s t
+one_news w names P news s t is said = record {
   news = news ∷ [];
   named = at_one P news is;
-  says = each_of_one w run_news_texts news s t said;
+  says = each_of_one w (run_news_texts names) news s t said;
 }
 
 -- news of one kind are news of another one, where each such news is of that
-pub news_within : {E : Type 0} (w : Writing E) (P Q : RunNews → Type 0) (s t : E)
-    → ((n : RunNews) → P n → Q n) → SaysNews w P s t → SaysNews w Q s t
-news_within w P Q s t so a = record {
+pub news_within : {E : Type 0} (w : Writing E) (names : VenueNames) (P Q : RunNews → Type 0)
+    (s t : E)
+    → ((n : RunNews) → P n → Q n) → SaysNews w names P s t → SaysNews w names Q s t
+news_within w names P Q s t so a = record {
   news = a.news;
   named = λ k d inside. so (get_or a.news k d) (a.named k d inside);
   says = a.says;
@@ -106,18 +109,19 @@ made_within f xs k d inside = (
 )
 
 -- the total of a count that isn't 0
-pub one_total : {E : Type 0} (w : Writing E) (line : ℕ × LineId) (counted : LineCounted) (count : ℕ)
+pub one_total : {E : Type 0} (w : Writing E) (names : VenueNames) (line : ℕ × LineId)
+    (counted : LineCounted) (count : ℕ)
     (s t : E)
     → count ≢ 0
-    → SaysEach w (total_texts (record {
+    → SaysEach w (total_texts names (record {
       venue = line.0;
       line = line.1;
       counted =
           counted;
       count = count;
     })) s t
-    → SaysEach w (flat_map total_texts (total_if line counted count)) s t
-one_total w line counted count s t some said =
+    → SaysEach w (flat_map (total_texts names) (total_if line counted count)) s t
+one_total w names line counted count s t some said =
     let positive : (count == 0) ≡ false = grind (arith, nat_tests, some) in
     let total : LineTotal = record {
       venue = line.0;
@@ -126,36 +130,41 @@ one_total w line counted count s t some said =
           counted;
       count = count;
     } in
-    subst (λ (none : Bool). SaysEach w (flat_map total_texts (if none then [] else total ∷ [])) s t)
+    subst (λ (none : Bool). SaysEach w
+    (flat_map (total_texts names) (if none then [] else total ∷ [])) s t)
     (sym positive)
-    (each_of_one w total_texts total s t said)
+    (each_of_one w (total_texts names) total s t said)
 
 -- what the system dropped, by cases on whether that is told
-pub dropped_total : {E : Type 0} (w : Writing E) (line : ℕ × LineId) (tells_more : Bool)
+pub dropped_total : {E : Type 0} (w : Writing E) (names : VenueNames) (line : ℕ × LineId)
+    (tells_more : Bool)
     (count : ℕ) (s t : E)
-    → SaysEach w (flat_map total_texts (total_if line Dropped count)) s t
+    → SaysEach w (flat_map (total_texts names) (total_if line Dropped count)) s t
     → (tells_more ≡ false → count ≡ 0)
-    → SaysEach w (flat_map total_texts (total_if line Dropped (told_if tells_more count))) s t
-dropped_total w line true count s t said none = said
-dropped_total w line false count s t said none =
-    subst (λ n. SaysEach w (flat_map total_texts (total_if line Dropped n)) s t) (none refl) said
+    → SaysEach w (flat_map (total_texts names) (total_if line Dropped (told_if tells_more count)))
+    s t
+dropped_total w names line true count s t said none = said
+dropped_total w names line false count s t said none =
+    subst (λ n. SaysEach w (flat_map (total_texts names) (total_if line Dropped n)) s t) (none refl)
+    said
 
 -- the session, and then that nothing came
-pub both_notes : {E : Type 0} (w : Writing E) (line : ℕ × LineId)
+pub both_notes : {E : Type 0} (w : Writing E) (names : VenueNames) (line : ℕ × LineId)
     (stranger : Option (List ℕ)) (unheard : Bool) (s t u : E)
-    → SaysEach w (flat_map (line_end_texts line) (stranger_note stranger)) s t
-    → SaysEach w (flat_map (line_end_texts line) (unheard_note unheard)) t u
-    → SaysNotes w true line s u
-both_notes w line stranger unheard s t u a b = record {
+    → SaysEach w (flat_map (line_end_texts names line) (stranger_note stranger)) s t
+    → SaysEach w (flat_map (line_end_texts names line) (unheard_note unheard)) t u
+    → SaysNotes w names true line s u
+both_notes w names line stranger unheard s t u a b = record {
   stranger = stranger;
   unheard = unheard;
   says =
-      each_of_more w (line_end_texts line) (stranger_note stranger) (unheard_note unheard)
+      each_of_more w (line_end_texts names line) (stranger_note stranger) (unheard_note unheard)
       s t u a b;
 }
 
 -- what is counted of a line, in the order in which it is written
-pub record CountedOfLine {E : Type 0} (w : Writing E) (line : ℕ × LineId) (tells_more : Bool)
+pub record CountedOfLine {E : Type 0} (w : Writing E) (names : VenueNames) (line : ℕ × LineId)
+    (tells_more : Bool)
     (s t : E) : Type 0 where
   pub unsent : ℕ
   pub passed : ℕ
@@ -168,22 +177,26 @@ pub record CountedOfLine {E : Type 0} (w : Writing E) (line : ℕ × LineId) (te
   pub c : E
   pub d : E
   pub e : E
-  pub says_unsent : SaysEach w (flat_map total_texts (total_if line Unsent unsent)) s a
-  pub says_passed : SaysEach w (flat_map total_texts (total_if line Passed passed)) a b
-  pub says_foreign : SaysEach w (flat_map total_texts (total_if line Foreign foreign)) b c
+  pub says_unsent : SaysEach w (flat_map (total_texts names) (total_if line Unsent unsent)) s a
+  pub says_passed : SaysEach w (flat_map (total_texts names) (total_if line Passed passed)) a b
+  pub says_foreign : SaysEach w (flat_map (total_texts names) (total_if line Foreign foreign)) b c
   pub says_withheld :
-      SaysEach w (flat_map total_texts (total_if line Withheld (told_if tells_more withheld))) c d
+      SaysEach w
+      (flat_map (total_texts names) (total_if line Withheld (told_if tells_more withheld))) c d
   pub says_held_back :
-      SaysEach w (flat_map total_texts (total_if line HeldBack (told_if tells_more held_back))) d e
+      SaysEach w
+      (flat_map (total_texts names) (total_if line HeldBack (told_if tells_more held_back))) d e
   pub says_dropped :
-      SaysEach w (flat_map total_texts (total_if line Dropped (told_if tells_more dropped))) e t
+      SaysEach w
+      (flat_map (total_texts names) (total_if line Dropped (told_if tells_more dropped))) e t
 
 -- all totals of a line, and its notes
-pub totals_of_line : {E : Type 0} (w : Writing E) (line : ℕ × LineId) (tells_more : Bool)
+pub totals_of_line : {E : Type 0} (w : Writing E) (names : VenueNames) (line : ℕ × LineId)
+    (tells_more : Bool)
     (s t u : E)
-    → CountedOfLine w line tells_more s t → SaysNotes w tells_more line t u
-    → SaysTotals w tells_more (line ∷ []) s u
-totals_of_line w line tells_more s t u c notes =
+    → CountedOfLine w names line tells_more s t → SaysNotes w names tells_more line t u
+    → SaysTotals w names tells_more (line ∷ []) s u
+totals_of_line w names line tells_more s t u c notes =
     let tally : LineTally = record {
       line = line;
       unsent = c.unsent;
@@ -201,31 +214,32 @@ totals_of_line w line tells_more s t u c notes =
     let foreign = total_if line Foreign c.foreign in
     let passed = total_if line Passed c.passed in
     let totals =
-    each_of_more w total_texts (total_if line Unsent c.unsent)
+    each_of_more w (total_texts names) (total_if line Unsent c.unsent)
     (passed ++ (foreign ++ (kept ++ (held ++ lost)))) s c.a t c.says_unsent
-    (each_of_more w total_texts passed (foreign ++ (kept ++ (held ++ lost))) c.a c.b t
+    (each_of_more w (total_texts names) passed (foreign ++ (kept ++ (held ++ lost))) c.a c.b t
     c.says_passed
-    (each_of_more w total_texts foreign (kept ++ (held ++ lost)) c.b c.c t c.says_foreign
-    (each_of_more w total_texts kept (held ++ lost) c.c c.d t c.says_withheld
-    (each_of_more w total_texts held lost c.d c.e t c.says_held_back c.says_dropped)))) in record {
+    (each_of_more w (total_texts names) foreign (kept ++ (held ++ lost)) c.b c.c t c.says_foreign
+    (each_of_more w (total_texts names) kept (held ++ lost) c.c c.d t c.says_withheld
+    (each_of_more w (total_texts names) held lost c.d c.e t c.says_held_back
+    c.says_dropped)))) in record {
       counts = tally ∷ [];
       one_each = refl;
       says =
-          each_of_one w (tally_texts tells_more) tally s u
-          (says_each w (flat_map total_texts (totals_of tells_more tally))
-          (flat_map (line_end_texts line) (notes_of tells_more notes.stranger notes.unheard))
+          each_of_one w (tally_texts names tells_more) tally s u
+          (says_each w (flat_map (total_texts names) (totals_of tells_more tally))
+          (flat_map (line_end_texts names line) (notes_of tells_more notes.stranger notes.unheard))
           s t u totals notes.says);
     }
 
-pub more_totals : {E : Type 0} (w : Writing E) (tells_more : Bool)
+pub more_totals : {E : Type 0} (w : Writing E) (names : VenueNames) (tells_more : Bool)
     (lines more : List (ℕ × LineId)) (s t u : E)
-    → SaysTotals w tells_more lines s t → SaysTotals w tells_more more t u
-    → SaysTotals w tells_more (lines ++ more) s u
-more_totals w tells_more lines more s t u a b = record {
+    → SaysTotals w names tells_more lines s t → SaysTotals w names tells_more more t u
+    → SaysTotals w names tells_more (lines ++ more) s u
+more_totals w names tells_more lines more s t u a b = record {
   counts = a.counts ++ b.counts;
   one_each =
       map-append (λ c. c.line) a.counts b.counts
       ∙ ap (λ first. first ++ map (λ c. c.line) b.counts) a.one_each
       ∙ ap (λ rest. lines ++ rest) b.one_each;
-  says = each_of_more w (tally_texts tells_more) a.counts b.counts s t u a.says b.says;
+  says = each_of_more w (tally_texts names tells_more) a.counts b.counts s t u a.says b.says;
 }

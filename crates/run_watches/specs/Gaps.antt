@@ -1,6 +1,7 @@
 -- Gaps of venues while a run goes on: what is told of them, and which are given up.
 use Rattle.std.specs.Prelude.{◌≡◌, ℕ, ◌+◌, ◌-◌, ◌/◌, ◌^◌, ◌==◌, min, nat_le, nat_lt, Bool, true, false, not, ◌&&◌, ◌||◌, [], Option, Some, None, MatchOption, is_some, if◌then◌else◌}
 use Rattle.run_settings.specs.declared.listen_settings.ListenSettings.{ListenSettings}
+use Rattle.run_settings.specs.declared.venue_names.VenueNames.{VenueNames}
 use Rattle.text_out.specs.Devices.{Writing}
 use Rattle.text_out.specs.StandardError.{SaysEach}
 use Rattle.line_arbiter.specs.Counts.{shown}
@@ -102,19 +103,20 @@ said_then told (Some run) = true
 -- A venue was looked at at this time, by a watch that has seen this status of it: it is said that
 -- what was told to be lacking has come, then that what is to be told is lacking, and then that it
 -- was asked for in vain; and nothing else.
-pub record TellsStanding {E : Type 0} (writing : Writing E) (watch : GapWatch) (now : ℕ)
+pub record TellsStanding {E : Type 0} (writing : Writing E) (names : VenueNames)
+    (watch : GapWatch) (now : ℕ)
     (status : VenueStatus) (before after : E) : Type 0 where
   pub closed : E
   pub lacking : E
   pub says_closed : SaysEach writing
-      (gap_texts_if (now / 1000) watch.venue Closed (closed_run watch.told status.cursors.front))
-      before closed
+      (gap_texts_if names (now / 1000) watch.venue Closed
+      (closed_run watch.told status.cursors.front)) before closed
   pub says_lacking : SaysEach writing
-      (gap_texts_if (now / 1000) watch.venue Lacking
+      (gap_texts_if names (now / 1000) watch.venue Lacking
       (lacking_of (told_still watch.told status.cursors.front) (stood_of watch.standing now)
       status.gap)) closed lacking
   pub says_unanswered : SaysEach writing
-      (gap_texts_if (now / 1000) watch.venue Unanswered
+      (gap_texts_if names (now / 1000) watch.venue Unanswered
       (unanswered_of watch.has_told_unanswered watch.standing now status.requests status.gap))
       lacking after
 
@@ -162,21 +164,22 @@ news_of second venue due = record {
 
 -- Where it was answered that the messages are given up, the texts of these news, and nothing else;
 -- where not, nothing.
-pub record TellsIfDone {E : Type 0} (writing : Writing E) (answers : Bool → Type 0) (news : GapNews)
+pub record TellsIfDone {E : Type 0} (writing : Writing E) (names : VenueNames)
+    (answers : Bool → Type 0) (news : GapNews)
     (before after : E) : Type 0 where
   pub done : Bool
   pub answered : answers done
-  pub tells : SaysEach writing (if done then gap_news_texts news else []) before after
+  pub tells : SaysEach writing (if done then gap_news_texts names news else []) before after
 
 -- A venue was looked at at this time, by a watch that has seen this status of it: what is due is
 -- said where it was answered that it is given up; and nothing else.
-abbrev pub GivesUpDue : {E : Type 0} → Writing E → (answers : ℕ → Bool → Type 0) → GapRule
-    → GapWatch → (now : ℕ) → VenueStatus → (before after : E) → Type 0
-GivesUpDue writing answers rule watch now status before after =
+abbrev pub GivesUpDue : {E : Type 0} → Writing E → VenueNames → (answers : ℕ → Bool → Type 0)
+    → GapRule → GapWatch → (now : ℕ) → VenueStatus → (before after : E) → Type 0
+GivesUpDue writing names answers rule watch now status before after =
     MatchOption (due_of rule (stood_of watch.standing now) status.cursors status.gap)
     (after ≡ before)
-    (λ due. TellsIfDone writing (answers due.next) (news_of (now / 1000) watch.venue due) before
-    after)
+    (λ due. TellsIfDone writing names (answers due.next) (news_of (now / 1000) watch.venue due)
+    before after)
 
 -- ---- which messages were given up where a session was joined
 
@@ -220,54 +223,59 @@ begun_news second watch status =
 
 -- A session has begun since the last look: it is said that what was told to be lacking has come,
 -- and then that it has begun.
-pub record SaysBegun {E : Type 0} (writing : Writing E) (watch : GapWatch) (now : ℕ)
+pub record SaysBegun {E : Type 0} (writing : Writing E) (names : VenueNames)
+    (watch : GapWatch) (now : ℕ)
     (status : VenueStatus) (before after : E) : Type 0 where
   pub closed : E
-  pub says_closed : SaysEach writing (gap_texts_if (now / 1000) watch.venue Closed watch.told)
+  pub says_closed : SaysEach writing (gap_texts_if names (now / 1000) watch.venue Closed watch.told)
       before closed
-  pub says_begun : SaysEach writing (session_news_texts (begun_news (now / 1000) watch status))
-      closed after
+  pub says_begun : SaysEach writing
+      (session_news_texts names (begun_news (now / 1000) watch status)) closed after
 
-abbrev pub SaysBegunIf : {E : Type 0} → (has_begun : Bool) → Writing E → GapWatch → (now : ℕ)
+abbrev pub SaysBegunIf : {E : Type 0} → (has_begun : Bool) → Writing E → VenueNames → GapWatch
+    → (now : ℕ) → VenueStatus → (before after : E) → Type 0
+SaysBegunIf true writing names watch now status before after =
+    SaysBegun writing names watch now status before after
+SaysBegunIf false writing names watch now status before after = after ≡ before
+
+abbrev pub SaysOfSession : {E : Type 0} → Writing E → VenueNames → GapWatch → (now : ℕ)
     → VenueStatus → (before after : E) → Type 0
-SaysBegunIf true writing watch now status before after =
-    SaysBegun writing watch now status before after
-SaysBegunIf false writing watch now status before after = after ≡ before
-
-abbrev pub SaysOfSession : {E : Type 0} → Writing E → GapWatch → (now : ℕ) → VenueStatus
-    → (before after : E) → Type 0
-SaysOfSession writing watch now status before after =
-    SaysBegunIf (nat_lt watch.ordinal status.ordinal) writing watch now status before after
+SaysOfSession writing names watch now status before after =
+    SaysBegunIf (nat_lt watch.ordinal status.ordinal) writing names watch now status before after
 
 -- ---- a look
 
 -- where sessions were joined, what is new of the gap, and then what was given up of it
-pub record SaysOfGap {E : Type 0} (writing : Writing E) (answers : ℕ → Bool → Type 0)
+pub record SaysOfGap {E : Type 0} (writing : Writing E) (names : VenueNames)
+    (answers : ℕ → Bool → Type 0)
     (rule : GapRule) (watch : GapWatch) (now : ℕ) (status : VenueStatus) (before after : E)
     : Type 0 where
   pub joined : E
   pub tells_joins : SaysEach writing
-      (gap_texts_if (now / 1000) watch.venue GivenUp (joined_run rule watch status)) before joined
+      (gap_texts_if names (now / 1000) watch.venue GivenUp (joined_run rule watch status)) before
+      joined
   pub told : E
-  pub tells : TellsStanding writing (after_joins rule watch status) now status joined told
-  pub gives_up : GivesUpDue writing answers rule (after_joins rule watch status) now status
+  pub tells : TellsStanding writing names (after_joins rule watch status) now status joined told
+  pub gives_up : GivesUpDue writing names answers rule (after_joins rule watch status) now status
       told after
 
 -- which session has begun, and then that of the gap
-pub record SaysOfVenue {E : Type 0} (writing : Writing E) (answers : ℕ → Bool → Type 0)
+pub record SaysOfVenue {E : Type 0} (writing : Writing E) (names : VenueNames)
+    (answers : ℕ → Bool → Type 0)
     (rule : GapRule) (watch : GapWatch) (now : ℕ) (status : VenueStatus) (before after : E)
     : Type 0 where
   pub begun : E
-  pub tells_session : SaysOfSession writing watch now status before begun
-  pub gap : SaysOfGap writing answers rule (stands (watch_begun watch status) now status) now status
-      begun after
+  pub tells_session : SaysOfSession writing names watch now status before begun
+  pub gap : SaysOfGap writing names answers rule (stands (watch_begun watch status) now status)
+      now status begun after
 
 -- A venue is looked at at this time: that is said of its session and its gap by what is shown of
 -- the venue, and nothing where nothing is shown.
-pub record LooksAt {E : Type 0} (writing : Writing E) (shows : Option VenueStatus → Type 0)
+pub record LooksAt {E : Type 0} (writing : Writing E) (names : VenueNames)
+    (shows : Option VenueStatus → Type 0)
     (answers : ℕ → Bool → Type 0) (rule : GapRule) (watch : GapWatch) (now : ℕ) (before after : E)
     : Type 0 where
   pub status : Option VenueStatus
   pub shown : shows status
   pub says : MatchOption status (after ≡ before)
-      (λ seen. SaysOfVenue writing answers rule watch now seen before after)
+      (λ seen. SaysOfVenue writing names answers rule watch now seen before after)

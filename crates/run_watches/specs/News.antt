@@ -6,6 +6,8 @@ use Rattle.feed_types.specs.declared.line.LineId.TheVariants.{A, B, Recovery}
 use Rattle.text_out.specs.Devices.{Writing}
 use Rattle.text_out.specs.StandardError.{SaysEach}
 use Rattle.run_notes.specs.SessionNames.{name_texts}
+use Rattle.run_settings.specs.VenueNames.{venue_text}
+use Rattle.run_settings.specs.declared.venue_names.VenueNames.{VenueNames}
 use Rattle.run_watches.specs.declared.line_news.LineChange.{LineChange}
 use Rattle.run_watches.specs.declared.line_news.LineChange.TheVariants as changes
 use Rattle.run_watches.specs.declared.line_news.LineCounted.{LineCounted}
@@ -18,9 +20,9 @@ letter_text A = codes " A"
 letter_text B = codes " B"
 letter_text Recovery = codes " R"
 
--- which line it is: the venue's number, and the line's letter
-abbrev pub line_name_texts : ℕ → LineId → List (List ℕ)
-line_name_texts venue line = decimal venue ∷ letter_text line ∷ []
+-- which line it is: the venue's name or number, and the line's letter
+abbrev pub line_name_texts : VenueNames → ℕ → LineId → List (List ℕ)
+line_name_texts names venue line = venue_text names venue ∷ letter_text line ∷ []
 
 -- ---- what has happened to a line
 
@@ -73,15 +75,15 @@ change_texts change = change_text change ∷ rest_texts change
 abbrev pub time_texts : ℕ → List (List ℕ)
 time_texts second = codes "nbbo: second " ∷ decimal second ∷ codes " line " ∷ []
 
-abbrev pub news_texts : LineNews → List (List ℕ)
-news_texts news =
+abbrev pub news_texts : VenueNames → LineNews → List (List ℕ)
+news_texts names news =
     time_texts news.second
-    ++ (line_name_texts news.venue news.line ++ change_texts news.change)
+    ++ (line_name_texts names news.venue news.line ++ change_texts news.change)
 
 -- how a line has ended, without a time
-abbrev pub line_end_texts : ℕ × LineId → LineChange → List (List ℕ)
-line_end_texts line change =
-    codes "nbbo: line " ∷ (line_name_texts line.0 line.1 ++ change_texts change)
+abbrev pub line_end_texts : VenueNames → ℕ × LineId → LineChange → List (List ℕ)
+line_end_texts names line change =
+    codes "nbbo: line " ∷ (line_name_texts names line.0 line.1 ++ change_texts change)
 
 -- ---- what was counted of a line
 
@@ -117,9 +119,9 @@ abbrev pub counted_texts : LineTotal → List (List ℕ)
 counted_texts total =
     verb_text total.counted ∷ decimal total.count ∷ counted_text total.counted total.count ∷ []
 
-abbrev pub total_texts : LineTotal → List (List ℕ)
-total_texts total =
-    codes "nbbo: line " ∷ (line_name_texts total.venue total.line ++ counted_texts total)
+abbrev pub total_texts : VenueNames → LineTotal → List (List ℕ)
+total_texts names total =
+    codes "nbbo: line " ∷ (line_name_texts names total.venue total.line ++ counted_texts total)
 
 -- what was counted of a line: the requests that couldn't be sent, the ends of session after which
 -- it went on, the datagrams of other senders that it passed over, those that it withheld, the
@@ -173,25 +175,25 @@ notes_of true stranger unheard = stranger_note stranger ++ unheard_note unheard
 notes_of false stranger unheard = []
 
 -- all texts of what was counted of a line
-abbrev pub tally_texts : (tells_more : Bool) → LineTally → List (List ℕ)
-tally_texts tells_more c =
-    flat_map total_texts (totals_of tells_more c)
-    ++ flat_map (line_end_texts c.line) (notes_of tells_more c.stranger c.unheard)
+abbrev pub tally_texts : VenueNames → (tells_more : Bool) → LineTally → List (List ℕ)
+tally_texts names tells_more c =
+    flat_map (total_texts names) (totals_of tells_more c)
+    ++ flat_map (line_end_texts names c.line) (notes_of tells_more c.stranger c.unheard)
 
 -- ---- what was said
 
 -- what else there is to note of a line
-pub record SaysNotes {E : Type 0} (writing : Writing E) (tells_more : Bool) (line : ℕ × LineId)
-    (before after : E) : Type 0 where
+pub record SaysNotes {E : Type 0} (writing : Writing E) (names : VenueNames) (tells_more : Bool)
+    (line : ℕ × LineId) (before after : E) : Type 0 where
   pub stranger : Option (List ℕ)
   pub unheard : Bool
   pub says : SaysEach writing
-      (flat_map (line_end_texts line) (notes_of tells_more stranger unheard)) before after
+      (flat_map (line_end_texts names line) (notes_of tells_more stranger unheard)) before after
 
 -- of some counts of each of these lines, in their order, the texts of those that aren't 0 and of
 -- what else there is to note, and nothing else
-pub record SaysTotals {E : Type 0} (writing : Writing E) (tells_more : Bool)
+pub record SaysTotals {E : Type 0} (writing : Writing E) (names : VenueNames) (tells_more : Bool)
     (lines : List (ℕ × LineId)) (before after : E) : Type 0 where
   pub counts : List LineTally
   pub one_each : map (λ c. c.line) counts ≡ lines
-  pub says : SaysEach writing (flat_map (tally_texts tells_more) counts) before after
+  pub says : SaysEach writing (flat_map (tally_texts names tells_more) counts) before after

@@ -1,9 +1,11 @@
 -- What is watched of a run: its lines, each by its venue's number, the gaps of its venues, whether
--- its rows are printed as they come, and whether its counts are written.
+-- its rows are printed as they come, whether its counts are written, and what stands for a venue in
+-- what is said.
 use Rattle.std.specs.Prelude.{ℕ, Bool, List, [], is_some, map, vec_len, if◌then◌else◌}
 use Rattle.std.specs.List.{range_with_len}
 use Rattle.feed_types.specs.declared.line.LineId.{LineId}
 use Rattle.run_settings.specs.declared.listen_settings.ListenSettings.{ListenSettings}
+use Rattle.run_settings.specs.declared.venue_names.VenueNames.{VenueNames}
 use Rattle.run_settings.specs.FurtherOptions.{has_further_options}
 use Rattle.run_watches.specs.Gaps.{rule_of}
 use Rattle.run_watches.specs.declared.gap_rule.GapRule.{GapRule}
@@ -24,12 +26,14 @@ pub record WatchedLines : Type 0 where
   pub tells_more : Bool
   pub lines : List (ℕ × LineId)
 
--- the lines, the gaps, whether rows are printed as they come, and whether counts are written
+-- the lines, the gaps, whether rows are printed as they come, whether counts are written, and what
+-- stands for a venue
 pub record WatchedRun : Type 0 where
   pub lines : WatchedLines
   pub gaps : WatchedGaps
   pub follows : Bool
   pub counted : Bool
+  pub names : VenueNames
 
 -- the line that is watched
 abbrev pub watched : LineWatch → ℕ × LineId
@@ -66,6 +70,7 @@ listened_run settings lines = record {
   gaps = told_gaps settings;
   follows = settings.follow;
   counted = is_some settings.stats;
+  names = settings.venues;
 }
 
 -- the venue that is watched
@@ -86,4 +91,5 @@ watched_run watches = record {
   gaps = watched_gaps watches.gaps;
   follows = watches.output.follows;
   counted = is_some watches.counts;
+  names = watches.names;
 }

@@ -4,6 +4,7 @@ use Rattle.std.specs.Prelude.{◌≡◌, ℕ, Bool, true, false, List, [], ◌�
 use Rattle.feed_types.specs.declared.line.LineId.{LineId}
 use Rattle.text_out.specs.Devices.{Writing}
 use Rattle.text_out.specs.StandardError.{SaysEach}
+use Rattle.run_settings.specs.declared.venue_names.VenueNames.{VenueNames}
 use Rattle.run_watches.specs.GapNews.{gap_news_texts}
 use Rattle.run_watches.specs.Gaps.{gives_up}
 use Rattle.run_watches.specs.News.{SaysTotals, news_texts}
@@ -33,19 +34,19 @@ pub data RunNews : Type 0 where
   of_output : OutputNews → RunNews
   of_counts : List ℕ → RunNews
 
-abbrev pub run_news_texts : RunNews → List (List ℕ)
-run_news_texts (of_line news) = news_texts news
-run_news_texts (of_gap news) = gap_news_texts news
-run_news_texts (of_session news) = session_news_texts news
-run_news_texts (of_output news) = output_news_texts news
-run_news_texts (of_counts text) = text ∷ []
+abbrev pub run_news_texts : VenueNames → RunNews → List (List ℕ)
+run_news_texts names (of_line news) = news_texts names news
+run_news_texts names (of_gap news) = gap_news_texts names news
+run_news_texts names (of_session news) = session_news_texts names news
+run_news_texts names (of_output news) = output_news_texts news
+run_news_texts names (of_counts text) = text ∷ []
 
 -- the texts of some news of this kind, one after the other, and nothing else
-pub record SaysNews {E : Type 0} (writing : Writing E) (IsNews : RunNews → Type 0)
-    (before after : E) : Type 0 where
+pub record SaysNews {E : Type 0} (writing : Writing E) (names : VenueNames)
+    (IsNews : RunNews → Type 0) (before after : E) : Type 0 where
   pub news : List RunNews
   pub named : All IsNews news
-  pub says : SaysEach writing (flat_map run_news_texts news) before after
+  pub says : SaysEach writing (flat_map (run_news_texts names) news) before after
 
 -- ---- of what they are
 
@@ -129,7 +130,7 @@ IsNewsOf run (of_counts text) = run.counted ≡ true
 -- ---- what is said
 
 abbrev pub SaysRunNews : {E : Type 0} → Writing E → WatchedRun → (before after : E) → Type 0
-SaysRunNews writing run before after = SaysNews writing (IsNewsOf run) before after
+SaysRunNews writing run before after = SaysNews writing run.names (IsNewsOf run) before after
 
 -- some texts of counts, one after the other, and nothing else
 pub record SaysCounts {E : Type 0} (writing : Writing E) (before after : E) : Type 0 where
@@ -145,7 +146,7 @@ SaysTable writing false before after = after ≡ before
 pub record SaysRunEnd {E : Type 0} (writing : Writing E) (run : WatchedRun) (before after : E)
     : Type 0 where
   pub mid : E
-  pub totals : SaysTotals writing run.lines.tells_more run.lines.lines before mid
+  pub totals : SaysTotals writing run.names run.lines.tells_more run.lines.lines before mid
   pub table : SaysTable writing run.counted mid after
 
 -- all that is said of a run: news of it, and then its end

@@ -2,6 +2,7 @@
 -- own.
 use Rattle.std.specs.Prelude.{ℕ, ◌==◌, List, [], ◌∷◌, ◌++◌, codes, decimal, if◌then◌else◌}
 use Rattle.run_notes.specs.SessionNames.{name_texts}
+use Rattle.run_settings.specs.declared.venue_names.VenueNames.{VenueNames}
 use Rattle.run_watches.specs.GapNews.{venue_time_texts}
 use Rattle.run_watches.specs.declared.session_news.SessionNews.{SessionNews}
 
@@ -12,7 +13,7 @@ missed_texts missed =
     else codes ", after " ∷ decimal missed ∷ codes " that came and went since the last look\n" ∷ []
 
 -- when, which venue, and which session has begun
-abbrev pub session_news_texts : SessionNews → List (List ℕ)
-session_news_texts news =
-    venue_time_texts news.second news.venue
+abbrev pub session_news_texts : VenueNames → SessionNews → List (List ℕ)
+session_news_texts names news =
+    venue_time_texts names news.second news.venue
     ++ (codes " begins session " ∷ (name_texts news.session ++ missed_texts news.missed))

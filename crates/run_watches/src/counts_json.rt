@@ -1,9 +1,12 @@
 //! The counts of venues and lines as JSON: an object for each venue, on a line of its own.
 
-use crate::line_figures::{REFUSALS, state_counts};
+use crate::figures_since::{REFUSALS, state_counts};
 use crate::moment::Moment;
+use crate::venue_column::name_of;
 use crate::venue_statuses::AllFigures;
+use feed_types::VenueId;
 use run_metrics::{LineState, VenueFigures, datagram_count, lacking, lag, message_count};
+use run_settings::VenueNames;
 use std::alloc::{AllocError, Global};
 use venue_lines::LineCounts;
 
@@ -80,16 +83,31 @@ fn recovery_json(alloc: Global, figures: &VenueFigures) -> Result<String, AllocE
     format!(in alloc; ",\"R\":{}", counts.as_str())
 }
 
+/// What stands for a venue: its name in quotation marks, or its number.
+fn name_json(alloc: Global, names: &VenueNames, venue: VenueId) -> Result<String, AllocError> {
+    let name = name_of(alloc, names, venue)?;
+    match names {
+        VenueNames::Numbers => Ok(name),
+        VenueNames::Named(_) => format!(in alloc; "\"{}\"", name.as_str()),
+    }
+}
+
 /// The members of a venue and its lines.
-fn venue_json(alloc: Global, place: usize, figures: &VenueFigures) -> Result<String, AllocError> {
+fn venue_json(
+    alloc: Global,
+    names: &VenueNames,
+    figures: &VenueFigures,
+) -> Result<String, AllocError> {
+    let name = name_json(alloc, names, figures.venue)?;
     let venue = &figures.status;
     let a = line_json(alloc, &venue.a, &figures.a)?;
     let b = line_json(alloc, &venue.b, &figures.b)?;
     let recovery = recovery_json(alloc, figures)?;
     let given_up = given_up_json(alloc, figures.given_up)?;
     format!(in alloc;
-        "\"venue\":{place},\"sent\":{},\"known\":{},\"lag\":{},\"lacks\":{},\
+        "\"venue\":{},\"sent\":{},\"known\":{},\"lag\":{},\"lacks\":{},\
          \"requests\":{},{}\"lines\":{{\"A\":{},\"B\":{}{}}}",
+        name.as_str(),
         venue.cursors.sent,
         venue.cursors.known,
         lag(venue),
@@ -105,12 +123,12 @@ fn venue_json(alloc: Global, place: usize, figures: &VenueFigures) -> Result<Str
 /// Returns the object of a venue at this moment, of what was counted in a period.
 pub fn period_json(
     alloc: Global,
+    names: &VenueNames,
     moment: Moment,
-    place: usize,
     venue: &VenueFigures,
 ) -> Result<String, AllocError> {
     let time = time_json(alloc, moment)?;
-    let members = venue_json(alloc, place, venue)?;
+    let members = venue_json(alloc, names, venue)?;
     format!(in alloc;
         "{{{},\"second\":{},{}}}\n",
         time.as_str(),
@@ -122,14 +140,15 @@ pub fn period_json(
 /// Returns the object of each venue, of what was counted in the whole run.
 pub fn totals_json(
     alloc: Global,
+    names: &VenueNames,
     moment: Moment,
     venues: &AllFigures,
 ) -> Result<String, AllocError> {
     let time = time_json(alloc, moment)?;
     let mut text = String::new(alloc);
-    for (place, venue) in venues.iter().enumerate() {
+    for venue in venues {
         if let Some(venue) = venue {
-            let members = venue_json(alloc, place, venue)?;
+            let members = venue_json(alloc, names, venue)?;
             let row = format!(in alloc;
                 "{{{},\"total\":true,{}}}\n",
                 time.as_str(),

@@ -1,19 +1,21 @@
 //! The counts of venues and lines as text: a line for each venue and period, and a table at the
 //! end.
 
-use crate::line_figures::{REFUSALS, state_counts};
+use crate::figures_since::{REFUSALS, state_counts};
+use crate::venue_column::{head_cell, name_cell, name_of, width_of};
 use crate::venue_statuses::AllFigures;
 use run_metrics::{
     LineState, VenueFigures, datagram_count, lacking, lag, message_count, refused_count,
 };
+use run_settings::VenueNames;
 use std::alloc::{AllocError, Global};
 use venue_lines::LineCounts;
 
-/// The heads of the table's columns, of lines and of venues.
+/// The heads of the table's columns after the first one, of lines and of venues.
 const LINE_HEADS: &str =
-    "nbbo: venue line    packets   messages        new   repeated heartbeats      ahead    refused\n";
+    " line    packets   messages        new   repeated heartbeats      ahead    refused\n";
 
-const VENUE_HEADS: &str = "nbbo: venue         sent      known        lag      lacks   requests\n";
+const VENUE_HEADS: &str = "         sent      known        lag      lacks   requests\n";
 
 /// The numbers of the refusals that there were, each with how many: ` 7:2 10:1`.
 fn refusals_text(alloc: Global, refused: &[u64; REFUSALS]) -> Result<String, AllocError> {
@@ -75,8 +77,8 @@ fn recovery_text(alloc: Global, figures: &VenueFigures) -> Result<String, AllocE
 /// Returns the line of a venue after `seconds` seconds, of what was counted in a period.
 pub fn period_text(
     alloc: Global,
+    names: &VenueNames,
     seconds: u64,
-    place: usize,
     figures: &VenueFigures,
 ) -> Result<String, AllocError> {
     let venue = &figures.status;
@@ -84,9 +86,11 @@ pub fn period_text(
     let b = line_text(alloc, &venue.b, &figures.b)?;
     let recovery = recovery_text(alloc, figures)?;
     let given_up = given_up_text(alloc, figures.given_up)?;
+    let name = name_of(alloc, names, figures.venue)?;
     format!(in alloc;
-        "nbbo: second {seconds} venue {place} \
+        "nbbo: second {seconds} venue {} \
          sent {} known {} lag {} lacks {} requests {}{} A {} B {}{}\n",
+        name.as_str(),
         venue.cursors.sent,
         venue.cursors.known,
         lag(venue),
@@ -99,10 +103,10 @@ pub fn period_text(
     )
 }
 
-/// The table's row of a line.
+/// The table's row of a line, after the cell of its venue.
 fn line_row(
     alloc: Global,
-    place: usize,
+    venue: &str,
     line: &str,
     counts: &LineCounts,
     state: &LineState,
@@ -110,7 +114,7 @@ fn line_row(
     let numbers = refusals_text(alloc, &counts.refused)?;
     let states = state_text(alloc, state)?;
     format!(in alloc;
-        "nbbo: {place:>5} {line:>4} {:>10} {:>10} {:>10} {:>10} {:>10} {:>10} {:>10}{}{}\n",
+        "nbbo: {venue} {line:>4} {:>10} {:>10} {:>10} {:>10} {:>10} {:>10} {:>10}{}{}\n",
         datagram_count(counts),
         message_count(counts),
         counts.wins,
@@ -124,22 +128,22 @@ fn line_row(
 }
 
 /// The table's rows of a venue's lines.
-fn line_rows(alloc: Global, place: usize, venue: &VenueFigures) -> Result<String, AllocError> {
+fn line_rows(alloc: Global, cell: &str, venue: &VenueFigures) -> Result<String, AllocError> {
     let status = &venue.status;
-    let mut text = line_row(alloc, place, "A", &status.a, &venue.a)?;
-    text.push_str(line_row(alloc, place, "B", &status.b, &venue.b)?.as_str())?;
+    let mut text = line_row(alloc, cell, "A", &status.a, &venue.a)?;
+    text.push_str(line_row(alloc, cell, "B", &status.b, &venue.b)?.as_str())?;
     if let Some(state) = &venue.recovery {
-        text.push_str(line_row(alloc, place, "R", &status.recovery, state)?.as_str())?;
+        text.push_str(line_row(alloc, cell, "R", &status.recovery, state)?.as_str())?;
     }
     Ok(text)
 }
 
 /// The table's row of a venue.
-fn venue_row(alloc: Global, place: usize, figures: &VenueFigures) -> Result<String, AllocError> {
+fn venue_row(alloc: Global, cell: &str, figures: &VenueFigures) -> Result<String, AllocError> {
     let venue = &figures.status;
     let given_up = given_up_text(alloc, figures.given_up)?;
     format!(in alloc;
-        "nbbo: {place:>5}   {:>10} {:>10} {:>10} {:>10} {:>10}{}\n",
+        "nbbo: {cell}   {:>10} {:>10} {:>10} {:>10} {:>10}{}\n",
         venue.cursors.sent,
         venue.cursors.known,
         lag(venue),
@@ -150,18 +154,25 @@ fn venue_row(alloc: Global, place: usize, figures: &VenueFigures) -> Result<Stri
 }
 
 /// Returns the table of all venues' counts: a row for each line, and then one for each venue.
-pub fn table_text(alloc: Global, venues: &AllFigures) -> Result<String, AllocError> {
-    let mut text = String::new(alloc);
-    text.push_str(LINE_HEADS)?;
-    for (place, venue) in venues.iter().enumerate() {
+pub fn table_text(
+    alloc: Global,
+    names: &VenueNames,
+    venues: &AllFigures,
+) -> Result<String, AllocError> {
+    let width = width_of(names, venues);
+    let head = head_cell(alloc, width)?;
+    let mut text = format!(in alloc; "nbbo: {}{LINE_HEADS}", head.as_str())?;
+    for venue in venues {
         if let Some(venue) = venue {
-            text.push_str(line_rows(alloc, place, venue)?.as_str())?;
+            let cell = name_cell(alloc, names, venue.venue, width)?;
+            text.push_str(line_rows(alloc, cell.as_str(), venue)?.as_str())?;
         }
     }
-    text.push_str(VENUE_HEADS)?;
-    for (place, venue) in venues.iter().enumerate() {
+    text.push_str(format!(in alloc; "nbbo: {}{VENUE_HEADS}", head.as_str())?.as_str())?;
+    for venue in venues {
         if let Some(venue) = venue {
-            text.push_str(venue_row(alloc, place, venue)?.as_str())?;
+            let cell = name_cell(alloc, names, venue.venue, width)?;
+            text.push_str(venue_row(alloc, cell.as_str(), venue)?.as_str())?;
         }
     }
     Ok(text)

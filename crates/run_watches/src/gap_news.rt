@@ -1,10 +1,12 @@
 //! What is said of a venue's gap while a run goes on.
 ghost use Rattle.std.specs.Prelude.{◌≡◌, decimal};
-ghost use Rattle.text_out.specs.Devices.{Writing};
+ghost use Rattle.text_out.specs.Members.{writing_of};
 ghost use Rattle.text_out.specs.StandardError.{Says, SaysEach};
 ghost use Rattle.run_watches.specs.GapNews.{gap_change_text, gap_news_texts, messages_from_text, missing_run_texts, venue_time_texts};
 
 use feed_types::VenueId;
+use run_notes::write_venue_name;
+use run_settings::VenueNames;
 use text_out::{TextOut, write_number, write_stderr};
 
 /// Messages in a row that are missing.
@@ -66,20 +68,24 @@ fn messages_from(count: u64) -> &'static str
 }
 
 /// Writes which venue it is, and when.
-pub(crate) fn write_venue<E: TextOut>(second: u64, venue: VenueId, errors: &mut E)
-    ensures { SaysEach (record { adds = E.adds; failures = E.failures })
-        (venue_time_texts second venue) errors.old errors.new }
+pub(crate) fn write_venue<E: TextOut>(
+    names: &VenueNames,
+    second: u64,
+    venue: VenueId,
+    errors: &mut E,
+)
+    ensures { SaysEach (writing_of E.TextOut)
+        (venue_time_texts names.now second venue) errors.old errors.new }
 {
     write_stderr("nbbo: second ", errors);
     write_number(second, errors);
     write_stderr(" venue ", errors);
-    write_number(venue.index() as u64, errors);
+    write_venue_name(names, venue, errors);
 }
 
 /// Writes how many messages there are, and the first of them.
 fn write_run<E: TextOut>(run: &MissingRun, errors: &mut E)
-    ensures { SaysEach (record { adds = E.adds; failures = E.failures })
-        (missing_run_texts run.now) errors.old errors.new }
+    ensures { SaysEach (writing_of E.TextOut) (missing_run_texts run.now) errors.old errors.new }
 {
     write_number(run.count, errors);
     write_stderr(messages_from(run.count), errors);
@@ -88,11 +94,11 @@ fn write_run<E: TextOut>(run: &MissingRun, errors: &mut E)
 }
 
 /// Writes what has happened to a gap.
-pub fn write_gap_news<E: TextOut>(news: &GapNews, errors: &mut E)
-    ensures { SaysEach (record { adds = E.adds; failures = E.failures })
-        (gap_news_texts news.now) errors.old errors.new }
+pub fn write_gap_news<E: TextOut>(names: &VenueNames, news: &GapNews, errors: &mut E)
+    ensures { SaysEach (writing_of E.TextOut)
+        (gap_news_texts names.now news.now) errors.old errors.new }
 {
-    write_venue(news.second, news.venue, errors);
+    write_venue(names, news.second, news.venue, errors);
     write_stderr(change_text(news.change), errors);
     write_run(&news.run, errors);
 }

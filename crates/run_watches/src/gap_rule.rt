@@ -1,6 +1,6 @@
 //! Which gaps of a run's venues are given up.
 ghost use Rattle.std.specs.Prelude.{◌≡◌};
-ghost use Rattle.run_watches.specs.Gaps.{has_stood, rule_of};
+ghost use Rattle.run_watches.specs.Gaps.{gives_up, has_stood, rule_of};
 
 use run_settings::ListenSettings;
 
@@ -33,6 +33,13 @@ impl GapRule {
             join: settings.join,
             after_ms: settings.skip_after,
         }
+    }
+
+    /// Whether any gap is given up.
+    pub fn gives_up(&self) -> bool
+        ensures { result ≡ gives_up self.now }
+    {
+        self.join || self.after_ms.is_some()
     }
 
     /// Whether a gap is to be given up that has stood for so long since it was seen first.

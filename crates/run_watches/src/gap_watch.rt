@@ -1,8 +1,8 @@
 //! The gap of a venue as the thread beside the run sees it: since when it stands, what was told of
 //! it, and when it is given up.
-ghost use Rattle.std.specs.Prelude.{◌≡◌, ◌+◌, ◌/◌, None, false};
+ghost use Rattle.std.specs.Prelude.{◌≡◌, ◌+◌, ◌/◌, None, Some, false};
 ghost use Rattle.line_arbiter.specs.Counts.{shown};
-ghost use Rattle.text_out.specs.Devices.{Writing};
+ghost use Rattle.text_out.specs.Members.{writing_of};
 ghost use Rattle.text_out.specs.StandardError.{SaysEach};
 ghost use Rattle.run_watches.specs.GapNews.{gap_texts_if};
 ghost use Rattle.run_watches.specs.Gaps.{GivesUpDue, LooksAt, SaysOfSession, TellsIfDone, TellsStanding, after_joins, closed_run, due_count, due_of, gap_next, has_come, watch_begun, is_unanswered, joined_run, lacking_of, news_of, run_count, run_of, said_then, standing_at, stands, stood_of, told_still, told_then, unanswered_of};
@@ -13,6 +13,7 @@ use crate::session_news::{SessionNews, write_session_news};
 use feed_types::VenueId;
 use line_arbiter::ArbiterStatus;
 use mold_packet::Request;
+use run_settings::VenueNames;
 use text_out::TextOut;
 use venue_lines::VenueStatus;
 
@@ -261,13 +262,14 @@ impl GapWatch {
     /// Says that this has happened to these messages, if there are any.
     fn say<E: TextOut>(
         &self,
+        names: &VenueNames,
         second: u64,
         change: GapChange,
         run: Option<MissingRun>,
         errors: &mut E,
     )
-        ensures { SaysEach (record { adds = E.adds; failures = E.failures })
-            (gap_texts_if second self.now.venue change run) errors.old errors.new }
+        ensures { SaysEach (writing_of E.TextOut)
+            (gap_texts_if names.now second self.now.venue change run) errors.old errors.new }
     {
         let Some(run) = run else {
             return;
@@ -278,16 +280,22 @@ impl GapWatch {
             change,
             run,
         };
-        write_gap_news(&news, errors);
+        write_gap_news(names, &news, errors);
     }
 
     /// Says what is new of the gap that stands.
-    fn tell<E: TextOut>(&mut self, now_ms: u64, status: &VenueStatus, errors: &mut E)
+    fn tell<E: TextOut>(
+        &mut self,
+        names: &VenueNames,
+        now_ms: u64,
+        status: &VenueStatus,
+        errors: &mut E,
+    )
         ensures watch { self.new ≡ record (self.old) {
           told = self.new.told;
           has_told_unanswered = self.new.has_told_unanswered;
         } }
-        ensures tells { TellsStanding (record { adds = E.adds; failures = E.failures }) self.old
+        ensures tells { TellsStanding (writing_of E.TextOut) names.now self.old
             now_ms status.now errors.old errors.new }
         ensures told { self.new.told
             ≡ told_then (told_still self.old.told status.now.cursors.front)
@@ -304,9 +312,9 @@ impl GapWatch {
         let lacking = lacking_of(told, stood_of(self.standing, now_ms), &status.gap);
         let has_told = self.has_told_unanswered;
         let unanswered = unanswered_of(has_told, self.standing, now_ms, status);
-        self.say(second, GapChange::Closed, closed, errors);
-        self.say(second, GapChange::Lacking, lacking, errors);
-        self.say(second, GapChange::Unanswered, unanswered, errors);
+        self.say(names, second, GapChange::Closed, closed, errors);
+        self.say(names, second, GapChange::Lacking, lacking, errors);
+        self.say(names, second, GapChange::Unanswered, unanswered, errors);
         self.told = told_then(told, lacking);
         self.has_told_unanswered = said_then(has_told, unanswered);
     }
@@ -340,15 +348,44 @@ impl GapWatch {
         self.given_up = self.given_up.saturating_add(due_count(due));
     }
 
+    /// Notes that the venue has given up these messages by itself, and says it. Nothing more is to
+    /// be told of them then.
+    pub fn note_given_up<E: TextOut>(
+        &mut self,
+        names: &VenueNames,
+        second: u64,
+        run: MissingRun,
+        errors: &mut E,
+    )
+        ensures watch { self.new ≡ record (self.old) {
+          told = None;
+          given_up = shown (self.old.given_up + run.count);
+        } }
+        ensures tells { SaysEach (writing_of E.TextOut)
+            (gap_texts_if names.now second self.old.venue GapChange.GivenUp (Some run))
+            errors.old errors.new }
+    {
+        self.told = None;
+        self.given_up = self.given_up.saturating_add(run.count);
+        self.say(names, second, GapChange::GivenUp, Some(run), errors);
+    }
+
     /// Gives up what is due, where `skip` does so, and says it then. `skip` goes on from a message
     /// of a venue, and returns whether it did.
-    fn give_up_due<K, E>(&mut self, due: &DueGap, second: u64, skip: K, errors: &mut E)
+    fn give_up_due<K, E>(
+        &mut self,
+        names: &VenueNames,
+        due: &DueGap,
+        second: u64,
+        skip: K,
+        errors: &mut E,
+    )
     where
         K: Fn(VenueId, u64) -> bool,
         E: TextOut,
         requires { K.IsAlwaysCallable skip }
         ensures venue { self.new.venue ≡ self.old.venue }
-        ensures tells { TellsIfDone (record { adds = E.adds; failures = E.failures })
+        ensures tells { TellsIfDone (writing_of E.TextOut) names.now
             (K.post skip self.old.venue due.now.next) (news_of second self.old.venue due.now)
             errors.old errors.new }
     {
@@ -365,12 +402,13 @@ impl GapWatch {
                 count: due_count(due),
             },
         };
-        write_gap_news(&news, errors);
+        write_gap_news(names, &news, errors);
     }
 
     /// Gives up what is due of the gap that stands, and says it.
     fn give_up<K, E>(
         &mut self,
+        names: &VenueNames,
         rule: &GapRule,
         now_ms: u64,
         status: &VenueStatus,
@@ -382,13 +420,13 @@ impl GapWatch {
         E: TextOut,
         requires { K.IsAlwaysCallable skip }
         ensures venue { self.new.venue ≡ self.old.venue }
-        ensures gives { GivesUpDue (record { adds = E.adds; failures = E.failures })
+        ensures gives { GivesUpDue (writing_of E.TextOut) names.now
             (K.post skip self.old.venue) rule.now self.old now_ms status.now errors.old errors.new }
     {
         let Some(due) = self.due(rule, now_ms, status) else {
             return;
         };
-        self.give_up_due(&due, now_ms / 1_000, skip, errors);
+        self.give_up_due(names, &due, now_ms / 1_000, skip, errors);
     }
 
     /// What was given up since the last look where sessions were joined, if anything was.
@@ -407,34 +445,41 @@ impl GapWatch {
     /// Says what was given up since the last look where sessions were joined.
     fn tell_joins<E: TextOut>(
         &mut self,
+        names: &VenueNames,
         rule: &GapRule,
         now_ms: u64,
         status: &VenueStatus,
         errors: &mut E,
     )
         ensures watch { self.new ≡ after_joins rule.now self.old status.now }
-        ensures tells { SaysEach (record { adds = E.adds; failures = E.failures })
-            (gap_texts_if (now_ms / 1000) self.old.venue GapChange.GivenUp
+        ensures tells { SaysEach (writing_of E.TextOut)
+            (gap_texts_if names.now (now_ms / 1000) self.old.venue GapChange.GivenUp
             (joined_run rule.now self.old status.now)) errors.old errors.new }
     {
         let joined = self.joined(rule, status);
-        self.say(now_ms / 1_000, GapChange::GivenUp, joined, errors);
+        self.say(names, now_ms / 1_000, GapChange::GivenUp, joined, errors);
         self.before_join = status.before_join;
         self.given_up = self.given_up.saturating_add(run_count(joined));
     }
 
     /// Says which session has begun since the last look, if one has. The one before is over, so
     /// what was told to be lacking of it has come, and no gap of it stands.
-    fn tell_session<E: TextOut>(&mut self, now_ms: u64, status: &VenueStatus, errors: &mut E)
+    fn tell_session<E: TextOut>(
+        &mut self,
+        names: &VenueNames,
+        now_ms: u64,
+        status: &VenueStatus,
+        errors: &mut E,
+    )
         ensures watch { self.new ≡ watch_begun self.old status.now }
-        ensures tells { SaysOfSession (record { adds = E.adds; failures = E.failures }) self.old
+        ensures tells { SaysOfSession (writing_of E.TextOut) names.now self.old
             now_ms status.now errors.old errors.new }
     {
         if status.ordinal <= self.ordinal {
             return;
         }
         let second = now_ms / 1_000;
-        self.say(second, GapChange::Closed, self.told, errors);
+        self.say(names, second, GapChange::Closed, self.told, errors);
         let news = SessionNews {
             second,
             venue: self.venue,
@@ -444,13 +489,21 @@ impl GapWatch {
         self.told = None;
         self.standing = None;
         self.ordinal = status.ordinal;
-        write_session_news(&news, errors);
+        write_session_news(names, &news, errors);
     }
 
     /// Looks at the venue, by the status that `status` returns: says what was given up where a
     /// session was joined, and what is new of its gap, and gives up what is due of it, where `skip`
     /// does so.
-    pub fn look<S, K, E>(&mut self, rule: &GapRule, now_ms: u64, status: S, skip: K, errors: &mut E)
+    pub fn look<S, K, E>(
+        &mut self,
+        names: &VenueNames,
+        rule: &GapRule,
+        now_ms: u64,
+        status: S,
+        skip: K,
+        errors: &mut E,
+    )
     where
         S: Fn(VenueId) -> Option<VenueStatus>,
         K: Fn(VenueId, u64) -> bool,
@@ -458,17 +511,17 @@ impl GapWatch {
         requires status { S.IsAlwaysCallable status }
         requires skip { K.IsAlwaysCallable skip }
         ensures venue { self.new.venue ≡ self.old.venue }
-        ensures looks { LooksAt (record { adds = E.adds; failures = E.failures })
+        ensures looks { LooksAt (writing_of E.TextOut) names.now
             (S.post status self.old.venue) (K.post skip self.old.venue) rule.now self.old now_ms
             errors.old errors.new }
     {
         let Some(status) = status(self.venue) else {
             return;
         };
-        self.tell_session(now_ms, &status, errors);
+        self.tell_session(names, now_ms, &status, errors);
         self.stand(now_ms, &status);
-        self.tell_joins(rule, now_ms, &status, errors);
-        self.tell(now_ms, &status, errors);
-        self.give_up(rule, now_ms, &status, skip, errors);
+        self.tell_joins(names, rule, now_ms, &status, errors);
+        self.tell(names, now_ms, &status, errors);
+        self.give_up(names, rule, now_ms, &status, skip, errors);
     }
 }

@@ -1,14 +1,15 @@
 //! The gaps of a run's venues as the thread beside the run sees them.
 ghost use Rattle.std.specs.List.{range_with_len};
 ghost use Rattle.std.specs.Prelude.{◌≡◌, ◌≤◌, IfOk, map};
-ghost use Rattle.text_out.specs.Devices.{Writing};
+ghost use Rattle.text_out.specs.Members.{writing_of};
 ghost use Rattle.run_watches.specs.RunLines.{told_gaps, watched_gaps, watched_venue};
 ghost use Rattle.run_watches.specs.RunNews.{IsNewsOfGaps, SaysNews};
 
+use crate::gap_news::MissingRun;
 use crate::gap_rule::GapRule;
 use crate::gap_watch::GapWatch;
 use feed_types::VenueId;
-use run_settings::ListenSettings;
+use run_settings::{ListenSettings, VenueNames};
 use std::alloc::{AllocError, Global};
 use text_out::TextOut;
 use venue_lines::VenueStatus;
@@ -51,9 +52,33 @@ impl GapWatches {
         }
     }
 
+    /// Notes that a venue has given up these messages by itself, where gaps are given up and its
+    /// gaps are watched, and says it.
+    pub(crate) fn note_given_up<E: TextOut>(
+        &mut self,
+        names: &VenueNames,
+        elapsed_ms: u64,
+        venue: VenueId,
+        run: MissingRun,
+        errors: &mut E,
+    )
+        ensures gaps { watched_gaps self.new ≡ watched_gaps self.old }
+        ensures says { SaysNews (writing_of E.TextOut) names.now
+            (IsNewsOfGaps (watched_gaps self.old)) errors.old errors.new }
+    {
+        if !self.rule.gives_up() {
+            return;
+        }
+        match self.gaps.get_mut(venue.index()) {
+            Some(gap) => gap.note_given_up(names, elapsed_ms / 1_000, run, errors),
+            None => {}
+        }
+    }
+
     /// Looks at the venue at a place, if there is one.
     fn look_at<S, K, E>(
         &mut self,
+        names: &VenueNames,
         place: usize,
         elapsed_ms: u64,
         status: S,
@@ -67,12 +92,12 @@ impl GapWatches {
         requires status { S.IsAlwaysCallable status }
         requires skip { K.IsAlwaysCallable skip }
         ensures gaps { watched_gaps self.new ≡ watched_gaps self.old }
-        ensures says { SaysNews (record { adds = E.adds; failures = E.failures })
+        ensures says { SaysNews (writing_of E.TextOut) names.now
             (IsNewsOfGaps (watched_gaps self.old)) errors.old errors.new }
     {
         let rule = self.rule;
         match self.gaps.get_mut(place) {
-            Some(gap) => gap.look(&rule, elapsed_ms, status, skip, errors),
+            Some(gap) => gap.look(names, &rule, elapsed_ms, status, skip, errors),
             None => {}
         }
     }
@@ -81,7 +106,14 @@ impl GapWatches {
     /// just before: says what is new of their gaps, and gives up what is due. `status` returns what
     /// a venue has come to, or None where there is none; `skip` goes on from a message of a venue,
     /// and returns whether it did. Where it didn't, a later look tries again.
-    pub fn look<S, K, E>(&mut self, elapsed_ms: u64, status: S, skip: K, errors: &mut E)
+    pub fn look<S, K, E>(
+        &mut self,
+        names: &VenueNames,
+        elapsed_ms: u64,
+        status: S,
+        skip: K,
+        errors: &mut E,
+    )
     where
         S: Fn(VenueId) -> Option<VenueStatus>,
         K: Fn(VenueId, u64) -> bool,
@@ -89,7 +121,7 @@ impl GapWatches {
         requires status { S.IsAlwaysCallable status }
         requires skip { K.IsAlwaysCallable skip }
         ensures gaps { watched_gaps self.new ≡ watched_gaps self.old }
-        ensures says { SaysNews (record { adds = E.adds; failures = E.failures })
+        ensures says { SaysNews (writing_of E.TextOut) names.now
             (IsNewsOfGaps (watched_gaps self.old)) errors.old errors.new }
     {
         if elapsed_ms < self.due_ms {
@@ -97,7 +129,7 @@ impl GapWatches {
         }
         self.due_ms = elapsed_ms.saturating_add(LOOK_MS);
         for place in 0..self.gaps.len() {
-            self.look_at(place, elapsed_ms, &status, &skip, errors);
+            self.look_at(names, place, elapsed_ms, &status, &skip, errors);
         }
     }
 }

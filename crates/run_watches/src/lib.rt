@@ -18,11 +18,11 @@
 mod counts_json;
 mod counts_text;
 mod errors_progress;
+mod figures_since;
 mod gap_news;
 mod gap_rule;
 mod gap_watch;
 mod gap_watches;
-mod line_figures;
 mod line_news;
 mod line_silence;
 mod line_watch;
@@ -35,6 +35,7 @@ mod row_progress;
 mod run_watches;
 mod session_news;
 mod unheld_errors;
+mod venue_column;
 mod venue_statuses;
 
 pub use errors_progress::{ErrorsProgress, UntakenTexts};

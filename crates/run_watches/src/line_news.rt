@@ -1,11 +1,12 @@
 //! What is said of lines while a run goes on, and what was counted of them at its end.
 ghost use Rattle.std.specs.Prelude.{◌≡◌, decimal};
-ghost use Rattle.text_out.specs.Devices.{Writing};
+ghost use Rattle.text_out.specs.Members.{writing_of};
 ghost use Rattle.text_out.specs.StandardError.{Says, SaysEach};
 ghost use Rattle.run_watches.specs.News.{change_text, change_texts, counted_text, counted_texts, letter_text, line_end_texts, line_name_texts, ms_texts, news_texts, rest_texts, named_session_texts, time_texts, total_texts, verb_text};
 
 use feed_types::{LineId, VenueId};
-use run_notes::write_session_name;
+use run_notes::{write_session_name, write_venue_name};
+use run_settings::VenueNames;
 use text_out::{TextOut, write_number, write_stderr};
 
 /// What has happened to a line.
@@ -151,8 +152,7 @@ fn counted_end(counted: LineCounted, count: u64) -> &'static str
 
 /// Writes in which second something has happened.
 fn write_time<E: TextOut>(second: u64, errors: &mut E)
-    ensures { SaysEach (record { adds = E.adds; failures = E.failures })
-        (time_texts second) errors.old errors.new }
+    ensures { SaysEach (writing_of E.TextOut) (time_texts second) errors.old errors.new }
 {
     write_stderr("nbbo: second ", errors);
     write_number(second, errors);
@@ -160,17 +160,17 @@ fn write_time<E: TextOut>(second: u64, errors: &mut E)
 }
 
 /// Writes which line it is.
-fn write_line_name<E: TextOut>(venue: VenueId, line: LineId, errors: &mut E)
-    ensures { SaysEach (record { adds = E.adds; failures = E.failures })
-        (line_name_texts venue line) errors.old errors.new }
+fn write_line_name<E: TextOut>(names: &VenueNames, venue: VenueId, line: LineId, errors: &mut E)
+    ensures { SaysEach (writing_of E.TextOut)
+        (line_name_texts names.now venue line) errors.old errors.new }
 {
-    write_number(venue.index() as u64, errors);
+    write_venue_name(names, venue, errors);
     write_stderr(letter(line), errors);
 }
 
 /// Writes the name of a session, and then this text.
 fn write_session<E: TextOut>(session: &[u8; 10], end: &str, errors: &mut E)
-    ensures { SaysEach (record { adds = E.adds; failures = E.failures })
+    ensures { SaysEach (writing_of E.TextOut)
         (named_session_texts session.now end.now) errors.old errors.new }
 {
     write_session_name(session, errors);
@@ -179,8 +179,7 @@ fn write_session<E: TextOut>(session: &[u8; 10], end: &str, errors: &mut E)
 
 /// Writes how many milliseconds they are, and then this text.
 fn write_ms<E: TextOut>(ms: u64, end: &str, errors: &mut E)
-    ensures { SaysEach (record { adds = E.adds; failures = E.failures })
-        (ms_texts ms end.now) errors.old errors.new }
+    ensures { SaysEach (writing_of E.TextOut) (ms_texts ms end.now) errors.old errors.new }
 {
     write_number(ms, errors);
     write_stderr(end, errors);
@@ -188,8 +187,7 @@ fn write_ms<E: TextOut>(ms: u64, end: &str, errors: &mut E)
 
 /// Writes the session's name, or the number, and ends the line, where that is told.
 fn write_rest<E: TextOut>(change: LineChange, errors: &mut E)
-    ensures { SaysEach (record { adds = E.adds; failures = E.failures })
-        (rest_texts change) errors.old errors.new }
+    ensures { SaysEach (writing_of E.TextOut) (rest_texts change) errors.old errors.new }
 {
     match change {
         LineChange::EndedWith(session) => write_session(&session, "\n", errors),
@@ -204,37 +202,41 @@ fn write_rest<E: TextOut>(change: LineChange, errors: &mut E)
 
 /// Writes the end of the line about what has happened.
 fn write_change<E: TextOut>(change: LineChange, errors: &mut E)
-    ensures { SaysEach (record { adds = E.adds; failures = E.failures })
-        (change_texts change) errors.old errors.new }
+    ensures { SaysEach (writing_of E.TextOut) (change_texts change) errors.old errors.new }
 {
     write_stderr(change_end(change), errors);
     write_rest(change, errors);
 }
 
 /// Writes what has happened to a line.
-pub fn write_news<E: TextOut>(news: &LineNews, errors: &mut E)
-    ensures { SaysEach (record { adds = E.adds; failures = E.failures })
-        (news_texts news.now) errors.old errors.new }
+pub fn write_news<E: TextOut>(names: &VenueNames, news: &LineNews, errors: &mut E)
+    ensures { SaysEach (writing_of E.TextOut)
+        (news_texts names.now news.now) errors.old errors.new }
 {
     write_time(news.second, errors);
-    write_line_name(news.venue, news.line, errors);
+    write_line_name(names, news.venue, news.line, errors);
     write_change(news.change, errors);
 }
 
 /// Writes how a line has ended.
-pub fn write_line_end<E: TextOut>(venue: VenueId, line: LineId, change: LineChange, errors: &mut E)
-    ensures { SaysEach (record { adds = E.adds; failures = E.failures })
-        (line_end_texts (venue, line) change) errors.old errors.new }
+pub fn write_line_end<E: TextOut>(
+    names: &VenueNames,
+    venue: VenueId,
+    line: LineId,
+    change: LineChange,
+    errors: &mut E,
+)
+    ensures { SaysEach (writing_of E.TextOut)
+        (line_end_texts names.now (venue, line) change) errors.old errors.new }
 {
     write_stderr("nbbo: line ", errors);
-    write_line_name(venue, line, errors);
+    write_line_name(names, venue, line, errors);
     write_change(change, errors);
 }
 
 /// Writes how many there were.
 fn write_counted<E: TextOut>(total: &LineTotal, errors: &mut E)
-    ensures { SaysEach (record { adds = E.adds; failures = E.failures })
-        (counted_texts total.now) errors.old errors.new }
+    ensures { SaysEach (writing_of E.TextOut) (counted_texts total.now) errors.old errors.new }
 {
     write_stderr(verb(total.counted), errors);
     write_number(total.count, errors);
@@ -242,11 +244,11 @@ fn write_counted<E: TextOut>(total: &LineTotal, errors: &mut E)
 }
 
 /// Writes how much was counted of a line.
-pub fn write_total<E: TextOut>(total: &LineTotal, errors: &mut E)
-    ensures { SaysEach (record { adds = E.adds; failures = E.failures })
-        (total_texts total.now) errors.old errors.new }
+pub fn write_total<E: TextOut>(names: &VenueNames, total: &LineTotal, errors: &mut E)
+    ensures { SaysEach (writing_of E.TextOut)
+        (total_texts names.now total.now) errors.old errors.new }
 {
     write_stderr("nbbo: line ", errors);
-    write_line_name(total.venue, total.line, errors);
+    write_line_name(names, total.venue, total.line, errors);
     write_counted(total, errors);
 }

@@ -1,7 +1,7 @@
 //! The lines of a run as the thread beside it sees them: what is news of them, and what was
 //! counted.
 ghost use Rattle.std.specs.Prelude.{◌≡◌, ◌∷◌, [], Bool, IfSome, false, flat_map, is_some, map, true};
-ghost use Rattle.text_out.specs.Devices.{Writing};
+ghost use Rattle.text_out.specs.Members.{writing_of};
 ghost use Rattle.text_out.specs.StandardError.{SaysEach};
 ghost use Rattle.run_watches.specs.News.{SaysNotes, SaysTotals, line_end_texts, stranger_note, told_if, total_if, total_texts, unheard_note};
 ghost use Rattle.run_watches.specs.RunLines.{watched, watched_lines};
@@ -13,7 +13,8 @@ use crate::line_news::{
 use crate::line_silence::{LineSilence, Silence};
 use crate::moment::Moment;
 use feed_types::{LineId, VenueId};
-use run_metrics::{LineEnd, LineState, UNKNOWN_STATE, VenueFigures};
+use run_metrics::{LineEndReason, LineState, UNKNOWN_STATE, VenueFigures};
+use run_settings::VenueNames;
 use socket_tables::{DropTable, SocketTables};
 use std::net::SocketAddr;
 use text_out::TextOut;
@@ -213,13 +214,14 @@ impl LineWatch {
     /// Writes what has happened to the line, if anything has.
     fn write_change<E: TextOut>(
         &self,
+        names: &VenueNames,
         second: u64,
         tells_more: bool,
         change: Option<LineChange>,
         errors: &mut E,
     )
         requires { IfSome change (IsTold tells_more) }
-        ensures { SaysNews (record { adds = E.adds; failures = E.failures })
+        ensures { SaysNews (writing_of E.TextOut) names.now
             (IsNewsOfLine tells_more (watched self.now)) errors.old errors.new }
     {
         let Some(change) = change else {
@@ -231,29 +233,31 @@ impl LineWatch {
             line: self.line,
             change,
         };
-        write_news(&news, errors);
+        write_news(names, &news, errors);
     }
 
     /// Writes how the line has ended, if that is new, and then with which session.
     fn write_end<E: TextOut>(
         &self,
+        names: &VenueNames,
         second: u64,
         tells_more: bool,
         end: Option<LineChange>,
         errors: &mut E,
     )
         requires { IfSome end (IsTold tells_more) }
-        ensures { SaysNews (record { adds = E.adds; failures = E.failures })
+        ensures { SaysNews (writing_of E.TextOut) names.now
             (IsNewsOfLine tells_more (watched self.now)) errors.old errors.new }
     {
         let session = self.new_session(tells_more, end);
-        self.write_change(second, tells_more, end, errors);
-        self.write_change(second, tells_more, session, errors);
+        self.write_change(names, second, tells_more, end, errors);
+        self.write_change(names, second, tells_more, session, errors);
     }
 
     /// Writes the one thing that has happened to the line, and then the other.
     fn write_both<E: TextOut>(
         &self,
+        names: &VenueNames,
         second: u64,
         tells_more: bool,
         changes: (Option<LineChange>, Option<LineChange>),
@@ -261,12 +265,12 @@ impl LineWatch {
     )
         requires first { IfSome changes.0 (IsTold tells_more) }
         requires last { IfSome changes.1 (IsTold tells_more) }
-        ensures { SaysNews (record { adds = E.adds; failures = E.failures })
+        ensures { SaysNews (writing_of E.TextOut) names.now
             (IsNewsOfLine tells_more (watched self.now)) errors.old errors.new }
     {
         let (first, last) = changes;
-        self.write_change(second, tells_more, first, errors);
-        self.write_change(second, tells_more, last, errors);
+        self.write_change(names, second, tells_more, first, errors);
+        self.write_change(names, second, tells_more, last, errors);
     }
 
     /// Writes what is new of the line, and where more is told with which session it ended, which
@@ -274,13 +278,14 @@ impl LineWatch {
     /// tables.
     fn write_news<E: TextOut>(
         &mut self,
+        names: &VenueNames,
         moment: Moment,
         tells_more: bool,
         tables: Option<&SocketTables>,
         errors: &mut E,
     )
         ensures line { watched self.new ≡ watched self.old }
-        ensures news { SaysNews (record { adds = E.adds; failures = E.failures })
+        ensures news { SaysNews (writing_of E.TextOut) names.now
             (IsNewsOfLine tells_more (watched self.old)) errors.old errors.new }
     {
         let second = moment.second();
@@ -291,17 +296,23 @@ impl LineWatch {
         let passed = (self.new_passed(), self.new_foreign());
         let refused = (self.new_stranger(tells_more), self.new_withheld(tells_more));
         let silence = self.new_silence(moment, tells_more, tables);
-        self.write_both(second, tells_more, requests, errors);
-        self.write_both(second, tells_more, passed, errors);
-        self.write_both(second, tells_more, refused, errors);
-        self.write_change(second, tells_more, silence, errors);
-        self.write_end(second, tells_more, end, errors);
+        self.write_both(names, second, tells_more, requests, errors);
+        self.write_both(names, second, tells_more, passed, errors);
+        self.write_both(names, second, tells_more, refused, errors);
+        self.write_change(names, second, tells_more, silence, errors);
+        self.write_end(names, second, tells_more, end, errors);
     }
 
     /// Writes how many there were of what is counted, if there were any.
-    fn write_total<E: TextOut>(&self, counted: LineCounted, count: u64, errors: &mut E)
-        ensures { SaysEach (record { adds = E.adds; failures = E.failures })
-            (flat_map total_texts (total_if (watched self.now) counted count))
+    fn write_total<E: TextOut>(
+        &self,
+        names: &VenueNames,
+        counted: LineCounted,
+        count: u64,
+        errors: &mut E,
+    )
+        ensures { SaysEach (writing_of E.TextOut)
+            (flat_map (total_texts names.now) (total_if (watched self.now) counted count))
             errors.old errors.new }
     {
         if count == 0 {
@@ -313,16 +324,16 @@ impl LineWatch {
             counted,
             count,
         };
-        write_total(&total, errors);
+        write_total(names, &total, errors);
     }
 
     /// What has ended the line while the run goes on, if it has ended.
-    fn cause(&self) -> Option<LineEnd> {
+    fn cause(&self) -> Option<LineEndReason> {
         match self.end() {
-            Some(LineChange::Failed) => Some(LineEnd::Failed),
-            Some(LineChange::ReadOut) => Some(LineEnd::ReadOut),
-            Some(_) if self.progress.has_ended_by_own() => Some(LineEnd::OwnSession),
-            Some(_) => Some(LineEnd::OtherSession),
+            Some(LineChange::Failed) => Some(LineEndReason::Failed),
+            Some(LineChange::ReadOut) => Some(LineEndReason::ReadOut),
+            Some(_) if self.progress.has_ended_by_own() => Some(LineEndReason::OwnSession),
+            Some(_) => Some(LineEndReason::OtherSession),
             None => None,
         }
     }
@@ -356,24 +367,30 @@ impl LineWatch {
     }
 
     /// Writes which session it brought that isn't its venue's, if there was one.
-    fn write_stranger<E: TextOut>(&self, stranger: Option<[u8; 10]>, errors: &mut E)
-        ensures { SaysEach (record { adds = E.adds; failures = E.failures })
-            (flat_map (line_end_texts (watched self.now)) (stranger_note stranger))
+    fn write_stranger<E: TextOut>(
+        &self,
+        names: &VenueNames,
+        stranger: Option<[u8; 10]>,
+        errors: &mut E,
+    )
+        ensures { SaysEach (writing_of E.TextOut)
+            (flat_map (line_end_texts names.now (watched self.now)) (stranger_note stranger))
             errors.old errors.new }
     {
         if let Some(session) = stranger {
-            write_line_end(self.venue, self.line, LineChange::Stranger(session), errors);
+            let change = LineChange::Stranger(session);
+            write_line_end(names, self.venue, self.line, change, errors);
         }
     }
 
     /// Writes that it never brought a datagram, where that is so.
-    fn write_unheard<E: TextOut>(&self, unheard: bool, errors: &mut E)
-        ensures { SaysEach (record { adds = E.adds; failures = E.failures })
-            (flat_map (line_end_texts (watched self.now)) (unheard_note unheard))
+    fn write_unheard<E: TextOut>(&self, names: &VenueNames, unheard: bool, errors: &mut E)
+        ensures { SaysEach (writing_of E.TextOut)
+            (flat_map (line_end_texts names.now (watched self.now)) (unheard_note unheard))
             errors.old errors.new }
     {
         if unheard {
-            write_line_end(self.venue, self.line, LineChange::Unheard, errors);
+            write_line_end(names, self.venue, self.line, LineChange::Unheard, errors);
         }
     }
 
@@ -383,41 +400,51 @@ impl LineWatch {
     }
 
     /// Writes what else there is to note of the line at the end.
-    fn write_all_notes<E: TextOut>(&self, errors: &mut E)
-        ensures { SaysNotes (record { adds = E.adds; failures = E.failures })
+    fn write_all_notes<E: TextOut>(&self, names: &VenueNames, errors: &mut E)
+        ensures { SaysNotes (writing_of E.TextOut) names.now
             true (watched self.now) errors.old errors.new }
     {
-        self.write_stranger(self.progress.stranger(), errors);
-        self.write_unheard(self.is_unheard(), errors);
+        self.write_stranger(names, self.progress.stranger(), errors);
+        self.write_unheard(names, self.is_unheard(), errors);
     }
 
     /// Writes what else there is to note of the line at the end, where more is told.
-    fn write_notes<E: TextOut>(&self, tells_more: bool, errors: &mut E)
-        ensures { SaysNotes (record { adds = E.adds; failures = E.failures })
+    fn write_notes<E: TextOut>(&self, names: &VenueNames, tells_more: bool, errors: &mut E)
+        ensures { SaysNotes (writing_of E.TextOut) names.now
             tells_more (watched self.now) errors.old errors.new }
     {
         if !tells_more {
             return;
         }
-        self.write_all_notes(errors);
+        self.write_all_notes(names, errors);
     }
 
     /// Writes what was counted of the line, and where it is looked for what the system dropped, and
     /// what else there is to note of it.
-    fn write_totals<E: TextOut>(&self, drops: Option<&DropTable>, errors: &mut E)
-        ensures { SaysTotals (record { adds = E.adds; failures = E.failures })
+    fn write_totals<E: TextOut>(
+        &self,
+        names: &VenueNames,
+        drops: Option<&DropTable>,
+        errors: &mut E,
+    )
+        ensures { SaysTotals (writing_of E.TextOut) names.now
             (is_some drops.entry) (watched self.now ∷ []) errors.old errors.new }
     {
         let tells_more = drops.is_some();
         let withheld = told_count(tells_more, self.progress.withheld());
         let held_back = told_count(tells_more, self.progress.held_back());
-        self.write_total(LineCounted::Unsent, self.progress.unsent(), errors);
-        self.write_total(LineCounted::Passed, self.progress.passed(), errors);
-        self.write_total(LineCounted::Foreign, self.progress.foreign(), errors);
-        self.write_total(LineCounted::Withheld, withheld, errors);
-        self.write_total(LineCounted::HeldBack, held_back, errors);
-        self.write_total(LineCounted::Dropped, self.dropped_count(drops), errors);
-        self.write_notes(tells_more, errors);
+        self.write_total(names, LineCounted::Unsent, self.progress.unsent(), errors);
+        self.write_total(names, LineCounted::Passed, self.progress.passed(), errors);
+        self.write_total(names, LineCounted::Foreign, self.progress.foreign(), errors);
+        self.write_total(names, LineCounted::Withheld, withheld, errors);
+        self.write_total(names, LineCounted::HeldBack, held_back, errors);
+        self.write_total(
+            names,
+            LineCounted::Dropped,
+            self.dropped_count(drops),
+            errors,
+        );
+        self.write_notes(names, tells_more, errors);
     }
 }
 
@@ -505,48 +532,64 @@ impl LineWatches {
     }
 
     /// Writes what is new of the line at a place, if there is one.
-    fn write_news_at<E: TextOut>(&mut self, place: usize, moment: Moment, errors: &mut E)
+    fn write_news_at<E: TextOut>(
+        &mut self,
+        names: &VenueNames,
+        place: usize,
+        moment: Moment,
+        errors: &mut E,
+    )
         ensures lines { watched_lines self.new ≡ watched_lines self.old }
-        ensures news { SaysNews (record { adds = E.adds; failures = E.failures })
+        ensures news { SaysNews (writing_of E.TextOut) names.now
             (IsNewsOfLines (watched_lines self.old)) errors.old errors.new }
     {
         let tells_more = self.tables.is_some();
         let tables = self.tables.as_ref();
         match self.lines.get_mut(place) {
-            Some(line) => line.write_news(moment, tells_more, tables, errors),
+            Some(line) => line.write_news(names, moment, tells_more, tables, errors),
             None => {}
         }
     }
 
     /// Writes what is new of the lines at this moment of the run.
-    pub fn write_news<E: TextOut>(&mut self, moment: Moment, errors: &mut E)
+    pub fn write_news<E: TextOut>(&mut self, names: &VenueNames, moment: Moment, errors: &mut E)
         ensures lines { watched_lines self.new ≡ watched_lines self.old }
-        ensures news { SaysNews (record { adds = E.adds; failures = E.failures })
+        ensures news { SaysNews (writing_of E.TextOut) names.now
             (IsNewsOfLines (watched_lines self.old)) errors.old errors.new }
     {
         for place in 0..self.lines.len() {
-            self.write_news_at(place, moment, errors);
+            self.write_news_at(names, place, moment, errors);
         }
     }
 
     /// Writes what was counted of the lines, and where it is looked for what the system dropped.
-    fn write_totals_with<E: TextOut>(&self, drops: Option<&DropTable>, errors: &mut E)
-        ensures { SaysTotals (record { adds = E.adds; failures = E.failures })
+    fn write_totals_with<E: TextOut>(
+        &self,
+        names: &VenueNames,
+        drops: Option<&DropTable>,
+        errors: &mut E,
+    )
+        ensures { SaysTotals (writing_of E.TextOut) names.now
             (is_some drops.entry) (map watched self.now.lines.items) errors.old errors.new }
     {
         for line in self.lines.as_slice() {
-            line.write_totals(drops, errors);
+            line.write_totals(names, drops, errors);
         }
     }
 
     /// Writes what was counted of the lines. `drops` is what the system has dropped, where that is
     /// looked for.
-    pub(crate) fn write_totals<E: TextOut>(&self, drops: &Option<DropTable>, errors: &mut E)
+    pub(crate) fn write_totals<E: TextOut>(
+        &self,
+        names: &VenueNames,
+        drops: &Option<DropTable>,
+        errors: &mut E,
+    )
         requires { is_some drops.now ≡ is_some self.now.tables }
-        ensures { SaysTotals (record { adds = E.adds; failures = E.failures })
+        ensures { SaysTotals (writing_of E.TextOut) names.now
             (watched_lines self.now).tells_more (watched_lines self.now).lines
             errors.old errors.new }
     {
-        self.write_totals_with(drops.as_ref(), errors);
+        self.write_totals_with(names, drops.as_ref(), errors);
     }
 }

@@ -1,16 +1,16 @@
 //! The counts that are printed while a run goes on, and at its end.
 ghost use Rattle.std.specs.Prelude.{◌≡◌, is_some};
-ghost use Rattle.text_out.specs.Devices.{Writing};
+ghost use Rattle.text_out.specs.Members.{writing_of};
 ghost use Rattle.run_watches.specs.RunNews.{SaysCounts};
 
 use crate::counts_json::{period_json, totals_json};
 use crate::counts_text::{period_text, table_text};
-use crate::line_figures::figures_since;
+use crate::figures_since::figures_since;
 use crate::moment::Moment;
 use crate::venue_statuses::{AllFigures, NO_FIGURES};
 use feed_types::{MAX_VENUES, VenueId};
 use run_metrics::VenueFigures;
-use run_settings::{ListenSettings, ListenStats, StatsFormat};
+use run_settings::{ListenSettings, ListenStats, StatsFormat, VenueNames};
 use std::alloc::{AllocError, Global};
 use text_out::{TextOut, write_stderr};
 
@@ -52,24 +52,29 @@ impl ListenCounts {
         self.due_ms
     }
 
-    /// The line of the venue at this place, of what was counted in a period.
+    /// The line of a venue, of what was counted in a period.
     fn period_line(
         &self,
+        names: &VenueNames,
         moment: Moment,
-        place: usize,
         since: &VenueFigures,
     ) -> Result<String, AllocError> {
         match self.format {
-            StatsFormat::Table => period_text(self.alloc, moment.second(), place, since),
-            StatsFormat::Json => period_json(self.alloc, moment, place, since),
+            StatsFormat::Table => period_text(self.alloc, names, moment.second(), since),
+            StatsFormat::Json => period_json(self.alloc, names, moment, since),
         }
     }
 
     /// What was counted of all venues.
-    fn totals(&self, moment: Moment, figures: &AllFigures) -> Result<String, AllocError> {
+    fn totals(
+        &self,
+        names: &VenueNames,
+        moment: Moment,
+        figures: &AllFigures,
+    ) -> Result<String, AllocError> {
         match self.format {
-            StatsFormat::Table => table_text(self.alloc, figures),
-            StatsFormat::Json => totals_json(self.alloc, moment, figures),
+            StatsFormat::Table => table_text(self.alloc, names, figures),
+            StatsFormat::Json => totals_json(self.alloc, names, moment, figures),
         }
     }
 
@@ -77,16 +82,21 @@ impl ListenCounts {
     /// lines due at the next period's end. `figures` returns what a venue has come to, or None
     /// where there is none. A line is left out where memory for it is refused.
     #[tactic(auto, using(crate::specs::RunNewsLaws::no_counts, crate::proofs::Counts::more_counts))]
-    pub fn write_period<F, E>(&mut self, moment: Moment, figures: F, errors: &mut E)
+    pub fn write_period<F, E>(
+        &mut self,
+        names: &VenueNames,
+        moment: Moment,
+        figures: F,
+        errors: &mut E,
+    )
     where
         F: Fn(VenueId) -> Option<VenueFigures>,
         E: TextOut,
         requires { F.IsAlwaysCallable figures }
-        ensures { SaysCounts (record { adds = E.adds; failures = E.failures })
-            errors.old errors.new }
+        ensures { SaysCounts (writing_of E.TextOut) errors.old errors.new }
     {
         for place in 0..MAX_VENUES {
-            self.write_any(moment, place, figures(VenueId::at(place)), errors);
+            self.write_any(names, moment, place, figures(VenueId::at(place)), errors);
         }
         let periods = moment.elapsed_ms / self.period_ms.max(1);
         self.due_ms = periods.saturating_add(1).saturating_mul(self.period_ms);
@@ -96,16 +106,16 @@ impl ListenCounts {
     #[tactic(auto, using(crate::specs::RunNewsLaws::no_counts))]
     fn write_any<E: TextOut>(
         &mut self,
+        names: &VenueNames,
         moment: Moment,
         place: usize,
         figures: Option<VenueFigures>,
         errors: &mut E,
     )
-        ensures { SaysCounts (record { adds = E.adds; failures = E.failures })
-            errors.old errors.new }
+        ensures { SaysCounts (writing_of E.TextOut) errors.old errors.new }
     {
         if let Some(figures) = figures {
-            self.write_venue(moment, place, &figures, errors);
+            self.write_venue(names, moment, place, &figures, errors);
         }
     }
 
@@ -113,18 +123,18 @@ impl ListenCounts {
     #[tactic(auto, using(crate::specs::RunNewsLaws::no_counts))]
     fn write_venue<E: TextOut>(
         &mut self,
+        names: &VenueNames,
         moment: Moment,
         place: usize,
         figures: &VenueFigures,
         errors: &mut E,
     )
-        ensures { SaysCounts (record { adds = E.adds; failures = E.failures })
-            errors.old errors.new }
+        ensures { SaysCounts (writing_of E.TextOut) errors.old errors.new }
     {
         if let Some(written) = self.last_written.get_mut(place) {
             let since = figures_since(figures, written.as_ref());
             *written = Some(*figures);
-            if let Ok(line) = self.period_line(moment, place, &since) {
+            if let Ok(line) = self.period_line(names, moment, &since) {
                 write_stderr(line.as_str(), errors);
             }
         }
@@ -133,11 +143,16 @@ impl ListenCounts {
     /// Writes what was counted of all venues, in the form of the counts. Where memory for it is
     /// refused, it is left out.
     #[tactic(auto, using(crate::specs::RunNewsLaws::no_counts))]
-    pub fn write_totals<E: TextOut>(&self, moment: Moment, figures: &AllFigures, errors: &mut E)
-        ensures { SaysCounts (record { adds = E.adds; failures = E.failures })
-            errors.old errors.new }
+    pub fn write_totals<E: TextOut>(
+        &self,
+        names: &VenueNames,
+        moment: Moment,
+        figures: &AllFigures,
+        errors: &mut E,
+    )
+        ensures { SaysCounts (writing_of E.TextOut) errors.old errors.new }
     {
-        if let Ok(totals) = self.totals(moment, figures) {
+        if let Ok(totals) = self.totals(names, moment, figures) {
             write_stderr(totals.as_str(), errors);
         }
     }

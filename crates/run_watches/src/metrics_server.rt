@@ -5,6 +5,7 @@ use crate::line_watch::LineWatches;
 use crate::output_watch::OutputWatch;
 use feed_types::{MAX_VENUES, VenueId};
 use run_metrics::{MetricsClients, Reply, RunFigures, VenueFigures, answer};
+use run_settings::VenueNames;
 use socket_tables::DropTable;
 use std::alloc::{AllocError, Global};
 use std::net::TcpListener;
@@ -49,6 +50,8 @@ pub(crate) struct RunSeen<'a> {
     pub lines: &'a LineWatches,
     pub gaps: &'a GapWatches,
     pub output: &'a OutputWatch,
+    /// What stands for a venue.
+    pub names: &'a VenueNames,
 }
 
 /// The figures of the venues of a run, at whose sockets the system has dropped this, and of which
@@ -72,8 +75,12 @@ fn venues_by<S: Fn(VenueId) -> Option<VenueStatus>>(
     Ok(venues)
 }
 
-/// The figures of a run with these venues.
-fn run_figures<'a>(seen: &RunSeen<'_>, venues: &'a [VenueFigures]) -> RunFigures<'a> {
+/// The figures of a run with these venues, for which these names stand.
+fn run_figures<'a>(
+    seen: &RunSeen<'_>,
+    venues: &'a [VenueFigures],
+    names: &'a VenueNames,
+) -> RunFigures<'a> {
     let rows = seen.output.rows();
     RunFigures {
         seconds: seen.elapsed_ms / 1_000,
@@ -84,6 +91,7 @@ fn run_figures<'a>(seen: &RunSeen<'_>, venues: &'a [VenueFigures]) -> RunFigures
         latency: rows.latency(),
         untaken: seen.output.untaken(),
         venues,
+        names,
     }
 }
 
@@ -98,7 +106,8 @@ fn answer_by<S: Fn(VenueId) -> Option<VenueStatus>>(
     requires { S.IsAlwaysCallable status }
 {
     let venues = venues_by(alloc, seen, drops, status)?;
-    answer(alloc, reply, &run_figures(seen, venues.as_slice()))
+    let names = *seen.names;
+    answer(alloc, reply, &run_figures(seen, venues.as_slice(), &names))
 }
 
 impl MetricsServer {

@@ -1,6 +1,6 @@
 //! What is said of standard output and standard error while a run goes on.
 ghost use Rattle.std.specs.Prelude.{◌≡◌, ◌∷◌, [], decimal};
-ghost use Rattle.text_out.specs.Devices.{Writing};
+ghost use Rattle.text_out.specs.Members.{writing_of};
 ghost use Rattle.text_out.specs.StandardError.{Says, SaysEach};
 ghost use Rattle.run_watches.specs.OutputNews.{output_change_texts, output_news_texts, row_start_text, output_time_texts, untaken_end_text, waiting_end_text};
 
@@ -39,8 +39,7 @@ fn row_start(change: OutputChange) -> &'static str
 
 /// Writes in which second something has happened.
 fn write_second<E: TextOut>(news: &OutputNews, errors: &mut E)
-    ensures { SaysEach (record { adds = E.adds; failures = E.failures })
-        (output_time_texts news.now) errors.old errors.new }
+    ensures { SaysEach (writing_of E.TextOut) (output_time_texts news.now) errors.old errors.new }
 {
     write_stderr(row_start(news.change), errors);
     write_number(news.second, errors);
@@ -70,7 +69,7 @@ fn untaken_end(count: u64) -> &'static str
 
 /// Writes a text, a number, and another text.
 fn write_count<E: TextOut>(start: &str, count: u64, end: &str, errors: &mut E)
-    ensures { SaysEach (record { adds = E.adds; failures = E.failures })
+    ensures { SaysEach (writing_of E.TextOut)
         (start.now ∷ decimal count ∷ end.now ∷ []) errors.old errors.new }
 {
     write_stderr(start, errors);
@@ -80,8 +79,7 @@ fn write_count<E: TextOut>(start: &str, count: u64, end: &str, errors: &mut E)
 
 /// Writes what has happened.
 fn write_change<E: TextOut>(change: OutputChange, errors: &mut E)
-    ensures { SaysEach (record { adds = E.adds; failures = E.failures })
-        (output_change_texts change) errors.old errors.new }
+    ensures { SaysEach (writing_of E.TextOut) (output_change_texts change) errors.old errors.new }
 {
     match change {
         OutputChange::Unread(waiting) => write_count(
@@ -102,8 +100,7 @@ fn write_change<E: TextOut>(change: OutputChange, errors: &mut E)
 
 /// Writes what has happened to what is printed.
 pub fn write_output_news<E: TextOut>(news: &OutputNews, errors: &mut E)
-    ensures { SaysEach (record { adds = E.adds; failures = E.failures })
-        (output_news_texts news.now) errors.old errors.new }
+    ensures { SaysEach (writing_of E.TextOut) (output_news_texts news.now) errors.old errors.new }
 {
     write_second(news, errors);
     write_change(news.change, errors);

@@ -1,12 +1,13 @@
 //! What is printed of a run, as the thread beside it sees it: whether standard output and standard
 //! error are read.
 ghost use Rattle.std.specs.Prelude.{◌≡◌, Bool, IfSome};
-ghost use Rattle.text_out.specs.Devices.{Writing};
+ghost use Rattle.text_out.specs.Members.{writing_of};
 ghost use Rattle.run_watches.specs.RunNews.{IsNewsOfOutput, IsToldOfOutput, SaysNews};
 
 use crate::errors_progress::ErrorsProgress;
 use crate::output_news::{OutputChange, OutputNews, write_output_news};
 use crate::row_progress::RowProgress;
+use run_settings::VenueNames;
 use text_out::TextOut;
 
 /// How long a write goes on before it is told, in milliseconds.
@@ -118,7 +119,7 @@ impl OutputWatch {
     /// Writes what has happened, if anything has.
     fn write_change<E: TextOut>(&self, second: u64, change: Option<OutputChange>, errors: &mut E)
         requires { IfSome change (IsToldOfOutput self.now.follows) }
-        ensures { SaysNews (record { adds = E.adds; failures = E.failures })
+        ensures { (names : VenueNames) → SaysNews (writing_of E.TextOut) names
             (IsNewsOfOutput self.now.follows) errors.old errors.new }
     {
         if let Some(change) = change {
@@ -129,7 +130,7 @@ impl OutputWatch {
     /// Writes what is new of standard error, and then of standard output.
     pub(crate) fn write_news<E: TextOut>(&mut self, now_ms: u64, errors: &mut E)
         ensures follows { self.new.follows ≡ self.old.follows }
-        ensures news { SaysNews (record { adds = E.adds; failures = E.failures })
+        ensures news { (names : VenueNames) → SaysNews (writing_of E.TextOut) names
             (IsNewsOfOutput self.old.follows) errors.old errors.new }
     {
         let second = now_ms / 1_000;

@@ -1,9 +1,10 @@
 //! What the thread beside a run watches of it.
 ghost use Rattle.std.specs.Prelude.{◌≡◌, is_some};
-ghost use Rattle.text_out.specs.Devices.{Writing};
+ghost use Rattle.text_out.specs.Members.{writing_of};
 ghost use Rattle.run_watches.specs.RunLines.{watched_gaps, watched_lines, watched_run};
 ghost use Rattle.run_watches.specs.RunNews.{SaysRunEnd, SaysRunNews};
 
+use crate::gap_news::MissingRun;
 use crate::gap_watches::GapWatches;
 use crate::line_watch::LineWatches;
 use crate::listen_counts::ListenCounts;
@@ -12,6 +13,7 @@ use crate::moment::Moment;
 use crate::output_watch::OutputWatch;
 use crate::venue_statuses::{AllFigures, NO_FIGURES, VenueStatuses, statuses_by};
 use feed_types::{MAX_VENUES, VenueId};
+use run_settings::VenueNames;
 use socket_tables::DropTable;
 use text_out::TextOut;
 use venue_lines::VenueStatus;
@@ -25,22 +27,27 @@ pub struct RunWatches {
     output: OutputWatch,
     counts: Option<ListenCounts>,
     metrics: Option<MetricsServer>,
+    /// What stands for a venue in what is said and served.
+    names: VenueNames,
 }
 
 impl RunWatches {
-    /// These lines, gaps, output and counts, and this server.
+    /// These lines, gaps, output and counts, and this server. `names` is what stands for a venue in
+    /// what is said and served.
     pub fn new(
         lines: LineWatches,
         gaps: GapWatches,
         output: OutputWatch,
         counts: Option<ListenCounts>,
         metrics: Option<MetricsServer>,
+        names: VenueNames,
     ) -> RunWatches
         ensures { watched_run result ≡ record {
           lines = watched_lines lines;
           gaps = watched_gaps gaps;
           follows = output.follows;
           counted = is_some counts;
+          names = names;
         } }
     {
         RunWatches {
@@ -49,6 +56,7 @@ impl RunWatches {
             output,
             counts,
             metrics,
+            names,
         }
     }
 
@@ -63,11 +71,11 @@ impl RunWatches {
     /// Writes what is new of what is printed, and then of the lines, at this moment of the run.
     pub fn write_news<E: TextOut>(&mut self, moment: Moment, errors: &mut E)
         ensures run { watched_run self.new ≡ watched_run self.old }
-        ensures news { SaysRunNews (record { adds = E.adds; failures = E.failures })
+        ensures news { SaysRunNews (writing_of E.TextOut)
             (watched_run self.old) errors.old errors.new }
     {
         self.output.write_news(moment.elapsed_ms, errors);
-        self.lines.write_news(moment, errors);
+        self.lines.write_news(&self.names, moment, errors);
     }
 
     /// Writes the counts of each venue, where they are due. `status` returns what a venue has come
@@ -78,7 +86,7 @@ impl RunWatches {
         E: TextOut,
         requires { S.IsAlwaysCallable status }
         ensures run { watched_run self.new ≡ watched_run self.old }
-        ensures news { SaysRunNews (record { adds = E.adds; failures = E.failures })
+        ensures news { SaysRunNews (writing_of E.TextOut)
             (watched_run self.old) errors.old errors.new }
     {
         let lines = &self.lines;
@@ -91,7 +99,7 @@ impl RunWatches {
                     let given_up = gaps.given_up(venue.index());
                     lines.figures(venue, status(venue), given_up, drops.as_ref())
                 };
-                counts.write_period(moment, figures, errors);
+                counts.write_period(&self.names, moment, figures, errors);
             }
         }
     }
@@ -110,9 +118,30 @@ impl RunWatches {
                 lines: &self.lines,
                 gaps: &self.gaps,
                 output: &self.output,
+                names: &self.names,
             };
             metrics.serve(&seen, status);
         }
+    }
+
+    /// Notes that a venue has given up `count` messages from `number` on by itself, where the run
+    /// gives up gaps, and says it. A look at its gaps comes after that.
+    pub fn note_given_up<E: TextOut>(
+        &mut self,
+        elapsed_ms: u64,
+        venue: VenueId,
+        number: u64,
+        count: u64,
+        errors: &mut E,
+    )
+        ensures run { watched_run self.new ≡ watched_run self.old }
+        ensures news { SaysRunNews (writing_of E.TextOut)
+            (watched_run self.old) errors.old errors.new }
+    {
+        let run = MissingRun { number, count };
+        let names = &self.names;
+        self.gaps
+            .note_given_up(names, elapsed_ms, venue, run, errors);
     }
 
     /// Looks at the gaps of the venues, says what is new of them and gives up what is due, as
@@ -126,12 +155,12 @@ impl RunWatches {
         requires status { S.IsAlwaysCallable status }
         requires skip { K.IsAlwaysCallable skip }
         ensures run { watched_run self.new ≡ watched_run self.old }
-        ensures news { SaysRunNews (record { adds = E.adds; failures = E.failures })
+        ensures news { SaysRunNews (writing_of E.TextOut)
             (watched_run self.old) errors.old errors.new }
     {
         let lines = &self.lines;
         let sent = |venue| lines.with_sent(venue, status(venue));
-        self.gaps.look(elapsed_ms, sent, skip, errors);
+        self.gaps.look(&self.names, elapsed_ms, sent, skip, errors);
     }
 
     /// Returns what each venue has come to, with those requests alone that its lines have sent.
@@ -159,14 +188,13 @@ impl RunWatches {
     /// Writes what was counted of the lines, and then the totals of all counts, where counts are
     /// asked for. The venues have these statuses.
     pub fn write_end<E: TextOut>(&self, moment: Moment, statuses: &VenueStatuses, errors: &mut E)
-        ensures { SaysRunEnd (record { adds = E.adds; failures = E.failures })
-            (watched_run self.now) errors.old errors.new }
+        ensures { SaysRunEnd (writing_of E.TextOut) (watched_run self.now) errors.old errors.new }
     {
         let drops = self.lines.drops();
-        self.lines.write_totals(&drops, errors);
+        self.lines.write_totals(&self.names, &drops, errors);
         if let Some(counts) = &self.counts {
             let figures = self.figures(statuses, drops.as_ref());
-            counts.write_totals(moment, &figures, errors);
+            counts.write_totals(&self.names, moment, &figures, errors);
         }
     }
 }

@@ -1,12 +1,13 @@
 //! What is said of a venue's session that begins while a run goes on.
 ghost use Rattle.std.specs.Prelude.{◌≡◌};
-ghost use Rattle.text_out.specs.Devices.{Writing};
+ghost use Rattle.text_out.specs.Members.{writing_of};
 ghost use Rattle.text_out.specs.StandardError.{SaysEach};
 ghost use Rattle.run_watches.specs.SessionNews.{missed_texts, session_news_texts};
 
 use crate::gap_news::write_venue;
 use feed_types::VenueId;
 use run_notes::write_session_name;
+use run_settings::VenueNames;
 use text_out::{TextOut, write_number, write_stderr};
 
 /// A session of a venue that has begun, and when.
@@ -24,8 +25,7 @@ pub struct SessionNews {
 
 /// Writes the end of the line: how many sessions have begun and ended before, if any.
 fn write_missed<E: TextOut>(missed: u64, errors: &mut E)
-    ensures { SaysEach (record { adds = E.adds; failures = E.failures })
-        (missed_texts missed) errors.old errors.new }
+    ensures { SaysEach (writing_of E.TextOut) (missed_texts missed) errors.old errors.new }
 {
     if missed == 0 {
         write_stderr("\n", errors);
@@ -37,11 +37,11 @@ fn write_missed<E: TextOut>(missed: u64, errors: &mut E)
 }
 
 /// Writes that the session has begun.
-pub fn write_session_news<E: TextOut>(news: &SessionNews, errors: &mut E)
-    ensures { SaysEach (record { adds = E.adds; failures = E.failures })
-        (session_news_texts news.now) errors.old errors.new }
+pub fn write_session_news<E: TextOut>(names: &VenueNames, news: &SessionNews, errors: &mut E)
+    ensures { SaysEach (writing_of E.TextOut)
+        (session_news_texts names.now news.now) errors.old errors.new }
 {
-    write_venue(news.second, news.venue, errors);
+    write_venue(names, news.second, news.venue, errors);
     write_stderr(" begins session ", errors);
     write_session_name(&news.session, errors);
     write_missed(news.missed, errors);

@@ -1,5 +1,6 @@
 pub mod Devices
 pub mod DeviceLaws
+pub mod Members
 pub mod Placing
 pub mod Pages
 pub mod StandardError

@@ -1,7 +1,7 @@
 -- What one call of a socket, or one after calls that brought none, has brought a line.
 use Rattle.std.proofs.Common.{◌≡◌, ◌≤◌, ℕ, List, Option, false, length, take, rules}
 use Rattle.std.specs.declared.net.socket_addr.SocketAddr.{SocketAddr}
-use Rattle.run_settings.specs.declared.sender.Sender.{Sender}
+use Rattle.run_settings.specs.declared.sender.AllowedSender.{AllowedSender}
 use Rattle.run_settings.specs.declared.sender.Senders.{Senders}
 use Rattle.run_settings.specs.declared.sender.Senders.TheVariants.{Any, These}
 use Rattle.run_settings.specs.Senders.{IsTakenFrom, are_named, senders_of}
@@ -40,7 +40,7 @@ module _ {S : Type 0} (brings : S → SocketAddr → List ℕ → S → Type 0)
 
   -- what is handed over after calls that brought none
   pub handed_over_later : (waits_more : (s t u : S) → waits s t → waits t u → waits s u)
-      (senders : Option (List Sender)) (s t u : S) (received : Received) (buffer : List ℕ)
+      (senders : Option (List AllowedSender)) (s t u : S) (received : Received) (buffer : List ℕ)
       → waits s t → IsHandedOver brings waits senders t received buffer u
       → IsHandedOver brings waits senders s received buffer u
   handed_over_later more senders s t u (Taken count) buffer w (le, h) = (

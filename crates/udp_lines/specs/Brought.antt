@@ -2,7 +2,7 @@
 use Rattle.std.specs.Prelude.{◌≡◌, ℕ, ◌+◌, ◌-◌, ◌^◌, ◌≤◌, List, [], ◌∷◌, ◌++◌, min, Option, Some, None, is_some, IsTrue}
 use Rattle.std.specs.declared.net.socket_addr.SocketAddr.{SocketAddr}
 use Rattle.run_settings.specs.Senders.{IsTakenFrom}
-use Rattle.run_settings.specs.declared.sender.Sender.{Sender}
+use Rattle.run_settings.specs.declared.sender.AllowedSender.{AllowedSender}
 use Rattle.run_settings.specs.declared.end_rule.EndRule.{EndRule}
 use Rattle.udp_lines.specs.Plausible.{Covers, IsWithheld, MayBeHeld}
 use Rattle.udp_lines.specs.Sockets.{HearsFrom}
@@ -13,7 +13,7 @@ pub record SortingRule : Type 0 where
   pub session : List ℕ
   pub end : EndRule
   pub most_ahead : Option ℕ
-  pub senders : Option (List Sender)
+  pub senders : Option (List AllowedSender)
 
 -- What a line keeps of the datagrams before: one that is held, an end of its session or a number
 -- too far ahead; the highest number that was handed on; and how many datagrams were passed over and

@@ -3,7 +3,7 @@ use Rattle.std.specs.Prelude.{ℕ, ◌≤◌, List, length, take, Option}
 use Rattle.std.specs.declared.net.socket_addr.SocketAddr.{SocketAddr}
 use Rattle.venue_lines.specs.declared.source.SourceFault.{SourceFault}
 use Rattle.run_settings.specs.Senders.{IsTakenFrom}
-use Rattle.run_settings.specs.declared.sender.Sender.{Sender}
+use Rattle.run_settings.specs.declared.sender.AllowedSender.{AllowedSender}
 use Rattle.udp_lines.specs.declared.line_socket.Received.{Received}
 use Rattle.udp_lines.specs.declared.line_socket.Received.TheVariants.{Taken, Foreign, Failed, NoneYet}
 
@@ -33,7 +33,7 @@ pub record HearsOf {S : Type 0} (brings : S → SocketAddr → List ℕ → S �
 -- datagram that it has brought from one of the senders; or it has brought one from elsewhere, or
 -- none.
 abbrev pub IsHandedOver : {S : Type 0} → (S → SocketAddr → List ℕ → S → Type 0)
-    → (S → S → Type 0) → Option (List Sender) → S → Received → (buffer : List ℕ) → S → Type 0
+    → (S → S → Type 0) → Option (List AllowedSender) → S → Received → (buffer : List ℕ) → S → Type 0
 IsHandedOver brings waits senders before (Taken count) buffer after =
     (count ≤ length buffer)
     × HearsOf brings waits (IsTakenFrom senders) before (take count buffer) after

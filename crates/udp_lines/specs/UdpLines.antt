@@ -8,7 +8,7 @@ use Rattle.venue_lines.specs.declared.datagram.Datagram.{Datagram}
 use Rattle.venue_lines.specs.declared.source.SourceFault.{SourceFault}
 use Rattle.venue_lines.specs.Datagrams.{bytes_of}
 use Rattle.run_settings.specs.declared.end_rule.EndRule.{EndRule}
-use Rattle.run_settings.specs.declared.sender.Sender.{Sender}
+use Rattle.run_settings.specs.declared.sender.AllowedSender.{AllowedSender}
 use Rattle.run_settings.specs.declared.end_rule.EndRule.TheVariants.{AnySession, OwnSession, NoSession}
 use Rattle.udp_lines.specs.EndsOfSessions.{SpellsEndOf}
 use Rattle.udp_lines.specs.Brought.{HasMet, Kept, SortingRule}
@@ -23,7 +23,7 @@ pub record UdpLineState (S : Type 0) : Type 0 where
   pub venue : ℕ
   pub session : List ℕ
   pub rule : EndRule
-  pub senders : Option (List Sender)
+  pub senders : Option (List AllowedSender)
   pub left : Option ℕ
   pub failed : Bool
   pub ended : Bool

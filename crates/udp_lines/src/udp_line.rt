@@ -1,5 +1,5 @@
 //! A line that is received by UDP.
-ghost use Rattle.std.specs.Prelude.{◌≡◌, ◌+◌, ◌*◌, ◌/◌, ◌^◌, ◌-◌, ℕ, List, [], Bool, min, IfOk, IfErr, OnErr, Ok, Some, None, true, false, option_map};
+ghost use Rattle.std.specs.Prelude.{◌≡◌, ◌+◌, ◌*◌, ◌/◌, ◌^◌, ◌-◌, ℕ, List, [], Bool, min, IfOk, IfErr, OnErr, IsTrue, Ok, Some, None, true, false, is_some, option_map};
 ghost use Rattle.std.specs.Duration.{as_nanos};
 ghost use Rattle.line_recordings.specs.Placed.{HandsOver};
 ghost use Rattle.venue_lines.specs.Datagrams.{bytes_of};
@@ -25,6 +25,8 @@ use run_settings::{EndRule, Senders};
 use std::alloc::{AllocError, Global};
 use std::marker::Model;
 use std::mem;
+use std::sync::Arc;
+use std::sync::atomic::{AtomicBool, Ordering};
 use std::time::{Clock, Duration};
 use venue_lines::{Datagram, LineSource, Looked, SourceFault};
 
@@ -68,7 +70,8 @@ pub struct UdpLineSettings {
 }
 
 /// A line of a venue that is received by UDP. It ends after as many datagrams or seconds as it was
-/// made for, if there is such a limit, and after an end of session that ends it.
+/// made for, if there is such a limit, and after an end of session that ends it. Where replies are
+/// awaited it reads on after that, until none is.
 ///
 /// Once its socket has failed the line has ended: it asks the socket for nothing more. A request
 /// that can't be sent ends nothing. What has become of the line is marked in its progress.
@@ -94,6 +97,8 @@ pub struct UdpLine<S, C> {
     received: Option<Result<Datagram, SourceFault>>,
     /// Where it hands over what its venue took, if that is recorded.
     records: Option<RecordSender>,
+    /// What says whether a reply is awaited, if anything does.
+    awaited: Option<Arc<AtomicBool, Global>>,
 }
 
 impl<S, C> Model for UdpLine<S, C> {
@@ -218,6 +223,7 @@ impl<S: DatagramIn + Drop, C: Clock + Drop> UdpLine<S, C> {
             ender: None,
             received: None,
             records: settings.records,
+            awaited: None,
         })
     }
 
@@ -232,8 +238,35 @@ impl<S: DatagramIn + Drop, C: Clock + Drop> UdpLine<S, C> {
         }
     }
 
+    /// Returns whether a reply is awaited, for which the line reads on.
+    fn is_reply_awaited(&self) -> bool {
+        match &self.awaited {
+            Some(awaited) => awaited.load(Ordering::SeqCst),
+            None => false,
+        }
+    }
+
+    /// Has a line that an end of session has ended read on where a reply is awaited, and end where
+    /// none is.
+    fn read_on(&mut self)
+        ensures rest { self.new
+            ≡ record (self.old) { left = self.new.left; ended = self.new.ended } }
+        ensures unended { self.old.ender ≡ None → self.new ≡ self.old }
+    {
+        if !self.may_read_on() || self.broken || self.received.is_some() {
+            return;
+        }
+        let reads_on = self.is_reply_awaited();
+        self.at_end = !reads_on;
+        self.to_read = if reads_on { None } else { Some(0) };
+        if !reads_on {
+            self.mark_ender();
+        }
+    }
+
     /// Ends the line where its time is over, or the lines have ended with which it ends, unless it
-    /// has ended before, or a datagram waits that was received before.
+    /// has ended before, or a datagram waits that was received before. Where a reply is awaited it
+    /// doesn't end with other lines.
     fn end_in_time(&mut self)
         ensures rest { self.new
             ≡ record (self.old) { left = self.new.left; ended = self.new.ended } }
@@ -242,7 +275,7 @@ impl<S: DatagramIn + Drop, C: Clock + Drop> UdpLine<S, C> {
         if self.broken || is_none_left(self.to_read) || self.received.is_some() {
             return;
         }
-        if self.is_late() || self.line_use.is_over() {
+        if self.is_late() || (self.line_use.is_over() && !self.is_reply_awaited()) {
             self.to_read = Some(0);
             self.at_end = true;
         }
@@ -317,20 +350,44 @@ impl<S: Drop, C: Drop> UdpLine<S, C> {
         self.intake.check.earlier = earlier;
     }
 
+    /// Has the line read on after an end of session as long as this says that a reply is awaited.
+    pub fn read_on_for(&mut self, awaited: Arc<AtomicBool, Global>)
+        ensures { self.new ≡ self.old }
+    {
+        self.awaited = Some(awaited);
+    }
+
     /// The progress of the line, for another thread. AllocError where it can't be shared any
     /// further.
     pub fn share_progress(&self) -> Result<LineProgress, AllocError> {
         self.intake.check.progress.share()
     }
 
-    /// Marks how the line has ended, if it has by a datagram.
-    fn mark_end(&self) {
+    /// Returns whether an end of session has ended the line after which it may read on.
+    fn may_read_on(&self) -> bool
+        ensures { result ≡ true → IsTrue (is_some self.now.ender) }
+    {
+        self.awaited.is_some() && self.ender.is_some()
+    }
+
+    /// Marks the session whose end has ended the line, if one has.
+    fn mark_ender(&self) {
         if let Some(session) = self.ender {
             self.intake
                 .check
                 .progress
                 .end(&session, session == self.intake.check.session);
-        } else if is_none_left(self.to_read) {
+        }
+    }
+
+    /// Marks how the line has ended, if it has by a datagram. An end after which it may read on is
+    /// marked once it doesn't.
+    fn mark_end(&self) {
+        if self.may_read_on() {
+            return;
+        }
+        self.mark_ender();
+        if self.ender.is_none() && is_none_left(self.to_read) {
             self.intake.check.progress.read_out();
         }
     }
@@ -518,6 +575,7 @@ impl<S: DatagramIn + Drop, C: Clock + Drop> LineSource<Anything> for UdpLine<S, 
     }
 
     fn await_next(&mut self) -> bool {
+        self.read_on();
         self.end_in_time();
         self.poll()
     }

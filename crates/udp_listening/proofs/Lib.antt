@@ -1,8 +1,10 @@
 pub mod Binding
 pub mod Ends
 pub mod Following
+pub mod Gathering
 pub mod Lacks
 pub mod Monitored
+pub mod NamedNext
 pub mod Noting
 pub mod Recorded
 pub mod Sourced

@@ -20,7 +20,7 @@ use Rattle.udp_listening.specs.Monitors.{FollowsRows, HasMonitored}
 use Rattle.run_settings.specs.declared.listen_settings.ListenSettings.{ListenSettings}
 use Rattle.udp_listening.specs.Reports.{IsListened, IsReportOfFeed, IsReportOfRun, any_lines, reported_line, seat_line, task_line}
 use Rattle.run_watches.specs.RunLines.{watched_run}
-use Rattle.udp_listening.specs.Lines.{LineState, run_lines}
+use Rattle.udp_listening.specs.Lines.{LineState, run_lines, venue_of_line}
 use Rattle.run_watches.specs.RunNews.{SaysOfRun}
 use Rattle.udp_listening.specs.Settings.{feed_setting}
 use Rattle.udp_listening.specs.declared.console.Console.{Console}
@@ -109,7 +109,7 @@ pub lines_of : {G N : Type 0} (takes : SeatState → List (List ℕ) → SeatSta
     (brings : LineState → List (List ℕ) → LineState → Type 0) (failures : LineState → ℕ)
     (tasks : List (LineTask LineState)) (ends : List (LineEnd G N LineState))
     → Pairwise (λ task. LineHasEnded takes brings failures
-    (new_seat task.source.venue task.line) task.source) tasks ends
+    (new_seat (venue_of_line task.source) task.line) task.source) tasks ends
     → map seat_line (map (λ e. e.seat) ends) ≡ map task_line tasks
 lines_of takes brings failures [] [] each = refl
 lines_of takes brings failures [] (e ∷ ends) each = absurd each
@@ -117,7 +117,7 @@ lines_of takes brings failures (task ∷ tasks) [] each = absurd each
 lines_of takes brings failures (task ∷ tasks) (e ∷ ends) each =
     let rest : List (ℕ × LineId) = map seat_line (map (λ e. e.seat) ends) in
     ap (λ (venue : ℕ). (venue, e.seat.line) ∷ rest) each.0.venue
-    ∙ ap (λ (line : LineId). (task.source.venue, line) ∷ rest) each.0.line
+    ∙ ap (λ (line : LineId). (venue_of_line task.source, line) ∷ rest) each.0.line
     ∙ ap (λ lines. task_line task ∷ lines) (lines_of takes brings failures tasks ends each.1)
 
 -- and what is reported of each is of its seat
@@ -130,7 +130,7 @@ module _ {G N C W : Type 0} (settings : ListenSettings) (writing : Writing W) (l
     (brings : LineState → List (List ℕ) → LineState → Type 0) (failures : LineState → ℕ)
     (tasks : List (LineTask LineState)) (count : ℕ) (none : count ≡ 0)
     (before after : RowFollower C W) (whole : FeedReport LineState)
-    (w : IsWholeRun G N any_lines lanes (λ l. l.venue) brings failures
+    (w : IsWholeRun G N any_lines lanes (λ l. venue_of_line l) brings failures
     (FollowsRows writing) tasks true count before after whole) where
   ended : Followed writing before after (logs_with w.later w.others)
   ended = followed writing before after w.log w.later w.others w.begun w.attended (w.all ∙ none)

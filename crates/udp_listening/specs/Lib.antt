@@ -1,7 +1,10 @@
 pub mod Bound
+pub mod ItchEnds
+pub mod ItchShown
 pub mod Lines
 pub mod Listening
 pub mod Monitors
+pub mod NamedNext
 pub mod Reports
 pub mod Settings
 pub mod SettledLacks

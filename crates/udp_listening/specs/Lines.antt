@@ -4,12 +4,21 @@ use Rattle.feed_types.specs.declared.line.LineId.{LineId}
 use Rattle.feed_types.specs.declared.line.LineId.TheVariants.{A, B}
 use Rattle.run_settings.specs.declared.listen_settings.ListenSettings.{ListenSettings}
 use Rattle.std.specs.declared.net.udp.UdpSocket.{UdpSocket}
+use Rattle.itch_lines.specs.FeedLines.{FeedLineState, venue_with}
 use Rattle.udp_lines.specs.UdpLines.{UdpLineState}
 use Rattle.udp_listening.specs.declared.listen_sockets.BoundLine.{BoundLine}
 
 -- the source of a line of a run
+abbrev pub UdpState : Type 0
+UdpState = UdpLineState UdpSocket
+
+-- a line of a run: its source, or a line in ITCH over that
 abbrev pub LineState : Type 0
-LineState = UdpLineState UdpSocket
+LineState = FeedLineState UdpState
+
+-- the venue whose line it is
+abbrev pub venue_of_line : LineState → ℕ
+venue_of_line line = venue_with (λ source. source.venue) line
 
 -- the line at a place of the settings: line A's and then line B's, those of venue 0 first
 abbrev pub line_at : ℕ → LineId

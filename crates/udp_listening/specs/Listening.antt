@@ -4,8 +4,7 @@ use Rattle.feed_types.specs.declared.journal.Entry.{Entry}
 use Rattle.feed_types.specs.declared.line.LineId.{LineId}
 use Rattle.feed_types.specs.PerLines.{on_line}
 use Rattle.text_out.specs.Devices.{Writing, Wrote}
-use Rattle.event_sinks.specs.LackTexts.{lack_texts}
-use Rattle.event_sinks.specs.declared.lack.Lack.{Lack}
+use Rattle.event_sinks.specs.declared.lack.MissingRange.{MissingRange}
 use Rattle.event_sinks.specs.Lines.{venue_line}
 use Rattle.best_rows.specs.NoticeRows.{IsTextOf, notice_row}
 use Rattle.best_rows.specs.declared.style.RowStyle.{RowStyle}
@@ -17,9 +16,11 @@ use Rattle.live_feed.specs.subscriber.Logs.{SubscriberLogState}
 use Rattle.live_feed.specs.settle.Settlements.{SettlementState, VenueEndState, SubscriberEndState}
 use Rattle.text_out.specs.StandardError.{Says, SaysEach}
 use Rattle.run_notes.specs.AbsentSymbols.{absent_texts, unchanged_texts}
+use Rattle.run_notes.specs.NamedLacks.{named_lack_texts}
 use Rattle.run_watches.specs.News.{line_end_texts}
 use Rattle.run_watches.specs.RunLines.{listened_run}
 use Rattle.run_watches.specs.RunNews.{SaysOfRun}
+use Rattle.udp_listening.specs.ItchEnds.{itch_texts}
 use Rattle.udp_listening.specs.Lines.{run_lines}
 use Rattle.udp_listening.specs.Reports.{IsListened}
 use Rattle.udp_listening.specs.Settings.{row_style}
@@ -30,6 +31,7 @@ use Rattle.udp_listening.specs.declared.console.LiveOutput.TheVariants.{On, Off,
 use Rattle.run_settings.specs.declared.formats.BestFormat.{BestFormat}
 use Rattle.run_settings.specs.declared.formats.BestFormat.TheVariants.{Text, Csv, Json}
 use Rattle.run_settings.specs.declared.listen_settings.ListenSettings.{ListenSettings}
+use Rattle.run_settings.specs.declared.venue_names.VenueNames.{VenueNames}
 use Rattle.run_watches.specs.declared.line_news.LineChange.TheVariants as changes
 use Rattle.udp_listening.specs.declared.listen_sockets.BoundLine.{BoundLine}
 use Rattle.udp_listening.specs.declared.listening.ListenFault.{ListenFault}
@@ -161,16 +163,16 @@ HasListenedOn {C} {W} writing before outcome after =
 -- ---- texts on standard error
 
 -- a line failed
-abbrev pub failed_texts : ℕ × LineId → List (List ℕ)
-failed_texts line = line_end_texts line changes.Failed
+abbrev pub failed_texts : VenueNames → ℕ × LineId → List (List ℕ)
+failed_texts names line = line_end_texts names line changes.Failed
 
 -- a line has read as many datagrams as it may
-abbrev pub read_out_texts : ℕ × LineId → List (List ℕ)
-read_out_texts line = line_end_texts line changes.ReadOut
+abbrev pub read_out_texts : VenueNames → ℕ × LineId → List (List ℕ)
+read_out_texts names line = line_end_texts names line changes.ReadOut
 
 -- an end of session has ended a line
-abbrev pub ended_texts : EndedLine → List (List ℕ)
-ended_texts e = line_end_texts (e.venue, e.line) (changes.EndedWith e.session)
+abbrev pub ended_texts : VenueNames → EndedLine → List (List ℕ)
+ended_texts names e = line_end_texts names (e.venue, e.line) (changes.EndedWith e.session)
 
 abbrev pub stop_text : Stop → List ℕ
 stop_text stops.JournalFull = codes "nbbo: journal full\n"
@@ -186,14 +188,16 @@ stop_texts (Some stop) = stop_text stop ∷ []
 -- ---- the end
 
 -- what is said of a report: the lines that failed, why it stopped early, the lines that have read
--- as many datagrams as they may, what venues lack, with which sessions lines ended, and which
--- symbols never came or never had a best
+-- as many datagrams as they may, what venues lack, with which sessions lines ended, which symbols
+-- never came or never had a best, and what was given up of venues in ITCH
 abbrev pub report_texts : ListenReport → List (List ℕ)
 report_texts report =
-    (flat_map failed_texts report.failed.items ++ stop_texts report.stopped)
-    ++ ((flat_map read_out_texts report.read_out.items ++ flat_map lack_texts report.lacking.items)
-    ++ (flat_map ended_texts report.ended.items
-    ++ (absent_texts report.absent ++ unchanged_texts report.unchanged)))
+    (flat_map (failed_texts report.names) report.failed.items ++ stop_texts report.stopped)
+    ++ ((flat_map (read_out_texts report.names) report.read_out.items
+    ++ flat_map (named_lack_texts report.names) report.lacking.items)
+    ++ (flat_map (ended_texts report.names) report.ended.items
+    ++ ((absent_texts report.absent ++ unchanged_texts report.unchanged)
+    ++ flat_map (itch_texts report.names) report.itch.items)))
 
 -- 0 where no line failed and nothing stopped the run early
 abbrev pub report_status : List (ℕ × LineId) → Option Stop → ℕ
@@ -293,7 +297,7 @@ ListensToEnd writing telling style (Err fault) before after silent told status =
     × Says telling (listen_fault_text fault) silent told × (status ≡ 1)
 
 -- a venue lacks messages
-abbrev pub lacks_any : List Lack → Bool
+abbrev pub lacks_any : List MissingRange → Bool
 lacks_any [] = false
 lacks_any (lack ∷ more) = true
 

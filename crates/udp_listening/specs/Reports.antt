@@ -1,5 +1,5 @@
 -- What is reported of a feed that was listened to.
-use Rattle.std.specs.Prelude.{◌≡◌, ℕ, Bool, true, false, ◌&&◌, not, List, [], ◌∷◌, Option, None, Some, flat_map, is_some, length, map, vec_len, if◌then◌else◌}
+use Rattle.std.specs.Prelude.{◌≡◌, ℕ, Bool, true, false, ◌&&◌, not, List, [], ◌∷◌, ◌++◌, Option, None, Some, flat_map, is_some, length, map, vec_len, if◌then◌else◌}
 use Rattle.feed_types.specs.declared.genuine.Anything.{Anything}
 use Rattle.feed_types.specs.declared.genuine.Genuine.{Ghosts as Genuine}
 use Rattle.feed_types.specs.declared.journal.Entry.{Entry}
@@ -15,7 +15,9 @@ use Rattle.live_feed.specs.venue.Seats.{SeatState}
 use Rattle.run_notes.specs.AbsentSymbols.{absent_among, unchanged_among}
 use Rattle.run_settings.specs.FurtherOptions.{has_further_options}
 use Rattle.run_settings.specs.declared.listen_settings.ListenSettings.{ListenSettings}
-use Rattle.udp_listening.specs.Lines.{LineState, run_lines}
+use Rattle.itch_lines.specs.FeedLines.{source_of}
+use Rattle.udp_listening.specs.ItchEnds.{itch_lacks}
+use Rattle.udp_listening.specs.Lines.{LineState, run_lines, venue_of_line}
 use Rattle.udp_listening.specs.Settings.{feed_setting}
 use Rattle.udp_listening.specs.SettledLacks.{settled_lacks}
 use Rattle.udp_listening.specs.SettledNotices.{settled_notices}
@@ -40,7 +42,7 @@ seat_line seat = (seat.venue, seat.line)
 
 -- the line that is to be run
 abbrev pub task_line : LineTask LineState → ℕ × LineId
-task_line task = (task.source.venue, task.line)
+task_line task = (venue_of_line task.source, task.line)
 
 -- the line of which this is reported
 abbrev pub reported_line : LineReport LineState → ℕ × LineId
@@ -56,7 +58,8 @@ failed_lines lines = flat_map (λ r. line_if (is_some r.fault) (reported_line r)
 
 -- the lines that have read as many datagrams as they may
 abbrev pub read_out_lines : List (LineReport LineState) → List (ℕ × LineId)
-read_out_lines lines = flat_map (λ r. line_if (is_read_out r.source) (reported_line r)) lines
+read_out_lines lines =
+    flat_map (λ r. line_if (is_read_out (source_of r.source)) (reported_line r)) lines
 
 abbrev pub ended_if : ℕ × LineId → Option (List ℕ) → List EndedLine
 ended_if line None = []
@@ -65,7 +68,7 @@ ended_if line (Some session) =
 
 -- the line and the session whose end has ended it, if one has
 abbrev pub ended_line : LineReport LineState → List EndedLine
-ended_line r = ended_if (reported_line r) r.source.ender
+ended_line r = ended_if (reported_line r) (source_of r.source).ender
 
 -- the lines that an end of session has ended
 abbrev pub ended_lines : List (LineReport LineState) → List EndedLine
@@ -102,18 +105,23 @@ noted_symbols settings =
 -- ---- reports
 
 -- This is told of the whole life of the settings' feed: which of its lines failed and which have
--- read out, why it stopped early, what its venues lack, which session's end ended which line, which
--- symbols never came, of which no change of the national best was told, and what was settled.
+-- read out, why it stopped early, what its venues lack, those in ITCH last, which session's end
+-- ended which line, which symbols never came, of which no change of the national best was told,
+-- what the venues in ITCH have come to, of which there is none without such a venue, what was
+-- settled, and what stands for a venue.
 pub record IsReportOfFeed (settings : ListenSettings) (whole : FeedReport LineState)
     (told : ListenReport) : Type 0 where
   pub failed : told.failed.items ≡ failed_lines whole.lines.items
   pub stopped : told.stopped ≡ whole.stopped
   pub read_out : told.read_out.items ≡ read_out_lines whole.lines.items
-  pub lacking : told.lacking.items ≡ settled_lacks whole.settlement
+  pub lacking : told.lacking.items
+      ≡ settled_lacks whole.settlement ++ itch_lacks told.itch.items
   pub ended : told.ended.items ≡ told_ends (has_further_options settings) whole.lines.items
   pub absent : told.absent ≡ reported_absent settings whole.settlement.journal
   pub unchanged : told.unchanged
       ≡ unchanged_among (settled_notices whole.settlement) (noted_symbols settings)
+  pub no_itch : settings.itch.venues.items ≡ [] → told.itch.items ≡ []
+  pub names : told.names ≡ settings.venues
   pub settlement : told.settlement ≡ whole.settlement
 
 -- The settings' feed with these lanes was run over these lines, and settled: the settlement is that

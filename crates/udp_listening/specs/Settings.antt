@@ -12,7 +12,7 @@ use Rattle.run_settings.specs.declared.end_rule.EndRule.{EndRule}
 use Rattle.run_settings.specs.declared.end_rule.EndRule.TheVariants.{AnySession, NoSession, OwnSession}
 use Rattle.run_settings.specs.Senders.{senders_of}
 use Rattle.run_settings.specs.declared.listen_settings.ListenSettings.{ListenSettings}
-use Rattle.udp_listening.specs.Lines.{LineState}
+use Rattle.udp_listening.specs.Lines.{UdpState}
 
 -- the most notices of a log: as many as the journal's entries, unless they are printed as they come
 -- and forgotten
@@ -70,7 +70,7 @@ following_of settings venue = names_after venue settings.next.items
 -- the last of those that follow it. Lines A and B read as many and end with an end of session as
 -- the settings say, but with that of the last session alone where one follows another; line R goes
 -- on.
-pub record IsSourceOf (settings : ListenSettings) (venue : ℕ) (of : LineId) (line : LineState)
+pub record IsSourceOf (settings : ListenSettings) (venue : ℕ) (of : LineId) (line : UdpState)
     : Type 0 where
   pub venue_is : line.venue ≡ venue
   pub session : last_or (slice_get settings.feed.sessions.items venue)

@@ -1,4 +1,5 @@
 //! Where the program prints while a run goes on.
+ghost use Rattle.text_out.specs.Members.{writing_of};
 ghost use Rattle.std.specs.Prelude.{◌≡◌, ◌≢◌, drop};
 ghost use Rattle.feed_types.specs.Prefix.{IsPrefix};
 ghost use Rattle.best_rows.specs.NoticeRows.{AreRowsOf};
@@ -74,8 +75,7 @@ impl<C: Clock, W: TextOut> Console<C, W> {
     /// had a best.
     pub fn new(alloc: Global, output: W, live_output: LiveOutput, style: RowStyle) -> Console<C, W>
         requires { live_output ≢ LiveOutput.Failed }
-        ensures unprinted { IsUnprinted (record { adds = W.adds; failures = W.failures })
-            style output result }
+        ensures unprinted { IsUnprinted (writing_of W.TextOut) style output result }
     {
         let mut output = output;
         let live_output = match write_all(header_line(style).as_bytes(), &mut output) {
@@ -125,8 +125,7 @@ impl<C: Clock, W: TextOut> Console<C, W> {
         log: &mut SubscriberLog<N>,
     )
         ensures log { IsPrefix log.old.lines log.new.lines }
-        ensures shows { KeepsFollowing (record { adds = W.adds; failures = W.failures })
-            log.old self.old log.new self.new }
+        ensures shows { KeepsFollowing (writing_of W.TextOut) log.old self.old log.new self.new }
         ensures notes { KeepsNoting log.old self.old log.new self.new }
     {
         poll_some(rt, log);
@@ -141,8 +140,7 @@ impl<C: Clock, W: TextOut> Console<C, W> {
     fn print_rest<N: FeedName>(&mut self, text: &mut LineBuffer, log: &mut SubscriberLog<N>)
         requires { self.old.live_output ≡ LiveOutput.On }
         ensures log { log.new.lines ≡ log.old.lines }
-        ensures shows { KeepsFollowing (record { adds = W.adds; failures = W.failures })
-            log.old self.old log.new self.new }
+        ensures shows { KeepsFollowing (writing_of W.TextOut) log.old self.old log.new self.new }
         ensures notes { KeepsNoting log.old self.old log.new self.new }
     {
         if log.log().is_empty() {
@@ -162,8 +160,7 @@ impl<C: Clock, W: TextOut> Console<C, W> {
         requires text { AreRowsOf self.old.style (notices_of (drop log.old.forgotten log.old.lines))
             text.now }
         ensures log { log.new.lines ≡ log.old.lines }
-        ensures shows { KeepsFollowing (record { adds = W.adds; failures = W.failures })
-            log.old self.old log.new self.new }
+        ensures shows { KeepsFollowing (writing_of W.TextOut) log.old self.old log.new self.new }
         ensures notes { KeepsNoting log.old self.old log.new self.new }
     {
         let count = log.log().len();

@@ -17,6 +17,8 @@
 mod console;
 mod group_socket;
 mod input_end;
+mod itch_ends;
+mod itch_statuses;
 mod listen;
 mod listen_lines;
 mod listen_report;

@@ -1,6 +1,6 @@
 //! `nbbo listen`.
 ghost use Rattle.std.specs.Prelude.{◌≡◌, ◌≢◌};
-ghost use Rattle.text_out.specs.Devices.{Writing};
+ghost use Rattle.text_out.specs.Members.{writing_of};
 ghost use Rattle.text_out.specs.StandardError.{Says};
 ghost use Rattle.udp_listening.specs.Settings.{row_style};
 ghost use Rattle.udp_listening.specs.Listening.{Listens, PrintsEnd, PrintsFailedReport, PrintsReport, complete_status, lacks_any, listen_fault_text, report_status};
@@ -20,7 +20,7 @@ use crate::sources::lines_over;
 use crate::summary::summary_of;
 use crate::unchanged::noted_symbols;
 use best_rows::RowStyle;
-use event_sinks::Lack;
+use event_sinks::MissingRange;
 use feed_types::{LineId, VenueId};
 use live_feed::Stop;
 use run_settings::ListenSettings;
@@ -51,8 +51,7 @@ fn status_of(failed: &[(VenueId, LineId)], stopped: Option<Stop>) -> u8
 
 /// Writes a text on standard error, and returns the status 1.
 fn fail<E: TextOut>(text: &str, errors: &mut E) -> u8
-    ensures says { Says (record { adds = E.adds; failures = E.failures })
-        text.now errors.old errors.new }
+    ensures says { Says (writing_of E.TextOut) text.now errors.old errors.new }
     ensures status { result ≡ 1 }
 {
     write_stderr(text, errors);
@@ -69,8 +68,7 @@ fn print_report<W: TextOut, E: TextOut>(
     errors: &mut E,
 ) -> u8
     ensures { PrintsReport
-        (record { adds = W.adds; failures = W.failures })
-        (record { adds = E.adds; failures = E.failures })
+        (writing_of W.TextOut) (writing_of E.TextOut)
         style report.now output.old output.new errors.old errors.new result }
 {
     write_report_lines(report, errors);
@@ -86,8 +84,7 @@ fn print_report<W: TextOut, E: TextOut>(
 /// Prints the report of listening after the output has failed, and returns the status of the
 /// program.
 fn print_failed_report<E: TextOut>(report: &ListenReport, errors: &mut E) -> u8
-    ensures { PrintsFailedReport (record { adds = E.adds; failures = E.failures })
-        report.now errors.old errors.new result }
+    ensures { PrintsFailedReport (writing_of E.TextOut) report.now errors.old errors.new result }
 {
     write_report_lines(report, errors);
     fail(WRITE_FAILED, errors)
@@ -112,8 +109,7 @@ fn print_end<C: Clock, W: TextOut, E: TextOut>(
     errors: &mut E,
 ) -> u8
     ensures { PrintsEnd
-        (record { adds = W.adds; failures = W.failures })
-        (record { adds = E.adds; failures = E.failures })
+        (writing_of W.TextOut) (writing_of E.TextOut)
         console.old.style outcome.now console.old.live_output
         console.old.output console.new.output errors.old errors.new result }
 {
@@ -131,7 +127,7 @@ fn print_end<C: Clock, W: TextOut, E: TextOut>(
 }
 
 /// Whether a venue lacks messages.
-fn lacks_any(lacking: &[Lack]) -> bool
+fn lacks_any(lacking: &[MissingRange]) -> bool
     ensures { result ≡ lacks_any lacking.now }
 {
     !lacking.is_empty()
@@ -221,9 +217,7 @@ where
     W: TextOut + Drop,
     E: TextOut + Drop + Send,
     ensures { Listens
-        (record { adds = W.adds; failures = W.failures })
-        (record { adds = E.adds; failures = E.failures })
-        settings.now sockets.lines.items
+        (writing_of W.TextOut) (writing_of E.TextOut) settings.now sockets.lines.items
         streams.output result.1 streams.errors result.2 result.0 }
 {
     let ListenStreams {
@@ -255,7 +249,14 @@ where
     let counts = ListenCounts::of(alloc, settings);
     let metrics = MetricsServer::of(alloc, sockets.metrics);
     let of_output = OutputWatch::new(settings.follow, shares.progress, errors_progress);
-    let watches = RunWatches::new(lines.watches, gaps, of_output, counts, metrics);
+    let watches = RunWatches::new(
+        lines.watches,
+        gaps,
+        of_output,
+        counts,
+        metrics,
+        settings.venues,
+    );
     let time = RunTime::new(settings, input, shares.clock);
     let follower = RowFollower::new(alloc, console, shares.state);
     let monitor = RunMonitor::new(
@@ -265,12 +266,13 @@ where
         output_state,
         settings.follow,
         sockets.skips,
+        lines.itch,
     );
     let Listened {
         outcome,
         mut console,
         mut errors,
-    } = run_feed::<Brand, R, C, W, E>(rt, alloc, settings, feed, lines.tasks, follower, monitor);
+    } = run_feed::<Brand, R, C, W, E>(rt, alloc, settings, feed, lines.run, follower, monitor);
     let ended = print_end(alloc, &outcome, &mut console, &mut errors);
     let status = complete_status(settings.complete, &outcome, ended);
     (status, console.output, errors)

@@ -3,17 +3,21 @@ ghost use Rattle.std.specs.Prelude.{◌≡◌, ◌++◌, IfOk, OnOk, flat_map};
 ghost use Rattle.journal_book.specs.Journals.{kept_of};
 ghost use Rattle.run_settings.specs.FurtherOptions.{has_further_options};
 ghost use Rattle.udp_listening.specs.Reports.{IsReportOfFeed, absent_if, ended_line, ended_lines, failed_lines, line_if, noted_symbols, read_out_lines, tells_absent, reported_absent, told_ends};
+ghost use Rattle.udp_listening.specs.ItchEnds.{itch_lacks};
+ghost use Rattle.udp_listening.specs.SettledLacks.{settled_lacks};
 ghost use Rattle.udp_listening.specs.SettledNotices.{HasNoted, settled_forgotten, settled_log};
 
+use crate::itch_ends::{append_itch_lacks, itch_ends};
 use crate::listening::ListenFault;
 use crate::settled_lacks::settled_lacks;
-use crate::sources::UdpSource;
+use crate::sources::ListenSource;
 use crate::unchanged::settled_unchanged;
-use event_sinks::Lack;
+use event_sinks::MissingRange;
 use feed_types::{LineId, VenueId};
+use itch_lines::{ItchVenueEnd, VenueShare};
 use live_feed::{FeedReport, LineReport, Settlement, Stop};
 use run_notes::AbsentList;
-use run_settings::ListenSettings;
+use run_settings::{ListenSettings, VenueNames};
 use std::alloc::{AllocError, Global};
 
 /// A line that an end of this session has ended.
@@ -34,7 +38,7 @@ pub struct ListenReport {
     /// The lines that have read as many datagrams as they may, in the order of the settings.
     pub read_out: Vec<(VenueId, LineId)>,
     /// What is missing, of each venue that lacks anything.
-    pub lacking: Vec<Lack>,
+    pub lacking: Vec<MissingRange>,
     /// The lines that an end of session has ended, in the order of the settings, where these have
     /// further options.
     pub ended: Vec<EndedLine>,
@@ -44,8 +48,26 @@ pub struct ListenReport {
     /// The symbols of which no change of the national best was told, where the settings have
     /// further options and not all entries are kept.
     pub unchanged: AbsentList,
+    /// What the venues in ITCH have come to; none where the settings have no such venue.
+    pub itch: Vec<ItchVenueEnd>,
+    /// What stands for a venue in what is said of the report.
+    pub names: VenueNames,
     /// What was taken, and what became of it.
     pub settlement: Settlement,
+}
+
+/// Returns what the venues of a settled feed lack, and then what those in ITCH do.
+fn all_lacks(
+    alloc: Global,
+    settlement: &Settlement,
+    itch: &[ItchVenueEnd],
+) -> Result<Vec<MissingRange>, AllocError>
+    ensures { IfOk result (λ lacking.
+        lacking.items ≡ settled_lacks settlement.now ++ itch_lacks itch.now) }
+{
+    let mut lacking = settled_lacks(alloc, settlement)?;
+    append_itch_lacks(&mut lacking, itch)?;
+    Ok(lacking)
 }
 
 /// Appends a line to the list where it is one of these.
@@ -66,7 +88,7 @@ fn append_if(
 /// The lines that failed, in order.
 fn failed_in<C: Drop>(
     alloc: Global,
-    lines: &[LineReport<UdpSource<C>>],
+    lines: &[LineReport<ListenSource<C>>],
 ) -> Result<Vec<(VenueId, LineId)>, AllocError>
     ensures { IfOk result (λ failed. failed.items ≡ failed_lines lines.now) }
 {
@@ -80,14 +102,14 @@ fn failed_in<C: Drop>(
 /// The lines that have read as many datagrams as they may, in order.
 fn read_out_in<C: Drop>(
     alloc: Global,
-    lines: &[LineReport<UdpSource<C>>],
+    lines: &[LineReport<ListenSource<C>>],
 ) -> Result<Vec<(VenueId, LineId)>, AllocError>
     ensures { IfOk result (λ read_out. read_out.items ≡ read_out_lines lines.now) }
 {
     let mut read_out = Vec::new(alloc);
     for line in lines {
         append_if(
-            line.source.is_read_out(),
+            line.source.source().is_read_out(),
             &mut read_out,
             line.venue,
             line.line,
@@ -99,11 +121,11 @@ fn read_out_in<C: Drop>(
 /// Appends a line to the list where an end of session has ended it.
 fn append_ended<C: Drop>(
     list: &mut Vec<EndedLine>,
-    report: &LineReport<UdpSource<C>>,
+    report: &LineReport<ListenSource<C>>,
 ) -> Result<(), AllocError>
     ensures { OnOk result (list.new.items ≡ list.old.items ++ ended_line report.now) }
 {
-    if let Some(session) = report.source.ender() {
+    if let Some(session) = report.source.source().ender() {
         list.push(EndedLine {
             venue: report.venue,
             line: report.line,
@@ -116,7 +138,7 @@ fn append_ended<C: Drop>(
 /// The lines that an end of session has ended, in order.
 fn ended_in<C: Drop>(
     alloc: Global,
-    lines: &[LineReport<UdpSource<C>>],
+    lines: &[LineReport<ListenSource<C>>],
 ) -> Result<Vec<EndedLine>, AllocError>
     ensures { IfOk result (λ ended. ended.items ≡ ended_lines lines.now) }
 {
@@ -131,7 +153,7 @@ fn ended_in<C: Drop>(
 fn ended_if_told<C: Drop>(
     alloc: Global,
     is_told: bool,
-    lines: &[LineReport<UdpSource<C>>],
+    lines: &[LineReport<ListenSource<C>>],
 ) -> Result<Vec<EndedLine>, AllocError>
     ensures { IfOk result (λ ended. ended.items ≡ told_ends is_told lines.now) }
 {
@@ -146,7 +168,7 @@ fn ended_if_told<C: Drop>(
 fn ended_of<C: Drop>(
     alloc: Global,
     settings: &ListenSettings,
-    lines: &[LineReport<UdpSource<C>>],
+    lines: &[LineReport<ListenSource<C>>],
 ) -> Result<Vec<EndedLine>, AllocError>
     ensures { IfOk result (λ ended.
         ended.items ≡ told_ends (has_further_options settings.now) lines.now) }
@@ -195,25 +217,30 @@ fn absent_of(
 }
 
 /// The report of listening by the report of the settings' feed, of whose log the forgotten notices
-/// left these symbols unchanged. NoMemory where memory was refused, and no other fault.
+/// left these symbols unchanged, and whose lines of venues in ITCH share this. NoMemory where
+/// memory was refused, and no other fault.
 pub fn report_of<C: Drop>(
     alloc: Global,
     settings: &ListenSettings,
-    whole: FeedReport<UdpSource<C>>,
+    whole: FeedReport<ListenSource<C>>,
     unchanged: AbsentList,
+    itch: &[VenueShare],
 ) -> Result<ListenReport, ListenFault>
     requires { HasNoted (noted_symbols settings.now) (settled_log whole.settlement)
         (settled_forgotten whole.settlement) unchanged }
     ensures { IfOk result (IsReportOfFeed settings.now whole) }
 {
+    let itch = itch_ends(alloc, settings, itch)?;
     Ok(ListenReport {
         failed: failed_in(alloc, whole.lines.as_slice())?,
         stopped: whole.stopped,
         read_out: read_out_in(alloc, whole.lines.as_slice())?,
-        lacking: settled_lacks(alloc, &whole.settlement)?,
+        lacking: all_lacks(alloc, &whole.settlement, itch.as_slice())?,
         ended: ended_of(alloc, settings, whole.lines.as_slice())?,
         absent: absent_of(alloc, settings, &whole.settlement)?,
         unchanged: settled_unchanged(unchanged, &whole.settlement),
+        itch,
+        names: settings.venues,
         settlement: whole.settlement,
     })
 }

@@ -1,24 +1,26 @@
 //! Listening on live lines, until all have ended.
-ghost use Rattle.std.specs.Prelude.{◌≡◌, IfOk, length, map, vec_len};
-ghost use Rattle.text_out.specs.Devices.{Writing};
+ghost use Rattle.std.specs.Prelude.{◌≡◌, ◌≤◌, IfOk, OnOk, length, map, vec_len};
+ghost use Rattle.text_out.specs.Members.{writing_of};
 ghost use Rattle.udp_listening.specs.Listening.{HasListenedOn};
+ghost use Rattle.udp_listening.specs.NamedNext.{AreNextOf};
 ghost use Rattle.udp_listening.specs.Reports.{IsReportOfRun, noted_symbols, task_line};
 ghost use Rattle.run_watches.specs.RunLines.{watched_run};
 ghost use Rattle.run_watches.specs.RunNews.{SaysOfRun};
 ghost use Rattle.udp_listening.specs.Settings.{IsFeedOf, feed_setting, most_logged};
+ghost use Rattle.venue_lines.specs.Starts.{none_next};
 
 use crate::console::{Console, MOST};
 use crate::listen_report::{ListenReport, report_of};
 use crate::next_sessions::name_all;
 use crate::row_follower::RowFollower;
 use crate::run_monitor::RunMonitor;
-use crate::sources::UdpSource;
+use crate::sources::{ListenSource, ListenTasks};
 use best_rows::has_times;
 use feed_types::{Anything, FeedConfig};
 use filter_terms::{Filter, Strategy, Terms};
 use live_feed::{
-    CoreFault, FeedEnd, FeedName, FeedTask, JournalFault, LineTask, LiveFeed, RunRules,
-    SettleFault, Subscription, WholeFault,
+    CoreFault, FeedEnd, FeedName, FeedTask, JournalFault, LiveFeed, RunRules, SettleFault,
+    Subscription, WholeFault,
 };
 use run_notes::AbsentList;
 use run_settings::ListenSettings;
@@ -89,6 +91,9 @@ fn untimed_feed(alloc: Global, settings: &ListenSettings) -> Result<LiveFeed<Any
     ensures setting { IfOk result (λ feed. feed.setting ≡ feed_setting settings.now) }
     ensures venues { IfOk result (λ feed. length feed.venues
         ≡ vec_len settings.now.feed.sessions) }
+    ensures next { IfOk result (λ feed. feed.next
+        ≡ none_next (vec_len settings.now.feed.sessions)) }
+    ensures few { OnOk result (vec_len settings.now.feed.sessions ≤ 16) }
 {
     let config = config_of(settings);
     match settings.kept {
@@ -103,6 +108,7 @@ pub fn feed_of(alloc: Global, settings: &ListenSettings) -> Result<LiveFeed<Anyt
     ensures setting { IfOk result (λ feed. feed.setting ≡ feed_setting settings.now) }
     ensures venues { IfOk result (λ feed. length feed.venues
         ≡ vec_len settings.now.feed.sessions) }
+    ensures next { IfOk result (λ feed. AreNextOf settings.now feed.next) }
 {
     let mut feed = untimed_feed(alloc, settings)?;
     let venues = settings.feed.sessions.len();
@@ -155,7 +161,7 @@ pub fn run_feed<N, R, C, W, E>(
     alloc: Global,
     settings: &ListenSettings,
     feed: LiveFeed<Anything>,
-    lines: Vec<LineTask<UdpSource<C>>>,
+    lines: ListenTasks<C>,
     follower: RowFollower<C, W>,
     monitor: RunMonitor<C, E>,
 ) -> Listened<C, W, E>
@@ -167,19 +173,20 @@ where
     E: TextOut + Drop + Send,
     requires lanes { feed ≡ N.lanes }
     requires unchanged { follower.console.unchanged ≡ noted_symbols settings.now }
-    ensures listened { HasListenedOn (record { adds = W.adds; failures = W.failures })
+    ensures listened { HasListenedOn (writing_of W.TextOut)
         follower.console result.outcome result.console }
     ensures run { IfOk result.outcome
-        (IsReportOfRun settings.now N.lanes (map task_line lines.items)) }
-    ensures says { SaysOfRun (record { adds = E.adds; failures = E.failures })
+        (IsReportOfRun settings.now N.lanes (map task_line lines.tasks.items)) }
+    ensures says { SaysOfRun (writing_of E.TextOut)
         (watched_run monitor.watches) monitor.errors result.errors }
 {
     let subscription = Subscription {
         filter: Filter::of(Terms::All),
         strategy: Strategy::holding(),
     };
+    let ListenTasks { tasks, itch } = lines;
     let task = FeedTask {
-        lines,
+        lines: tasks,
         attended: Some(subscription),
         subscriptions: Vec::new(alloc),
         rules: rules_of(settings),
@@ -188,13 +195,13 @@ where
         outcome,
         attendant,
         watcher,
-    } = feed.run_whole::<N, UdpSource<C>, RowFollower<C, W>, RunMonitor<C, E>, R>(
+    } = feed.run_whole::<N, ListenSource<C>, RowFollower<C, W>, RunMonitor<C, E>, R>(
         rt, alloc, task, follower, monitor,
     );
     let mut console = attendant.console;
     let unchanged = mem::replace(&mut console.unchanged, AbsentList::none(alloc));
     let outcome = match outcome {
-        Ok(whole) => report_of(alloc, settings, whole, unchanged),
+        Ok(whole) => report_of(alloc, settings, whole, unchanged, itch.as_slice()),
         Err(fault) => Err(fault_of(fault)),
     };
     Listened {

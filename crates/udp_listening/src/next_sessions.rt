@@ -2,6 +2,7 @@
 ghost use Rattle.std.specs.Prelude.{◌≡◌, ◌∷◌, ◌++◌, [], IfOk, Some};
 ghost use Rattle.std.specs.List.{last_or};
 ghost use Rattle.run_settings.specs.NextSessions.{names_after};
+ghost use Rattle.udp_listening.specs.NamedNext.{AreNamedNext};
 ghost use Rattle.udp_listening.specs.Settings.{end_followed};
 
 use feed_types::{Anything, VenueId};
@@ -26,14 +27,16 @@ pub(crate) fn names_after(
     Ok(names)
 }
 
-/// Names the sessions that follow the first ones of the feed's first `venues` venues.
+/// Names the sessions that follow the first ones of the feed's first `venues` venues. A venue that
+/// none of these follow keeps the names that it had.
 pub(crate) fn name_all(
     alloc: Global,
     feed: &mut LiveFeed<Anything>,
     venues: usize,
     next: &[NextSession],
 ) -> Result<(), AllocError>
-    ensures { feed.new ≡ feed.old }
+    ensures lanes { feed.new ≡ record feed.old { next = feed.new.next } }
+    ensures named { IfOk result (λ _. AreNamedNext venues next.now feed.old.next feed.new.next) }
 {
     for place in 0..venues {
         if let Some(venue) = VenueId::from_index(place) {

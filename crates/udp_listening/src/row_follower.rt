@@ -1,7 +1,7 @@
 //! The thread of a run that prints rows as they come.
 ghost use Rattle.std.specs.Prelude.{◌≡◌};
 ghost use Rattle.feed_types.specs.Prefix.{IsPrefix};
-ghost use Rattle.text_out.specs.Devices.{Writing};
+ghost use Rattle.text_out.specs.Members.{writing_of};
 ghost use Rattle.udp_listening.specs.Listening.{KeepsFollowing, KeepsNoting};
 
 use crate::console::{Console, LiveOutput};
@@ -70,7 +70,7 @@ impl<C: Clock + Drop, W: TextOut + Drop> RowFollower<C, W> {
         run: &RunView<'_, Anything, N>,
         log: &mut SubscriberLog<N>,
     ) -> bool
-        ensures shows { KeepsFollowing (record { adds = W.adds; failures = W.failures })
+        ensures shows { KeepsFollowing (writing_of W.TextOut)
             log.old self.old.console log.new self.new.console }
         ensures notes { KeepsNoting log.old self.old.console log.new self.new.console }
     {
@@ -87,7 +87,7 @@ impl<C: Clock + Drop, W: TextOut + Drop> RowFollower<C, W> {
         run: &RunView<'_, Anything, N>,
         log: SubscriberLog<N>,
     ) -> (RowFollower<C, W>, SubscriberLog<N>)
-        ensures shows { KeepsFollowing (record { adds = W.adds; failures = W.failures })
+        ensures shows { KeepsFollowing (writing_of W.TextOut)
             log self.console result.1 result.0.console }
         ensures notes { KeepsNoting log self.console result.1 result.0.console }
     {
@@ -114,7 +114,7 @@ where
     ghost use Rattle.udp_listening.specs.Monitors.{FollowsRows};
 
     ghost attends = { λ before log after later. FollowsRows
-        (record { adds = W.adds; failures = W.failures }) before log after later };
+        (writing_of W.TextOut) before log after later };
 
     /// Follows the run with the log of its subscriber. Without one it does nothing.
     fn attend<R: Threads + Wait + Sync>(

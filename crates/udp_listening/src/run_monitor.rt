@@ -2,13 +2,14 @@
 //! and what was counted, gives up the gaps that are to be given up, serves metrics, and stops the
 //! run where it is to end. It never waits for who reads the rows.
 ghost use Rattle.std.specs.Prelude.{◌≡◌};
-ghost use Rattle.text_out.specs.Devices.{Writing};
+ghost use Rattle.text_out.specs.Members.{writing_of};
 ghost use Rattle.run_watches.specs.RunLines.{watched_run};
 ghost use Rattle.run_watches.specs.RunNews.{SaysOfRun, SaysRunEnd, SaysRunNews};
 
+use crate::itch_statuses::ItchStatuses;
 use crate::output_state::OutputState;
 use crate::run_time::RunTime;
-use feed_types::Anything;
+use feed_types::{Anything, MAX_VENUES, VenueId};
 use line_recordings::SkipRecords;
 use live_feed::{FeedName, RunView, Watcher};
 use run_watches::RunWatches;
@@ -31,6 +32,8 @@ pub struct RunMonitor<C, E> {
     output: OutputState,
     /// Where the skips are handed over, if they are recorded.
     skips: SkipRecords,
+    /// What the venues in ITCH show.
+    itch: ItchStatuses,
     /// Whether a run that is ended from outside waits no longer for who reads its rows.
     leaves_rows: bool,
     has_stopped: bool,
@@ -39,7 +42,7 @@ pub struct RunMonitor<C, E> {
 impl<C, E> RunMonitor<C, E> {
     /// Returns the monitor of a run that begins now. Where the run is ended from outside and
     /// `leaves_rows`, it doesn't wait for ever for who reads its rows. It hands its skips over to
-    /// `skips`.
+    /// `skips`. Of its venues in ITCH it shows what these show.
     pub fn new(
         time: RunTime<C>,
         errors: E,
@@ -47,6 +50,7 @@ impl<C, E> RunMonitor<C, E> {
         output: OutputState,
         leaves_rows: bool,
         skips: SkipRecords,
+        itch: ItchStatuses,
     ) -> RunMonitor<C, E>
         ensures errors { result.errors ≡ errors }
         ensures watches { result.watches ≡ watches }
@@ -57,6 +61,7 @@ impl<C, E> RunMonitor<C, E> {
             watches,
             output,
             skips,
+            itch,
             leaves_rows,
             has_stopped: false,
         }
@@ -87,25 +92,58 @@ impl<C: Clock + Drop, E: TextOut + Drop> RunMonitor<C, E> {
         }
     }
 
+    /// Says which gap a venue in ITCH has given up since the last look, if one was.
+    fn say_given_up_at(&mut self, venue: VenueId, elapsed_ms: u64)
+        ensures run { watched_run self.new.watches ≡ watched_run self.old.watches }
+        ensures news { SaysRunNews (writing_of E.TextOut)
+            (watched_run self.old.watches) self.old.errors self.new.errors }
+    {
+        let Some(run) = self.itch.take_given_up(venue) else {
+            return;
+        };
+        let errors = &mut self.errors;
+        self.watches
+            .note_given_up(elapsed_ms, venue, run.number, run.count, errors);
+    }
+
+    /// Looks at the venues in ITCH, and says which gaps they have given up since the last look.
+    fn say_given_up(&mut self, elapsed_ms: u64)
+        ensures run { watched_run self.new.watches ≡ watched_run self.old.watches }
+        ensures news { SaysRunNews (writing_of E.TextOut)
+            (watched_run self.old.watches) self.old.errors self.new.errors }
+    {
+        self.itch.look();
+        for place in 0..MAX_VENUES {
+            self.say_given_up_at(VenueId::at(place), elapsed_ms);
+        }
+    }
+
     /// Writes the counts that are due, says what is new of gaps, and gives up those that are due,
     /// unless the run is over: nothing is said of what comes then.
     fn watch<N: FeedName, R: Wait>(&mut self, rt: &R, run: &RunView<'_, Anything, N>)
         ensures run { watched_run self.new.watches ≡ watched_run self.old.watches }
-        ensures news { SaysRunNews (record { adds = E.adds; failures = E.failures })
+        ensures news { SaysRunNews (writing_of E.TextOut)
             (watched_run self.old.watches) self.old.errors self.new.errors }
     {
         if run.is_over() {
             return;
         }
         let moment = self.time.moment();
+        self.say_given_up(moment.elapsed_ms);
         let errors = &mut self.errors;
         let skips = &self.skips;
-        self.watches
-            .write_counts(moment, |venue| run.status(rt, venue).ok(), errors);
+        let itch = &self.itch;
+        self.watches.write_counts(
+            moment,
+            |venue| itch.over(venue, run.status(rt, venue).ok()),
+            errors,
+        );
         self.watches.look_at_gaps(
             moment.elapsed_ms,
-            |venue| run.status(rt, venue).ok(),
-            |venue, number| skips.took(venue, run.skip_to(rt, venue, number).ok(), number),
+            |venue| itch.over(venue, run.status(rt, venue).ok()),
+            |venue, number| {
+                !itch.has(venue) && skips.took(venue, run.skip_to(rt, venue, number).ok(), number)
+            },
             errors,
         );
     }
@@ -116,14 +154,16 @@ impl<C: Clock + Drop, E: TextOut + Drop> RunMonitor<C, E> {
         ensures run { watched_run self.new.watches ≡ watched_run self.old.watches }
     {
         let elapsed_ms = self.time.passed_ms();
-        self.watches
-            .serve_metrics(elapsed_ms, |venue| run.status(rt, venue).ok());
+        let itch = &self.itch;
+        self.watches.serve_metrics(elapsed_ms, |venue| {
+            itch.over(venue, run.status(rt, venue).ok())
+        });
     }
 
     /// Says what is new of the lines, and of the streams.
     fn say_news(&mut self)
         ensures run { watched_run self.new.watches ≡ watched_run self.old.watches }
-        ensures news { SaysRunNews (record { adds = E.adds; failures = E.failures })
+        ensures news { SaysRunNews (writing_of E.TextOut)
             (watched_run self.old.watches) self.old.errors self.new.errors }
     {
         let moment = self.time.moment();
@@ -134,7 +174,7 @@ impl<C: Clock + Drop, E: TextOut + Drop> RunMonitor<C, E> {
     /// over, and its rows are printed.
     fn turn<N: FeedName, R: Wait>(&mut self, rt: &R, run: &RunView<'_, Anything, N>) -> bool
         ensures run { watched_run self.new.watches ≡ watched_run self.old.watches }
-        ensures news { SaysRunNews (record { adds = E.adds; failures = E.failures })
+        ensures news { SaysRunNews (writing_of E.TextOut)
             (watched_run self.old.watches) self.old.errors self.new.errors }
     {
         let is_done = run.is_over() && self.output.is_done();
@@ -152,10 +192,14 @@ impl<C: Clock + Drop, E: TextOut + Drop> RunMonitor<C, E> {
 
     /// Looks at what the venues of a run that is over have come to, and says what was counted.
     fn close<N: FeedName, R: Wait>(&mut self, rt: &R, run: &RunView<'_, Anything, N>)
-        ensures { SaysRunEnd (record { adds = E.adds; failures = E.failures })
+        ensures { SaysRunEnd (writing_of E.TextOut)
             (watched_run self.old.watches) self.old.errors self.new.errors }
     {
-        let statuses = self.watches.statuses(|venue| run.status(rt, venue).ok());
+        self.itch.look();
+        let itch = &self.itch;
+        let statuses = self
+            .watches
+            .statuses(|venue| itch.over(venue, run.status(rt, venue).ok()));
         let moment = self.time.moment();
         self.watches.write_end(moment, &statuses, &mut self.errors);
     }
@@ -166,7 +210,7 @@ impl<C: Clock + Drop, E: TextOut + Drop> RunMonitor<C, E> {
         rt: &R,
         run: &RunView<'_, Anything, N>,
     ) -> RunMonitor<C, E>
-        ensures { SaysOfRun (record { adds = E.adds; failures = E.failures })
+        ensures { SaysOfRun (writing_of E.TextOut)
             (watched_run self.watches) self.errors result.errors }
     {
         let mut monitor = self;
@@ -189,7 +233,7 @@ where
     ghost use Rattle.udp_listening.specs.Monitors.{HasMonitored};
 
     ghost watches = { λ before after. HasMonitored
-        (record { adds = E.adds; failures = E.failures }) before after };
+        (writing_of E.TextOut) before after };
 
     fn watch<R: Threads + Wait + Sync>(
         self,

@@ -3,14 +3,14 @@ ghost use Rattle.std.specs.Prelude.{◌≡◌, ◌<◌, ◌++◌, IfOk, IfSome, 
 ghost use Rattle.event_sinks.specs.VenueLacks.{lack_by};
 ghost use Rattle.udp_listening.specs.SettledLacks.{settled_lacks};
 
-use event_sinks::Lack;
+use event_sinks::MissingRange;
 use feed_types::{MAX_VENUES, VenueId};
 use live_feed::Settlement;
 use std::alloc::{AllocError, Global};
 
 /// Appends what the venue lacks, if it lacks anything. It is below the number of venues.
 fn append_lack(
-    lacking: &mut Vec<Lack>,
+    lacking: &mut Vec<MissingRange>,
     settlement: &Settlement,
     venue: VenueId,
 ) -> Result<(), AllocError>
@@ -19,13 +19,16 @@ fn append_lack(
         (λ v. lacking.new.items ≡ lacking.old.items ++ lack_by venue v.gap)) }
 {
     if let Some(gap) = settlement.gap(venue) {
-        lacking.push(Lack::of(venue, &gap))?;
+        lacking.push(MissingRange::of(venue, &gap))?;
     }
     Ok(())
 }
 
 /// Returns what the venues of the settled feed lack, in order, of each that lacks anything.
-pub fn settled_lacks(alloc: Global, settlement: &Settlement) -> Result<Vec<Lack>, AllocError>
+pub fn settled_lacks(
+    alloc: Global,
+    settlement: &Settlement,
+) -> Result<Vec<MissingRange>, AllocError>
     ensures { IfOk result (λ lacking. lacking.items ≡ settled_lacks settlement.now) }
 {
     let mut lacking = Vec::new(alloc);

@@ -1,6 +1,6 @@
 //! The sockets of live lines.
 ghost use Rattle.std.specs.Prelude.{◌≡◌, ◌<◌, ◌∷◌, [], ◌++◌, IfOk, OnOk, Some, false, map, slice_get, vec_len};
-ghost use Rattle.text_out.specs.Devices.{Writing};
+ghost use Rattle.text_out.specs.Members.{writing_of};
 ghost use Rattle.text_out.specs.StandardError.{Says};
 ghost use Rattle.udp_listening.specs.Bound.{AddsReplies, AreBoundFor, asked_line, asked_lines, bound_line, reply_line};
 ghost use Rattle.udp_listening.specs.Sockets.{bind_fault_text};
@@ -287,7 +287,7 @@ fn bind_fault_line(fault: BindFault) -> &'static str
 
 /// Writes why no socket was opened, with the address that was refused, and why, where `is_named`.
 pub fn write_bind_fault<E: TextOut>(alloc: Global, fault: BindFault, is_named: bool, errors: &mut E)
-    ensures { is_named ≡ false → Says (record { adds = E.adds; failures = E.failures })
+    ensures { is_named ≡ false → Says (writing_of E.TextOut)
         (bind_fault_text fault) errors.old errors.new }
 {
     if !is_named {

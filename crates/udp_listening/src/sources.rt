@@ -1,17 +1,20 @@
 //! The sources of a feed's lines.
-ghost use Rattle.std.specs.Prelude.{◌≡◌, ◌++◌, ◌<◌, [], IfOk, OnOk, is_some, length, map, vec_len};
+ghost use Rattle.std.specs.Prelude.{◌≡◌, ◌++◌, ◌<◌, [], Contains, IfOk, OnOk, is_some, length, map, vec_len};
 ghost use Rattle.run_settings.specs.FurtherOptions.{has_further_options};
 ghost use Rattle.run_watches.specs.RunLines.{heard_lines, watched, watched_lines};
-ghost use Rattle.udp_listening.specs.Lines.{line_at, line_below, run_lines};
+ghost use Rattle.itch_lines.specs.FeedLines.{IsInItch, source_of};
+ghost use Rattle.udp_listening.specs.Lines.{line_at, line_below, run_lines, venue_of_line};
 ghost use Rattle.udp_listening.specs.Reports.{task_line};
 ghost use Rattle.udp_listening.specs.Settings.{IsSourceOf, end_rule_of, most_read_of};
 
+use crate::itch_statuses::ItchStatuses;
 use crate::listen_sockets::BoundLine;
 use crate::next_sessions::{end_by, names_after, sessions_of};
 use best_rows::has_times;
 use feed_types::{LineId, VenueId};
+use itch_lines::{FeedLine, ItchLine, ItchRules, VenueShare};
 use live_feed::{LineSource, LineTask};
-use run_settings::{EndRule, ListenSettings};
+use run_settings::{EndNumberRule, EndRule, ListenSettings};
 use run_watches::{LineWatch, LineWatches};
 use socket_tables::SocketTables;
 use std::alloc::{AllocError, Global};
@@ -19,9 +22,17 @@ use std::mem;
 use std::net::UdpSocket;
 use std::rt::Clock;
 use udp_lines::{LineProgress, LineUse, Requests, UdpLine, UdpLineSettings, VenueMarks};
+use venue_normaliser::{EndNumber, NormaliserSettings, VenueNormaliser};
+
+/// For how many milliseconds after the session's end of a venue in ITCH, or after something came of
+/// what is missing, a reply is awaited.
+const REPLY_WAIT_MS: u64 = 2_000;
 
 /// The source of a line of a run.
 pub type UdpSource<C> = UdpLine<UdpSocket, C>;
+
+/// A line of a run: its source, or a line in ITCH over that.
+pub type ListenSource<C> = FeedLine<UdpSource<C>, C>;
 
 /// The line at a place of the settings: line A's and then line B's, those of venue 0 first.
 pub fn line_at(place: usize) -> LineId
@@ -30,19 +41,71 @@ pub fn line_at(place: usize) -> LineId
     if place % 2 == 0 { LineId::A } else { LineId::B }
 }
 
-/// What the lines of a venue share: their marks, and how far its lines A and B are.
+/// What the lines of a venue share: their marks, how far its lines A and B are, and where the venue
+/// is in ITCH its normaliser.
 #[derive(Drop)]
 struct VenueShares {
     marks: VenueMarks,
     progress: Vec<LineProgress>,
+    itch: Option<VenueShare>,
+}
+
+/// Returns what the lines of a venue in ITCH share of its normaliser.
+fn itch_share(
+    alloc: Global,
+    settings: &ListenSettings,
+    venue: VenueId,
+) -> Result<VenueShare, AllocError>
+    requires { venue < vec_len settings.now.feed.sessions }
+{
+    let of_normaliser = NormaliserSettings {
+        window: settings.feed.window,
+        most_orders: settings.itch.orders as usize,
+        end_number: match settings.itch.end_number {
+            EndNumberRule::Next => EndNumber::Next,
+            EndNumberRule::Last => EndNumber::Last,
+        },
+    };
+    let sessions = settings.feed.sessions.as_slice();
+    let first = sessions[venue.index()];
+    let symbols = settings.feed.symbols.as_slice();
+    let Ok(normaliser) = VenueNormaliser::new(alloc, venue, first, symbols, &of_normaliser) else {
+        return Err(AllocError);
+    };
+    let following = names_after(alloc, venue, settings.next.as_slice())?;
+    VenueShare::new(alloc, normaliser, following)
+}
+
+/// Returns the rules by which lines in ITCH go on.
+fn itch_rules(settings: &ListenSettings) -> ItchRules {
+    ItchRules {
+        request_after_ms: u64::from(settings.request_wait()),
+        skip_after_ms: settings.skip_after.map(u64::from),
+        reply_wait_ms: if settings.request.is_some() {
+            REPLY_WAIT_MS
+        } else {
+            0
+        },
+    }
 }
 
 impl VenueShares {
-    /// Returns what lines share of which none is made.
-    fn new(alloc: Global) -> Result<VenueShares, AllocError> {
+    /// Returns what the lines of a venue of the settings share, of which none is made.
+    fn new(
+        alloc: Global,
+        settings: &ListenSettings,
+        venue: VenueId,
+    ) -> Result<VenueShares, AllocError>
+        requires { venue < vec_len settings.now.feed.sessions }
+    {
+        let mut itch = None;
+        if settings.itch.has(venue) {
+            itch = Some(itch_share(alloc, settings, venue)?);
+        }
         Ok(VenueShares {
             marks: VenueMarks::new(alloc)?,
             progress: Vec::new(alloc),
+            itch,
         })
     }
 
@@ -88,6 +151,16 @@ fn most_read_of(line: LineId, datagrams: Option<u32>) -> Option<u32>
     }
 }
 
+/// Has a line read on after its session's end while a reply is awaited, where its venue is in ITCH.
+fn read_on<C: Drop>(source: &mut UdpSource<C>, itch: &Option<VenueShare>) -> Result<(), AllocError>
+    ensures { source.new ≡ source.old }
+{
+    if let Some(itch) = itch {
+        source.read_on_for(itch.share_awaited()?);
+    }
+    Ok(())
+}
+
 /// Returns the source of the line, which is of a venue of the settings.
 fn source_of<C: Clock + Drop>(
     alloc: Global,
@@ -128,50 +201,96 @@ fn source_of<C: Clock + Drop>(
     };
     let mut source = UdpLine::new(alloc, of_line, socket, clock)?;
     source.follow_after(sessions.earlier);
+    read_on(&mut source, &shares.itch)?;
     shares.progress.push(source.share_progress()?)?;
     Ok(source)
 }
 
-/// Returns what the lines of each of `venues` venues share, of which none is made.
-fn venue_shares(alloc: Global, venues: usize) -> Result<Vec<VenueShares>, AllocError>
-    ensures { IfOk result (λ shares. length shares.items ≡ venues) }
+/// Returns the line over this source: in ITCH where its venue is.
+fn line_over<C: Clock + Clone + Drop>(
+    settings: &ListenSettings,
+    shares: &VenueShares,
+    line: LineId,
+    source: UdpSource<C>,
+    alloc: Global,
+    clock: &C,
+) -> Result<ListenSource<C>, AllocError>
+    ensures source { IfOk result (λ over. source_of over ≡ source) }
+    ensures venue { IfOk result (λ over. venue_of_line over ≡ source.venue) }
+    ensures itch { IfOk result (λ over. IsInItch over
+        → Contains settings.now.itch.venues.items source.venue) }
+    ensures own { IfOk result (λ over. (IsInItch over → ⊥)
+        → Contains settings.now.itch.venues.items source.venue → ⊥) }
 {
+    if !settings.itch.has(source.venue()) {
+        return Ok(FeedLine::own(source));
+    }
+    let Some(share) = &shares.itch else {
+        return Err(AllocError);
+    };
+    let clock = if has_times(settings.format) {
+        Some(clock.clone()?)
+    } else {
+        None
+    };
+    let share = share.share()?;
+    let rules = itch_rules(settings);
+    Ok(FeedLine::itch(ItchLine::new(alloc, source, line, share, rules, clock)))
+}
+
+/// Returns what the lines of each venue of the settings share, of which none is made.
+fn venue_shares(alloc: Global, settings: &ListenSettings) -> Result<Vec<VenueShares>, AllocError>
+    ensures { IfOk result (λ shares. length shares.items ≡ vec_len settings.now.feed.sessions) }
+{
+    let venues = settings.feed.sessions.len();
     let mut shares = Vec::with_capacity(alloc, venues)?;
-    for _ in 0..venues {
-        shares.push(VenueShares::new(alloc)?)?;
+    for place in 0..venues {
+        shares.push(VenueShares::new(alloc, settings, VenueId::at(place))?)?;
     }
     Ok(shares)
+}
+
+/// The lines of a run, and what those of its venues in ITCH share.
+#[derive(Drop)]
+pub struct ListenTasks<C> {
+    /// The lines, in the order of their sockets.
+    pub tasks: Vec<LineTask<ListenSource<C>>>,
+    /// What the lines of each venue in ITCH share.
+    pub itch: Vec<VenueShare>,
 }
 
 /// The lines of a run, and the same lines for the thread beside it.
 #[derive(Drop)]
 pub struct ListenLines<C> {
-    /// The lines with their sources, in the order of their sockets.
-    pub tasks: Vec<LineTask<UdpSource<C>>>,
+    /// The lines of the run.
+    pub run: ListenTasks<C>,
     /// What becomes of the lines.
     pub watches: LineWatches,
+    /// What its venues in ITCH show.
+    pub itch: ItchStatuses,
 }
 
 /// The lines of a run that are made so far.
 #[derive(Drop)]
 struct LinesMade<C> {
-    tasks: Vec<LineTask<UdpSource<C>>>,
+    tasks: Vec<LineTask<ListenSource<C>>>,
     watches: Vec<LineWatch>,
     /// Of each venue of the settings.
     venues: Vec<VenueShares>,
 }
 
 impl<C: Clock + Clone + Drop> LinesMade<C> {
-    /// Returns the lines of a run with `venues` venues, of which none is made.
-    fn none(alloc: Global, venues: usize) -> Result<LinesMade<C>, AllocError>
+    /// Returns the lines of a run of the settings, of which none is made.
+    fn none(alloc: Global, settings: &ListenSettings) -> Result<LinesMade<C>, AllocError>
         ensures tasks { IfOk result (λ made. made.tasks.items ≡ []) }
         ensures watches { IfOk result (λ made. made.watches.items ≡ []) }
-        ensures venues { IfOk result (λ made. length made.venues.items ≡ venues) }
+        ensures venues { IfOk result (λ made. length made.venues.items
+            ≡ vec_len settings.now.feed.sessions) }
     {
         Ok(LinesMade {
             tasks: Vec::new(alloc),
             watches: Vec::new(alloc),
-            venues: venue_shares(alloc, venues)?,
+            venues: venue_shares(alloc, settings)?,
         })
     }
 
@@ -202,9 +321,46 @@ impl<C: Clock + Clone + Drop> LinesMade<C> {
         let silent_after = settings.silence_limit();
         let watch = LineWatch::new(source.venue(), line, progress, address, silent_after);
         self.watches.push(watch)?;
+        let source = line_over(settings, shares, line, source, alloc, clock)?;
         self.tasks.push(LineTask { line, source })?;
         Ok(())
     }
+
+    /// Makes the lines that these sockets receive, in their order, but for those of venues that the
+    /// settings haven't.
+    fn over(
+        alloc: Global,
+        settings: &ListenSettings,
+        sockets: Vec<BoundLine>,
+        clock: &C,
+    ) -> Result<LinesMade<C>, AllocError>
+        ensures tasks { IfOk result (λ made. map task_line made.tasks.items
+            ≡ run_lines settings.now sockets.items) }
+        ensures watches { IfOk result (λ made. map watched made.watches.items
+            ≡ run_lines settings.now sockets.items) }
+    {
+        let mut made = LinesMade::none(alloc, settings)?;
+        for bound in sockets {
+            made.push(alloc, settings, bound, clock)?;
+        }
+        Ok(made)
+    }
+}
+
+/// Returns what the lines of venues in ITCH share.
+fn itch_shares(alloc: Global, venues: Vec<VenueShares>) -> Result<Vec<VenueShare>, AllocError> {
+    let mut shares = Vec::new(alloc);
+    for venue in venues {
+        let VenueShares {
+            marks: _,
+            progress: _,
+            itch,
+        } = venue;
+        if let Some(share) = itch {
+            shares.push(share)?;
+        }
+    }
+    Ok(shares)
 }
 
 /// The system's tables, where more is told of the lines: by settings with further options.
@@ -227,17 +383,19 @@ pub fn lines_over<C: Clock + Clone + Drop>(
     tables: SocketTables,
     clock: &C,
 ) -> Result<ListenLines<C>, AllocError>
-    ensures tasks { IfOk result (λ lines. map task_line lines.tasks.items
+    ensures tasks { IfOk result (λ lines. map task_line lines.run.tasks.items
         ≡ run_lines settings.now sockets.items) }
     ensures watches { IfOk result (λ lines. watched_lines lines.watches
         ≡ heard_lines settings.now (run_lines settings.now sockets.items)) }
 {
-    let mut made = LinesMade::none(alloc, settings.feed.sessions.len())?;
-    for bound in sockets {
-        made.push(alloc, settings, bound, clock)?;
-    }
+    let made = LinesMade::over(alloc, settings, sockets, clock)?;
+    let shares = itch_shares(alloc, made.venues)?;
     Ok(ListenLines {
-        tasks: made.tasks,
+        itch: ItchStatuses::of(alloc, shares.as_slice())?,
+        run: ListenTasks {
+            tasks: made.tasks,
+            itch: shares,
+        },
         watches: LineWatches::new(made.watches, tables_if_told(settings, tables)),
     })
 }

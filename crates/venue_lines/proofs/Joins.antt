@@ -1,6 +1,6 @@
 -- A session that may be joined: what the cursors of a cell show of it, that the skip is made, and
 -- that the packet isn't answered as an end that is too early.
-use Rattle.std.proofs.Common.{◌≡◌, inl, inr, ℕ, zero, suc, ◌+◌, ◌-◌, ◌<◌, ◌≤◌, Bool, true, false, cond, Option, List, [], ◌∷◌, ◌++◌, length, Some, None, Result, Ok, Err, refl, sym, ap, subst, ◌∙◌, arith}
+use Rattle.std.proofs.Common.{◌≡◌, inl, inr, ℕ, zero, suc, ◌+◌, ◌-◌, ◌<◌, ◌≤◌, Bool, true, false, cond, Option, List, [], ◌∷◌, ◌++◌, length, Some, None, IfSome, Result, Ok, Err, refl, sym, ap, subst, ◌∙◌, arith}
 use Rattle.std.specs.Prelude.{◌==◌, count_by, is_some, nat_lt, if◌then◌else◌}
 use Rattle.std.specs.List.{range_with_len}
 use Rattle.std.specs.Option.{option_or}
@@ -33,7 +33,7 @@ use Rattle.line_arbiter.specs.laws.Lengths.{length-stream}
 use Rattle.line_arbiter.specs.laws.SkipAnswers.{one_skip}
 use Rattle.venue_lines.specs.Cells.{CellState, CellFitsHistory, IsPossibleCall}
 use Rattle.venue_lines.specs.Joins.{BeginsPast, IsAnsweredJoining, IsAnsweredNext, JoinsIf, RenewsAndTakes, StaysWithin}
-use Rattle.venue_lines.specs.NextSessions.{NextNames}
+use Rattle.venue_lines.specs.NextSessions.{AreOfFeed, NextNames}
 use Rattle.venue_lines.specs.Seats.{SeatState}
 use Rattle.venue_lines.specs.Sections.{HasSkippedPast, TakesPacket}
 
@@ -233,14 +233,14 @@ some_joining premise lanes next join renewed joined seat p answer (inr x) = inr 
 -- which sessions are named to follow, too
 pub some_next : {S : Type 0} (premise : Genuine S) (lanes : FeedLanes) (next : Option NextNames)
     (join : Bool) (seat : SeatState) (p : Content) (answer : Result Outcome LineFault)
-    → IsAnsweredNext premise lanes next join seat p answer
+    → IfSome next (AreOfFeed lanes) → IsAnsweredNext premise lanes next join seat p answer
     → IsAnsweredJoining premise lanes join seat p answer
-some_next premise lanes next join seat p answer (inl x) = inl (record {
+some_next premise lanes next join seat p answer named (inl x) = inl (record {
   old = x.old;
   kept = x.kept;
   venue_is = x.venue_is;
   new = x.new;
   keeps = x.keeps;
-  leads = (next, x.leads.0, x.leads.1, x.leads.2);
+  leads = (next, named, x.leads.0, x.leads.1, x.leads.2);
 })
-some_next premise lanes next join seat p answer (inr x) = inr x
+some_next premise lanes next join seat p answer named (inr x) = inr x

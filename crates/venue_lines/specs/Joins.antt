@@ -1,6 +1,6 @@
 -- A session that is joined at the first packet that comes of it: what is missing before the packet
 -- is given up first, in the section that takes it.
-use Rattle.std.specs.Prelude.{◌≡◌, ℕ, ◌+◌, ◌-◌, ◌<◌, ◌≤◌, Bool, true, false, List, Option, Some, None, Result, Ok, Err}
+use Rattle.std.specs.Prelude.{◌≡◌, ℕ, ◌+◌, ◌-◌, ◌<◌, ◌≤◌, Bool, true, false, List, Option, Some, None, IfSome, Result, Ok, Err}
 use Rattle.feed_types.specs.declared.line.LineId.{LineId}
 use Rattle.mold_packet.specs.Content.{Content, Spells, last_number}
 use Rattle.mold_packet.specs.Faults.{HasFault}
@@ -18,7 +18,7 @@ use Rattle.feed_steps.specs.Lanes.{FeedLanes}
 use Rattle.venue_lines.specs.declared.faults.TakeFault.{TakeFault}
 use Rattle.venue_lines.specs.declared.faults.TakeFault.TheVariants as faults
 use Rattle.venue_lines.specs.Cells.{CellState, CellFitsHistory, IsPossibleCall}
-use Rattle.venue_lines.specs.NextSessions.{NextNames, RenewsIf}
+use Rattle.venue_lines.specs.NextSessions.{AreOfFeed, NextNames, RenewsIf}
 use Rattle.venue_lines.specs.Seats.{SeatState}
 use Rattle.venue_lines.specs.Sections.{GoesOnFrom, SkipsGap, TakesAndPushesReady}
 
@@ -83,13 +83,14 @@ IsAnsweredNext premise lanes next join seat p answer =
     × RenewsAndTakes next join seat.line p renewed joined answer old new)
     (answer ≡ Err OtherSession)
 
--- The same, whichever sessions are named to follow: the venue's lock keeps that.
+-- The same, where the sessions that are named to follow are those of the feed: the venue's lock
+-- keeps them.
 abbrev pub IsAnsweredJoining : {S : Type 0} → Genuine S → FeedLanes → (join : Bool) → SeatState
     → Content → Result Outcome LineFault → Type 0
 IsAnsweredJoining premise lanes join seat p answer =
     IsPossibleCall premise lanes seat.venue
-    (λ old new. (next : Option NextNames) × (renewed : Bool) × (joined : Bool)
-    × RenewsAndTakes next join seat.line p renewed joined answer old new)
+    (λ old new. (next : Option NextNames) × IfSome next (AreOfFeed lanes) × (renewed : Bool)
+    × (joined : Bool) × RenewsAndTakes next join seat.line p renewed joined answer old new)
     (answer ≡ Err OtherSession)
 
 -- The same of a datagram that is a packet.

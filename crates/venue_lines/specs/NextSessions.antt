@@ -1,12 +1,13 @@
 -- Sessions that are named to follow a venue's first one: each begins at the first packet that comes
 -- of it once the session before is over, in the section that takes the packet.
-use Rattle.std.specs.Prelude.{◌≡◌, ℕ, ◌+◌, ◌-◌, ◌==◌, Bool, true, false, List, Option, Some, None, Ok, slice_get, if◌then◌else◌}
+use Rattle.std.specs.Prelude.{◌≡◌, ℕ, ◌+◌, ◌-◌, ◌==◌, Bool, true, false, List, Option, Some, None, Ok, [], slice_get, if◌then◌else◌}
 use Rattle.feed_types.specs.Sessions.{SessionNames}
 use Rattle.mold_packet.specs.Content.{Content}
 use Rattle.line_arbiter.specs.Histories.{History, names_of}
 use Rattle.line_arbiter.specs.Packets.{end_of}
 use Rattle.line_arbiter.specs.Renewals.{IsRenewal}
 use Rattle.line_arbiter.specs.States.{ordinal_of}
+use Rattle.feed_steps.specs.Lanes.{FeedLanes}
 use Rattle.venue_lines.specs.Cells.{CellState, CellFitsHistory}
 use Rattle.venue_lines.specs.Sections.{BeginsNext, RenewsSession}
 
@@ -25,6 +26,15 @@ AreNextNames sessions venue names =
 abbrev pub name_after : NextNames → ℕ → ℕ → Option (List ℕ)
 name_after next venue ordinal =
     if next.venue == venue then slice_get next.names (ordinal - 1) else None
+
+-- the names of the sessions that follow this venue's first one, in order, if any are named for it
+abbrev pub names_at : ℕ → Option NextNames → List (List ℕ)
+names_at venue (Some next) = if next.venue == venue then next.names else []
+names_at venue None = []
+
+-- these are the sessions that the feed has for their venue
+abbrev pub AreOfFeed : FeedLanes → NextNames → Type 0
+AreOfFeed lanes next = slice_get lanes.next next.venue ≡ Some next.names
 
 -- The packet is of the session that is named to follow the venue's present one, which is over, and
 -- all of it was sent: a renewal under this name would begin the one of this ordinal.

@@ -17,7 +17,7 @@ use crate::joining::join_if_asked;
 use crate::locked_venue::LockedVenue;
 use crate::locks::{VenueLocks, lock_spinning};
 use crate::looked::Looked;
-use crate::next_sessions::{NextSessions, renew_if_named};
+use crate::next_sessions::{FollowingSessions, renew_if_named, show_following};
 use crate::seat::LineSeat;
 use crate::timing::{last_sent, note_join, note_renewal, note_time};
 use feed_steps::{FeedName, Unsent};
@@ -141,7 +141,7 @@ fn begun_at(renewed: bool, packet: &Packet<'_>) -> Option<[u8; 10]>
 /// it then.
 fn take_in<G: Genuine, N: FeedName, W: Wait>(
     rt: &W,
-    next: &Option<NextSessions<G>>,
+    next: &Option<FollowingSessions<G, N>>,
     cell: &mut VenueCell<G, N>,
     seat: &mut LineSeat<G, N>,
     packet: &Packet<'_>,
@@ -203,6 +203,7 @@ fn take_and_count<G: Genuine, N: FeedName, W: Wait>(
       before_join = before_join_after result.joined packet.now.number locked.old.before_join;
     } }
 {
+    show_following(&locked.next);
     let taken = take_in(rt, &locked.next, &mut locked.cell, seat, packet, join);
     locked.count_join(taken.joined, packet.number());
     taken
@@ -309,7 +310,7 @@ impl<G: Genuine, N: FeedName> VenueLocks<G, N> {
     /// true, and the packet is the first one of the venue's session and begins past its first
     /// message, what is missing before it is given up first. Stores in `looked` what the line sees
     /// then, all under the venue's lock taken once. The datagram is read before the lock is taken.
-    pub fn take_and_look<W: Wait>(
+    pub fn take_datagram<W: Wait>(
         &self,
         rt: &W,
         seat: &mut LineSeat<G, N>,
@@ -363,7 +364,7 @@ impl<G: Genuine, N: FeedName> VenueLocks<G, N> {
         let is_new = self.set_backlog(venue, has_backlog);
         drop(locked);
         if pushed > 0 || is_new {
-            self.bells().ring_work();
+            self.wakeups().wake_consolidators();
         }
         pushed
     }
@@ -392,7 +393,7 @@ impl<G: Genuine, N: FeedName> VenueLocks<G, N> {
         };
         let mut locked = lock_spinning(rt, lock);
         let last = locked.last_if_followed();
-        let times = self.bells().times();
+        let times = self.wakeups().times();
         note_time(&locked.cell, times, time);
         let taken = take_and_count(rt, &mut locked, seat, packet, join);
         note_renewal(&locked.cell, times, taken.renewed, last);
@@ -406,7 +407,7 @@ impl<G: Genuine, N: FeedName> VenueLocks<G, N> {
         let is_new = self.set_backlog(seat.venue(), has_backlog);
         drop(locked);
         if pushed > 0 || is_new || has_news(&answer) {
-            self.bells().ring_work();
+            self.wakeups().wake_consolidators();
         }
         answer
     }
@@ -425,7 +426,7 @@ impl<G: Genuine, N: FeedName> VenueLocks<G, N> {
         let _is_new = self.set_backlog(venue, has_backlog);
         drop(locked);
         if pushed > 0 {
-            self.bells().ring_work();
+            self.wakeups().wake_consolidators();
         }
         pushed
     }
@@ -447,7 +448,7 @@ impl<G: Genuine, N: FeedName> VenueLocks<G, N> {
         let before = last_sent(&locked.cell);
         let (answer, (pushed, has_backlog)) = skip_in(rt, &mut locked.cell, venue, number);
         let from = before.saturating_add(pushed);
-        self.bells()
+        self.wakeups()
             .times()
             .go_on_from(venue, from, last_sent(&locked.cell));
         let answer = match answer {
@@ -457,7 +458,7 @@ impl<G: Genuine, N: FeedName> VenueLocks<G, N> {
         let is_new = self.set_backlog(venue, has_backlog);
         drop(locked);
         if pushed > 0 || is_new {
-            self.bells().ring_work();
+            self.wakeups().wake_consolidators();
         }
         answer
     }
@@ -536,7 +537,7 @@ impl<G: Genuine, N: FeedName> VenueLocks<G, N> {
         let mut locked = lock.lock(rt);
         let from = last_sent(&locked.cell);
         let begun = renew_in(&mut locked.cell, venue, ordinal, session);
-        self.bells()
+        self.wakeups()
             .times()
             .go_on_from(venue, from, last_sent(&locked.cell));
         begun

@@ -25,13 +25,13 @@ mod locked_venue;
 mod locks;
 mod looked;
 mod next_sessions;
-mod reading;
 mod seat;
 mod source;
 mod start;
 mod starting;
 mod status;
 mod timing;
+mod venue_reading;
 
 pub use cell::VenueCell;
 pub use counted_lines::CountedLines;

@@ -1,15 +1,20 @@
 //! The part that a venue's lock guards: its cell, the seats that were handed out, and the order of
 //! what was taken.
 
-ghost use Rattle.std.specs.Prelude.{◌≡◌, IfOk};
+ghost use Rattle.std.specs.Prelude.{◌≡◌, IfOk, false};
+ghost use Rattle.feed_types.specs.PerLines.{on_all};
+ghost use Rattle.venue_lines.specs.Cells.{new_cell};
 ghost use Rattle.venue_lines.specs.Seats.{GivesSeat, new_seat};
 ghost use Rattle.venue_lines.specs.Joins.{before_join_after};
+ghost use Rattle.venue_lines.specs.NextSessions.{names_at};
+ghost use Rattle.venue_lines.specs.Starts.{HasItsLane};
 
 use crate::cell::VenueCell;
 use crate::faults::FeedFault;
 use crate::looked::Looked;
-use crate::next_sessions::NextSessions;
+use crate::next_sessions::FollowingSessions;
 use crate::seat::LineSeat;
+use crate::start::VenueStart;
 use crate::timing::last_sent;
 use feed_steps::FeedName;
 use feed_types::{Genuine, LineId, PerLine};
@@ -24,10 +29,35 @@ pub struct LockedVenue<G: Genuine, N: FeedName> {
     pub requests: u64,
     pub(crate) places: u64,
     pub(crate) before_join: u64,
-    pub(crate) next: Option<NextSessions<G>>,
+    pub(crate) next: Option<FollowingSessions<G, N>>,
 }
 
 impl<G: Genuine, N: FeedName> LockedVenue<G, N> {
+    /// The part that a venue's lock guards, of a venue to which nothing came.
+    pub(crate) fn new(start: VenueStart<G>) -> LockedVenue<G, N>
+        requires { HasItsLane N.lanes start }
+        ensures begun { result ≡ record {
+          cell = new_cell start.arbiter start.lane;
+          seated = on_all false;
+          requests = 0;
+          places = 0;
+          before_join = 0;
+          next = result.next;
+        } }
+        ensures next { names_at start.arbiter.venue result.next ≡ start.next }
+    {
+        let (arbiter, lane, next) = start.into_parts();
+        let next = FollowingSessions::of(next, arbiter.venue());
+        LockedVenue {
+            cell: VenueCell::new(arbiter, lane),
+            seated: PerLine::all(false),
+            requests: 0,
+            places: 0,
+            before_join: 0,
+            next,
+        }
+    }
+
     /// Hands out the seat of the line, which has brought nothing: SeatTaken where it was handed out
     /// already.
     pub(crate) fn give_seat(&mut self, line: LineId) -> Result<LineSeat<G, N>, FeedFault>

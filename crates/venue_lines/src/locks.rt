@@ -6,7 +6,7 @@ use crate::locked_venue::LockedVenue;
 use crossbeam_utils::CachePadded;
 use feed_steps::FeedName;
 use feed_types::{Genuine, MAX_VENUES, VenueId};
-use live_wakeups::Bells;
+use live_wakeups::Wakeups;
 use std::alloc::{AllocError, Global};
 use std::marker::Model;
 use std::sync::atomic::{AtomicBool, Ordering};
@@ -49,7 +49,7 @@ pub struct VenueLocks<G: Genuine, N: FeedName> {
     /// venue's lock alone, and is stored only where it differs. It lies on cache lines of its own,
     /// apart from what each datagram reads.
     backlogged: CachePadded<[AtomicBool; MAX_VENUES]>,
-    bells: Arc<Bells, Global>,
+    wakeups: Arc<Wakeups, Global>,
 }
 
 impl<G: Genuine, N: FeedName> Model for VenueLocks<G, N> {
@@ -64,24 +64,24 @@ impl<G: Genuine, N: FeedName> Model for VenueLocks<G, N> {
 
 impl<G: Genuine, N: FeedName> VenueLocks<G, N> {
     /// The venues under these locks, in order, where none has a backlog.
-    pub fn new(locks: Vec<VenueLock<G, N>>, bells: Arc<Bells, Global>) -> VenueLocks<G, N>
+    pub fn new(locks: Vec<VenueLock<G, N>>, wakeups: Arc<Wakeups, Global>) -> VenueLocks<G, N>
         requires { length locks.items ≡ length N.lanes.venues }
     {
         VenueLocks {
             locks,
             backlogged: CachePadded::new(array::from_fn(|_| AtomicBool::new(false))),
-            bells,
+            wakeups,
         }
     }
 
     /// The places where the threads of the feed sleep.
-    pub fn bells(&self) -> &Bells {
-        &self.bells
+    pub fn wakeups(&self) -> &Wakeups {
+        &self.wakeups
     }
 
     /// The same bells, for a subscriber.
-    pub fn share_bells(&self) -> Result<Arc<Bells, Global>, AllocError> {
-        Arc::try_clone(&self.bells)
+    pub fn share_bells(&self) -> Result<Arc<Wakeups, Global>, AllocError> {
+        Arc::try_clone(&self.wakeups)
     }
 
     /// Whether something may be ready at the venue that wasn't pushed.
@@ -123,14 +123,14 @@ impl<G: Genuine, N: FeedName> VenueLocks<G, N> {
     }
 
     /// Returns the locks, and the places where the threads of the feed sleep.
-    pub fn into_parts(self) -> (Vec<VenueLock<G, N>>, Arc<Bells, Global>)
+    pub fn into_parts(self) -> (Vec<VenueLock<G, N>>, Arc<Wakeups, Global>)
         ensures { length result.0.items ≡ length N.lanes.venues }
     {
         let VenueLocks {
             locks,
             backlogged: _,
-            bells,
+            wakeups,
         } = self;
-        (locks, bells)
+        (locks, wakeups)
     }
 }

@@ -1,7 +1,7 @@
 //! The sessions that follow a venue's first one.
 
-ghost use Rattle.std.specs.Prelude.{◌≡◌, ◌+◌, ◌≤◌, IfSome, slice_get};
-ghost use Rattle.venue_lines.specs.NextSessions.{AreNextNames, RenewsFirst, RenewsIf, name_after};
+ghost use Rattle.std.specs.Prelude.{◌≡◌, ◌+◌, ◌≤◌, IfSome, Some, slice_get};
+ghost use Rattle.venue_lines.specs.NextSessions.{AreNextNames, AreOfFeed, RenewsFirst, RenewsIf, name_after, names_at};
 
 use crate::cell::VenueCell;
 use feed_steps::FeedName;
@@ -63,6 +63,55 @@ impl<G: Genuine> NextSessions<G> {
     }
 }
 
+/// The sessions that follow a venue's first one in a feed.
+#[derive(Drop)]
+pub struct FollowingSessions<G: Genuine, N: FeedName> {
+    sessions: NextSessions<G>,
+    feed: PhantomData<N>,
+}
+
+impl<G: Genuine, N: FeedName> Model for FollowingSessions<G, N> {
+    ghost use Rattle.venue_lines.specs.NextSessions.{AreOfFeed, NextNames};
+
+    ghost Value = { NextNames };
+
+    ghost view = { λ f. f.sessions };
+
+    ghost invariant = { λ f. AreOfFeed N.lanes f.sessions };
+}
+
+impl<G: Genuine, N: FeedName> FollowingSessions<G, N> {
+    /// The sessions that follow the venue's first one, which are the feed's, if any are named for
+    /// it.
+    pub(crate) fn of(
+        next: Option<NextSessions<G>>,
+        venue: VenueId,
+    ) -> Option<FollowingSessions<G, N>>
+        requires { slice_get N.lanes.next venue ≡ Some (names_at venue next) }
+        ensures { names_at venue result ≡ names_at venue next }
+    {
+        let sessions = next?;
+        if sessions.of_venue != venue {
+            return None;
+        }
+        Some(FollowingSessions {
+            sessions,
+            feed: PhantomData,
+        })
+    }
+}
+
+/// Does nothing: it says that the sessions, if any are named to follow, are the feed's.
+#[inline(always)]
+pub(crate) fn show_following<G: Genuine, N: FeedName>(next: &Option<FollowingSessions<G, N>>)
+    ensures { IfSome next.now (AreOfFeed N.lanes) }
+{
+    // for the prover: the invariant is known where a field is used
+    if let Some(next) = next {
+        let _ = &next.sessions;
+    }
+}
+
 /// Begins the session that follows the cell's present one where that is over, all of it was sent,
 /// and the packet is of the one that is named to follow it. Returns whether that was done.
 fn renew_at<G: Genuine, N: FeedName>(
@@ -88,7 +137,7 @@ fn renew_at<G: Genuine, N: FeedName>(
 /// to follow. Returns whether that was done.
 #[inline(always)]
 pub(crate) fn renew_if_named<G: Genuine, N: FeedName>(
-    next: &Option<NextSessions<G>>,
+    next: &Option<FollowingSessions<G, N>>,
     cell: &mut VenueCell<G, N>,
     packet: &Packet<'_>,
 ) -> bool
@@ -97,7 +146,7 @@ pub(crate) fn renew_if_named<G: Genuine, N: FeedName>(
 {
     cell.show_lock_invariant();
     match next {
-        Some(next) => renew_at(next, cell, packet),
+        Some(next) => renew_at(&next.sessions, cell, packet),
         None => false,
     }
 }

@@ -1,8 +1,8 @@
 //! A venue to which nothing came.
 
-ghost use Rattle.std.specs.Prelude.{◌≡◌};
-ghost use Rattle.venue_lines.specs.NextSessions.{AreNextNames};
-ghost use Rattle.venue_lines.specs.Starts.{IsStart};
+ghost use Rattle.std.specs.Prelude.{◌≡◌, []};
+ghost use Rattle.venue_lines.specs.NextSessions.{AreNextNames, names_at};
+ghost use Rattle.venue_lines.specs.Starts.{IsStart, followed_by};
 
 use crate::next_sessions::NextSessions;
 use feed_types::{Genuine, Numbered, VenueId};
@@ -20,19 +20,28 @@ pub struct VenueStart<G: Genuine> {
 }
 
 impl<G: Genuine> Model for VenueStart<G> {
+    ghost use Rattle.venue_lines.specs.NextSessions.{names_at};
     ghost use Rattle.venue_lines.specs.Starts.{StartState, IsStart};
 
     ghost Value = { StartState };
 
-    ghost view = { λ s. record { arbiter = s.lines; lane = s.items } };
+    ghost view = { λ s. record {
+      arbiter = s.lines;
+      lane = s.items;
+      next = names_at s.lines.venue s.next;
+    } };
 
-    ghost invariant = { λ s. IsStart G.sessions (record { arbiter = s.lines; lane = s.items }) };
+    ghost invariant = { λ s. IsStart G.sessions (record {
+      arbiter = s.lines;
+      lane = s.items;
+      next = names_at s.lines.venue s.next;
+    }) };
 }
 
 impl<G: Genuine> VenueStart<G> {
     pub(crate) fn new(arbiter: Arbiter<G>, lane: Sender<Numbered, VenueItems<G>>) -> VenueStart<G>
-        requires { IsStart G.sessions (record { arbiter = arbiter; lane = lane }) }
-        ensures { result ≡ record { arbiter = arbiter; lane = lane } }
+        requires { IsStart G.sessions (record { arbiter = arbiter; lane = lane; next = [] }) }
+        ensures { result ≡ record { arbiter = arbiter; lane = lane; next = [] } }
     {
         VenueStart {
             lines: arbiter,
@@ -46,7 +55,7 @@ impl<G: Genuine> VenueStart<G> {
     /// the one before is over and all of it was sent. At another venue's start none begins.
     pub fn follow_by(&mut self, venue: VenueId, names: Vec<[u8; 10]>)
         requires { AreNextNames G.sessions venue names.items }
-        ensures { self.new ≡ self.old }
+        ensures { self.new ≡ followed_by self.old venue names.items }
     {
         self.next = Some(NextSessions::new(venue, names));
     }
@@ -59,6 +68,7 @@ impl<G: Genuine> VenueStart<G> {
         Option<NextSessions<G>>,
     )
         ensures parts { (result.0 ≡ self.arbiter) × (result.1 ≡ self.lane) }
+        ensures next { names_at self.arbiter.venue result.2 ≡ self.next }
         ensures start { IsStart G.sessions self }
     {
         let VenueStart { lines, items, next } = self;

@@ -1,18 +1,17 @@
 //! The venues of a new feed, and how they are put under their locks.
 
 ghost use Rattle.std.specs.Prelude.{◌≡◌, ◌≤◌, ◌<◌, [], All, length, vec_len, vec_capacity, IfOk};
-ghost use Rattle.venue_lines.specs.Starts.{AreNamed, AreStarts, HasItsLane};
+ghost use Rattle.venue_lines.specs.Starts.{AreNamed, AreStarts, HasItsLane, names_by_venue, none_next};
 
-use crate::cell::VenueCell;
 use crate::locked_venue::LockedVenue;
 use crate::locks::{VenueLock, VenueLocks};
 use crate::start::VenueStart;
 use crossbeam_utils::CachePadded;
 use feed_steps::FeedName;
-use feed_types::{FeedConfig, Genuine, Numbered, PerLine, VenueId};
+use feed_types::{FeedConfig, Genuine, Numbered, VenueId};
 use fifo_lane::{Receiver, VenueItems, lane};
 use line_arbiter::Arbiter;
-use live_wakeups::Bells;
+use live_wakeups::Wakeups;
 use std::alloc::{AllocError, Global};
 use std::sync::{Arc, Mutex};
 
@@ -28,6 +27,8 @@ fn new_start<G: Genuine>(
         × (made.1.items ≡ [])) }
     ensures sized { IfOk result (λ made. (made.0.arbiter.window ≡ config.now.window)
         × (made.0.lane.capacity ≡ config.now.lane)) }
+    ensures venue { IfOk result (λ made. made.0.arbiter.venue ≡ venue) }
+    ensures next { IfOk result (λ made. made.0.next ≡ []) }
 {
     let Ok(arbiter) = Arbiter::new(alloc, venue, session, config.window) else {
         return Err(AllocError);
@@ -48,6 +49,8 @@ pub fn new_starts<G: Genuine>(
     ensures starts { IfOk result (λ made. AreStarts config.now.window config.now.lane made.0.items
         made.1.items) }
     ensures count { IfOk result (λ made. length made.1.items ≡ length config.now.sessions.now) }
+    ensures next { IfOk result (λ made. names_by_venue made.0.items
+        ≡ none_next (length config.now.sessions.now)) }
 {
     let mut starts = Vec::new(alloc);
     let mut receivers = Vec::new(alloc);
@@ -69,16 +72,7 @@ fn locked<G: Genuine, N: FeedName>(
     ensures { length result.items ≡ length starts.items }
 {
     for start in starts {
-        let (arbiter, lane, next) = start.into_parts();
-        let cell = VenueCell::new(arbiter, lane);
-        venues.push_reserved(CachePadded::new(Mutex::new(LockedVenue {
-            cell,
-            seated: PerLine::all(false),
-            requests: 0,
-            places: 0,
-            before_join: 0,
-            next,
-        })));
+        venues.push_reserved(CachePadded::new(Mutex::new(LockedVenue::new(start))));
     }
     venues
 }
@@ -88,12 +82,12 @@ impl<G: Genuine, N: FeedName> VenueLocks<G, N> {
     pub fn open(
         starts: Vec<VenueStart<G>>,
         room: Vec<VenueLock<G, N>>,
-        bells: Arc<Bells, Global>,
+        wakeups: Arc<Wakeups, Global>,
     ) -> VenueLocks<G, N>
         requires lanes { All (HasItsLane N.lanes) starts.items }
         requires count { length starts.items ≡ length N.lanes.venues }
         requires room { (length room.items ≡ 0) × (vec_len starts ≤ vec_capacity room) }
     {
-        VenueLocks::new(locked(starts, room), bells)
+        VenueLocks::new(locked(starts, room), wakeups)
     }
 }

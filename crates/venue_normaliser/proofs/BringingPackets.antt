@@ -19,7 +19,8 @@ use Rattle.line_arbiter.specs.laws.Lengths.{end_most}
 use Rattle.venue_normaliser.specs.declared.message_slot.MessageSlot.{MessageSlot}
 use Rattle.venue_normaliser.specs.Brought.{message_at, message_brought}
 use Rattle.venue_normaliser.specs.Slots.{KeepsTaken}
-use Rattle.venue_normaliser.specs.States.{FitsPackets, NormaliserState}
+use Rattle.venue_normaliser.specs.Outputs.{Opening}
+use Rattle.venue_normaliser.specs.States.{FitsOpened, NormaliserState}
 use Rattle.venue_normaliser.specs.Inside.{BringsMessages, PutsMany, messages_between}
 use Rattle.venue_normaliser.proofs.Making.{many_none}
 use Rattle.venue_normaliser.proofs.Taken.{front_grows, none_taken, taken-push}
@@ -106,29 +107,30 @@ went_past session window sent packets a taken all one next =
 
 -- ---- what a packet brings, where no gap was given up
 
-sent_is : (s : NormaliserState) (packets : List Input) → FitsPackets s packets
-    → s.has_given_up ≡ false
+sent_is : (s : NormaliserState) (opening : Opening) (packets : List Input)
+    → FitsOpened s opening packets
     → s.lines.sent ≡ front_of packets + length (end_here packets)
-sent_is s packets fits going =
-    all_sent_is packets s.lines.sent (sym fits.given_up ∙ going) fits.all_sent
+sent_is s opening packets fits = all_sent_is packets s.lines.sent fits.all_sent
 
 between_none : (packets : List Input) (f n : ℕ) → n ≤ f → messages_between packets f n ≡ []
 between_none packets f n le =
     ap (λ (k : ℕ). map (message_at packets) (range_with_len (f + 1) k))
     (let k : n - f ≡ 0 = omega arith in k)
 
-pub brings_next : (session : List ℕ) (window : ℕ) (packets : List Input) (a : Arrival)
+pub brings_next : (session : List ℕ) (window : ℕ) (opening : Opening) (packets : List Input) (a :
+    Arrival)
     (old new : NormaliserState) (out0 out1 : List Numbered)
-    → FitsPackets old packets → old.has_given_up ≡ false → is_taken a.answer ≡ true
+    → FitsOpened old opening packets → old.has_given_up ≡ false → is_taken a.answer ≡ true
     → 1 ≤ a.packet.number
     → IsNextPacket session window old.lines.sent packets a.packet
     → new.lines.sent ≡ last_number a.packet → new.slots ≡ old.slots
     → PutsMany a.packet.number a.packet.messages old.book new.book out0 out1
     → BringsMessages packets (packets ++ Arrived a ∷ []) old new out0 out1
-brings_next session window packets a old new out0 out1 fits going taken one next moved slots puts =
+brings_next session window opening packets a old new out0 out1 fits going taken one next moved
+    slots puts =
     let after = packets ++ Arrived a ∷ [] in
     let f = front_of packets in
-    let sent = sent_is old packets fits going in
+    let sent = sent_is old opening packets fits in
     let first = next.next in
     let none : length (end_here packets) ≡ 0 = elim (cases_lt 0 (length (end_here packets))) [
       | inr le ↦ omega arith
@@ -156,18 +158,20 @@ brings_next session window packets a old new out0 out1 fits going taken one next
           (let n : a.packet.number ≡ f + 1 = omega arith in n) puts));
     }
 
-pub brings_other : (session : List ℕ) (window : ℕ) (packets : List Input) (a : Arrival)
+pub brings_other : (session : List ℕ) (window : ℕ) (opening : Opening) (packets : List Input) (a :
+    Arrival)
     (old new : NormaliserState) (out0 out1 : List Numbered)
-    → FitsPackets old packets → old.has_given_up ≡ false
+    → FitsOpened old opening packets → old.has_given_up ≡ false
     → IsOutcome session window old.lines.sent packets a.packet a.answer
     → new.lines.sent ≡ old.lines.sent
     → KeepsTaken new.slots old.lines.sent (packets ++ Arrived a ∷ [])
     → new.book ≡ old.book → out1 ≡ out0
     → BringsMessages packets (packets ++ Arrived a ∷ []) old new out0 out1
-brings_other session window packets a old new out0 out1 fits going outcome same keeps book out =
+brings_other session window opening packets a old new out0 out1 fits going outcome same keeps book
+    out =
     let after = packets ++ Arrived a ∷ [] in
     let f = front_of packets in
-    let sent = sent_is old packets fits going in
+    let sent = sent_is old opening packets fits in
     let grows = front_grows packets (Arrived a) in
     let most = end_most (end_of packets) (f + 1) in
     let low : min new.lines.sent (front_of after) ≤ f =

@@ -1,7 +1,7 @@
 -- Messages that are kept in slots, by their numbers.
 use Rattle.std.proofs.Common.{◌≡◌, ℕ, ◌+◌, ◌-◌, ◌*◌, ◌<◌, ◌≤◌, Bool, true, false, cond, List, [], ◌∷◌, ◌++◌, length, get_or, set, take, Option, Some, None, refl, sym, ap, subst, ◌∙◌, arith, inl, inr, append_assoc, append-nil, length-append}
-use Rattle.std.specs.Prelude.{◌⊎◌, ◌%◌, ◌/◌, ◌&&◌, nat_eq, nat_le, nat_lt, is_some, min, slice_get, unwrap_or, replicate, if◌then◌else◌}
-use Rattle.std.specs.Option.{option_and_then, option_map, option_or}
+use Rattle.std.specs.Prelude.{◌⊎◌, ◌%◌, ◌/◌, ◌&&◌, nat_le, nat_lt, is_some, min, unwrap_or, replicate, if◌then◌else◌}
+use Rattle.std.specs.Option.{option_and_then, option_or}
 use Rattle.std.proofs.lemmas.Bool.{cases_lt, cases_eq, eq-eqb, ne_eqb}
 use Rattle.std.proofs.lemmas.Bool.Decides.{nat_tests}
 use Rattle.std.proofs.lemmas.Nat.{mod_below}
@@ -10,10 +10,9 @@ use Rattle.std.proofs.lemmas.List.{length-set, get_or-set_same, get_or-set_other
 use Rattle.std.proofs.Math.Seq.{get_or-append_seam}
 use Rattle.std.proofs.lemmas.Option.{slice_get-get_or}
 use Rattle.mold_packet.specs.Content.{Content, last_number}
-use Rattle.line_arbiter.specs.Packets.{has_number}
 use Rattle.venue_normaliser.specs.declared.message_slot.MessageSlot.{MessageSlot}
 use Rattle.venue_normaliser.specs.Brought.{kept_bytes}
-use Rattle.venue_normaliser.specs.Slots.{IsStored, KeepsPacket, bytes_of_slot, kept_of_packet, stored_at}
+use Rattle.venue_normaliser.specs.Slots.{IsStored, KeepsPacket, bytes_of_slot, stored_at}
 
 -- two numbers of one residue that are less than the modulus apart are one
 quotients : (w p q r : ℕ) → r + w * p ≤ r + w * q → r + w * q < r + w * p + w → p ≡ q

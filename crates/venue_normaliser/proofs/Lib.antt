@@ -9,3 +9,7 @@ pub mod BringingPackets
 pub mod Whole
 pub mod Moved
 pub mod OfMessages
+pub mod Opened
+pub mod Numbers
+pub mod Snapshotting
+pub mod OneSnapshot

@@ -1,5 +1,5 @@
 -- An end of session, whose number is one more.
-use Rattle.std.proofs.Common.{Result, Ok, Err, ◌≡◌, ℕ, ◌+◌, ◌^◌, ◌<◌, ◌≤◌, Bool, true, false, List, [], ◌++◌, length, take, refl, sym, ap, subst, ◌∙◌, arith, append-nil, take_all, length-take-le}
+use Rattle.std.proofs.Common.{Result, Ok, Err, ◌≡◌, ℕ, ◌+◌, ◌<◌, ◌≤◌, Bool, true, false, List, [], ◌++◌, length, take, refl, sym, ap, subst, ◌∙◌, arith, append-nil, take_all, length-take-le}
 use Rattle.std.specs.Prelude.{IfOk, nat_lt, if◌then◌else◌, ◌&&◌}
 use Rattle.std.proofs.lemmas.Bool.Decides.{nat_tests}
 use Rattle.std.specs.Result.{is_err}
@@ -15,7 +15,7 @@ use Rattle.mold_packet.specs.Faults.{HasFault}
 use Rattle.mold_packet.specs.Writing.{WritesFirst}
 use Rattle.mold_packet.specs.laws.HeaderFields.{length-header}
 use Rattle.mold_packet.specs.laws.OneReading.{no_fault, same_packet}
-use Rattle.venue_normaliser.specs.declared.end_number.EndNumber.TheVariants.{Next, Last}
+use Rattle.venue_normaliser.specs.declared.end_number.EndNumber.TheVariants.{Last}
 use Rattle.venue_normaliser.specs.Ends.{is_end, read_as}
 
 pub end_moved : (p : Content) (number : ℕ) → p.kind ≡ kinds.End → IsContent p

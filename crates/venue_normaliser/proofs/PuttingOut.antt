@@ -1,5 +1,5 @@
 -- What is put out, where a gap was given up and where messages were put out.
-use Rattle.std.proofs.Common.{◌≡◌, ℕ, ◌+◌, ◌-◌, ◌≤◌, Bool, true, false, List, [], ◌∷◌, ◌++◌, length, map, Option, Some, refl, sym, ap, subst, ◌∙◌, arith, inl, inr, append_assoc, append-nil}
+use Rattle.std.proofs.Common.{◌≡◌, ℕ, ◌+◌, ◌-◌, ◌<◌, ◌≤◌, Bool, true, false, List, [], ◌∷◌, ◌++◌, length, map, Option, Some, refl, sym, ap, subst, ◌∙◌, arith, inl, inr, append_assoc, append-nil}
 use Rattle.std.specs.Prelude.{min, nat_le, ◌⊎◌, if◌then◌else◌}
 use Rattle.std.specs.List.{range_with_len}
 use Rattle.std.proofs.lemmas.Bool.{cases_lt}
@@ -14,9 +14,9 @@ use Rattle.line_arbiter.specs.Outcomes.{IsOutcome}
 use Rattle.line_arbiter.specs.Skips.{MaySkip}
 use Rattle.line_arbiter.specs.States.{State}
 use Rattle.venue_normaliser.specs.declared.message_slot.MessageSlot.{MessageSlot}
-use Rattle.venue_normaliser.specs.Brought.{before_skip, has_skip, message_at, messages_brought}
-use Rattle.venue_normaliser.specs.Outputs.{AreMade, end_put_out, events_of}
-use Rattle.venue_normaliser.specs.States.{PutsOut}
+use Rattle.venue_normaliser.specs.Brought.{before_skip_past, has_skip_past, message_at, messages_brought}
+use Rattle.venue_normaliser.specs.Outputs.{AreMadeAfter, Opening, end_put_out_from, events_of, put_first}
+use Rattle.venue_normaliser.specs.States.{PutsOutFrom}
 use Rattle.venue_normaliser.specs.Inside.{PutsMany, PutsReady, messages_between}
 use Rattle.venue_normaliser.proofs.Making.{many_join, numbered_append}
 use Rattle.venue_normaliser.proofs.Taken.{before_all, before_here, before_same, front_grows, messages_split, messages_stay, range_join, skip_arrived, skip_here, skip_stays}
@@ -25,44 +25,52 @@ use Rattle.venue_normaliser.proofs.Arriving.{ended_stays}
 
 -- ---- a gap was given up
 
-end_given : (packets : List Input) → has_skip packets ≡ true
-    → end_put_out packets ≡ end_item (front_of (before_skip packets) + 1) ∷ []
-end_given packets some =
-    ap (λ (b : Bool). if b then end_item (front_of (before_skip packets) + 1) ∷ []
+end_given : (from : ℕ) (packets : List Input) → has_skip_past from packets ≡ true
+    → end_put_out_from from packets ≡ end_item (front_of (before_skip_past from packets) + 1) ∷ []
+end_given from packets some =
+    ap (λ (b : Bool). if b then end_item (front_of (before_skip_past from packets) + 1) ∷ []
     else end_at (end_of packets) (front_of packets + 1)) some
 
-end_open : (packets : List Input) → has_skip packets ≡ false
-    → end_put_out packets ≡ end_here packets
-end_open packets none =
-    ap (λ (b : Bool). if b then end_item (front_of (before_skip packets) + 1) ∷ []
+end_open : (from : ℕ) (packets : List Input) → has_skip_past from packets ≡ false
+    → end_put_out_from from packets ≡ end_here packets
+end_open from packets none =
+    ap (λ (b : Bool). if b then end_item (front_of (before_skip_past from packets) + 1) ∷ []
     else end_at (end_of packets) (front_of packets + 1)) none
 
 -- nothing is put out then
-pub puts_nothing : (keys : List ℕ) (packets : List Input) (x : Input) (old new : List Numbered)
-    → has_skip packets ≡ true → new ≡ old → PutsOut keys packets (packets ++ x ∷ []) old new
-puts_nothing keys packets x old new some same = record {
-  more = [];
-  appended = same ∙ sym (append-nil old);
-  whole = λ output is. record {
-    items = is.items;
-    made = subst (λ (xs : List Input). AreMade keys (messages_brought xs) is.items)
-        (sym (before_same packets x some)) is.made;
-    is = append-nil output ∙ is.is
-        ∙ ap (λ (xs : List Numbered). numbered_from 1 is.items ++ xs)
-        (end_given packets some
-        ∙ ap (λ (xs : List Input). end_item (front_of xs + 1) ∷ [])
-        (sym (before_same packets x some))
-        ∙ sym (end_given (packets ++ x ∷ []) (skip_stays packets x some)));
-  };
-}
+pub puts_nothing : (keys : List ℕ) (opening : Opening) (packets : List Input) (x : Input)
+    (old new : List Numbered) → has_skip_past opening.number packets ≡ true → new ≡ old
+    → PutsOutFrom keys opening packets (packets ++ x ∷ []) old new
+puts_nothing keys opening packets x old new some same =
+    let from = opening.number in
+    record {
+      more = [];
+      appended = same ∙ sym (append-nil old);
+      whole = λ output is. record {
+        one = is.one;
+        items = is.items;
+        made = subst (λ (xs : List Input). AreMadeAfter keys opening.messages
+            (messages_brought from xs) is.items)
+            (sym (before_same from packets x some)) is.made;
+        is = append-nil output ∙ is.is
+            ∙ ap (λ (xs : List Numbered). put_first opening ++ (numbered_from from is.items ++ xs))
+            (end_given from packets some
+            ∙ ap (λ (xs : List Input). end_item (front_of xs + 1) ∷ [])
+            (sym (before_same from packets x some))
+            ∙ sym (end_given from (packets ++ x ∷ []) (skip_stays from packets x some)));
+      };
+    }
 
 -- the end at the first missing number
-pub puts_end : (keys : List ℕ) (packets : List Input) (n : ℕ) (old new : List Numbered)
-    → has_skip packets ≡ false → MaySkip packets n
+pub puts_end : (keys : List ℕ) (opening : Opening) (packets : List Input) (n : ℕ)
+    (old new : List Numbered) → opening.number ≤ front_of packets + 1
+    → has_skip_past opening.number packets ≡ false → MaySkip packets n
     → new ≡ old ++ end_item (front_of packets + 1) ∷ []
-    → PutsOut keys packets (packets ++ Skip n ∷ []) old new
-puts_end keys packets n old new none may put =
+    → PutsOutFrom keys opening packets (packets ++ Skip n ∷ []) old new
+puts_end keys opening packets n old new low none may put =
+    let from = opening.number in
     let past = may.past in
+    let later : from < n = omega arith in
     let going : length (end_here packets) ≡ 0 =
     elim (cases_lt 0 (length (end_here packets))) [
       | inr le ↦ omega arith
@@ -73,17 +81,23 @@ puts_end keys packets n old new none may put =
       more = end_item (front_of packets + 1) ∷ [];
       appended = put;
       whole = λ output is. record {
+        one = is.one;
         items = is.items;
-        made = subst (λ (xs : List Input). AreMade keys (messages_brought xs) is.items)
-            (before_all packets none ∙ sym (before_here packets n none)) is.made;
+        made = subst (λ (xs : List Input). AreMadeAfter keys opening.messages
+            (messages_brought from xs) is.items)
+            (before_all from packets none ∙ sym (before_here from packets n later none)) is.made;
         is = ap (λ (xs : List Numbered). xs ++ end_item (front_of packets + 1) ∷ [])
-            (is.is ∙ ap (λ (xs : List Numbered). numbered_from 1 is.items ++ xs)
-            (end_open packets none ∙ end_none (end_of packets) (front_of packets + 1) going)
-            ∙ append-nil (numbered_from 1 is.items))
-            ∙ ap (λ (xs : List Numbered). numbered_from 1 is.items ++ xs)
+            (is.is ∙ ap (λ (xs : List Numbered). put_first opening
+            ++ (numbered_from from is.items ++ xs))
+            (end_open from packets none ∙ end_none (end_of packets) (front_of packets + 1) going)
+            ∙ ap (λ (xs : List Numbered). put_first opening ++ xs)
+            (append-nil (numbered_from from is.items)))
+            ∙ append_assoc (put_first opening) (numbered_from from is.items)
+            (end_item (front_of packets + 1) ∷ [])
+            ∙ ap (λ (xs : List Numbered). put_first opening ++ (numbered_from from is.items ++ xs))
             (ap (λ (xs : List Input). end_item (front_of xs + 1) ∷ [])
-            (sym (before_here packets n none))
-            ∙ sym (end_given (packets ++ Skip n ∷ []) (skip_here packets n)));
+            (sym (before_here from packets n later none))
+            ∙ sym (end_given from (packets ++ Skip n ∷ []) (skip_here from packets n later)));
       };
     }
 
@@ -156,19 +170,22 @@ joined packets f sent g book0 book1 book2 out0 out1 mid from grows first second 
     ]
 
 -- the whole of what is put out, and the orders after it
-pub record Finishes (packets after : List Input) (old new : OrderBookState)
+pub record Finishes (opening : Opening) (packets after : List Input) (old new : OrderBookState)
     (before out : List Numbered) : Type 0 where
-  pub output : PutsOut old.keys packets after before out
+  pub output : PutsOutFrom old.keys opening packets after before out
   pub keys : new.keys ≡ old.keys
-  pub book : FitsEvents new (events_of (messages_brought after))
+  pub book : FitsEvents new (events_of (opening.messages
+      ++ messages_brought opening.number after))
 
 -- a packet came
-pub finishes : (session : List ℕ) (window given : ℕ) (packets : List Input) (a : Arrival)
+pub finishes : (opening : Opening) (session : List ℕ) (window given : ℕ)
+    (packets : List Input) (a : Arrival)
     (slots : List MessageSlot) (lines1 lines2 : State) (book0 book1 book2 : OrderBookState)
     (out0 out1 out2 : List Numbered)
-    → has_skip packets ≡ false
+    → (1 ≤ opening.number) × (opening.number ≤ front_of packets + 1)
+    → has_skip_past opening.number packets ≡ false
     → IsOutcome session window given packets a.packet a.answer
-    → FitsEvents book0 (events_of (messages_brought packets))
+    → FitsEvents book0 (events_of (opening.messages ++ messages_brought opening.number packets))
     → front_of packets ≤ lines1.sent
     → (lines1.sent ≤ front_of (packets ++ Arrived a ∷ []))
     ⊎ ((1 ≤ length (end_here packets)) × (lines1.sent ≡ front_of packets + 1))
@@ -177,31 +194,43 @@ pub finishes : (session : List ℕ) (window given : ℕ) (packets : List Input) 
     (front_of packets) (min lines1.sent (front_of (packets ++ Arrived a ∷ []))))
     book0 book1 out0 out1
     → PutsReady (packets ++ Arrived a ∷ []) slots lines1 lines2 book1 book2 out1 out2
-    → Finishes packets (packets ++ Arrived a ∷ []) book0 book2 out0 out2
-finishes session window given packets a slots lines1 lines2 book0 book1 book2 out0 out1 out2
-    none outcome fits from within ended first ready =
+    → Finishes opening packets (packets ++ Arrived a ∷ []) book0 book2 out0 out2
+finishes opening session window given packets a slots lines1 lines2 book0 book1 book2 out0 out1 out2
+    low none outcome fits from within ended first ready =
+    let number = opening.number in
+    let one = low.0 in
+    let least = low.1 in
+    let F = put_first opening in
     let after = packets ++ Arrived a ∷ [] in
     let f = front_of packets in
     let g = front_of after in
     let grows = front_grows packets (Arrived a) in
-    let none' : has_skip after ≡ false = skip_arrived packets a ∙ none in
+    let none' : has_skip_past number after ≡ false = skip_arrived number packets a ∙ none in
     let all : PutsMany (f + 1) (messages_between after f g) book0 book2 out0 ready.messages =
     joined after f lines1.sent g book0 book1 book2 out0 out1 ready.messages from grows first
     ready.puts in
-    let messages : messages_brought packets ++ messages_between after f g ≡ messages_brought after =
+    let messages : messages_brought number packets ++ messages_between after f g
+    ≡ messages_brought number after =
     ap (λ (ms : List (List ℕ)). ms ++ messages_between after f g)
-    (sym (messages_stay packets (Arrived a)))
-    ∙ sym (messages_split after f g grows) in
-    let book = subst (λ (ms : List (List ℕ)). FitsEvents book2 (events_of ms)) messages
-    (all.fits (messages_brought packets) fits) in
-    let made : (was : List Item) → AreMade book0.keys (messages_brought (before_skip packets)) was
-    → AreMade book0.keys (messages_brought (before_skip after)) (was ++ all.items) =
-    λ was made. subst (λ (xs : List Input). AreMade book0.keys (messages_brought xs)
-    (was ++ all.items)) (sym (before_all after none'))
-    (subst (λ (ms : List (List ℕ)). AreMade book0.keys ms (was ++ all.items)) messages
-    (all.made (messages_brought packets) was fits
-    (subst (λ (xs : List Input). AreMade book0.keys (messages_brought xs) was)
-    (before_all packets none) made))) in
+    (sym (messages_stay number packets (Arrived a) one))
+    ∙ sym (messages_split number after f g least grows) in
+    let book = subst (λ (ms : List (List ℕ)). FitsEvents book2 (events_of ms))
+    (append_assoc opening.messages (messages_brought number packets) (messages_between after f g)
+    ∙ ap (λ (ms : List (List ℕ)). opening.messages ++ ms) messages)
+    (all.fits (opening.messages ++ messages_brought number packets) fits) in
+    let made : (was : List Item)
+    → AreMadeAfter book0.keys opening.messages
+    (messages_brought number (before_skip_past number packets)) was
+    → AreMadeAfter book0.keys opening.messages
+    (messages_brought number (before_skip_past number after)) (was ++ all.items) =
+    λ was made. subst (λ (xs : List Input). AreMadeAfter book0.keys opening.messages
+    (messages_brought number xs) (was ++ all.items)) (sym (before_all number after none'))
+    (subst (λ (ms : List (List ℕ)). AreMadeAfter book0.keys opening.messages ms (was ++ all.items))
+    messages
+    (all.made opening.messages (messages_brought number packets) was fits
+    (subst (λ (xs : List Input). AreMadeAfter book0.keys opening.messages (messages_brought number
+    xs)
+    was) (before_all number packets none) made))) in
     let E = (if nat_le lines1.sent g then end_here after else []) in
     let appended : out2 ≡ out0 ++ (numbered_from (f + 1) all.items ++ E) =
     ready.end ∙ ap (λ (xs : List Numbered). xs ++ E) all.appended
@@ -244,28 +273,34 @@ finishes session window given packets a slots lines1 lines2 book0 book1 book2 ou
         more = numbered_from (f + 1) all.items ++ E;
         appended = appended;
         whole = λ output is. record {
+          one = is.one;
           items = is.items ++ all.items;
           made = made is.items is.made;
           is =
-              let len = length-map-range_with_len (message_at packets) 1 f in
-              let count : length is.items ≡ f = is.made.count
-              ∙ ap (λ (xs : List Input). length (messages_brought xs)) (before_all packets none)
+              let len = length-map-range_with_len (message_at packets) number
+              (front_of packets + 1 - number) in
+              let count : length is.items ≡ f + 1 - number = is.made.count
+              ∙ ap (λ (xs : List Input). length (messages_brought number xs))
+              (before_all number packets none)
               ∙ len in
               ap (λ (xs : List Numbered). xs ++ (numbered_from (f + 1) all.items ++ E))
-              (is.is ∙ ap (λ (xs : List Numbered). numbered_from 1 is.items ++ xs)
-              (end_open packets none))
-              ∙ append_assoc (numbered_from 1 is.items) (end_here packets)
+              (is.is ∙ ap (λ (xs : List Numbered). F ++ (numbered_from number is.items ++ xs))
+              (end_open number packets none))
+              ∙ append_assoc F (numbered_from number is.items ++ end_here packets)
               (numbered_from (f + 1) all.items ++ E)
-              ∙ ap (λ (xs : List Numbered). numbered_from 1 is.items ++ xs) ends
-              ∙ sym (append_assoc (numbered_from 1 is.items) (numbered_from (f + 1) all.items)
-              (end_here after))
-              ∙ ap (λ (k : ℕ). (numbered_from 1 is.items ++ numbered_from k all.items)
+              ∙ ap (λ (xs : List Numbered). F ++ xs)
+              (append_assoc (numbered_from number is.items) (end_here packets)
+              (numbered_from (f + 1) all.items ++ E)
+              ∙ ap (λ (xs : List Numbered). numbered_from number is.items ++ xs) ends
+              ∙ sym (append_assoc (numbered_from number is.items)
+              (numbered_from (f + 1) all.items) (end_here after))
+              ∙ ap (λ (k : ℕ). (numbered_from number is.items ++ numbered_from k all.items)
               ++ end_here after)
-              (let k : f + 1 ≡ 1 + length is.items = omega arith in k)
+              (let k : f + 1 ≡ number + length is.items = omega arith in k)
               ∙ ap (λ (xs : List Numbered). xs ++ end_here after)
-              (sym (numbered_append 1 is.items all.items))
-              ∙ ap (λ (xs : List Numbered). numbered_from 1 (is.items ++ all.items) ++ xs)
-              (sym (end_open after none'));
+              (sym (numbered_append number is.items all.items))
+              ∙ ap (λ (xs : List Numbered). numbered_from number (is.items ++ all.items) ++ xs)
+              (sym (end_open number after none')));
         };
       };
       keys = all.keys;

@@ -1,9 +1,9 @@
 -- What is ready is put out: the messages up to the first gap, and the end where it follows.
-use Rattle.std.proofs.Common.{◌≡◌, ℕ, zero, suc, ◌+◌, ◌-◌, ◌<◌, ◌≤◌, Bool, true, false, cond, List, [], ◌∷◌, ◌++◌, length, map, get_or, Option, Some, None, refl, sym, ap, subst, ◌∙◌, arith, inl, inr, append-nil}
-use Rattle.std.specs.Prelude.{IsSome, is_some, nat_le, ◌==◌, ◌⊎◌, fold, max, unwrap_or, if◌then◌else◌, ◌&&◌}
+use Rattle.std.proofs.Common.{◌≡◌, ℕ, ◌+◌, ◌-◌, ◌<◌, ◌≤◌, Bool, true, false, List, [], ◌∷◌, ◌++◌, length, map, Option, Some, None, refl, sym, ap, subst, ◌∙◌, arith, inl, inr, append-nil}
+use Rattle.std.specs.Prelude.{IsSome, nat_le, ◌==◌, ◌⊎◌, unwrap_or, if◌then◌else◌, ◌&&◌}
 use Rattle.std.specs.List.{range_with_len}
 use Rattle.std.specs.Option.{option_map}
-use Rattle.std.proofs.lemmas.Bool.{cases_lt, cases_eq, eq-eqb, ne_eqb, eqb-true, false≢true}
+use Rattle.std.proofs.lemmas.Bool.{cases_lt, cases_eq, eq-eqb, ne_eqb}
 use Rattle.std.proofs.lemmas.Bool.Decides.{nat_tests}
 use Rattle.std.proofs.lemmas.List.FromFn.{map-range_with_len_more, length-map-range_with_len}
 use Rattle.feed_types.specs.declared.item.Item.{Item}
@@ -15,64 +15,53 @@ use Rattle.itch_messages.specs.declared.event.OrderEvent.TheVariants as event
 use Rattle.itch_messages.specs.Events.{event_by, is_form, order_event_of}
 use Rattle.quote_payload.specs.Payload.{type_at}
 use Rattle.itch_book.specs.Books.{OrderBookState}
-use Rattle.line_arbiter.specs.Packets.{Input, Arrived, Skip, carried, end_of, first_by, first_of}
+use Rattle.line_arbiter.specs.Packets.{Input, carried, end_of}
 use Rattle.line_arbiter.specs.Streams.{front_of, opens_of, part_of, end_at}
 use Rattle.line_arbiter.specs.Holding.{held_at}
 use Rattle.line_arbiter.specs.Skips.{AllSent}
 use Rattle.line_arbiter.specs.Renewals.{HasEnded}
-use Rattle.line_arbiter.specs.States.{State, IsAdvanced, KeepsAllButSent, held_of, next_from, next_of}
+use Rattle.line_arbiter.specs.States.{State, KeepsAllButSent, held_of, next_from, next_of}
 use Rattle.line_arbiter.specs.Fits.{Fits}
-use Rattle.line_arbiter.specs.laws.Fronts.{front_greatest, front_is, not_none}
+use Rattle.line_arbiter.specs.laws.Fronts.{front_greatest, front_is, not_none, opens_most}
 use Rattle.line_arbiter.specs.laws.Genuine.{carried_never_end}
 use Rattle.line_arbiter.specs.laws.Lengths.{end_most, end_one, length-stream}
-use Rattle.line_arbiter.specs.laws.FitsHistory.{keeping_all_but_sent_is_reflexive, keeping_all_but_sent_is_transitive}
 use Rattle.venue_normaliser.specs.declared.message_slot.MessageSlot.{MessageSlot}
-use Rattle.venue_normaliser.specs.Brought.{has_skip, kept_bytes, message_at, taken_message}
+use Rattle.venue_normaliser.specs.Brought.{kept_bytes, message_at, taken_message}
 use Rattle.venue_normaliser.specs.Slots.{KeepsTaken, stored_at}
 use Rattle.venue_normaliser.specs.Inside.{PutsMany, PutsOneItem, PutsReady, messages_between}
 use Rattle.venue_normaliser.proofs.Making.{many_none, many_more}
 
--- ---- the number of the last one sent, where no gap was given up
-
-first_fold : (packets : List Input) (n : ℕ) → has_skip packets ≡ false
-    → fold (λ n x. first_by n x) n packets ≡ n
-first_fold [] n none = refl
-first_fold (Arrived a ∷ packets) n none = first_fold packets n none
-first_fold (Skip k ∷ packets) n none = absurd cc
-
-pub opens_one : (packets : List Input) → has_skip packets ≡ false → opens_of packets ≡ 1
-opens_one packets none = ap (λ (n : ℕ). max 1 (n - 1)) (first_fold packets 1 none)
+-- ---- the number of the last one sent
 
 -- the end, where it follows the messages up to the gap
 abbrev pub end_here : List Input → List Numbered
 end_here packets = end_at (end_of packets) (front_of packets + 1)
 
-pub part_is : (packets : List Input) → has_skip packets ≡ false
-    → length (part_of packets) ≡ front_of packets + length (end_here packets)
-part_is packets none =
-    let opens = opens_one packets none in
+-- the present part opens at the front or before
+pub part_is : (packets : List Input)
+    → opens_of packets + length (part_of packets)
+    ≡ front_of packets + 1 + length (end_here packets)
+part_is packets =
+    let opens = opens_most packets (front_of packets) (front_is packets) in
     omega (arith, length-stream packets (front_of packets))
 
-pub sent_within : (s : State) (packets : List Input) → Fits s packets → has_skip packets ≡ false
+pub sent_within : (s : State) (packets : List Input) → Fits s packets
     → s.sent ≤ front_of packets + length (end_here packets)
-sent_within s packets fits none =
-    let opens = opens_one packets none in
-    let part = part_is packets none in
+sent_within s packets fits =
+    let part = part_is packets in
     let sent = fits.sent in
     omega arith
 
-pub all_sent_is : (packets : List Input) (sent : ℕ) → has_skip packets ≡ false
+pub all_sent_is : (packets : List Input) (sent : ℕ)
     → AllSent packets sent → sent ≡ front_of packets + length (end_here packets)
-all_sent_is packets sent none all =
-    let opens = opens_one packets none in
-    let part = part_is packets none in
+all_sent_is packets sent all =
+    let part = part_is packets in
     omega arith
 
-pub is_all_sent : (packets : List Input) (sent : ℕ) → has_skip packets ≡ false
+pub is_all_sent : (packets : List Input) (sent : ℕ)
     → sent ≡ front_of packets + length (end_here packets) → AllSent packets sent
-is_all_sent packets sent none is =
-    let opens = opens_one packets none in
-    let part = part_is packets none in
+is_all_sent packets sent is =
+    let part = part_is packets in
     omega arith
 
 pub end_there : (o : Option ℕ) (m : ℕ) → 1 ≤ length (end_at o m) → o ≡ Some m
@@ -100,12 +89,12 @@ end_is o m is =
     ∙ ap (λ (b : Bool). if b then end_item m ∷ [] else []) (eq-eqb m m refl)
 
 -- the last one sent lies up to the gap, or is the end
-pub sent_up_to : (s : State) (packets : List Input) → Fits s packets → has_skip packets ≡ false
+pub sent_up_to : (s : State) (packets : List Input) → Fits s packets
     → (HasEnded s.end s.sent → ⊥) → s.sent ≤ front_of packets
-sent_up_to s packets fits none not = elim (cases_lt (front_of packets) s.sent) [
+sent_up_to s packets fits not = elim (cases_lt (front_of packets) s.sent) [
   | inr le ↦ le
   | inl lt ↦
-      let within = sent_within s packets fits none in
+      let within = sent_within s packets fits in
       let one = end_most (end_of packets) (front_of packets + 1) in
       let here : s.sent ≡ front_of packets + 1 = omega arith in
       absurd (not (fits.end
@@ -259,7 +248,7 @@ between_more packets a b le =
 pub up_to_more : (packets : List Input) (stored : List MessageSlot) (old mid new : State)
     (old_book mid_book new_book : OrderBookState) (before between after : List Numbered)
     (ready : Numbered) (message : List ℕ)
-    → has_skip packets ≡ false → KeepsTaken stored old.sent packets
+    → KeepsTaken stored old.sent packets
     → IsUpTo packets old mid old_book mid_book before between
     → Some ready ≡ next_of mid → (ready.item ≡ items.End → ⊥)
     → (HasEnded mid.end mid.sent → ⊥)
@@ -268,9 +257,9 @@ pub up_to_more : (packets : List Input) (stored : List MessageSlot) (old mid new
     → PutsOneItem ready.number (order_event_of message) mid_book new_book between after
     → IsUpTo packets old new old_book new_book before after
 up_to_more packets stored old mid new old_book mid_book new_book before between after ready message
-    none keeps so is not going moved fits read number one =
+    keeps so is not going moved fits read number one =
     let from = so.from in
-    let within = sent_up_to mid packets so.lines none going in
+    let within = sent_up_to mid packets so.lines going in
     let some : IsSome (carried packets (mid.sent + 1)) =
     subst (λ (o : Option Item). IsSome o) (held_is mid packets so.lines)
     (next_message (mid.sent + 1) (held_at (held_of mid) (mid.sent + 1)) mid.end ready is not) in
@@ -318,16 +307,16 @@ no_more false xs e = refl
 -- nothing more is ready
 pub ready_none : (packets : List Input) (stored : List MessageSlot) (old new : State)
     (old_book new_book : OrderBookState) (before after : List Numbered)
-    → has_skip packets ≡ false → KeepsTaken stored old.sent packets
+    → KeepsTaken stored old.sent packets
     → KeepsAllButSent old new
     → IsUpTo packets old new old_book new_book before after
     → None ≡ next_of new
     → PutsReady packets stored old new old_book new_book before after
-ready_none packets stored old new old_book new_book before after none keeps kept so is =
+ready_none packets stored old new old_book new_book before after keeps kept so is =
     let from = so.from in
     let next = next_none (new.sent + 1) (held_at (held_of new) (new.sent + 1)) new.end is in
     let most = front_most packets new.sent (sym (held_is new packets so.lines) ∙ next.0) in
-    let within = sent_within new packets so.lines none in
+    let within = sent_within new packets so.lines in
     let one = end_most (end_of packets) (front_of packets + 1) in
     let no_end : length (end_at (end_of packets) (new.sent + 1)) ≡ 0 =
     ap (λ (o : Option ℕ). length (end_at o (new.sent + 1))) (sym so.lines.end) ∙ next.1 in
@@ -339,7 +328,7 @@ ready_none packets stored old new old_book new_book before after none keeps kept
           record {
             messages = after;
             lines = so.lines;
-            all_sent = is_all_sent packets new.sent none (omega arith);
+            all_sent = is_all_sent packets new.sent (omega arith);
             kept = kept;
             slots = later stored packets old.sent new.sent from keeps;
             puts = subst (λ (n : ℕ). PutsMany (old.sent + 1) (messages_between packets old.sent n)
@@ -358,7 +347,7 @@ ready_none packets stored old new old_book new_book before after none keeps kept
           record {
             messages = after;
             lines = so.lines;
-            all_sent = is_all_sent packets new.sent none (omega arith);
+            all_sent = is_all_sent packets new.sent (omega arith);
             kept = kept;
             slots = later stored packets old.sent new.sent from keeps;
             puts = subst (λ (n : ℕ). PutsMany (old.sent + 1)
@@ -373,7 +362,7 @@ ready_none packets stored old new old_book new_book before after none keeps kept
 -- the end is ready
 pub ready_end : (packets : List Input) (stored : List MessageSlot) (old mid new : State)
     (old_book new_book : OrderBookState) (before between after : List Numbered) (ready : Numbered)
-    → has_skip packets ≡ false → KeepsTaken stored old.sent packets
+    → KeepsTaken stored old.sent packets
     → KeepsAllButSent old new
     → IsUpTo packets old mid old_book new_book before between
     → Some ready ≡ next_of mid → ready.item ≡ items.End
@@ -382,9 +371,9 @@ pub ready_end : (packets : List Input) (stored : List MessageSlot) (old mid new 
     → after ≡ between ++ ready ∷ []
     → PutsReady packets stored old new old_book new_book before after
 ready_end packets stored old mid new old_book new_book before between after ready
-    none keeps kept so is last going moved fits put =
+    keeps kept so is last going moved fits put =
     let from = so.from in
-    let within = sent_up_to mid packets so.lines none going in
+    let within = sent_up_to mid packets so.lines going in
     let next = next_end (mid.sent + 1) (held_at (held_of mid) (mid.sent + 1)) mid.end ready is last
     (λ item there. carried_never_end packets (mid.sent + 1) item
     (sym (held_is mid packets so.lines) ∙ there)) in
@@ -396,7 +385,7 @@ ready_end packets stored old mid new old_book new_book before between after read
     record {
       messages = between;
       lines = fits;
-      all_sent = is_all_sent packets new.sent none (omega arith);
+      all_sent = is_all_sent packets new.sent (omega arith);
       kept = kept;
       slots = later stored packets old.sent new.sent (omega arith) keeps;
       puts = subst (λ (n : ℕ). PutsMany (old.sent + 1) (messages_between packets old.sent n)

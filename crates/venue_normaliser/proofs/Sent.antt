@@ -1,9 +1,8 @@
 -- All that is ready was sent, where nothing more is.
-use Rattle.std.proofs.Common.{◌≡◌, ℕ, zero, suc, ◌+◌, ◌-◌, ◌<◌, ◌≤◌, List, [], ◌∷◌, length, Option, Some, None, sym, ◌∙◌, arith, inl, inr, length-append}
+use Rattle.std.proofs.Common.{◌≡◌, ℕ, zero, suc, ◌≤◌, List, [], ◌∷◌, length, None, arith, length-append}
 use Rattle.std.specs.Prelude.{slice_get}
-use Rattle.feed_types.specs.declared.item.Numbered.{Numbered}
 use Rattle.line_arbiter.specs.Packets.{Input}
-use Rattle.line_arbiter.specs.Streams.{closed_of, opens_of, part_of, place_of, stream_of}
+use Rattle.line_arbiter.specs.Streams.{closed_of, part_of, place_of, stream_of}
 use Rattle.line_arbiter.specs.Skips.{AllSent}
 use Rattle.line_arbiter.specs.States.{State}
 use Rattle.line_arbiter.specs.Fits.{Fits}

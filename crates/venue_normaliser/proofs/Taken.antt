@@ -1,17 +1,18 @@
 -- The messages that were taken, when one packet or skip more has come.
-use Rattle.std.proofs.Common.{◌≡◌, ℕ, zero, suc, ◌+◌, ◌-◌, ◌<◌, ◌≤◌, Bool, true, false, cond, List, [], ◌∷◌, ◌++◌, length, map, get_or, drop, Option, Some, None, refl, sym, ap, subst, ◌∙◌, arith, inl, inr}
-use Rattle.std.specs.Prelude.{IsSome, find, unwrap_or, if◌then◌else◌, ◌⊎◌, ◌&&◌}
+use Rattle.std.proofs.Common.{◌≡◌, ℕ, zero, suc, ◌+◌, ◌-◌, ◌<◌, ◌≤◌, Bool, true, false, List, [], ◌∷◌, ◌++◌, map, Option, Some, None, refl, sym, ap, subst, ◌∙◌, arith}
+use Rattle.std.specs.Prelude.{IsSome, find, nat_lt, unwrap_or, if◌then◌else◌, ◌||◌}
 use Rattle.std.specs.List.{range_with_len}
 use Rattle.std.specs.Option.{option_map, option_or}
-use Rattle.std.proofs.lemmas.Bool.{cases_lt, false≢true}
+use Rattle.std.proofs.lemmas.Bool.{false≢true}
+use Rattle.std.proofs.lemmas.Bool.Decides.{nat_tests}
 use Rattle.std.proofs.lemmas.List.Folds.{find-append}
 use Rattle.feed_types.specs.declared.item.Item.{Item}
-use Rattle.line_arbiter.specs.Packets.{Arrival, Input, Arrived, Skip, bringer, brings, carried, has_number, is_taken, item_brought}
+use Rattle.line_arbiter.specs.Packets.{Arrival, Input, Arrived, Skip, bringer, brings, carried, item_brought}
 use Rattle.line_arbiter.specs.Streams.{front_of}
-use Rattle.line_arbiter.specs.laws.Options.{IsSome-or, map_or, or_none, picked}
+use Rattle.line_arbiter.specs.laws.Options.{IsSome-or, map_or, picked}
 use Rattle.line_arbiter.specs.laws.Bringing.{carried-push}
 use Rattle.line_arbiter.specs.laws.Fronts.{front_greatest, front_is}
-use Rattle.venue_normaliser.specs.Brought.{has_skip, before_skip, message_at, message_brought, messages_brought, messages_to, taken_message}
+use Rattle.venue_normaliser.specs.Brought.{has_skip_past, before_skip_past, message_at, message_brought, messages_brought, messages_to, taken_message}
 use Rattle.venue_normaliser.specs.Inside.{messages_between}
 
 pub taken-push : (packets : List Input) (x : Input) (m : ℕ)
@@ -89,56 +90,99 @@ front_grows packets x =
     ((front_is packets).all m one most)))
 
 -- the messages up to the gap stay
-pub messages_stay : (packets : List Input) (x : Input)
-    → messages_to (packets ++ x ∷ []) (front_of packets) ≡ messages_brought packets
-messages_stay packets x =
-    map_same (message_at (packets ++ x ∷ [])) (message_at packets) 1 (front_of packets)
-    (λ m one most. message_stays packets x m ((front_is packets).all m one (omega arith)))
+pub messages_stay : (from : ℕ) (packets : List Input) (x : Input) → 1 ≤ from
+    → messages_to from (packets ++ x ∷ []) (front_of packets) ≡ messages_brought from packets
+messages_stay from packets x one =
+    map_same (message_at (packets ++ x ∷ [])) (message_at packets) from
+    (front_of packets + 1 - from)
+    (λ m low most. message_stays packets x m
+    ((front_is packets).all m (omega arith) (omega arith)))
 
-pub messages_split : (packets : List Input) (a b : ℕ) → a ≤ b
-    → messages_to packets b ≡ messages_to packets a ++ messages_between packets a b
-messages_split packets a b le =
-    let sum : b ≡ a + (b - a) = omega arith in
-    ap (λ (n : ℕ). messages_to packets n) sum
-    ∙ range_join (message_at packets) 1 a (b - a)
-    ∙ ap (λ (k : ℕ). messages_to packets a ++ map (message_at packets) (range_with_len k (b - a)))
+pub messages_split : (from : ℕ) (packets : List Input) (a b : ℕ) → from ≤ a + 1 → a ≤ b
+    → messages_to from packets b ≡ messages_to from packets a ++ messages_between packets a b
+messages_split from packets a b low le =
+    let sum : b + 1 - from ≡ (a + 1 - from) + (b - a) = omega arith in
+    ap (λ (n : ℕ). map (message_at packets) (range_with_len from n)) sum
+    ∙ range_join (message_at packets) from (a + 1 - from) (b - a)
+    ∙ ap (λ (k : ℕ). messages_to from packets a
+    ++ map (message_at packets) (range_with_len k (b - a)))
     (omega arith)
 
 -- ---- gaps that were given up
 
-pub skip_arrived : (packets : List Input) (a : Arrival)
-    → has_skip (packets ++ Arrived a ∷ []) ≡ has_skip packets
-skip_arrived [] a = refl
-skip_arrived (Arrived b ∷ packets) a = skip_arrived packets a
-skip_arrived (Skip n ∷ packets) a = refl
+or_true : (b : Bool) → (b || true) ≡ true
+or_true true = refl
+or_true false = refl
 
-pub skip_here : (packets : List Input) (n : ℕ) → has_skip (packets ++ Skip n ∷ []) ≡ true
-skip_here [] n = refl
-skip_here (Arrived b ∷ packets) n = skip_here packets n
-skip_here (Skip k ∷ packets) n = refl
+-- neither holds
+pub neither : (b c : Bool) → (b || c) ≡ false → (b ≡ false) × (c ≡ false)
+neither true c e = absurd (false≢true (sym e))
+neither false c e = (refl, e)
 
-pub before_all : (packets : List Input) → has_skip packets ≡ false → before_skip packets ≡ packets
-before_all [] none = refl
-before_all (Arrived b ∷ packets) none =
-    ap (λ (xs : List Input). Arrived b ∷ xs) (before_all packets none)
-before_all (Skip k ∷ packets) none = absurd cc
+pub past_number : (from n : ℕ) → from < n → nat_lt from n ≡ true
+past_number from n lt = grind (arith, nat_tests)
 
-pub before_here : (packets : List Input) (n : ℕ) → has_skip packets ≡ false
-    → before_skip (packets ++ Skip n ∷ []) ≡ packets
-before_here [] n none = refl
-before_here (Arrived b ∷ packets) n none =
-    ap (λ (xs : List Input). Arrived b ∷ xs) (before_here packets n none)
-before_here (Skip k ∷ packets) n none = absurd cc
+pub skip_arrived : (from : ℕ) (packets : List Input) (a : Arrival)
+    → has_skip_past from (packets ++ Arrived a ∷ []) ≡ has_skip_past from packets
+skip_arrived from [] a = refl
+skip_arrived from (Arrived b ∷ packets) a = skip_arrived from packets a
+skip_arrived from (Skip n ∷ packets) a =
+    ap (λ (b : Bool). nat_lt from n || b) (skip_arrived from packets a)
 
-pub before_same : (packets : List Input) (x : Input) → has_skip packets ≡ true
-    → before_skip (packets ++ x ∷ []) ≡ before_skip packets
-before_same [] x some = absurd cc
-before_same (Arrived b ∷ packets) x some =
-    ap (λ (xs : List Input). Arrived b ∷ xs) (before_same packets x some)
-before_same (Skip k ∷ packets) x some = refl
+pub skip_here : (from : ℕ) (packets : List Input) (n : ℕ) → from < n
+    → has_skip_past from (packets ++ Skip n ∷ []) ≡ true
+skip_here from [] n lt = ap (λ (b : Bool). b || false) (past_number from n lt)
+skip_here from (Arrived b ∷ packets) n lt = skip_here from packets n lt
+skip_here from (Skip k ∷ packets) n lt =
+    ap (λ (b : Bool). nat_lt from k || b) (skip_here from packets n lt) ∙ or_true (nat_lt from k)
 
-pub skip_stays : (packets : List Input) (x : Input) → has_skip packets ≡ true
-    → has_skip (packets ++ x ∷ []) ≡ true
-skip_stays [] x some = absurd cc
-skip_stays (Arrived b ∷ packets) x some = skip_stays packets x some
-skip_stays (Skip k ∷ packets) x some = refl
+pub before_all : (from : ℕ) (packets : List Input) → has_skip_past from packets ≡ false
+    → before_skip_past from packets ≡ packets
+before_all from [] none = refl
+before_all from (Arrived b ∷ packets) none =
+    ap (λ (xs : List Input). Arrived b ∷ xs) (before_all from packets none)
+before_all from (Skip k ∷ packets) none =
+    let both = neither (nat_lt from k) (has_skip_past from packets) none in
+    ap (λ (b : Bool). if b then [] else Skip k ∷ before_skip_past from packets) both.0
+    ∙ ap (λ (xs : List Input). Skip k ∷ xs) (before_all from packets both.1)
+
+pub before_here : (from : ℕ) (packets : List Input) (n : ℕ) → from < n
+    → has_skip_past from packets ≡ false → before_skip_past from (packets ++ Skip n ∷ []) ≡ packets
+before_here from [] n lt none =
+    ap (λ (b : Bool). if b then [] else Skip n ∷ []) (past_number from n lt)
+before_here from (Arrived b ∷ packets) n lt none =
+    ap (λ (xs : List Input). Arrived b ∷ xs) (before_here from packets n lt none)
+before_here from (Skip k ∷ packets) n lt none =
+    let both = neither (nat_lt from k) (has_skip_past from packets) none in
+    ap (λ (b : Bool). if b then [] else Skip k ∷ before_skip_past from (packets ++ Skip n ∷ []))
+    both.0
+    ∙ ap (λ (xs : List Input). Skip k ∷ xs) (before_here from packets n lt both.1)
+
+pub before_same : (from : ℕ) (packets : List Input) (x : Input) → has_skip_past from packets ≡ true
+    → before_skip_past from (packets ++ x ∷ []) ≡ before_skip_past from packets
+before_same from [] x some = absurd cc
+before_same from (Arrived b ∷ packets) x some =
+    ap (λ (xs : List Input). Arrived b ∷ xs) (before_same from packets x some)
+before_same from (Skip k ∷ packets) x some =
+    by_test (λ more. before_same from packets x more) (nat_lt from k) some
+  where
+    by_test : (has_skip_past from packets ≡ true
+        → before_skip_past from (packets ++ x ∷ []) ≡ before_skip_past from packets)
+        → (b : Bool) → (b || has_skip_past from packets) ≡ true
+        → (if b then [] else Skip k ∷ before_skip_past from (packets ++ x ∷ []))
+        ≡ (if b then [] else Skip k ∷ before_skip_past from packets)
+    by_test later true some = refl
+    by_test later false some = ap (λ (xs : List Input). Skip k ∷ xs) (later some)
+
+pub skip_stays : (from : ℕ) (packets : List Input) (x : Input) → has_skip_past from packets ≡ true
+    → has_skip_past from (packets ++ x ∷ []) ≡ true
+skip_stays from [] x some = absurd cc
+skip_stays from (Arrived b ∷ packets) x some = skip_stays from packets x some
+skip_stays from (Skip k ∷ packets) x some =
+    by_test (λ more. skip_stays from packets x more) (nat_lt from k) some
+  where
+    by_test : (has_skip_past from packets ≡ true → has_skip_past from (packets ++ x ∷ []) ≡ true)
+        → (b : Bool) → (b || has_skip_past from packets) ≡ true
+        → (b || has_skip_past from (packets ++ x ∷ [])) ≡ true
+    by_test later true some = refl
+    by_test later false some = later some

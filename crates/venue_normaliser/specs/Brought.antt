@@ -1,6 +1,7 @@
 -- The messages that a venue's lines brought in the present session, by their numbers, up to the
--- first gap; and what is put out of them where a gap was given up: nothing past it.
-use Rattle.std.specs.Prelude.{ℕ, ◌-◌, ◌||◌, Bool, true, false, nat_le, List, [], ◌∷◌, length, map, Option, unwrap_or, slice_index_or, if◌then◌else◌}
+-- first gap; and what is put out of them where a gap was given up: nothing past it. A session is
+-- taken from a number on: from 1, or from that of a snapshot.
+use Rattle.std.specs.Prelude.{ℕ, ◌+◌, ◌-◌, ◌||◌, Bool, false, nat_le, nat_lt, List, [], ◌∷◌, length, map, Option, unwrap_or, slice_index_or, if◌then◌else◌}
 use Rattle.std.specs.List.{range_with_len}
 use Rattle.std.specs.Option.{option_map}
 use Rattle.line_arbiter.specs.Packets.{Input, Arrived, Skip, bringer}
@@ -18,25 +19,33 @@ taken_message packets m = option_map (λ x. message_brought x m) (bringer packet
 abbrev pub message_at : List Input → ℕ → List ℕ
 message_at packets m = unwrap_or (taken_message packets m) []
 
--- the messages 1 to n
-abbrev pub messages_to : List Input → ℕ → List (List ℕ)
-messages_to packets n = map (message_at packets) (range_with_len 1 n)
+-- the messages of the numbers `from` to n
+abbrev pub messages_to : ℕ → List Input → ℕ → List (List ℕ)
+messages_to from packets n = map (message_at packets) (range_with_len from (n + 1 - from))
 
--- the messages up to the first gap
-abbrev pub messages_brought : List Input → List (List ℕ)
-messages_brought packets = messages_to packets (front_of packets)
+-- the messages from this number up to the first gap
+abbrev pub messages_brought : ℕ → List Input → List (List ℕ)
+messages_brought from packets = messages_to from packets (front_of packets)
 
--- a gap was given up
+-- a gap past this number was given up
+abbrev pub has_skip_past : ℕ → List Input → Bool
+has_skip_past from [] = false
+has_skip_past from (Arrived a ∷ packets) = has_skip_past from packets
+has_skip_past from (Skip n ∷ packets) = nat_lt from n || has_skip_past from packets
+
+-- what came before the first gap past this number that was given up
+abbrev pub before_skip_past : ℕ → List Input → List Input
+before_skip_past from [] = []
+before_skip_past from (Arrived a ∷ packets) = Arrived a ∷ before_skip_past from packets
+before_skip_past from (Skip n ∷ packets) =
+    if nat_lt from n then [] else Skip n ∷ before_skip_past from packets
+
+-- the same of a session that began at its first message
 abbrev pub has_skip : List Input → Bool
-has_skip [] = false
-has_skip (Arrived a ∷ packets) = has_skip packets
-has_skip (Skip n ∷ packets) = true
+has_skip packets = has_skip_past 1 packets
 
--- what came before the first gap that was given up
 abbrev pub before_skip : List Input → List Input
-before_skip [] = []
-before_skip (Arrived a ∷ packets) = Arrived a ∷ before_skip packets
-before_skip (Skip n ∷ packets) = []
+before_skip packets = before_skip_past 1 packets
 
 -- A message as it is kept until it is in sequence: no form has more than 50 bytes, so that a longer
 -- one is kept as an empty one.

@@ -1,5 +1,5 @@
 -- The number of an end of session, as a venue sends it.
-use Rattle.std.specs.Prelude.{ℕ, ◌+◌, ◌&&◌, nat_lt, Bool, true, false, if◌then◌else◌}
+use Rattle.std.specs.Prelude.{◌+◌, ◌&&◌, nat_lt, Bool, true, false, if◌then◌else◌}
 use Rattle.mold_packet.specs.declared.packet.Kind.{Kind}
 use Rattle.mold_packet.specs.declared.packet.Kind.TheVariants.{Messages, Heartbeat, End}
 use Rattle.mold_packet.specs.Content.{Content}

@@ -1,13 +1,14 @@
 -- One message's and several messages' effect on the orders and on what is put out. Cited by private
 -- clauses alone.
-use Rattle.std.specs.Prelude.{◌≡◌, ℕ, ◌+◌, ◌-◌, ◌≤◌, ◌*◌, ◌⊎◌, false, nat_le, List, [], ◌∷◌, ◌++◌, length, map, min, Result, true, if◌then◌else◌}
-use Rattle.std.specs.List.{range_with_len}
+use Rattle.std.specs.Prelude.{◌≡◌, ℕ, ◌+◌, ◌-◌, ◌≤◌, ◌⊎◌, false, nat_le, List, [], ◌∷◌, ◌++◌, length, map, min, Result, IsTrue, true, if◌then◌else◌}
+use Rattle.std.specs.List.{AllByRecursion, range_with_len}
 use Rattle.feed_types.specs.declared.item.Item.{Item}
 use Rattle.feed_types.specs.declared.item.Numbered.{Numbered}
 use Rattle.feed_types.specs.Sessions.{numbered_from}
 use Rattle.itch_messages.specs.declared.event.OrderEvent.{OrderEvent}
 use Rattle.itch_book.specs.Books.{OrderBookState, FitsEvents}
 use Rattle.feed_types.specs.declared.line.LineId.{LineId}
+use Rattle.mold_packet.specs.Block.{HasBlocks}
 use Rattle.mold_packet.specs.Content.{Content}
 use Rattle.line_arbiter.specs.declared.outcome.Outcome.{Outcome}
 use Rattle.line_arbiter.specs.declared.outcome.LineFault.{LineFault}
@@ -18,9 +19,10 @@ use Rattle.line_arbiter.specs.States.{State, KeepsAllButSent}
 use Rattle.line_arbiter.specs.Fits.{Fits}
 use Rattle.line_arbiter.specs.Skips.{AllSent}
 use Rattle.venue_normaliser.specs.declared.message_slot.MessageSlot.{MessageSlot}
-use Rattle.venue_normaliser.specs.Brought.{has_skip, message_at}
-use Rattle.venue_normaliser.specs.Outputs.{AreMade, MakesItem, events_of}
+use Rattle.venue_normaliser.specs.Brought.{message_at}
+use Rattle.venue_normaliser.specs.Outputs.{AreMadeAfter, MakesItem, events_of}
 use Rattle.venue_normaliser.specs.Slots.{KeepsTaken}
+use Rattle.venue_normaliser.specs.Snapshots.{is_of_snapshot}
 use Rattle.venue_normaliser.specs.States.{NormaliserState}
 
 -- a message was applied, and its item is put out after what was there
@@ -43,8 +45,9 @@ pub record PutsMany (number : ℕ) (messages : List (List ℕ)) (old new : Order
   pub keys : new.keys ≡ old.keys
   pub fits : (earlier : List (List ℕ)) → FitsEvents old (events_of earlier)
       → FitsEvents new (events_of (earlier ++ messages))
-  pub made : (earlier : List (List ℕ)) (made : List Item) → FitsEvents old (events_of earlier)
-      → AreMade old.keys earlier made → AreMade old.keys (earlier ++ messages) (made ++ items)
+  pub made : (first earlier : List (List ℕ)) (made : List Item)
+      → FitsEvents old (events_of (first ++ earlier)) → AreMadeAfter old.keys first earlier made
+      → AreMadeAfter old.keys first (earlier ++ messages) (made ++ items)
 
 -- the messages after one number up to another
 abbrev pub messages_between : List Input → ℕ → ℕ → List (List ℕ)
@@ -92,3 +95,9 @@ pub record BringsPacket (line : LineId) (packet : Content) (answer : Result Outc
       → BringsMessages before (before ++ arrival_of line packet answer ∷ []) old new
       old_out new_out
   pub none : old.has_given_up ≡ true → new_out ≡ old_out
+
+-- The bytes begin with so many blocks of messages that a snapshot may have, and this rest follows.
+pub record HasStated (count : ℕ) (bytes rest : List ℕ) : Type 0 where
+  pub messages : List (List ℕ)
+  pub blocks : HasBlocks count bytes messages rest
+  pub stated : AllByRecursion (λ message. IsTrue (is_of_snapshot message)) messages

@@ -13,20 +13,23 @@ ghost use Rattle.line_arbiter.specs.Outcomes.{IsOutcome};
 ghost use Rattle.line_arbiter.specs.Skips.{AllSent, IsSkip};
 ghost use Rattle.line_arbiter.specs.Renewals.{IsRenewal};
 ghost use Rattle.line_arbiter.specs.States.{IsRenewed, KeepsItsPlace, KeepsItsSession, ordinal_of};
-ghost use Rattle.venue_normaliser.specs.Brought.{has_skip, messages_brought};
-ghost use Rattle.venue_normaliser.specs.Outputs.{events_of};
+ghost use Rattle.venue_normaliser.specs.Brought.{has_skip_past, messages_brought};
+ghost use Rattle.venue_normaliser.specs.Outputs.{Opening, events_of};
 ghost use Rattle.itch_book.specs.Books.{session_orders_of};
 ghost use Rattle.venue_normaliser.specs.Inside.{BringsPacket, PutsMany, PutsReady};
 ghost use Rattle.venue_normaliser.specs.Slots.{KeepsPacket, KeepsTaken};
 ghost use Rattle.venue_normaliser.specs.Ends.{read_as};
-ghost use Rattle.venue_normaliser.specs.States.{FitsPackets, IsNewNormaliser, KeepsItsBook, PutsOut};
+ghost use Rattle.venue_normaliser.specs.States.{FitsPackets, FitsOpened, IsNewNormaliser, KeepsItsBook, PutsOutFrom, Resumes, ShowsTooMuch};
 
 use crate::end_number::{END_BYTES, EndNumber, moved_end};
 use crate::fault::NormaliserFault;
 use crate::message_slot::MessageSlot;
 use crate::message_slots::{clear, empty_slots, keep_packet};
 use crate::normaliser_settings::NormaliserSettings;
+use crate::opening::{apply_all, begin_at, put_items, shown_items};
 use crate::putting_out::{drop_ready, put_out, put_packet, put_ready};
+use crate::resume_fault::ResumeFault;
+use crate::snapshot::Snapshot;
 use feed_types::{Anything, Item, LineId, Numbered, SymbolName, VenueId};
 use itch_book::{BookFault, Oddities, OrderBook};
 use line_arbiter::{
@@ -128,6 +131,45 @@ impl VenueNormaliser {
         }
     }
 
+    /// Begins the venue's present session, of which nothing came yet, with a snapshot: with its
+    /// orders, round lots and halts, and at its number. Messages before that aren't missing, and
+    /// what they bring isn't put out. What the snapshot shows, the quotation of each symbol that
+    /// has one and its halt, follows the items in `out`, with the numbers just before its own.
+    ///
+    /// TooFewNumbers is the answer where those are fewer than what it shows, which no true snapshot
+    /// has: some message of the session made each. After an `Err` the normaliser is to be dropped,
+    /// and what the call added to `out`.
+    #[tactic(auto, using(crate::proofs::Opened::resumes))]
+    pub fn resume(
+        &mut self,
+        alloc: Global,
+        snapshot: &Snapshot<'_>,
+        out: &mut Vec<Numbered>,
+    ) -> Result<(), ResumeFault>
+        ensures resumed { OnOk result (FitsPackets self.old []
+            → Resumes snapshot.now self.old self.new out.old.items out.new.items) }
+        ensures too_few { FitsPackets self.old []
+            → IsErrOf result ResumeFault.TooFewNumbers
+            → ShowsTooMuch self.old.book.keys snapshot.now }
+        ensures begun { FitsPackets self.old []
+            → IsErrOf result ResumeFault.HasBegun → ⊥ }
+        ensures kept { KeepsItsSession self.old.lines self.new.lines
+            × KeepsItsBook self.old self.new }
+    {
+        apply_all(&mut self.book, snapshot)?;
+        let shown = shown_items(alloc, &self.book)?;
+        let count = shown.len() as u64;
+        let number = snapshot.number();
+        if count >= number {
+            return Err(ResumeFault::TooFewNumbers);
+        }
+        if !begin_at(&mut self.lines, number) {
+            return Err(ResumeFault::HasBegun);
+        }
+        put_items(out, number - count, shown.as_slice())?;
+        Ok(())
+    }
+
     /// Takes a packet that goes on where nothing is held, and puts out its messages.
     #[inline(always)]
     fn take_next(
@@ -188,8 +230,8 @@ impl VenueNormaliser {
         packet: &Packet<'_>,
         out: &mut Vec<Numbered>,
     ) -> Result<Result<Outcome, LineFault>, BookFault>
-        ensures brings { IfOk result (λ answer. (packets : List Input)
-            → FitsPackets self.old packets
+        ensures brings { IfOk result (λ answer. (opening : Opening)
+            (packets : List Input) → FitsOpened self.old opening packets
             → BringsPacket line packet.now answer packets self.old self.new
             out.old.items out.new.items) }
         ensures kept { KeepsItsSession self.old.lines self.new.lines
@@ -206,7 +248,7 @@ impl VenueNormaliser {
     #[inline(always)]
     fn finish(&mut self, out: &mut Vec<Numbered>) -> Result<(), BookFault>
         ensures ready { OnOk result ((packets : List Input) → Fits self.old.lines packets
-            → self.old.has_given_up ≡ false → has_skip packets ≡ false
+            → self.old.has_given_up ≡ false
             → KeepsTaken self.old.slots self.old.lines.sent packets
             → PutsReady packets self.old.slots self.old.lines self.new.lines self.old.book
             self.new.book out.old.items out.new.items) }
@@ -249,16 +291,16 @@ impl VenueNormaliser {
         packet: &Packet<'_>,
         out: &mut Vec<Numbered>,
     ) -> Result<Result<Outcome, LineFault>, BookFault>
-        ensures outcome { IfOk result (λ answer. (packets : List Input)
-            → FitsPackets self.old packets
+        ensures outcome { IfOk result (λ answer. (opening : Opening)
+            (packets : List Input) → FitsOpened self.old opening packets
             → IsOutcome self.old.lines.session self.old.lines.window self.old.lines.sent packets
             packet.now answer) }
-        ensures fits { IfOk result (λ answer. (packets : List Input)
-            → FitsPackets self.old packets
-            → FitsPackets self.new (packets ++ arrival_of line packet.now answer ∷ [])) }
-        ensures output { IfOk result (λ answer. (packets : List Input)
-            → FitsPackets self.old packets
-            → PutsOut self.old.book.keys packets (packets
+        ensures fits { IfOk result (λ answer. (opening : Opening)
+            (packets : List Input) → FitsOpened self.old opening packets
+            → FitsOpened self.new opening (packets ++ arrival_of line packet.now answer ∷ [])) }
+        ensures output { IfOk result (λ answer. (opening : Opening)
+            (packets : List Input) → FitsOpened self.old opening packets
+            → PutsOutFrom self.old.book.keys opening packets (packets
             ++ arrival_of line packet.now answer ∷ [])
             out.old.items out.new.items) }
         ensures kept { OnOk result (KeepsItsSession self.old.lines self.new.lines
@@ -283,17 +325,17 @@ impl VenueNormaliser {
         packet: &Packet<'_>,
         out: &mut Vec<Numbered>,
     ) -> Result<Result<Outcome, LineFault>, BookFault>
-        ensures outcome { IfOk result (λ answer. (packets : List Input)
-            → FitsPackets self.old packets
+        ensures outcome { IfOk result (λ answer. (opening : Opening)
+            (packets : List Input) → FitsOpened self.old opening packets
             → IsOutcome self.old.lines.session self.old.lines.window self.old.lines.sent packets
             (read_as self.old.end_number packet.now) answer) }
-        ensures fits { IfOk result (λ answer. (packets : List Input)
-            → FitsPackets self.old packets
-            → FitsPackets self.new (packets
+        ensures fits { IfOk result (λ answer. (opening : Opening)
+            (packets : List Input) → FitsOpened self.old opening packets
+            → FitsOpened self.new opening (packets
             ++ arrival_of line (read_as self.old.end_number packet.now) answer ∷ [])) }
-        ensures output { IfOk result (λ answer. (packets : List Input)
-            → FitsPackets self.old packets
-            → PutsOut self.old.book.keys packets (packets
+        ensures output { IfOk result (λ answer. (opening : Opening)
+            (packets : List Input) → FitsOpened self.old opening packets
+            → PutsOutFrom self.old.book.keys opening packets (packets
             ++ arrival_of line (read_as self.old.end_number packet.now) answer ∷ [])
             out.old.items out.new.items) }
         ensures kept { OnOk result (KeepsItsSession self.old.lines self.new.lines
@@ -308,8 +350,9 @@ impl VenueNormaliser {
 
     /// Gives up the messages that are missing below `number`, as [`Arbiter::skip_to`] does, and
     /// returns its answer. What is put out of the session ends then, with an end of session at the
-    /// first missing number, after the items in `out`; a session that begins in the middle is such
-    /// a gap, from number 1.
+    /// first missing number, after the items in `out`; a session that begins in the middle without
+    /// a
+    /// snapshot is such a gap, from number 1.
     ///
     /// An `Err` is a refusal of memory, which ends the run.
     pub fn skip_to(
@@ -317,14 +360,15 @@ impl VenueNormaliser {
         number: u64,
         out: &mut Vec<Numbered>,
     ) -> Result<Result<(), SkipFault>, BookFault>
-        ensures answer { IfOk result (λ answer. (packets : List Input)
-            → FitsPackets self.old packets → IsSkip packets self.old.lines.sent number answer) }
-        ensures fits { IfOk result (λ answer. (packets : List Input)
-            → FitsPackets self.old packets → OnOk answer
-            (FitsPackets self.new (packets ++ Skip number ∷ []))) }
-        ensures output { IfOk result (λ answer. (packets : List Input)
-            → FitsPackets self.old packets → OnOk answer
-            (PutsOut self.old.book.keys packets (packets ++ Skip number ∷ [])
+        ensures answer { IfOk result (λ answer. (opening : Opening)
+            (packets : List Input) → FitsOpened self.old opening packets
+            → IsSkip packets self.old.lines.sent number answer) }
+        ensures fits { IfOk result (λ answer. (opening : Opening)
+            (packets : List Input) → FitsOpened self.old opening packets → OnOk answer
+            (FitsOpened self.new opening (packets ++ Skip number ∷ []))) }
+        ensures output { IfOk result (λ answer. (opening : Opening)
+            (packets : List Input) → FitsOpened self.old opening packets → OnOk answer
+            (PutsOutFrom self.old.book.keys opening packets (packets ++ Skip number ∷ [])
             out.old.items out.new.items)) }
         ensures refused { IfOk result (λ answer. OnErr answer
             ((self.new ≡ self.old) × (out.new.items ≡ out.old.items))) }
@@ -391,15 +435,17 @@ impl VenueNormaliser {
     /// Returns whether a gap of the present session was given up, so that nothing more is put out
     /// of it.
     pub fn has_given_up(&self) -> bool
-        ensures { (packets : List Input) → FitsPackets self.now packets
-            → result ≡ has_skip packets }
+        ensures { (opening : Opening) (packets : List Input)
+            → FitsOpened self.now opening packets
+            → result ≡ has_skip_past opening.number packets }
     {
         self.has_given_up
     }
 
     /// Returns the cursors of the present session's input.
     pub fn status(&self) -> ArbiterStatus
-        ensures { (packets : List Input) → FitsPackets self.now packets
+        ensures { (opening : Opening) (packets : List Input)
+            → FitsOpened self.now opening packets
             → result ≡ cursors_of self.now.lines.sent packets }
     {
         self.lines.status()
@@ -408,7 +454,8 @@ impl VenueNormaliser {
     /// Returns the run of messages to ask for, as [`Arbiter::gap`] does. `None` where none is
     /// missing.
     pub fn gap(&self) -> Option<Request>
-        ensures { (packets : List Input) → FitsPackets self.now packets
+        ensures { (opening : Opening) (packets : List Input)
+            → FitsOpened self.now opening packets
             → result
             ≡ gap_of self.now.lines.session self.now.lines.window self.now.lines.sent packets }
     {
@@ -425,10 +472,11 @@ impl VenueNormaliser {
     /// Returns the numbers of the session's messages that changed no order, or took more than there
     /// was, up to the first gap.
     pub fn oddities(&self) -> Oddities
-        ensures { (packets : List Input) → FitsPackets self.now packets
+        ensures { (opening : Opening) (packets : List Input)
+            → FitsOpened self.now opening packets
             → self.now.has_given_up ≡ false
             → result ≡ (session_orders_of self.now.book.keys
-            (events_of (messages_brought packets))).oddities }
+            (events_of (opening.messages ++ messages_brought opening.number packets))).oddities }
     {
         self.book.oddities()
     }

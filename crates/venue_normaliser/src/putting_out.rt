@@ -6,7 +6,6 @@ ghost use Rattle.line_arbiter.specs.Packets.{Input};
 ghost use Rattle.line_arbiter.specs.Fits.{Fits};
 ghost use Rattle.line_arbiter.specs.Skips.{AllSent};
 ghost use Rattle.line_arbiter.specs.States.{KeepsAllButSent};
-ghost use Rattle.venue_normaliser.specs.Brought.{has_skip};
 ghost use Rattle.venue_normaliser.specs.Slots.{KeepsTaken};
 ghost use Rattle.venue_normaliser.specs.Inside.{PutsMany, PutsOneItem, PutsReady};
 
@@ -89,7 +88,7 @@ pub(crate) fn put_ready(
 ) -> Result<(), BookFault>
     requires { 1 ≤ length slots.now }
     ensures put { OnOk result ((packets : List Input) → Fits lines.old packets
-        → has_skip packets ≡ false → KeepsTaken slots.now lines.old.sent packets
+        → KeepsTaken slots.now lines.old.sent packets
         → PutsReady packets slots.now lines.old lines.new book.old book.new
         out.old.items out.new.items) }
     ensures keys { book.new.keys ≡ book.old.keys }

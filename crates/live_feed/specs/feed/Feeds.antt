@@ -7,7 +7,7 @@ use Rattle.feed_types.specs.declared.item.Numbered.{Numbered}
 use Rattle.journal_book.specs.Journals.{JournalState}
 use Rattle.fifo_lane.specs.Lane.{LaneEnd}
 use Rattle.feed_steps.specs.Lanes.{FeedLanes, FeedSetting}
-use Rattle.venue_lines.specs.Starts.{AreStarts, StartState}
+use Rattle.venue_lines.specs.Starts.{AreStarts, StartState, names_by_venue}
 use Rattle.hub_lanes.specs.declared.spare.SpareLane.{SpareLane}
 use Rattle.hub_lanes.specs.Spares.{AreUnused}
 
@@ -34,12 +34,14 @@ configured_setting config kept = record {
   kept = kept;
 }
 
--- the lanes of these ends, in a feed of this setting
-abbrev pub lanes_of : List (LaneEnd Numbered) → List SpareLane → FeedSetting → FeedLanes
-lanes_of receivers spare setting = record {
+-- the lanes of these ends, in a feed of this setting, and the sessions that follow at these starts
+abbrev pub lanes_of : List (LaneEnd Numbered) → List SpareLane → FeedSetting → List StartState
+    → FeedLanes
+lanes_of receivers spare setting starts = record {
   venues = map (λ e. e.lane) receivers;
   subscribers = map (λ s. s.sender.lane) spare;
   setting = setting;
+  next = names_by_venue starts;
 }
 
 -- a setting is stored as the tuple of its fields
@@ -62,10 +64,12 @@ setting_code =
 -- a feed's lanes are stored likewise
 abbrev pub feed_lanes_code : Coded FeedLanes
 feed_lanes_code =
-    code_by (List TableId × (List TableId × FeedSetting))
-    (coded× (coded_list table_id_coded) (coded× (coded_list table_id_coded) setting_code))
-    (λ f. (f.venues, (f.subscribers, f.setting)))
-    (λ p. record { venues = p.0; subscribers = p.1.0; setting = p.1.1 }) (λ _. refl)
+    code_by (List TableId × (List TableId × (FeedSetting × List (List (List ℕ)))))
+    (coded× (coded_list table_id_coded) (coded× (coded_list table_id_coded)
+    (coded× setting_code (coded_list (coded_list (coded_list coded_ℕ))))))
+    (λ f. (f.venues, (f.subscribers, (f.setting, f.next))))
+    (λ p. record { venues = p.0; subscribers = p.1.0; setting = p.1.1.0; next = p.1.1.1 })
+    (λ _. refl)
 
 -- The feed has a lane for each venue of its journal and for 32 subscribers, and nothing came yet.
 -- It is set up so.

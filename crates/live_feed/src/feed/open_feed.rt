@@ -72,7 +72,7 @@ impl<G: Genuine, N: FeedName> OpenFeed<G, N> {
         ensures accepts { AcceptsTheirs G.Genuine seat.old.venue (bytes_of datagram.now) result }
     {
         self.venues
-            .take_and_look(rt, seat, datagram, false, &mut Looked::default())
+            .take_datagram(rt, seat, datagram, false, &mut Looked::default())
     }
 
     /// Pushes what is ready of the venue, until nothing is or the lane is full, and returns how
@@ -141,12 +141,12 @@ impl<G: Genuine, N: FeedName> OpenFeed<G, N> {
     {
         let mut hub = self.hub.lock(rt);
         hub.core.show_lock_invariant();
-        let times = self.venues.bells().times();
+        let times = self.venues.wakeups().times();
         let consumed = consume_next(rt, &mut hub.core, venue, times);
         hub.core.show_lock_invariant();
         drop(hub);
         if let Ok(Some(_)) = consumed {
-            self.venues.bells().ring_work();
+            self.venues.wakeups().wake_consolidators();
         }
         consumed
     }
@@ -169,12 +169,12 @@ impl<G: Genuine, N: FeedName> OpenFeed<G, N> {
     {
         let mut hub = self.hub.lock(rt);
         hub.core.show_lock_invariant();
-        let times = self.venues.bells().times();
+        let times = self.venues.wakeups().times();
         let consumed = consume_some(Some(rt), &mut hub.core, venue, most, times);
         hub.core.show_lock_invariant();
         drop(hub);
         if let Ok(1..) = consumed {
-            self.venues.bells().ring_work();
+            self.venues.wakeups().wake_consolidators();
         }
         consumed
     }
@@ -192,14 +192,14 @@ impl<G: Genuine, N: FeedName> OpenFeed<G, N> {
         ensures turn { IsPossibleAtHub G.Genuine N.lanes (TakesTurn G.Genuine N.lanes
             result.consumed result.offered result.unfinished result.refused) }
     {
-        let bells = self.venues.bells();
+        let wakeups = self.venues.wakeups();
         let mut hub = self.hub.lock(rt);
         hub.core.show_lock_invariant();
-        let done = hub.take_turn(rt, bells);
+        let done = hub.take_turn(rt, wakeups);
         hub.core.show_lock_invariant();
         drop(hub);
         if done.consumed > 0 {
-            bells.ring_work();
+            wakeups.wake_consolidators();
         }
         done
     }
@@ -219,7 +219,7 @@ impl<G: Genuine, N: FeedName> OpenFeed<G, N> {
         hub.core.show_lock_invariant();
         drop(hub);
         if declared.is_ok() {
-            self.venues.bells().ring_work();
+            self.venues.wakeups().wake_consolidators();
         }
         declared
     }
@@ -242,7 +242,7 @@ impl<G: Genuine, N: FeedName> OpenFeed<G, N> {
         ensures back { IfErr result (λ refused. (refused.1 ≡ filter) × (refused.2 ≡ strategy)) }
     {
         let mut hub = self.hub.lock(rt);
-        let Ok(bells) = self.venues.share_bells() else {
+        let Ok(wakeups) = self.venues.share_bells() else {
             let fault = if !hub.core.has_subscriber_room() {
                 JournalFault::TooManySubscribers
             } else if hub.core.is_late() {
@@ -256,10 +256,10 @@ impl<G: Genuine, N: FeedName> OpenFeed<G, N> {
         drop(hub);
         match made {
             Ok((id, lane)) => {
-                self.venues.bells().ring_work();
+                self.venues.wakeups().wake_consolidators();
                 let limits = strategy.limits();
                 let most = self.log_size.lines();
-                let log = SubscriberLog::new(alloc, id, lane, most, limits, bells);
+                let log = SubscriberLog::new(alloc, id, lane, most, limits, wakeups);
                 Ok(Subscriber { log, strategy })
             }
             Err((fault, filter)) => Err((fault, filter, strategy)),
@@ -279,7 +279,7 @@ impl<G: Genuine, N: FeedName> OpenFeed<G, N> {
         let mut hub = self.hub.lock(rt);
         hub.core.show_lock_invariant();
         let HubCell { core, filters, .. } = &mut *hub;
-        let offered = offer_some(rt, core, filters.as_slice(), self.venues.bells(), id);
+        let offered = offer_some(rt, core, filters.as_slice(), self.venues.wakeups(), id);
         hub.core.show_lock_invariant();
         drop(hub);
         match offered {

@@ -12,7 +12,7 @@ use crossbeam_utils::CachePadded;
 use feed_steps::FeedName;
 use feed_types::Genuine;
 use filter_terms::Filter;
-use hub_lanes::JournalAndLanes;
+use hub_lanes::ConsolidatorState;
 use std::sync::Mutex;
 use venue_lines::VenueLocks;
 
@@ -26,7 +26,7 @@ pub trait Shareable {
 
 impl<G: Genuine + Send + Sync, N: FeedName + Send + Sync> Shareable for OpenFeed<G, N> {
     fn show_shareable(&self) {
-        JournalAndLanes::<G, N>::show_sendable();
+        ConsolidatorState::<G, N>::show_sendable();
         show_sent::<Vec<Filter>>();
         show_sent::<HubCell<G, N>>();
         show_shared::<Mutex<HubCell<G, N>>>();
@@ -45,9 +45,9 @@ trait Sendable {
         ensures { IsSend Self.row };
 }
 
-impl<G: Genuine + Send + Sync, N: FeedName + Send + Sync> Sendable for JournalAndLanes<G, N> {
+impl<G: Genuine + Send + Sync, N: FeedName + Send + Sync> Sendable for ConsolidatorState<G, N> {
     fn show_sendable() {
-        show_sent::<JournalAndLanes<G, N>>();
+        show_sent::<ConsolidatorState<G, N>>();
     }
 }
 

@@ -37,13 +37,13 @@ impl<'r, G: Genuine, N: FeedName> RunView<'r, G, N> {
 
     /// Has the lines read no further datagram, as [`crate::StopHandle::stop`] does.
     pub fn stop(&self) {
-        self.venues.bells().end_runs();
+        self.venues.wakeups().end_runs();
     }
 
     /// Whether the lines are to read no further datagram, since the run was stopped, from outside
     /// or early. It needn't be over yet.
     pub fn is_stopped(&self) -> bool {
-        self.signals.is_stopped() || self.venues.bells().are_runs_ended()
+        self.signals.is_stopped() || self.venues.wakeups().are_runs_ended()
     }
 
     /// Says of the attendant that it takes no notices any more, as the
@@ -51,7 +51,7 @@ impl<'r, G: Genuine, N: FeedName> RunView<'r, G, N> {
     /// attendant waits for something else: what isn't offered by then is left for the settlement.
     pub fn end_polls(&self) {
         if let Some(id) = self.own {
-            self.venues.bells().set_polled(id, false);
+            self.venues.wakeups().set_polled(id, false);
         }
     }
 
@@ -86,7 +86,7 @@ impl<'r, G: Genuine, N: FeedName> RunView<'r, G, N> {
         ensures polls { Polls result log.old log.new }
         ensures holds { IfOk result (λ polled. IfSome polled (λ advice. advice ≡ Advice.Hold)) }
     {
-        let bell = self.venues.bells().notices(log.id());
+        let bell = self.venues.wakeups().notices(log.id());
         let mut looks: u32 = 0;
         for _ in rt.forever() {
             let key = if should_sleep(looks) {

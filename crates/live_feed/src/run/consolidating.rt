@@ -11,7 +11,7 @@ use feed_steps::FeedName;
 use feed_types::{Genuine, MAX_SUBSCRIBERS, MAX_VENUES, SubscriberId, VenueId};
 use hub_lanes::Consolidated;
 use journal_book::JournalFault;
-use live_wakeups::Bells;
+use live_wakeups::Wakeups;
 use std::sync::Wait;
 use std::thread::{JoinHandle, Scope, Threads};
 
@@ -65,12 +65,12 @@ fn reason_of(fault: JournalFault) -> Option<Stop> {
 
 /// Returns whether notices are taken out of one of the lanes in which a notice waits for room; None
 /// where there is no such lane.
-fn is_full_lane_polled(bells: &Bells) -> Option<bool> {
+fn is_full_lane_polled(wakeups: &Wakeups) -> Option<bool> {
     let mut is_polled = None;
     for place in 0..MAX_SUBSCRIBERS {
         let id = SubscriberId::at(place);
-        if bells.is_room_wanted(id) {
-            if bells.is_polled(id) {
+        if wakeups.is_room_wanted(id) {
+            if wakeups.is_polled(id) {
                 return Some(true);
             }
             is_polled = Some(false);
@@ -96,8 +96,8 @@ fn run_turn<G: Genuine, N: FeedName, W: Wait>(
 /// Returns what a look came to in which nothing was done, since a subscriber is behind. Whoever is
 /// behind still has a full lane. Where no lane is full, the changes weren't wanted, and the next
 /// look finds room in the journal.
-fn look_behind(bells: &Bells) -> Look {
-    match is_full_lane_polled(bells) {
+fn look_behind(wakeups: &Wakeups) -> Look {
+    match is_full_lane_polled(wakeups) {
         Some(true) => Look::Behind,
         Some(false) => Look::Unpolled,
         None => Look::Worked,
@@ -134,17 +134,17 @@ fn work_once<G: Genuine, N: FeedName, W: Wait>(
     if done.consumed > 0 || done.offered > 0 || is_more {
         Look::Worked
     } else if done.refused.is_some() {
-        look_behind(hub.feed.venues.bells())
+        look_behind(hub.feed.venues.wakeups())
     } else {
         Look::Idle
     }
 }
 
 /// Returns whether a notice waits for room in a lane out of which a thread takes notices.
-fn is_room_wanted(bells: &Bells) -> bool {
+fn is_room_wanted(wakeups: &Wakeups) -> bool {
     for place in 0..MAX_SUBSCRIBERS {
         let id = SubscriberId::at(place);
-        if bells.is_polled(id) && bells.is_room_wanted(id) {
+        if wakeups.is_polled(id) && wakeups.is_room_wanted(id) {
             return true;
         }
     }
@@ -167,7 +167,7 @@ fn run_consolidator<G: Genuine, N: FeedName, W: Wait>(
     if !signals.has_spawn_failed() {
         name_consolidator();
     }
-    let bells = feed.venues.bells();
+    let wakeups = feed.venues.wakeups();
     let mut hub = KeptLock::of(feed);
     let mut stopped = None;
     let mut first = true;
@@ -175,7 +175,7 @@ fn run_consolidator<G: Genuine, N: FeedName, W: Wait>(
     let mut looks: u32 = 0;
     for _ in rt.forever() {
         let key = if should_sleep(looks) {
-            Some(bells.work().prepare_wait())
+            Some(wakeups.work().prepare_wait())
         } else {
             None
         };
@@ -186,7 +186,7 @@ fn run_consolidator<G: Genuine, N: FeedName, W: Wait>(
         before = look;
         match look {
             Look::Worked | Look::Unpolled => looks = 0,
-            Look::Idle if last && !is_room_wanted(bells) => break,
+            Look::Idle if last && !is_room_wanted(wakeups) => break,
             Look::Idle | Look::Behind => {
                 if lets_others_run(looks) {
                     hub.let_go();
@@ -197,7 +197,7 @@ fn run_consolidator<G: Genuine, N: FeedName, W: Wait>(
     }
     hub.let_go();
     signals.end_offers();
-    bells.ring_subscribers();
+    wakeups.wake_subscribers();
     stopped
 }
 

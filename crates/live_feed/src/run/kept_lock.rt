@@ -47,21 +47,21 @@ impl<'f, G: Genuine, N: FeedName> KeptLock<'f, G, N> {
 
     /// Journals and offers, as [`OpenFeed::consolidate`] does.
     pub(crate) fn take_turn<W: Wait>(&mut self, rt: &W) -> Consolidated {
-        let bells = self.feed.venues.bells();
+        let wakeups = self.feed.venues.wakeups();
         let mut hub = self.take(rt);
-        let done = hub.take_turn(rt, bells);
+        let done = hub.take_turn(rt, wakeups);
         self.keep(hub);
         if done.consumed > 0 {
-            bells.ring_work();
+            wakeups.wake_consolidators();
         }
         done
     }
 
     /// Offers each subscriber what it wants, and journals nothing.
     pub(crate) fn offer_alone<W: Wait>(&mut self, rt: &W) -> Consolidated {
-        let bells = self.feed.venues.bells();
+        let wakeups = self.feed.venues.wakeups();
         let mut hub = self.take(rt);
-        let done = hub.offer_alone(rt, bells);
+        let done = hub.offer_alone(rt, wakeups);
         self.keep(hub);
         done
     }

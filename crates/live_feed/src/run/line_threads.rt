@@ -5,7 +5,7 @@ ghost use Rattle.live_feed.specs.run.Runs.{Pairwise, HasTaken, LineHasEnded};
 
 use crate::lists::made_of_each;
 use crate::run::line::{Line, LineEnd};
-use crate::run::line_work::{LineOf, work_line};
+use crate::run::line_work::{LinePromise, work_line};
 use crate::run::names::name_line;
 use crate::run::signals::Signals;
 use crate::run::threads::ThreadOf;
@@ -17,7 +17,7 @@ use std::thread::{Scope, Threads};
 use venue_lines::{LineSource, VenueLocks};
 
 /// A line's thread, or the line where none could be started: it has read nothing.
-pub(crate) type LineThread<G, N, S> = ThreadOf<LineEnd<G, N, S>, LineOf<G, N, S>>;
+pub(crate) type LineThread<G, N, S> = ThreadOf<LineEnd<G, N, S>, LinePromise<G, N, S>>;
 
 /// Starts a thread for a line. Where none can be started, the run stops early.
 fn start_line<'s, E, G, N, S, R>(
@@ -37,7 +37,7 @@ where
         × (handle.promise.source.value ≡ line.source))
         (LineHasEnded (HasTaken G.Genuine N.lanes) S.brings S.failures line.seat line.source) }
 {
-    let promise = LineOf {
+    let promise = LinePromise {
         seat: Snapshot::of(&line.seat),
         source: Snapshot::of(&line.source),
     };

@@ -15,12 +15,12 @@ use venue_lines::{LineSeat, LineSource, Looked, SourceFault, VenueLocks};
 
 /// The line that a thread has. What the thread returns is that line, ended.
 #[derive(Drop)]
-pub(crate) struct LineOf<G, N, S> {
+pub(crate) struct LinePromise<G, N, S> {
     pub(crate) seat: Snapshot<LineSeat<G, N>>,
     pub(crate) source: Snapshot<S>,
 }
 
-impl<G: Genuine, N: FeedName, S: LineSource<G>> Promise<LineEnd<G, N, S>> for LineOf<G, N, S> {
+impl<G: Genuine, N: FeedName, S: LineSource<G>> Promise<LineEnd<G, N, S>> for LinePromise<G, N, S> {
     ghost use Rattle.live_feed.specs.run.Runs.{HasTaken, LineHasEnded};
 
     ghost kept_by = { λ p r. LineHasEnded (HasTaken G.Genuine N.lanes) S.brings
@@ -75,7 +75,7 @@ fn is_next_there<G: Genuine, N: FeedName, S: LineSource<G>, W: Wait>(
     let wait_ms = signals.rules().request_after_ms;
     let asks = gap && wait_ms > 0;
     for _ in rt.forever() {
-        if signals.is_stopped() || venues.bells().are_runs_ended() {
+        if signals.is_stopped() || venues.wakeups().are_runs_ended() {
             break;
         }
         if source.await_next() {
@@ -120,7 +120,7 @@ pub(crate) fn work_line<G: Genuine, N: FeedName, S: LineSource<G>, W: Wait>(
         match source.next() {
             Ok(Some(datagram)) => {
                 datagrams = datagrams.saturating_add(1);
-                let _answer = venues.take_and_look(
+                let _answer = venues.take_datagram(
                     rt,
                     &mut seat,
                     &datagram,
@@ -142,7 +142,7 @@ pub(crate) fn work_line<G: Genuine, N: FeedName, S: LineSource<G>, W: Wait>(
         }
     }
     signals.end_line();
-    venues.bells().ring_work();
+    venues.wakeups().wake_consolidators();
     LineEnd {
         seat,
         source,

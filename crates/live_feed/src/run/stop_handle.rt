@@ -1,6 +1,6 @@
 //! How a run is stopped from outside.
 
-use live_wakeups::Bells;
+use live_wakeups::Wakeups;
 use std::alloc::Global;
 use std::sync::Arc;
 
@@ -8,12 +8,12 @@ use std::sync::Arc;
 /// gives as many as are asked for.
 #[derive(Drop)]
 pub struct StopHandle {
-    bells: Arc<Bells, Global>,
+    wakeups: Arc<Wakeups, Global>,
 }
 
 impl StopHandle {
-    pub(crate) fn new(bells: Arc<Bells, Global>) -> StopHandle {
-        StopHandle { bells }
+    pub(crate) fn new(wakeups: Arc<Wakeups, Global>) -> StopHandle {
+        StopHandle { wakeups }
     }
 
     /// Has the lines of the feed's runs, of those to come, too, read no further datagram. A run
@@ -21,11 +21,11 @@ impl StopHandle {
     /// polled, and its report has no reason of an early stop. It waits for a line whose source
     /// waits in `next` until that answers.
     pub fn stop(&self) {
-        self.bells.end_runs();
+        self.wakeups.end_runs();
     }
 
     /// Whether the runs of the feed were stopped by one of its handles.
     pub fn is_stopped(&self) -> bool {
-        self.bells.are_runs_ended()
+        self.wakeups.are_runs_ended()
     }
 }

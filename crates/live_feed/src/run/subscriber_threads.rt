@@ -6,25 +6,25 @@ ghost use Rattle.live_feed.specs.run.Runs.{Pairwise, HasPolled};
 use crate::lists::made_of_each;
 use crate::run::names::name_subscriber;
 use crate::run::signals::Signals;
-use crate::run::subscriber_work::{LogOf, work_subscriber};
+use crate::run::subscriber_work::{LogPromise, work_subscriber};
 use crate::run::threads::ThreadOf;
 use crate::subscriber::log::SubscriberLog;
 use feed_steps::FeedName;
 use filter_terms::Strategy;
-use live_wakeups::Bells;
+use live_wakeups::Wakeups;
 use std::snapshot::Snapshot;
 use std::sync::{Mutex, Wait};
 use std::thread::{Scope, Threads};
 
 /// A subscriber's thread, or its log where none could be started: it has taken nothing.
-pub(crate) type LogThread<N> = ThreadOf<SubscriberLog<N>, LogOf<N>>;
+pub(crate) type LogThread<N> = ThreadOf<SubscriberLog<N>, LogPromise<N>>;
 
 /// Starts a thread for a subscriber. Where none can be started, the run stops early.
 fn start_subscriber<'s, E, N, R>(
     rt: &'s R,
     scope: &Scope<'s, E>,
     signals: &'s Signals,
-    bells: &'s Bells,
+    wakeups: &'s Wakeups,
     log: SubscriberLog<N>,
     strategy: &'s Mutex<Strategy>,
 ) -> LogThread<N>
@@ -36,7 +36,7 @@ where
         (λ back. HasPolled log back) }
 {
     let id = log.id();
-    let promise = LogOf {
+    let promise = LogPromise {
         log: Snapshot::of(&log),
     };
     let job = move || -> SubscriberLog<N>
@@ -45,15 +45,15 @@ where
         if !signals.has_spawn_failed() {
             name_subscriber(id);
         }
-        work_subscriber(rt, signals, bells, log, strategy)
+        work_subscriber(rt, signals, wakeups, log, strategy)
     };
     signals.set_polling(id, true);
-    bells.set_polled(id, true);
+    wakeups.set_polled(id, true);
     match scope.spawn_with(promise, job) {
         Ok(handle) => Ok(handle),
         Err(refused) => {
             signals.set_polling(id, false);
-            bells.set_polled(id, false);
+            wakeups.set_polled(id, false);
             signals.note_spawn_failure();
             Err((refused.value)())
         }
@@ -66,7 +66,7 @@ pub(crate) fn start_subscribers<'s, E, N, R>(
     rt: &'s R,
     scope: &Scope<'s, E>,
     signals: &'s Signals,
-    bells: &'s Bells,
+    wakeups: &'s Wakeups,
     logs: Vec<SubscriberLog<N>>,
     strategies: &'s Vec<Mutex<Strategy>>,
     threads: Vec<LogThread<N>>,
@@ -91,6 +91,6 @@ where
             ensures { MatchResult result
                 (λ handle. handle.promise.log.value ≡ log)
                 (λ back. HasPolled log back) }
-        { start_subscriber(rt, scope, signals, bells, log, &strategies[place]) },
+        { start_subscriber(rt, scope, signals, wakeups, log, &strategies[place]) },
     )
 }

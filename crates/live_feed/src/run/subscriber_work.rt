@@ -7,19 +7,19 @@ use crate::run::signals::Signals;
 use crate::subscriber::log::SubscriberLog;
 use feed_steps::FeedName;
 use filter_terms::Strategy;
-use hub_lanes::no_handle;
-use live_wakeups::Bells;
+use hub_lanes::without_waiting;
+use live_wakeups::Wakeups;
 use std::snapshot::Snapshot;
 use std::sync::{Mutex, Wait};
 use std::thread::Promise;
 
 /// The log that a subscriber's thread has. The thread returns the same log, later on.
 #[derive(Drop)]
-pub(crate) struct LogOf<N: FeedName> {
+pub(crate) struct LogPromise<N: FeedName> {
     pub(crate) log: Snapshot<SubscriberLog<N>>,
 }
 
-impl<N: FeedName> Promise<SubscriberLog<N>> for LogOf<N> {
+impl<N: FeedName> Promise<SubscriberLog<N>> for LogPromise<N> {
     ghost use Rattle.live_feed.specs.run.Runs.{HasPolled};
 
     ghost kept_by = { λ p r. HasPolled p.log.value r };
@@ -31,7 +31,7 @@ impl<N: FeedName> Promise<SubscriberLog<N>> for LogOf<N> {
 pub(crate) fn work_subscriber<N: FeedName, W: Wait>(
     rt: &W,
     signals: &Signals,
-    bells: &Bells,
+    wakeups: &Wakeups,
     log: SubscriberLog<N>,
     strategy: &Mutex<Strategy>,
 ) -> SubscriberLog<N>
@@ -46,12 +46,12 @@ pub(crate) fn work_subscriber<N: FeedName, W: Wait>(
             break;
         }
         let key = if should_sleep(looks) {
-            Some(bells.notices(id).prepare_wait())
+            Some(wakeups.notices(id).prepare_wait())
         } else {
             None
         };
         let last = signals.have_offers_ended();
-        match log.poll(no_handle(rt), &mut *strategy) {
+        match log.poll(without_waiting(rt), &mut *strategy) {
             Ok(Some(_)) => looks = 0,
             Ok(None) => {
                 if last {
@@ -63,6 +63,6 @@ pub(crate) fn work_subscriber<N: FeedName, W: Wait>(
         }
     }
     signals.set_polling(id, false);
-    bells.set_polled(id, false);
+    wakeups.set_polled(id, false);
     log
 }

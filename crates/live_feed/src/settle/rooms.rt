@@ -10,7 +10,7 @@ use crate::settle::venue_lane::count_items;
 use feed_steps::FeedName;
 use feed_types::{Entry, Genuine, Notice, Numbered, SubscriberId};
 use fifo_lane::{RisingNotices, Sender};
-use hub_lanes::JournalAndLanes;
+use hub_lanes::ConsolidatorState;
 use journal_book::Journal;
 use std::alloc::{AllocError, Global};
 use venue_lines::{LockedVenue, VenueCell};
@@ -114,7 +114,7 @@ fn subscriber_rooms(
 pub(crate) fn feed_room<G: Genuine, N: FeedName>(
     alloc: Global,
     venues: &[LockedVenue<G, N>],
-    core: &JournalAndLanes<G, N>,
+    core: &ConsolidatorState<G, N>,
 ) -> Result<FeedRoom, AllocError>
     ensures { IfOk result (HasRoom (map (λ g. g.cell) venues.now) core.now) }
 {

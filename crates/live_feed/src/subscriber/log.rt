@@ -14,7 +14,7 @@ use feed_steps::FeedName;
 use feed_types::{Notice, SubscriberId};
 use fifo_lane::{Receiver, RisingNotices};
 use filter_terms::{Advice, Limits, Strategy};
-use live_wakeups::Bells;
+use live_wakeups::Wakeups;
 use std::alloc::Global;
 use std::marker::{Model, PhantomData};
 use std::sync::{Arc, Wait};
@@ -27,7 +27,7 @@ pub struct SubscriberLog<N: FeedName> {
     notices: Receiver<Notice, RisingNotices>,
     taken: KeptLog,
     bounds: Limits,
-    bells: Arc<Bells, Global>,
+    wakeups: Arc<Wakeups, Global>,
     feed: PhantomData<N>,
 }
 
@@ -93,7 +93,7 @@ impl<N: FeedName> SubscriberLog<N> {
         lane: Receiver<Notice, RisingNotices>,
         most: u32,
         limits: Limits,
-        bells: Arc<Bells, Global>,
+        wakeups: Arc<Wakeups, Global>,
     ) -> SubscriberLog<N>
         requires tag { lane.tag ≡ id }
         requires lane { slice_get N.lanes.subscribers id ≡ Some lane.lane }
@@ -114,7 +114,7 @@ impl<N: FeedName> SubscriberLog<N> {
             notices: lane,
             taken: KeptLog::new(alloc, most),
             bounds: limits,
-            bells,
+            wakeups,
             feed: PhantomData,
         }
     }
@@ -130,7 +130,7 @@ impl<N: FeedName> SubscriberLog<N> {
             notices,
             taken,
             bounds: _,
-            bells: _,
+            wakeups: _,
             feed: _,
         } = self;
         (taken, notices)
@@ -160,7 +160,7 @@ impl<N: FeedName> SubscriberLog<N> {
     /// change of this number was caused. None where the feed keeps no times, where that datagram
     /// was given none, where no item caused it, and where too many changes came since.
     pub fn time_of(&self, number: u64) -> Option<u64> {
-        self.bells.times().time_of(number)
+        self.wakeups.times().time_of(number)
     }
 
     /// The subscriber's id.
@@ -193,7 +193,7 @@ impl<N: FeedName> SubscriberLog<N> {
         let Some(notice) = self.notices.pop_by(rt) else {
             return Ok(None);
         };
-        self.bells.ring_room(self.owner);
+        self.wakeups.wake_for_room(self.owner);
         let advice = log_line(&mut self.taken, strategy, self.bounds, &notice);
         Ok(Some(advice))
     }
@@ -212,12 +212,12 @@ impl<N: FeedName> SubscriberLog<N> {
     /// waits for the subscriber where it is behind, and else stops early. The threads of a run say
     /// so of themselves, and a run says it of its attendant's subscriber.
     pub fn begin_polls(&self) {
-        self.bells.set_polled(self.owner, true);
+        self.wakeups.set_polled(self.owner, true);
     }
 
     /// Says that no thread takes the notices any more. A refused poll says so by itself.
     pub fn end_polls(&self) {
-        self.bells.set_polled(self.owner, false);
+        self.wakeups.set_polled(self.owner, false);
     }
 
     /// Makes it a subscriber again, as [`crate::OpenFeed::run`] and [`crate::OpenFeed::settle`]

@@ -6,7 +6,7 @@ use Rattle.packet_capture.specs.declared.fields.ByteOrder.TheVariants.{Big}
 use Rattle.packet_capture.specs.declared.reader.Format.{Format}
 use Rattle.packet_capture.specs.declared.reader.Format.TheVariants.{Start, InSavefile, InSection}
 use Rattle.packet_capture.specs.declared.savefile.Savefile.{Savefile}
-use Rattle.packet_capture.specs.declared.stop.Stop.TheVariants.{Wants}
+use Rattle.packet_capture.specs.declared.stop.NoPiece.TheVariants.{Wants}
 use Rattle.packet_capture.specs.Fields.{u32_in}
 use Rattle.packet_capture.specs.Stops.{StopsInHeader, StopsInRecord, StopsInLen}
 use Rattle.packet_capture.specs.Captures.{Context, PieceContent, IsBlockPiece, IsPieceIn, IsPiece, StopsInSection, StopsIn, StopsReading}

@@ -5,7 +5,7 @@ ghost use Rattle.replay_reports.specs.counts.Counts.{venue_counts};
 
 use crate::counts::item_counts::ItemCounts;
 use crate::counts::line_counts::LineCounts;
-use event_sinks::Event;
+use event_sinks::ReplayedEvent;
 use feed_types::{LineId, PerLine};
 use line_arbiter::{LineFault, Outcome};
 use mold_packet::PacketFault;
@@ -75,39 +75,40 @@ impl VenueCounts {
 
     /// Counts an event of the venue.
     #[inline(always)]
-    pub(crate) fn add(&mut self, event: &Event<'_>)
+    pub(crate) fn add(&mut self, event: &ReplayedEvent<'_>)
         ensures { (before : List SinkEvent) → self.old ≡ venue_counts before
             → self.new ≡ venue_counts (told_by event.now ∷ before) }
     {
         match event {
-            Event::Packet {
+            ReplayedEvent::Packet {
                 line,
                 bytes,
                 answer,
                 ..
             } => self.add_packet(*line, *bytes, answer),
-            Event::Refusal { line, fault, .. } => self.add_refusal(*line, *fault),
-            Event::Item { item, .. } => self.items.add(item),
-            Event::Renewal { answer: Ok(_), .. } => {
+            ReplayedEvent::Refusal { line, fault, .. } => self.add_refusal(*line, *fault),
+            ReplayedEvent::Item { item, .. } => self.items.add(item),
+            ReplayedEvent::Renewal { answer: Ok(_), .. } => {
                 self.renewals = self.renewals.saturating_add(1);
             }
-            Event::Renewal { answer: Err(_), .. } => {
+            ReplayedEvent::Renewal { answer: Err(_), .. } => {
                 self.renewals_refused = self.renewals_refused.saturating_add(1);
             }
-            Event::Skip { answer: Ok(()), .. } => self.skips = self.skips.saturating_add(1),
-            Event::Skip { answer: Err(_), .. } => {
+            ReplayedEvent::Skip { answer: Ok(()), .. } => self.skips = self.skips.saturating_add(1),
+            ReplayedEvent::Skip { answer: Err(_), .. } => {
                 self.skips_refused = self.skips_refused.saturating_add(1);
             }
-            Event::Declaration { position: None, .. } => {
+            ReplayedEvent::Declaration { position: None, .. } => {
                 self.already = self.already.saturating_add(1);
             }
-            Event::Declaration { on: true, .. } => {
+            ReplayedEvent::Declaration { on: true, .. } => {
                 self.declared = self.declared.saturating_add(1);
             }
-            Event::Declaration { on: false, .. } => {
+            ReplayedEvent::Declaration { on: false, .. } => {
                 self.withdrawn = self.withdrawn.saturating_add(1);
             }
-            Event::Best { .. } | Event::Gap { .. } | Event::Last { .. } => {}
+            ReplayedEvent::Best { .. } | ReplayedEvent::Gap { .. } | ReplayedEvent::Last { .. } =>
+                {}
         }
     }
 }

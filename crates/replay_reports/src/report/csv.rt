@@ -7,9 +7,9 @@ use crate::report::figures::{
     line_loss_figures, loss_figures, packet_figures, refusal_figures, state_figures, venue_figures,
 };
 use crate::report::statistics_report::Report;
-use crate::report::values::{put_count, put_value};
+use crate::report::values::{put_value, put_venue};
 use crate::report::venue_report::VenueReport;
-use run_settings::TimeStyle;
+use run_settings::ValueStyle;
 use std::alloc::{AllocError, Global};
 
 /// The rows that are written, and how.
@@ -17,9 +17,9 @@ use std::alloc::{AllocError, Global};
 struct CsvRows<'a> {
     alloc: Global,
     text: &'a mut Vec<u8>,
-    style: TimeStyle,
+    style: &'a ValueStyle,
     /// The venue of the rows that come, if they are of one.
-    venue: Option<u64>,
+    venue: Option<usize>,
 }
 
 impl CsvRows<'_> {
@@ -27,24 +27,24 @@ impl CsvRows<'_> {
         self.text.extend_from_slice(text.as_bytes())
     }
 
-    /// Appends the number of the venue, if there is one.
-    fn put_venue_number(&mut self) -> Result<(), AllocError> {
+    /// Appends the name or the number of the venue, if there is one.
+    fn put_venue_cell(&mut self) -> Result<(), AllocError> {
         match self.venue {
-            Some(venue) => put_count(self.text, venue),
+            Some(venue) => put_venue(self.text, &self.style.venues, venue),
             None => Ok(()),
         }
     }
 
     /// Appends the row of a figure of the line, whose name stands after that of its group.
     fn put_row(&mut self, line: &str, group: &str, figure: &Figure) -> Result<(), AllocError> {
-        self.put_venue_number()?;
+        self.put_venue_cell()?;
         self.put(",")?;
         self.put(line)?;
         self.put(",")?;
         self.put(group)?;
         self.put(figure.name)?;
         self.put(",")?;
-        put_value(self.alloc, self.text, self.style, b"", figure.value)?;
+        put_value(self.alloc, self.text, self.style.times, b"", figure.value)?;
         self.put("\n")
     }
 
@@ -99,7 +99,7 @@ impl CsvRows<'_> {
 pub(crate) fn put_csv(
     alloc: Global,
     text: &mut Vec<u8>,
-    style: TimeStyle,
+    style: &ValueStyle,
     report: &Report,
 ) -> Result<(), AllocError> {
     let mut rows = CsvRows {
@@ -110,7 +110,7 @@ pub(crate) fn put_csv(
     };
     rows.put("venue,line,figure,value\n")?;
     for place in 0..report.venues.len() {
-        rows.venue = Some(place as u64);
+        rows.venue = Some(place);
         rows.put_venue(&report.venues[place], report.has_times)?;
     }
     rows.venue = None;

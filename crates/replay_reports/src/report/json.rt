@@ -7,9 +7,9 @@ use crate::report::figures::{
     line_loss_figures, loss_figures, packet_figures, refusal_figures, state_figures, venue_figures,
 };
 use crate::report::statistics_report::Report;
-use crate::report::values::{put_count, put_json_value};
+use crate::report::values::{put_json_value, put_json_venue};
 use crate::report::venue_report::{GapReport, VenueReport};
-use run_settings::TimeStyle;
+use run_settings::ValueStyle;
 use std::alloc::{AllocError, Global};
 
 /// Which objects of venues are in a list.
@@ -25,7 +25,7 @@ enum VenuePart {
 struct JsonObject<'a> {
     alloc: Global,
     text: &'a mut Vec<u8>,
-    style: TimeStyle,
+    style: &'a ValueStyle,
 }
 
 impl JsonObject<'_> {
@@ -55,7 +55,7 @@ impl JsonObject<'_> {
             let figure = &figures[place];
             self.put_comma(place)?;
             self.put_name("", figure.name, "\":")?;
-            put_json_value(self.alloc, self.text, self.style, figure.value)?;
+            put_json_value(self.alloc, self.text, self.style.times, figure.value)?;
         }
         Ok(())
     }
@@ -130,12 +130,12 @@ impl JsonObject<'_> {
         }
     }
 
-    /// Appends the objects of all venues, each after its number.
+    /// Appends the objects of all venues, each after its name or number.
     fn put_venues(&mut self, part: VenuePart, venues: &[VenueReport]) -> Result<(), AllocError> {
         for place in 0..venues.len() {
             self.put_comma(place)?;
             self.put("{\"venue\":")?;
-            put_count(self.text, place as u64)?;
+            put_json_venue(self.text, &self.style.venues, place)?;
             self.put_part(part, &venues[place])?;
             self.put("}")?;
         }
@@ -158,7 +158,7 @@ impl JsonObject<'_> {
 pub(crate) fn put_json(
     alloc: Global,
     text: &mut Vec<u8>,
-    style: TimeStyle,
+    style: &ValueStyle,
     report: &Report,
 ) -> Result<(), AllocError> {
     let mut object = JsonObject { alloc, text, style };

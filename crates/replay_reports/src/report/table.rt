@@ -8,10 +8,10 @@ use crate::report::figures::{
 };
 use crate::report::statistics_report::Report;
 use crate::report::summary::summary_figures;
-use crate::report::values::{put_count, put_value};
+use crate::report::values::{put_value, put_venue};
 use crate::report::venue_report::VenueReport;
 use feed_types::LineId;
-use run_settings::TimeStyle;
+use run_settings::ValueStyle;
 use std::alloc::{AllocError, Global};
 
 /// What a label or a value is filled with.
@@ -28,7 +28,7 @@ const VALUE: usize = 14;
 struct Tables<'a> {
     alloc: Global,
     text: &'a mut Vec<u8>,
-    style: TimeStyle,
+    style: &'a ValueStyle,
 }
 
 /// Returns the spaces that fill a text of this length up to as many columns.
@@ -79,7 +79,7 @@ impl Tables<'_> {
     fn put_cell(&mut self, value: FigureValue) -> Result<(), AllocError> {
         let mut cell = Vec::new(self.alloc);
         cell.extend_from_slice(b" ")?;
-        put_value(self.alloc, &mut cell, self.style, b"-", value)?;
+        put_value(self.alloc, &mut cell, self.style.times, b"-", value)?;
         self.text.extend_from_slice(filling(VALUE, cell.len()))?;
         self.text.extend_from_slice(cell.as_slice())
     }
@@ -188,7 +188,7 @@ impl Tables<'_> {
         has_times: bool,
     ) -> Result<(), AllocError> {
         self.put("venue ")?;
-        put_count(self.text, place as u64)?;
+        put_venue(self.text, &self.style.venues, place)?;
         self.put_summaries(r)?;
         self.put_lines(r)?;
         self.put_messages(r)?;
@@ -203,7 +203,7 @@ impl Tables<'_> {
 pub(crate) fn put_table(
     alloc: Global,
     text: &mut Vec<u8>,
-    style: TimeStyle,
+    style: &ValueStyle,
     report: &Report,
 ) -> Result<(), AllocError> {
     let mut tables = Tables { alloc, text, style };

@@ -1,12 +1,14 @@
-//! Values as texts.
+//! Values and venues as texts.
 ghost use Rattle.std.specs.Prelude.{◌≡◌, ◌++◌, IfOk, OnOk, decimal};
+ghost use Rattle.run_settings.specs.VenueNames.{venue_text};
 ghost use Rattle.best_rows.specs.Times.{time_text};
+ghost use Rattle.best_rows.specs.VenueValues.{json_venue};
 ghost use Rattle.replay_reports.specs.report.ReportTexts.{json_of_value, json_time_of, value_text};
 
 use crate::report::figure::FigureValue;
 use best_rows::put_time;
 use itoa::Buffer;
-use run_settings::TimeStyle;
+use run_settings::{TimeStyle, VenueName, VenueNames};
 use std::alloc::{AllocError, Global};
 use text_out::LineBuffer;
 
@@ -16,6 +18,38 @@ pub(crate) fn put_count(text: &mut Vec<u8>, number: u64) -> Result<(), AllocErro
 {
     let mut buffer = Buffer::new();
     text.extend_from_slice(buffer.format(number).as_bytes())
+}
+
+/// Appends a venue: its name where venues have names, else its number.
+pub(crate) fn put_venue(
+    text: &mut Vec<u8>,
+    names: &VenueNames,
+    venue: usize,
+) -> Result<(), AllocError>
+    ensures { OnOk result (text.new.items ≡ text.old.items ++ venue_text names.now venue) }
+{
+    match names {
+        VenueNames::Numbers => put_count(text, venue as u64),
+        VenueNames::Named(names) => text.extend_from_slice(VenueName::at(names, venue).text()),
+    }
+}
+
+/// Appends a venue as JSON has it: its name in quotation marks, or its number.
+pub(crate) fn put_json_venue(
+    text: &mut Vec<u8>,
+    names: &VenueNames,
+    venue: usize,
+) -> Result<(), AllocError>
+    ensures { OnOk result (text.new.items ≡ text.old.items ++ json_venue names.now venue) }
+{
+    match names {
+        VenueNames::Numbers => put_count(text, venue as u64),
+        VenueNames::Named(names) => {
+            text.extend_from_slice(b"\"")?;
+            text.extend_from_slice(VenueName::at(names, venue).text())?;
+            text.extend_from_slice(b"\"")
+        }
+    }
 }
 
 /// Returns a time in nanoseconds from 1970 on, in the style.

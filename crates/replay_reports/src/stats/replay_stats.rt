@@ -14,11 +14,11 @@ use crate::report::table::put_table;
 use crate::report::venue_report::VenueReport;
 use crate::stats::venue_stats::VenueStats;
 use crate::times::busiest_period::{BusiestPeriod, datagram_messages};
-use event_sinks::{Event, EventSink, SinkStop};
+use event_sinks::{EventSink, ReplayedEvent, SinkStop};
 use feed_types::VenueId;
 use line_gaps::EndedGaps;
-use report_rows::SpannedSink;
-use run_settings::{ReportFormat, TimeStyle};
+use report_rows::SpanAware;
+use run_settings::{ReportFormat, ValueStyle};
 use std::alloc::{AllocError, Global};
 
 /// A second in nanoseconds.
@@ -44,20 +44,20 @@ pub struct ReplayStats {
 
 /// Returns the venue of an event, where it is one of a venue that is counted.
 #[inline(always)]
-fn venue_of(event: &Event<'_>) -> Option<VenueId>
+fn venue_of(event: &ReplayedEvent<'_>) -> Option<VenueId>
     ensures { (n : ℕ) → is_at_venue n (told_by event.now)
         ≡ option_map_or (λ venue. venue == n) result false }
 {
     match event {
-        Event::Packet { venue, .. } => Some(*venue),
-        Event::Refusal { venue, .. } => Some(*venue),
-        Event::Item { venue, .. } => Some(*venue),
-        Event::Renewal { venue, .. } => Some(*venue),
-        Event::Skip { venue, .. } => Some(*venue),
-        Event::Declaration { venue, .. } => Some(*venue),
-        Event::Best { .. } => None,
-        Event::Gap { .. } => None,
-        Event::Last { venue, .. } => Some(*venue),
+        ReplayedEvent::Packet { venue, .. } => Some(*venue),
+        ReplayedEvent::Refusal { venue, .. } => Some(*venue),
+        ReplayedEvent::Item { venue, .. } => Some(*venue),
+        ReplayedEvent::Renewal { venue, .. } => Some(*venue),
+        ReplayedEvent::Skip { venue, .. } => Some(*venue),
+        ReplayedEvent::Declaration { venue, .. } => Some(*venue),
+        ReplayedEvent::Best { .. } => None,
+        ReplayedEvent::Gap { .. } => None,
+        ReplayedEvent::Last { venue, .. } => Some(*venue),
     }
 }
 
@@ -79,7 +79,7 @@ fn take_at(
     venues: &mut Vec<VenueStats>,
     ended: &mut EndedGaps,
     time: Option<u64>,
-    event: &Event<'_>,
+    event: &ReplayedEvent<'_>,
 )
     ensures count { length venues.new.items ≡ length venues.old.items }
     ensures stats { (window : ℕ) (events : List TimedEvent)
@@ -100,7 +100,7 @@ fn pass_at(
     venues: &mut Vec<VenueStats>,
     ended: &mut EndedGaps,
     time: Option<u64>,
-    event: &Event<'_>,
+    event: &ReplayedEvent<'_>,
 )
     ensures count { length venues.new.items ≡ length venues.old.items }
     ensures stats { (window : ℕ) (events : List TimedEvent)
@@ -118,21 +118,21 @@ fn pass_at(
 
 /// Counts a change of a national best, if the event is one.
 #[inline(always)]
-fn count_best(bests: &mut BestCounts, event: &Event<'_>)
+fn count_best(bests: &mut BestCounts, event: &ReplayedEvent<'_>)
     ensures { (time : Option ℕ) (events : List TimedEvent)
         → bests.old ≡ best_counts (untimed events)
         → bests.new ≡ best_counts (untimed (timed_event time (told_by event.now) ∷ events)) }
 {
     match event {
-        Event::Best { number, change } => bests.add(*number, change),
-        Event::Packet { .. } => {}
-        Event::Refusal { .. } => {}
-        Event::Item { .. } => {}
-        Event::Gap { .. } => {}
-        Event::Renewal { .. } => {}
-        Event::Skip { .. } => {}
-        Event::Declaration { .. } => {}
-        Event::Last { .. } => {}
+        ReplayedEvent::Best { number, change } => bests.add(*number, change),
+        ReplayedEvent::Packet { .. } => {}
+        ReplayedEvent::Refusal { .. } => {}
+        ReplayedEvent::Item { .. } => {}
+        ReplayedEvent::Gap { .. } => {}
+        ReplayedEvent::Renewal { .. } => {}
+        ReplayedEvent::Skip { .. } => {}
+        ReplayedEvent::Declaration { .. } => {}
+        ReplayedEvent::Last { .. } => {}
     }
 }
 
@@ -189,21 +189,21 @@ fn venue_reports(
 }
 
 /// Returns a report as comma-separated values. Fails where memory is refused.
-fn csv_text(alloc: Global, style: TimeStyle, report: &Report) -> Result<Vec<u8>, AllocError> {
+fn csv_text(alloc: Global, style: &ValueStyle, report: &Report) -> Result<Vec<u8>, AllocError> {
     let mut text = Vec::new(alloc);
     put_csv(alloc, &mut text, style, report)?;
     Ok(text)
 }
 
 /// Returns a report as a JSON object. Fails where memory is refused.
-fn json_text(alloc: Global, style: TimeStyle, report: &Report) -> Result<Vec<u8>, AllocError> {
+fn json_text(alloc: Global, style: &ValueStyle, report: &Report) -> Result<Vec<u8>, AllocError> {
     let mut text = Vec::new(alloc);
     put_json(alloc, &mut text, style, report)?;
     Ok(text)
 }
 
 /// Returns a report as a table. Fails where memory is refused.
-fn table_text(alloc: Global, style: TimeStyle, report: &Report) -> Result<Vec<u8>, AllocError> {
+fn table_text(alloc: Global, style: &ValueStyle, report: &Report) -> Result<Vec<u8>, AllocError> {
     let mut text = Vec::new(alloc);
     put_table(alloc, &mut text, style, report)?;
     Ok(text)
@@ -215,7 +215,7 @@ fn report_text(
     format: ReportFormat,
     report: &Report,
 ) -> Result<Vec<u8>, AllocError> {
-    match format {
+    match &format {
         ReportFormat::Table(style) => table_text(alloc, style, report),
         ReportFormat::Csv(style) => csv_text(alloc, style, report),
         ReportFormat::Json(style) => json_text(alloc, style, report),
@@ -268,7 +268,7 @@ impl EventSink for ReplayStats {
     ghost fails_longer = { λ s t xs ys failed. failed };
 
     #[inline(always)]
-    fn take(&mut self, time: Option<u64>, event: &Event<'_>) -> Result<(), SinkStop> {
+    fn take(&mut self, time: Option<u64>, event: &ReplayedEvent<'_>) -> Result<(), SinkStop> {
         take_at(&mut self.venues, &mut self.ended, time, event);
         count_best(&mut self.bests, event);
         let messages = datagram_messages(event);
@@ -282,8 +282,8 @@ impl EventSink for ReplayStats {
     }
 }
 
-impl SpannedSink for ReplayStats {
-    fn take_before(&mut self, time: Option<u64>, event: &Event<'_>) {
+impl SpanAware for ReplayStats {
+    fn take_before(&mut self, time: Option<u64>, event: &ReplayedEvent<'_>) {
         pass_at(&mut self.venues, &mut self.ended, time, event);
     }
 }

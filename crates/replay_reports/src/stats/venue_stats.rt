@@ -7,7 +7,7 @@ ghost use Rattle.replay_reports.specs.stats.Statistics.{IsVenueOf};
 use crate::counts::venue_counts::VenueCounts;
 use crate::report::venue_report::{GapReport, VenueReport};
 use crate::times::venue_times::VenueTimes;
-use event_sinks::Event;
+use event_sinks::ReplayedEvent;
 use line_gaps::{EndedGaps, GapLine, VenueGaps};
 use std::alloc::{AllocError, Global};
 
@@ -48,7 +48,12 @@ impl VenueStats {
     }
 
     /// Takes an event of the venue before all that is counted: the gaps know of it.
-    pub(crate) fn pass(&mut self, time: Option<u64>, event: &Event<'_>, ended: &mut EndedGaps)
+    pub(crate) fn pass(
+        &mut self,
+        time: Option<u64>,
+        event: &ReplayedEvent<'_>,
+        ended: &mut EndedGaps,
+    )
         ensures { (window : ℕ) (own : List TimedEvent) → IsVenueOf window own self.old
             → IsVenueOf window own self.new }
     {
@@ -59,7 +64,12 @@ impl VenueStats {
 
     /// Takes an event of the venue. The gaps that it ends are left in `ended`.
     #[inline(always)]
-    pub(crate) fn take(&mut self, time: Option<u64>, event: &Event<'_>, ended: &mut EndedGaps)
+    pub(crate) fn take(
+        &mut self,
+        time: Option<u64>,
+        event: &ReplayedEvent<'_>,
+        ended: &mut EndedGaps,
+    )
         ensures { (window : ℕ) (own : List TimedEvent) → IsVenueOf window own self.old
             → IsVenueOf window (timed_event time (told_by event.now) ∷ own) self.new }
     {

@@ -5,7 +5,7 @@ ghost use Rattle.event_sinks.specs.SinkEvents.{told_by, told_packet};
 ghost use Rattle.report_rows.specs.PeriodLists.{begun};
 ghost use Rattle.replay_reports.specs.times.Busiest.{HoldsBusiest, IsPeak, MessagesAt, began_with, begin_of, datagram_messages, messages_at, messages_by, with_messages};
 
-use event_sinks::Event;
+use event_sinks::ReplayedEvent;
 use line_arbiter::{LineFault, Outcome};
 use report_rows::{KeptPeriod, KeptPeriods};
 
@@ -69,19 +69,19 @@ fn began_with(most: u64, period: KeptPeriod<u64>, began: Option<u64>) -> Option<
 /// Returns how many messages of a datagram were taken, or had come before; none where the event is
 /// no datagram.
 #[inline(always)]
-pub(crate) fn datagram_messages(event: &Event<'_>) -> Option<u64>
+pub(crate) fn datagram_messages(event: &ReplayedEvent<'_>) -> Option<u64>
     ensures { result ≡ datagram_messages (told_by event.now) }
 {
     match event {
-        Event::Packet { answer, .. } => Some(taken_messages(answer)),
-        Event::Refusal { .. } => Some(0),
-        Event::Item { .. } => None,
-        Event::Best { .. } => None,
-        Event::Gap { .. } => None,
-        Event::Renewal { .. } => None,
-        Event::Skip { .. } => None,
-        Event::Declaration { .. } => None,
-        Event::Last { .. } => None,
+        ReplayedEvent::Packet { answer, .. } => Some(taken_messages(answer)),
+        ReplayedEvent::Refusal { .. } => Some(0),
+        ReplayedEvent::Item { .. } => None,
+        ReplayedEvent::Best { .. } => None,
+        ReplayedEvent::Gap { .. } => None,
+        ReplayedEvent::Renewal { .. } => None,
+        ReplayedEvent::Skip { .. } => None,
+        ReplayedEvent::Declaration { .. } => None,
+        ReplayedEvent::Last { .. } => None,
     }
 }
 

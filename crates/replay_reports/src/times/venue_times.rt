@@ -7,7 +7,7 @@ ghost use Rattle.replay_reports.specs.times.Timing.{came_after};
 ghost use Rattle.replay_reports.specs.times.VenueTiming.{IsVenueTimed};
 
 use crate::times::line_leads::LineLeads;
-use event_sinks::Event;
+use event_sinks::ReplayedEvent;
 use feed_types::{LineId, PerLine};
 use line_arbiter::{LineFault, Outcome, RenewFault};
 use std::alloc::{AllocError, Global};
@@ -91,26 +91,26 @@ impl VenueTimes {
 
     /// Takes an event of the venue.
     #[inline(always)]
-    pub(crate) fn take(&mut self, time: Option<u64>, event: &Event<'_>)
+    pub(crate) fn take(&mut self, time: Option<u64>, event: &ReplayedEvent<'_>)
         ensures { (window : ℕ) (own : List TimedEvent) → IsVenueTimed window own self.old
             → IsVenueTimed window (timed_event time (told_by event.now) ∷ own) self.new }
     {
         match event {
-            Event::Packet {
+            ReplayedEvent::Packet {
                 line,
                 number,
                 count,
                 answer,
                 ..
             } => self.hear(time, *line, *number, *count, answer),
-            Event::Renewal { answer, .. } => self.renew(answer),
-            Event::Refusal { .. }
-            | Event::Item { .. }
-            | Event::Best { .. }
-            | Event::Gap { .. }
-            | Event::Skip { .. }
-            | Event::Declaration { .. }
-            | Event::Last { .. } => {}
+            ReplayedEvent::Renewal { answer, .. } => self.renew(answer),
+            ReplayedEvent::Refusal { .. }
+            | ReplayedEvent::Item { .. }
+            | ReplayedEvent::Best { .. }
+            | ReplayedEvent::Gap { .. }
+            | ReplayedEvent::Skip { .. }
+            | ReplayedEvent::Declaration { .. }
+            | ReplayedEvent::Last { .. } => {}
         }
     }
 

@@ -8,7 +8,7 @@ returns-in_err-span c =
     let p = err_from_is_err_and residual.result residual.ensures.1 in
     rw (p.1, p.2) (inr (
       c.in_ok-output.output,
-      c.in_ok-output.ensures,
+      search rules,
       inr (c.in_ok-input.input, search rules, inl (search rules)),
     ))
 
@@ -18,7 +18,7 @@ returns-in_err-skips c =
     let p = err_from_is_err_and residual.result residual.ensures.1 in
     rw (p.1, p.2) (inr (
       c.in_ok-output.output,
-      c.in_ok-output.ensures,
+      search rules,
       inr (
         c.in_ok-input.input,
         search rules,
@@ -32,7 +32,7 @@ returns-in_err-next_sessions c =
     let p = err_from_is_err_and residual.result residual.ensures.1 in
     rw (p.1, p.2) (inr (
       c.in_ok-output.output,
-      c.in_ok-output.ensures,
+      search rules,
       inr (
         c.in_ok-input.input,
         search rules,

@@ -1,5 +1,5 @@
 use Rattle.std.proofs.Common.{rules, inr, refl, ◌+◌, List, map, take, subst}
-use Rattle.run_settings.specs.declared.sender.Sender.{Sender}
+use Rattle.run_settings.specs.declared.sender.AllowedSender.{AllowedSender}
 use Rattle.command_words.specs.Addresses.{AreSpelled}
 use Rattle.command_words.specs.SenderLists.{IsSenderText}
 use Rattle.command_words.proofs.Spelling.{AreSpelled-at, AreSpelled-more}
@@ -16,7 +16,7 @@ returns-in_default c = inr (
 
 pub loop-text-preserved : goal.loop-text-preserved
 loop-text-preserved c =
-    subst (λ (senders : List Sender). AreSpelled IsSenderText
+    subst (λ (senders : List AllowedSender). AreSpelled IsSenderText
     (map (λ text. text.now) (take (c.loop-text.text-index + 1) c.args.texts.now)) senders)
     (search rules)
     (AreSpelled-more IsSenderText c.args.texts.now c.loop-text.text-index _

@@ -15,9 +15,9 @@ loop-place-preserved g c =
     let n = c.loop-place.place in
     let put = c.put_gap.ensures.row
     ∙ ap (λ (e : EndedGap). c.write_full.new.self.text.items
-    ++ gap_row c.args.format c.args.venue e) c.gap_at-gap.ensures in
+    ++ gap_row c.args.format.now c.args.venue e) c.gap_at-gap.ensures in
     takes_next_row g.W.TextOut.adds g.W.TextOut.failures g.met.W.TextOut.adds_more
-    (gap_row_at c.args.format c.args.venue c.args.gaps.now) n c.args.page.now c.loop-place.page
+    (gap_row_at c.args.format.now c.args.venue c.args.gaps.now) n c.args.page.now c.loop-place.page
     c.write_full.new.self _ c.loop-place.invariant c.in_ok-write_full.ensures.written
     c.in_ok-write_full.ensures.kept refl put
 
@@ -25,7 +25,7 @@ pub returns-in_err-write_full-clause-failed : goal.returns-in_err-write_full-cla
 returns-in_err-write_full-clause-failed g c =
     let p = err_from_is_err_and c.from_residual.result c.from_residual.ensures.1 in
     rw p.1 (fails_after_texts g.W.TextOut.adds g.W.TextOut.failures g.met.W.TextOut.adds_more
-    (gap_row_at c.args.format c.args.venue c.args.gaps.now) c.loop-place.place
+    (gap_row_at c.args.format.now c.args.venue c.args.gaps.now) c.loop-place.place
     (length c.args.gaps.now) c.args.page.now c.loop-place.page c.write_full.new.self
     (omega (arith, c.loop-place-test.true)) c.loop-place.invariant
     c.in_err-write_full.ensures.part)

@@ -1,3 +1,4 @@
+use Rattle.text_out.specs.Members.{reading_of, writing_of}
 use Rattle.std.proofs.Common.{arith, refl, ap, subst, ℕ, ◌+◌, ◌∙◌, length-drop}
 use Rattle.std.proofs.lemmas.Result.{err_from_is_err_and}
 use Rattle.capture_records.specs.Capture.{IsRecord, record_of}
@@ -7,21 +8,14 @@ use Rattle.line_captures.proofs.conversion.convert.Given.{Over}
 use Rattle.line_captures.proofs.conversion.convert.Goals as goal
 
 laws_of : (g : Over)
-    → Laws (record {
-      gives = g.R.CaptureIn.gives;
-      ends = g.R.CaptureIn.ends;
-      failures =
-          g.R.CaptureIn.failures;
-      fails = g.R.CaptureIn.fails;
-    })
+    → Laws (reading_of g.R.CaptureIn)
     (record {
       reads = g.F.RecordFormat.reads;
       wants = g.F.RecordFormat.wants;
-      is_bad =
-          g.F.RecordFormat.is_bad;
+      is_bad = g.F.RecordFormat.is_bad;
       is_whole = g.F.RecordFormat.is_whole;
     })
-    (record { adds = g.W.TextOut.adds; failures = g.W.TextOut.failures })
+    (writing_of g.W.TextOut)
 laws_of g = record {
   gives_none = g.met.R.CaptureIn.gives_none;
   gives_more = g.met.R.CaptureIn.gives_more;

@@ -1,3 +1,4 @@
+use Rattle.text_out.specs.Members.{writing_of}
 use Rattle.std.proofs.Common.{◌≡◌, ◌+◌, ◌*◌, ◌-◌, ◌≤◌, length}
 use Rattle.line_captures.proofs.Converting.{Copied}
 use Rattle.line_captures.proofs.conversion.convert.Given as goal
@@ -18,7 +19,7 @@ invariant-pieces g l = record {
             g.F.RecordFormat.is_bad;
         is_whole = g.F.RecordFormat.is_whole;
       })
-      (record { adds = g.W.TextOut.adds; failures = g.W.TextOut.failures })
+      (writing_of g.W.TextOut)
       (g.F.RecordFormat.venues l.fn.format) l.fn.reader (l.fn.turns - l.left) l.reader l.fn.format
       l.format l.unread l.fn.writer l.writer l.page;
   turns : l.left ≤ l.fn.turns;

@@ -1,4 +1,4 @@
-use Rattle.std.proofs.Common.{[], inl, inr, refl, sym}
+use Rattle.std.proofs.Common.{[], inr, refl, sym}
 use Rattle.message_forms.specs.PayloadLaws.{look_none}
 use Rattle.message_forms.proofs.payload.look_after.Goals as goal
 

@@ -1,4 +1,5 @@
 use Rattle.text_out.specs.Devices.{Writing}
+use Rattle.text_out.specs.Members.{writing_of}
 use Rattle.std.proofs.Common.{◌++◌}
 use Rattle.nbbo_runs.specs.CaptureTexts.{frames_texts, lost_texts, other_texts, protocols_texts}
 use Rattle.text_out.specs.laws.SaidTexts.{says_each}
@@ -6,8 +7,7 @@ use Rattle.nbbo_runs.proofs.capture_report.write_counts.Goals as goal
 
 pub returns : goal.returns
 returns g c =
-    let w : Writing g.row.E.Denot =
-    record { adds = g.E.TextOut.adds; failures = g.E.TextOut.failures } in
+    let w : Writing g.row.E.Denot = writing_of g.E.TextOut in
     let counts = c.args.counts.now in
     let lost = lost_texts counts in
     let other = other_texts counts in

@@ -1,13 +1,13 @@
 use Rattle.std.proofs.Common.{◌++◌, codes}
 use Rattle.text_out.specs.Devices.{Writing}
+use Rattle.text_out.specs.Members.{writing_of}
 use Rattle.nbbo_runs.specs.CaptureTexts.{count_texts}
 use Rattle.text_out.specs.laws.SaidTexts.{says_each}
 use Rattle.nbbo_runs.proofs.capture_report.write_lost.Goals as goal
 
 pub returns : goal.returns
 returns g c =
-    let w : Writing g.row.E.Denot =
-    record { adds = g.E.TextOut.adds; failures = g.E.TextOut.failures } in
+    let w : Writing g.row.E.Denot = writing_of g.E.TextOut in
     let counts = c.args.counts.now in
     let second = count_texts (codes "nbbo: cut frames passed over: ") counts.cut in
     let third = count_texts (codes "nbbo: malformed packets passed over: ") counts.malformed in

@@ -1,5 +1,6 @@
 use Rattle.std.proofs.Common.{◌≡◌, ◌++◌, ℕ, Option, subst, length}
 use Rattle.text_out.specs.Devices.{Writing}
+use Rattle.text_out.specs.Members.{writing_of}
 use Rattle.text_out.specs.StandardError.{SaysEach}
 use Rattle.text_out.specs.laws.SaidTexts.{says_each}
 use Rattle.line_captures.specs.declared.drop_counts.DroppedFrames.{DroppedFrames}
@@ -12,8 +13,7 @@ use Rattle.nbbo_runs.proofs.discovery.write_survey.Goals as goal
 
 pub returns : goal.returns
 returns g c =
-    let w : Writing g.row.E.Denot =
-    record { adds = g.E.TextOut.adds; failures = g.E.TextOut.failures } in
+    let w : Writing g.row.E.Denot = writing_of g.E.TextOut in
     let survey = c.args.survey.now in
     let progress = survey.counts.progress in
     let packets = up_to_most (length survey.counts.lines) in

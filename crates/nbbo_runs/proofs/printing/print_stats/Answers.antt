@@ -2,6 +2,7 @@ use Rattle.std.proofs.Common.{rules, ◌≡◌, ◌<◌, List, ℕ, [], Err, ref
 use Rattle.std.specs.Prelude.{IsOkAnd}
 use Rattle.event_sinks.specs.declared.replay_stop.ReplayStop.TheVariants.{NoMemory}
 use Rattle.text_out.specs.Devices.{Reading, Writing}
+use Rattle.text_out.specs.Members.{reading_of, writing_of}
 use Rattle.capture_records.specs.Formats.{Parsing}
 use Rattle.feed_text.specs.ReplayStates.{SinkTaking}
 use Rattle.replay_run.specs.Printed.{facts_of_run}
@@ -35,14 +36,8 @@ fed = record {
 
 pub returns : goal.returns
 returns g c =
-    let reading : Reading g.row.R.Denot = record {
-      gives = g.R.CaptureIn.gives;
-      ends = g.R.CaptureIn.ends;
-      failures = g.R.CaptureIn.failures;
-      fails = g.R.CaptureIn.fails;
-    } in
-    let writing : Writing g.row.W.Denot =
-    record { adds = g.W.TextOut.adds; failures = g.W.TextOut.failures } in
+    let reading : Reading g.row.R.Denot = reading_of g.R.CaptureIn in
+    let writing : Writing g.row.W.Denot = writing_of g.W.TextOut in
     let parsing : Parsing g.row.F.Denot g.row.F-Fault.Denot = record {
       reads = g.F.RecordFormat.reads;
       wants = g.F.RecordFormat.wants;

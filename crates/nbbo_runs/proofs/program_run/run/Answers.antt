@@ -28,3 +28,23 @@ returns-in-Ok-Convert g c =
       asked = (c.in-Ok-Convert.lines, sym c.as_slice-lines.ensures.value, asked);
       runs = c.run_conversion-status.ensures;
     })))
+
+pub returns-in-Ok-Normalise : goal.returns-in-Ok-Normalise
+returns-in-Ok-Normalise g c =
+    let asked = rw c.in-Ok-Normalise.field-0-is at c.in-Ok-Normalise.ensures.reads in
+    rw c.ended-in-Ok-Normalise.ensures
+    (inr (inr (inr (inl (record {
+      request = c.in-Ok-Normalise.request;
+      asked = asked;
+      runs = c.run_normalisation-status.ensures;
+    })))))
+
+pub returns-in-Ok-CountTypes : goal.returns-in-Ok-CountTypes
+returns-in-Ok-CountTypes g c =
+    let asked = rw c.in-Ok-CountTypes.field-0-is at c.in-Ok-CountTypes.ensures.reads in
+    rw c.ended-in-Ok-CountTypes.ensures
+    (inr (inr (inr (inr (inl (record {
+      settings = c.in-Ok-CountTypes.settings;
+      asked = asked;
+      runs = c.run_types-status.ensures;
+    }))))))

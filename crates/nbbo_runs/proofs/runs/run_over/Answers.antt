@@ -1,7 +1,8 @@
 use Rattle.std.proofs.Common.{ℕ, List, ◌++◌, ◌∙◌, subst}
 use Rattle.std.specs.Prelude.{Bool}
-use Rattle.event_sinks.specs.declared.lack.Lack.{Lack}
+use Rattle.event_sinks.specs.declared.lack.MissingRange.{MissingRange}
 use Rattle.text_out.specs.Devices.{Reading, Writing}
+use Rattle.text_out.specs.Members.{reading_of, writing_of}
 use Rattle.capture_records.specs.Formats.{Parsing}
 use Rattle.text_out.specs.StandardError.{Says, SaysEach}
 use Rattle.text_out.specs.laws.SaidTexts.{says_each}
@@ -16,16 +17,9 @@ use Rattle.nbbo_runs.proofs.runs.run_over.Goals as goal
 
 pub returns : goal.returns
 returns g c =
-    let reading : Reading g.row.R.Denot = record {
-      gives = g.R.CaptureIn.gives;
-      ends = g.R.CaptureIn.ends;
-      failures = g.R.CaptureIn.failures;
-      fails = g.R.CaptureIn.fails;
-    } in
-    let writing : Writing g.row.W.Denot =
-    record { adds = g.W.TextOut.adds; failures = g.W.TextOut.failures } in
-    let telling : Writing g.row.E.Denot =
-    record { adds = g.E.TextOut.adds; failures = g.E.TextOut.failures } in
+    let reading : Reading g.row.R.Denot = reading_of g.R.CaptureIn in
+    let writing : Writing g.row.W.Denot = writing_of g.W.TextOut in
+    let telling : Writing g.row.E.Denot = writing_of g.E.TextOut in
     let parsing : Parsing g.row.F.Denot g.row.F-Fault.Denot = record {
       reads = g.F.RecordFormat.reads;
       wants = g.F.RecordFormat.wants;
@@ -44,14 +38,14 @@ returns g c =
     let hinted = c.write_stderr-2.new.errors in
     let lacking = c.tell_lacks.new.errors in
     let said = c.tell_absent.new.errors in
-    let told = c.tell_end.new.errors in
+    let told = c.write_end_report.new.errors in
     let hinted_last = c.tell_timeless.new.errors in
     let end = c.write_late.new.errors in
     let late = c.print-printed.result.late in
     let due = tells_lacks settings c.args.terminals in
     let ordinals = missing.ordinals in
-    let texts = g.F.ToldFormat.end_texts finish ordinals outcome in
-    let timeless = timeless_texts settings (g.F.ToldFormat.is_timed finish) outcome in
+    let texts = g.F.EndReport.end_texts finish ordinals outcome in
+    let timeless = timeless_texts settings (g.F.EndReport.is_timed finish) outcome in
     let end_texts = texts ++ timeless in
     record {
       finish = finish;
@@ -60,7 +54,7 @@ returns g c =
       absent = absent;
       ordinals = ordinals;
       late = late;
-      prints = subst (λ (old : List Lack). PrintsAsked reading parsing
+      prints = subst (λ (old : List MissingRange). PrintsAsked reading parsing
           (output_asked reading writing settings) settings due
           c.args.input.now c.print-printed.new.input c.args.format finish c.args.output
           c.print-printed.result.output old lacks absent ordinals late outcome)
@@ -89,7 +83,7 @@ returns g c =
               (tells_absent telling outcome _ due _ symbols missing.absent lacking said
               c.tells_lacks-is_told.ensures c.as_slice-symbols.ensures.value c.tell_absent.ensures)
               (says_each telling end_texts (late_texts late) said hinted_last end
-              (says_each telling texts timeless said told hinted_last c.tell_end.ensures
+              (says_each telling texts timeless said told hinted_last c.write_end_report.ensures
               (subst (λ (timed : Bool). SaysEach telling (timeless_texts settings timed outcome)
               told hinted_last) c.has_times.ensures c.tell_timeless.ensures))
               c.write_late.ensures)),

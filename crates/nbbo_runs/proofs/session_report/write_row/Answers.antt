@@ -1,5 +1,6 @@
 use Rattle.std.proofs.Common.{[], ◌∷◌, ◌++◌}
 use Rattle.text_out.specs.Devices.{Writing}
+use Rattle.text_out.specs.Members.{writing_of}
 use Rattle.text_out.specs.laws.SaidTexts.{says_each, says_one}
 use Rattle.nbbo_runs.specs.Sessions.{refused_texts}
 use Rattle.run_notes.specs.SessionNames.{name_texts}
@@ -7,8 +8,7 @@ use Rattle.nbbo_runs.proofs.session_report.write_row.Goals as goal
 
 pub returns : goal.returns
 returns g c =
-    let w : Writing g.row.E.Denot =
-    record { adds = g.E.TextOut.adds; failures = g.E.TextOut.failures } in
+    let w : Writing g.row.E.Denot = writing_of g.E.TextOut in
     let row = c.args.row.now in
     let name = name_texts row.session.name in
     let why = c.args.why.now in

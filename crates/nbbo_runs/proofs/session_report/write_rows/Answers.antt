@@ -1,6 +1,7 @@
 use Rattle.std.proofs.Common.{Some, ap, sym, ◌∙◌}
 use Rattle.std.proofs.lemmas.Option.{slice_get-get_or}
 use Rattle.text_out.specs.Devices.{Writing}
+use Rattle.text_out.specs.Members.{writing_of}
 use Rattle.text_out.specs.laws.SaidTexts.{texts_more}
 use Rattle.nbbo_runs.specs.declared.session_row.SessionRow.{SessionRow}
 use Rattle.nbbo_runs.specs.Sessions.{session_texts}
@@ -8,8 +9,7 @@ use Rattle.nbbo_runs.proofs.session_report.write_rows.Goals as goal
 
 pub loop-row-preserved : goal.loop-row-preserved
 loop-row-preserved g c =
-    let w : Writing g.row.E.Denot =
-    record { adds = g.E.TextOut.adds; failures = g.E.TextOut.failures } in
+    let w : Writing g.row.E.Denot = writing_of g.E.TextOut in
     let texts = session_texts c.args.named.now.next.now c.args.named.now.ordinals.now in
     let rows = c.args.rows.now in
     let i = c.loop-row.row-index in

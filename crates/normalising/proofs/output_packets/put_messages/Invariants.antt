@@ -1,3 +1,4 @@
+use Rattle.text_out.specs.Members.{writing_of}
 use Rattle.std.proofs.Common.{◌≡◌, ℕ, ◌-◌, ◌≤◌, length, map, take}
 use Rattle.feed_types.specs.Sessions.{numbered_from}
 use Rattle.mold_packet.specs.Body.{lent_bytes}
@@ -10,9 +11,8 @@ invariant-packets g l = record {
   within : l.from ≤ length l.messages;
   room : length l.packet ≡ 65507;
   form : l.page.form ≡ l.fn.page.form;
-  puts : (known : ℕ) → PutsPackets
-      (record { adds = g.W.TextOut.adds; failures = g.W.TextOut.failures })
-      l.fn.page.form l.origin known
+  puts : (last : ℕ) → PutsPackets
+      (writing_of g.W.TextOut) l.fn.page.form l.origin last
       (numbered_from l.number (map item_of (lent_bytes (take l.from l.messages))))
       l.fn.writer l.writer l.fn.page.page l.page.page;
 }

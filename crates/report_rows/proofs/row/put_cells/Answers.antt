@@ -28,6 +28,6 @@ loop-place-preserved c =
     let names = texts_of c.args.names.now in
     let cells = all_shown c.args.cells.now in
     let n = c.loop-place.place in
-    subst (λ (k : ℕ). Appends c.args.text.now (first_cells c.args.format names cells k)
+    subst (λ (k : ℕ). Appends c.args.text.now (first_cells c.args.format.now names cells k)
     (room_of names k) c.put_cell_at.new.text) (sym (add-one n))
     (appends_more c.loop-place.invariant c.put_cell_at.ensures)

@@ -4,4 +4,4 @@ use Rattle.run_metrics.proofs.page.put_all_refusals.Given as goal
 
 abbrev pub invariant-loop-venue : goal.invariant-loop-venue
 invariant-loop-venue l = l.text.items ≡ l.fn.text.items
-    ++ flat_map (λ v. venue_refusals v) (take l.venue-index l.venues)
+    ++ flat_map (λ v. venue_refusals l.names v) (take l.venue-index l.venues)

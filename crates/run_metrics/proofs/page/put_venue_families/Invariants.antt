@@ -4,4 +4,4 @@ use Rattle.run_metrics.proofs.page.put_venue_families.Given as goal
 
 abbrev pub invariant-loop-metric : goal.invariant-loop-metric
 invariant-loop-metric l = l.text.items ≡ l.fn.text.items
-    ++ flat_map (λ m. venue_family l.venues m) (take l.metric-index l.metrics)
+    ++ flat_map (λ m. venue_family l.names l.venues m) (take l.metric-index l.metrics)

@@ -1,5 +1,6 @@
 use Rattle.std.proofs.Common.{ℕ, ap, flat_map, length, subst, take, ◌-◌, ◌∙◌}
 use Rattle.text_out.specs.Devices.{Writing}
+use Rattle.text_out.specs.Members.{writing_of}
 use Rattle.text_out.specs.StandardError.{SaysEach}
 use Rattle.text_out.specs.laws.SaidTexts.{says_each}
 use Rattle.run_notes.specs.AbsentSymbols.{more_symbols_texts, symbol_texts, symbols_with}
@@ -7,8 +8,7 @@ use Rattle.run_notes.proofs.absent_report.write_listed.Goals as goal
 
 pub returns : goal.returns
 returns g c =
-    let w : Writing g.row.E.Denot =
-    record { adds = g.E.TextOut.adds; failures = g.E.TextOut.failures } in
+    let w : Writing g.row.E.Denot = writing_of g.E.TextOut in
     let what = c.args.what.now in
     let absent = symbols_with c.args.absent.now c.args.symbols.now in
     let first = c.write_first.new.errors in

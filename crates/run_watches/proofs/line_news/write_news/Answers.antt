@@ -1,4 +1,5 @@
 use Rattle.text_out.specs.Devices.{Writing}
+use Rattle.text_out.specs.Members.{writing_of}
 use Rattle.text_out.specs.laws.SaidTexts.{says_each}
 use Rattle.std.proofs.Common.{◌++◌}
 use Rattle.run_watches.specs.News.{change_texts, line_name_texts, time_texts}
@@ -6,12 +7,9 @@ use Rattle.run_watches.proofs.line_news.write_news.Goals as goal
 
 pub returns : goal.returns
 returns g c =
-    let w : Writing g.row.E.Denot = record {
-      adds = g.E.TextOut.adds;
-      failures = g.E.TextOut.failures;
-    } in
+    let w : Writing g.row.E.Denot = writing_of g.E.TextOut in
     let news = c.args.news.now in
-    let name = line_name_texts news.venue news.line in
+    let name = line_name_texts c.args.names.now news.venue news.line in
     let first = c.args.errors.now in
     let timed = c.write_time.new.errors in
     let named = c.write_line_name.new.errors in

@@ -1,6 +1,7 @@
 use Rattle.std.proofs.Common.{[], ◌≡◌, ◌∙◌, Err, ap, map, refl, subst, sym}
 use Rattle.std.specs.Prelude.{is_some}
 use Rattle.text_out.specs.Devices.{Writing}
+use Rattle.text_out.specs.Members.{writing_of}
 use Rattle.best_rows.specs.declared.style.RowStyle.{RowStyle}
 use Rattle.udp_listening.specs.Lines.{run_lines}
 use Rattle.udp_listening.specs.Listening.{IsUnprinted, ListensToEnd}
@@ -16,14 +17,8 @@ use Rattle.udp_listening.proofs.listen.listen_with.Goals as goal
 
 pub returns-in_default : goal.returns-in_default
 returns-in_default g c =
-    let writing : Writing g.row.W.Denot = record {
-      adds = g.W.TextOut.adds;
-      failures = g.W.TextOut.failures;
-    } in
-    let telling : Writing g.row.E.Denot = record {
-      adds = g.E.TextOut.adds;
-      failures = g.E.TextOut.failures;
-    } in
+    let writing : Writing g.row.W.Denot = writing_of g.W.TextOut in
+    let telling : Writing g.row.E.Denot = writing_of g.E.TextOut in
     let console = c.new-console.result in
     let printed = c.print_end-status in
     let style = c.style_of.result in
@@ -51,14 +46,8 @@ returns-in_default g c =
 
 pub returns : goal.returns
 returns g c =
-    let writing : Writing g.row.W.Denot = record {
-      adds = g.W.TextOut.adds;
-      failures = g.W.TextOut.failures;
-    } in
-    let telling : Writing g.row.E.Denot = record {
-      adds = g.E.TextOut.adds;
-      failures = g.E.TextOut.failures;
-    } in
+    let writing : Writing g.row.W.Denot = writing_of g.W.TextOut in
+    let telling : Writing g.row.E.Denot = writing_of g.E.TextOut in
     let settings = c.args.settings.now in
     let sockets = c.args.sockets.lines.items in
     let of_run = run_lines settings sockets in
@@ -85,30 +74,35 @@ returns g c =
       gaps = watched_gaps made.gaps;
       follows = c.new-of_output.result.follows;
       counted = is_some c.of-counts.result;
+      names = settings.venues;
     }) made.ensures'.watches
     ∙ ap (λ gaps. record {
       lines = lines;
       gaps = gaps;
       follows = c.new-of_output.result.follows;
       counted = is_some c.of-counts.result;
+      names = settings.venues;
     }) made.ensures''
     ∙ ap (λ follows. record {
       lines = lines;
       gaps = told_gaps settings;
       follows = follows;
       counted = is_some c.of-counts.result;
+      names = settings.venues;
     }) c.new-of_output.ensures
     ∙ ap (λ counted. record {
       lines = lines;
       gaps = told_gaps settings;
       follows = follows;
       counted = counted;
+      names = settings.venues;
     }) c.of-counts.ensures in
     record {
       outcome = outcome;
       listened =
-          listened_if_run settings sockets made.feed (map task_line made.lines.tasks.items) outcome
-          made.ensures.setting made.ensures.venues made.ensures'.tasks ran.ensures.run;
+          listened_if_run settings sockets made.feed
+          (map task_line made.lines.run.tasks.items) outcome made.ensures.setting
+          made.ensures.venues made.ensures'.tasks ran.ensures.run;
       said = told;
       says =
           subst (λ (s : g.row.E.Denot). SaysOfRun telling (listened_run settings of_run) s told)

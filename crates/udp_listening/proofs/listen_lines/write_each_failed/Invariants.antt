@@ -1,8 +1,9 @@
+use Rattle.text_out.specs.Members.{writing_of}
 use Rattle.udp_listening.specs.Listening.{failed_texts}
 use Rattle.text_out.specs.laws.SaidTexts.{SaysRest}
 use Rattle.udp_listening.proofs.listen_lines.write_each_failed.Given as goal
 
 abbrev pub invariant-loop-line : goal.invariant-loop-line
 invariant-loop-line g l =
-    SaysRest (record { adds = g.E.TextOut.adds; failures = g.E.TextOut.failures }) failed_texts
-    l.failed l.line-index l.fn.errors l.errors
+    SaysRest (writing_of g.E.TextOut) (failed_texts l.names) l.failed l.line-index l.fn.errors
+    l.errors

@@ -13,10 +13,11 @@ returns g c =
       failures =
           g.E.TextOut.failures;
     } in
-    says_each w (flat_map failed_texts c.args.report.now.failed.items)
+    says_each w (flat_map (failed_texts c.args.report.now.names) c.args.report.now.failed.items)
     (stop_texts c.args.report.now.stopped)
     c.args.errors.now c.write_each_failed.new.errors c.write_stop.new.errors
-    (subst (λ (lines : List (ℕ × LineId)). SaysEach w (flat_map failed_texts lines)
+    (subst (λ (lines : List (ℕ × LineId)). SaysEach w
+    (flat_map (failed_texts c.args.report.now.names) lines)
     c.args.errors.now c.write_each_failed.new.errors)
     c.as_slice.ensures.value c.write_each_failed.ensures)
     c.write_stop.ensures

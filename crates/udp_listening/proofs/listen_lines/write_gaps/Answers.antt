@@ -2,8 +2,8 @@ use Rattle.std.proofs.Common.{ℕ, List, flat_map, subst}
 use Rattle.text_out.specs.Devices.{Writing}
 use Rattle.text_out.specs.StandardError.{SaysEach}
 use Rattle.feed_types.specs.declared.line.LineId.{LineId}
-use Rattle.event_sinks.specs.LackTexts.{lack_texts}
-use Rattle.event_sinks.specs.declared.lack.Lack.{Lack}
+use Rattle.run_notes.specs.NamedLacks.{named_lack_texts}
+use Rattle.event_sinks.specs.declared.lack.MissingRange.{MissingRange}
 use Rattle.udp_listening.specs.Listening.{read_out_texts}
 use Rattle.text_out.specs.laws.SaidTexts.{says_each}
 use Rattle.udp_listening.proofs.listen_lines.write_gaps.Goals as goal
@@ -15,12 +15,14 @@ returns g c =
       failures =
           g.E.TextOut.failures;
     } in
-    says_each w (flat_map read_out_texts c.args.report.now.read_out.items)
-    (flat_map lack_texts c.args.report.now.lacking.items)
-    c.args.errors.now c.write_each_read_out.new.errors c.write_lacks.new.errors
-    (subst (λ (lines : List (ℕ × LineId)). SaysEach w (flat_map read_out_texts lines)
+    says_each w (flat_map (read_out_texts c.args.report.now.names) c.args.report.now.read_out.items)
+    (flat_map (named_lack_texts c.args.report.now.names) c.args.report.now.lacking.items)
+    c.args.errors.now c.write_each_read_out.new.errors c.write_named_lacks.new.errors
+    (subst (λ (lines : List (ℕ × LineId)). SaysEach w
+    (flat_map (read_out_texts c.args.report.now.names) lines)
     c.args.errors.now c.write_each_read_out.new.errors)
     c.as_slice.ensures.value c.write_each_read_out.ensures)
-    (subst (λ (lacks : List Lack). SaysEach w (flat_map lack_texts lacks)
-    c.write_each_read_out.new.errors c.write_lacks.new.errors)
-    c.as_slice-2.ensures.value c.write_lacks.ensures)
+    (subst (λ (lacks : List MissingRange). SaysEach w
+    (flat_map (named_lack_texts c.args.report.now.names) lacks)
+    c.write_each_read_out.new.errors c.write_named_lacks.new.errors)
+    c.as_slice-2.ensures.value c.write_named_lacks.ensures)

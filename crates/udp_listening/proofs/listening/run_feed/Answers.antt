@@ -2,6 +2,7 @@ use Rattle.std.proofs.Common.{◌≡◌, map, subst, sym}
 use Rattle.std.specs.Prelude.{Err, IfOk}
 use Rattle.std.proofs.lemmas.Result.{IfOk-at_ok}
 use Rattle.text_out.specs.Devices.{Writing}
+use Rattle.text_out.specs.Members.{writing_of}
 use Rattle.udp_listening.specs.Listening.{HasListenedOn}
 use Rattle.udp_listening.specs.Reports.{IsReportOfFeed, IsReportOfRun, noted_symbols, task_line}
 use Rattle.udp_listening.specs.SettledNotices.{HasNoted, settled_forgotten, settled_log}
@@ -12,10 +13,7 @@ use Rattle.udp_listening.proofs.listening.run_feed.Goals as goal
 
 pub report_of-outcome-requires : goal.report_of-outcome-requires
 report_of-outcome-requires g c =
-    let out : Writing g.row.W.Denot = record {
-      adds = g.W.TextOut.adds;
-      failures = g.W.TextOut.failures;
-    } in
+    let out : Writing g.row.W.Denot = writing_of g.W.TextOut in
     let ran = c.run_whole-outcome in
     let symbols = noted_symbols c.args.settings.now in
     let s = c.in-Ok.whole.settlement in
@@ -27,19 +25,13 @@ report_of-outcome-requires g c =
 
 pub returns-clause-says : goal.returns-clause-says
 returns-clause-says g c =
-    let w : Writing g.row.E.Denot = record {
-      adds = g.E.TextOut.adds;
-      failures = g.E.TextOut.failures;
-    } in
+    let w : Writing g.row.E.Denot = writing_of g.E.TextOut in
     let ran = c.run_whole-outcome in
     said_if_run w c.args.monitor ran.result.watcher ran.ensures.watcher
 
 pub returns-clause-listened : goal.returns-clause-listened
 returns-clause-listened g c =
-    let out : Writing g.row.W.Denot = record {
-      adds = g.W.TextOut.adds;
-      failures = g.W.TextOut.failures;
-    } in
+    let out : Writing g.row.W.Denot = writing_of g.W.TextOut in
     let ran = c.run_whole-outcome in
     let before = c.args.follower in
     let after = ran.result.attendant in
@@ -65,13 +57,10 @@ returns-clause-listened g c =
 
 pub returns-clause-run : goal.returns-clause-run
 returns-clause-run g c =
-    let out : Writing g.row.W.Denot = record {
-      adds = g.W.TextOut.adds;
-      failures = g.W.TextOut.failures;
-    } in
+    let out : Writing g.row.W.Denot = writing_of g.W.TextOut in
     let ran = c.run_whole-outcome in
     let run =
-    IsReportOfRun c.args.settings.now g.N.FeedName.lanes (map task_line c.args.lines.items) in
+    IsReportOfRun c.args.settings.now g.N.FeedName.lanes (map task_line c.args.lines.tasks.items) in
     elim c.match-outcome.branch [
       | in-Ok w' ↦
           subst (λ o. IfOk o run) (sym w'.outcome-is)

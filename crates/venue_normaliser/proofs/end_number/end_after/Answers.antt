@@ -1,4 +1,4 @@
-use Rattle.std.proofs.Common.{◌≡◌, ◌∙◌, length, arith, sym, rules}
+use Rattle.std.proofs.Common.{◌∙◌, arith, sym, rules}
 use Rattle.venue_normaliser.proofs.Moved.{end_read, end_sound, end_whole}
 use Rattle.venue_normaliser.proofs.end_number.end_after.Goals as goal
 

@@ -1,4 +1,4 @@
-use Rattle.std.proofs.Common.{◌≡◌, ◌+◌, length, ap, refl, sym, arith}
+use Rattle.std.proofs.Common.{◌+◌, length, ap, sym, arith}
 use Rattle.venue_normaliser.proofs.Keeping.{keeps_all, keeps_none, keeps_step}
 use Rattle.venue_normaliser.proofs.message_slots.keep_packet.Goals as goal
 

@@ -1,4 +1,4 @@
-use Rattle.std.proofs.Common.{◌≡◌, ◌+◌, ◌^◌, ◌≤◌, length}
+use Rattle.std.proofs.Common.{◌+◌, ◌^◌, ◌≤◌, length}
 use Rattle.venue_normaliser.proofs.Keeping.{IsKeptTo}
 use Rattle.venue_normaliser.proofs.message_slots.keep_packet.Given as goal
 

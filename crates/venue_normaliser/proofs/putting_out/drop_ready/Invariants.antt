@@ -1,4 +1,4 @@
-use Rattle.std.proofs.Common.{◌≡◌, ◌-◌, ◌^◌, List}
+use Rattle.std.proofs.Common.{◌-◌, ◌^◌, List}
 use Rattle.line_arbiter.specs.Packets.{Input}
 use Rattle.line_arbiter.specs.States.{KeepsAllButSent}
 use Rattle.line_arbiter.specs.Fits.{Fits}

@@ -1,4 +1,4 @@
-use Rattle.std.proofs.Common.{◌≡◌, ◌∙◌, sym}
+use Rattle.std.proofs.Common.{◌∙◌, sym}
 use Rattle.venue_normaliser.proofs.Making.{makes_item}
 use Rattle.venue_normaliser.proofs.putting_out.put_message.Goals as goal
 

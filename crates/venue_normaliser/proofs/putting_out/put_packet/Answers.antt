@@ -1,4 +1,4 @@
-use Rattle.std.proofs.Common.{◌≡◌, ◌∙◌, ◌+◌, length, ap, refl, sym, arith}
+use Rattle.std.proofs.Common.{◌∙◌, ◌+◌, length, ap, sym, arith}
 use Rattle.venue_normaliser.proofs.Making.{amid_none, amid_more, amid_all}
 use Rattle.venue_normaliser.proofs.putting_out.put_packet.Goals as goal
 

@@ -1,4 +1,4 @@
-use Rattle.std.proofs.Common.{◌≡◌, ◌+◌, ◌^◌, ◌≤◌, length}
+use Rattle.std.proofs.Common.{◌+◌, ◌^◌, ◌≤◌, length}
 use Rattle.venue_normaliser.proofs.Making.{IsAmid}
 use Rattle.venue_normaliser.proofs.putting_out.put_packet.Given as goal
 

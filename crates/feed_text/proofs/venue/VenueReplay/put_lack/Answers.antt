@@ -2,7 +2,7 @@ use Rattle.std.proofs.Common.{◌≡◌, ℕ, [], ◌∷◌, ◌++◌, Option, S
 use Rattle.mold_packet.specs.declared.request.Request.{Request}
 use Rattle.line_arbiter.specs.Streams.{gap_of}
 use Rattle.line_arbiter.specs.Histories.{History}
-use Rattle.event_sinks.specs.declared.lack.Lack.{Lack}
+use Rattle.event_sinks.specs.declared.lack.MissingRange.{MissingRange}
 use Rattle.line_arbiter.specs.LastSent.{last_sent}
 use Rattle.feed_text.specs.Following.{ReplayVenue, Follows}
 use Rattle.event_sinks.specs.VenueLacks.{lack_by}
@@ -30,7 +30,7 @@ returns-in-Some-clause-lack c = λ width place h f.
     sym c.in-Some.is ∙ gap_is at width place h f in
     let number : c.venue.result ≡ place = c.venue.ensures
     ∙ ap (λ (v : ReplayVenue). v.arbiter.venue) c.self.view_is ∙ f.number in
-    let made : Lack = record {
+    let made : MissingRange = record {
       venue = place;
       number = c.in-Some.gap.number;
       count =
@@ -44,7 +44,7 @@ returns-in-Some-clause-lack c = λ width place h f.
           c.in-Some.gap.count;
     }) number in
     c.push_reserved.ensures.items
-    ∙ ap (λ (lack : Lack). c.args.lacks.now.items ++ lack ∷ []) is
+    ∙ ap (λ (lack : MissingRange). c.args.lacks.now.items ++ lack ∷ []) is
     ∙ ap (λ (o : Option Request). c.args.lacks.now.items ++ lack_by place o) gap
 
 pub returns-in_default-clause-lack : goal.returns-in_default-clause-lack

@@ -6,8 +6,8 @@ use Rattle.live_feed.proofs.RunMoves.{brings_still, genuine_at, line_ended, read
 use Rattle.live_feed.proofs.run.line_work.work_line.Goals as goal
 use Rattle.live_feed.proofs.run.line_work.work_line.Goals.{in-None, in-Some+in-Ok-false, in-Some+in-Err, in-Some+in-Ok-true+in-Ok-None, in-Some+in-Ok-true+in-Err-next, in-Some+in-Ok-true+in-Ok-Some+in-Err-request_due}
 
-pub take_and_look-answer-requires : goal.take_and_look-answer-requires
-take_and_look-answer-requires g c =
+pub take_datagram-answer-requires : goal.take_datagram-answer-requires
+take_datagram-answer-requires g c =
     let datagram = c.in-Ok-Some.datagram in
     genuine_at g.G.Genuine
     (g.S.LineSource.venue_of c.is_next_there.new.source) c.loop.seat.venue (bytes_of datagram)
@@ -24,8 +24,8 @@ loop-preserved g c =
     let bytes = bytes_of c.in-Ok-Some.datagram in
     let took =
     taken_more g.G.Genuine g.N.FeedName.lanes
-    so_far.0 bytes c.take_and_look-answer.result c.args.line.seat c.loop.seat
-    c.take_and_look-answer.new.seat so_far.1 c.take_and_look-answer.ensures.taken in
+    so_far.0 bytes c.take_datagram-answer.result c.args.line.seat c.loop.seat
+    c.take_datagram-answer.new.seat so_far.1 c.take_datagram-answer.ensures.taken in
     let one = subst (λ found. g.S.LineSource.brings waited (brought_in (Ok found))
     c.next-in-loop.new.self) c.in-Ok-Some.field-0-is c.in-Ok-Some.ensures.brings in
     let waits = still first c.loop.source waited so_far.0 so_far.2 c.is_next_there.ensures.brings in
@@ -102,7 +102,7 @@ returns g c =
           let waited = w.is_next_there.new.source in
           let waits = still first before waited so_far.0 so_far.2 w.is_next_there.ensures.brings in
           let bytes = bytes_of w.in-Ok-Some.datagram in
-          let answer = w.take_and_look-answer in
+          let answer = w.take_datagram-answer in
           let stays = seat_stays g.G.Genuine
           g.N.FeedName.lanes bytes old answer.result answer.new.seat answer.ensures.taken in
           let took = taken_more g.G.Genuine

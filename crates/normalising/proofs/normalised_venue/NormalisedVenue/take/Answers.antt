@@ -1,26 +1,32 @@
-use Rattle.std.proofs.Common.{◌++◌, [], ◌∷◌, sym, subst}
-use Rattle.std.proofs.lemmas.Result.{on_ok_weaker}
-use Rattle.line_arbiter.specs.Packets.{arrival_of}
-use Rattle.venue_normaliser.specs.Ends.{read_as}
-use Rattle.venue_normaliser.specs.States.{FitsPackets}
-use Rattle.normalising.proofs.Venue.{writes_ready}
+use Rattle.text_out.specs.Members.{writing_of}
+use Rattle.std.proofs.Common.{refl}
+use Rattle.std.proofs.lemmas.Result.{err_from_is_err_and, on_ok_weaker}
+use Rattle.capture_records.specs.Capture.{datagram_record}
+use Rattle.normalising.proofs.Packing.{if_err_weaker}
+use Rattle.normalising.proofs.Venue.{given_one, given_row, given_takes, packet_at, packet_given}
 use Rattle.normalising.proofs.normalised_venue.NormalisedVenue.take.Goals as goal
 
+pub returns-in_err-answer-clause-takes : goal.returns-in_err-answer-clause-takes
+returns-in_err-answer-clause-takes g c =
+    let p = err_from_is_err_and c.from_residual.result c.from_residual.ensures.1 in
+    rw (p.1, p.2) (λ feed place h bytes more follows spells form_is. (refl, refl))
+
 pub returns-clause-takes : goal.returns-clause-takes
-returns-clause-takes g c = on_ok_weaker c.write_more.result
-    (λ put packets output fits out.
-    let arrival = arrival_of c.args.line
-    (read_as c.args.self.now.normaliser.end_number c.args.packet.now) c.in_ok-answer.answer in
-    let fits_after = c.in_ok-answer.ensures.fits packets fits in
-    record {
-      answer = c.in_ok-answer.answer;
-      outcome = c.in_ok-answer.ensures.outcome packets fits;
-      fits = subst (λ n. FitsPackets n (packets ++ arrival ∷ [])) (sym c.write_more.ensures.same)
-          fits_after;
-      writes = writes_ready (record { adds = g.W.TextOut.adds; failures = g.W.TextOut.failures })
-          c.args.output.now.page.form c.args.self.now.normaliser c.take.new.self c.args.time
-          c.args.self.now.normaliser.book.keys packets (packets ++ arrival ∷ []) output
-          c.clear.new.self.items c.take.new.out.items _ _ _ _ c.in_ok-answer.ensures.kept.0
-          c.clear.ensures.items (c.in_ok-answer.ensures.output packets fits) out
-          (λ first one run. put (packets ++ arrival ∷ []) first fits_after one run);
-    }) c.write_more.ensures.put
+returns-clause-takes g c = λ feed place h bytes more follows spells form_is.
+    let said = c.in_ok-answer.ensures in
+    let w = packet_given feed place c.args.output.now.page.form h c.args.self.now
+    c.take.new.self c.write_more.new.self c.args.line c.args.packet.now
+    c.in_ok-answer.answer c.take.new.out.items follows form_is said.kept.0 said.kept.1
+    c.write_more.ensures.same said.fits said.output in
+    given_takes w c.args.time (writing_of g.W.TextOut)
+    (datagram_record place c.args.line bytes) c.args.writer.now c.write_more.new.writer
+    c.args.output.now.page.page c.write_more.new.output.page.page
+    (packet_at feed c.args.time place h c.args.self.now c.args.line bytes more
+    c.args.packet.now c.in_ok-answer.answer _ follows spells
+    (said.outcome h.opening _ follows.fits))
+    c.write_more.result
+    (on_ok_weaker c.write_more.result
+    (λ put. put _ _ _ w.fits (given_one w) (given_row w)) c.write_more.ensures.put)
+    (if_err_weaker c.write_more.result
+    (λ stop stopped. stopped _ _ _ w.fits (given_one w) (given_row w))
+    c.write_more.ensures.stopped) c.write_more.ensures.written

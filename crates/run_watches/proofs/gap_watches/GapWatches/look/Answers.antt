@@ -15,8 +15,8 @@ loop-place-preserved g c =
     let same = c.loop-place.invariant.0 in
     let told = c.look_at.new.errors in (
       c.look_at.ensures.gaps ∙ same,
-      more_news w (IsNewsOfGaps (watched_gaps c.args.self.now)) c.args.errors.now
+      more_news w c.args.names.now (IsNewsOfGaps (watched_gaps c.args.self.now)) c.args.errors.now
           c.loop-place.errors told c.loop-place.invariant.1
-          (subst (λ gaps. SaysNews w (IsNewsOfGaps gaps) c.loop-place.errors told) same
-          c.look_at.ensures.says),
+          (subst (λ gaps. SaysNews w c.args.names.now (IsNewsOfGaps gaps) c.loop-place.errors
+          told) same c.look_at.ensures.says),
     )

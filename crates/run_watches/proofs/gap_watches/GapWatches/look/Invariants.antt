@@ -1,3 +1,4 @@
+use Rattle.text_out.specs.Members.{writing_of}
 use Rattle.std.proofs.Common.{◌≡◌}
 use Rattle.run_watches.specs.RunLines.{watched_gaps}
 use Rattle.run_watches.specs.RunNews.{IsNewsOfGaps, SaysNews}
@@ -6,5 +7,5 @@ use Rattle.run_watches.proofs.gap_watches.GapWatches.look.Given as goal
 abbrev pub invariant-loop-place : goal.invariant-loop-place
 invariant-loop-place g l =
     (watched_gaps l.self ≡ watched_gaps l.fn.self)
-    × SaysNews (record { adds = g.E.TextOut.adds; failures = g.E.TextOut.failures })
-    (IsNewsOfGaps (watched_gaps l.fn.self)) l.fn.errors l.errors
+    × SaysNews (writing_of g.E.TextOut) l.names (IsNewsOfGaps (watched_gaps l.fn.self))
+    l.fn.errors l.errors

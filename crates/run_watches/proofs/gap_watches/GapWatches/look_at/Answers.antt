@@ -28,6 +28,7 @@ returns-in-Some-clause-says g c =
     (sym c.in-Some.ensures.item.1)
     (made_within watched_venue c.args.self.now.gaps.items c.args.place old
     c.in-Some.ensures.item.3.0) in
-    news_within w (IsNewsOfGap gaps.rule (watched_venue old)) (IsNewsOfGaps gaps) c.args.errors.now
+    news_within w c.args.names.now (IsNewsOfGap gaps.rule (watched_venue old)) (IsNewsOfGaps gaps)
+    c.args.errors.now
     c.look.new.errors (gap_within gaps (watched_venue old) there)
-    (news_of_look w _ _ gaps.rule old _ _ _ c.look.ensures.looks)
+    (news_of_look w c.args.names.now _ _ gaps.rule old _ _ _ c.look.ensures.looks)

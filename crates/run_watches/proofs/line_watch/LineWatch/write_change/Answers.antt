@@ -13,5 +13,6 @@ returns g c =
           g.E.TextOut.failures;
     } in
     let told = of_some (IsTold c.args.tells_more) c.args.change _ c.in-Some.is c.requires in
-    one_news w (IsNewsOfLine c.args.tells_more (watched c.args.self.now)) (of_line _)
+    one_news w c.args.names.now (IsNewsOfLine c.args.tells_more (watched c.args.self.now))
+    (of_line _)
     c.args.errors.now c.write_news.new.errors (refl, told) c.write_news.ensures

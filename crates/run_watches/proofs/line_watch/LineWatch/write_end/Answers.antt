@@ -11,6 +11,7 @@ returns g c =
       failures =
           g.E.TextOut.failures;
     } in
-    more_news w (IsNewsOfLine c.args.tells_more (watched c.args.self.now)) c.args.errors.now
+    more_news w c.args.names.now (IsNewsOfLine c.args.tells_more (watched c.args.self.now))
+    c.args.errors.now
     c.write_change.new.errors c.write_change-2.new.errors c.write_change.ensures
     c.write_change-2.ensures

@@ -10,6 +10,7 @@ returns g c =
       failures =
           g.E.TextOut.failures;
     } in
-    one_total w (watched c.args.self.now) c.args.counted c.args.count c.args.errors.now
+    one_total w c.args.names.now (watched c.args.self.now) c.args.counted c.args.count
+    c.args.errors.now
     c.write_total.new.errors
     c.if-count-eq0.false c.write_total.ensures

@@ -1,5 +1,6 @@
 use Rattle.std.proofs.Common.{◌∷◌, [], ◌∙◌, flat_map, subst, sym}
 use Rattle.text_out.specs.Devices.{Writing}
+use Rattle.text_out.specs.Members.{writing_of}
 use Rattle.text_out.specs.StandardError.{SaysEach}
 use Rattle.run_watches.specs.News.{SaysTotals, total_if, total_texts}
 use Rattle.run_watches.specs.RunLines.{watched}
@@ -9,17 +10,14 @@ use Rattle.run_watches.proofs.line_watch.LineWatch.write_totals.Goals as goal
 
 pub returns : goal.returns
 returns g c =
-    let w : Writing g.row.E.Denot = record {
-      adds = g.E.TextOut.adds;
-      failures = g.E.TextOut.failures;
-    } in
+    let w : Writing g.row.E.Denot = writing_of g.E.TextOut in
     let line = watched c.args.self.now in
     let more = c.is_some-tells_more.result in
     let same = c.is_some-tells_more.ensures in
     let first = c.args.errors.now in
     let last = c.write_notes.new.errors in
-    subst (λ told. SaysTotals w told (line ∷ []) first last) same
-    (totals_of_line w line more first c.write_total-6.new.errors last
+    subst (λ told. SaysTotals w c.args.names.now told (line ∷ []) first last) same
+    (totals_of_line w c.args.names.now line more first c.write_total-6.new.errors last
     (record {
       unsent = c.unsent.result;
       passed = c.passed.result;
@@ -36,15 +34,18 @@ returns g c =
       says_passed = c.write_total-2.ensures;
       says_foreign = c.write_total-3.ensures;
       says_withheld =
-          subst (λ n. SaysEach w (flat_map total_texts (total_if line Withheld n))
+          subst (λ n. SaysEach w
+          (flat_map (total_texts c.args.names.now) (total_if line Withheld n))
           c.write_total-3.new.errors c.write_total-4.new.errors)
           c.told_count-withheld.ensures c.write_total-4.ensures;
       says_held_back =
-          subst (λ n. SaysEach w (flat_map total_texts (total_if line HeldBack n))
+          subst (λ n. SaysEach w
+          (flat_map (total_texts c.args.names.now) (total_if line HeldBack n))
           c.write_total-4.new.errors c.write_total-5.new.errors)
           c.told_count-held_back.ensures c.write_total-5.ensures;
       says_dropped =
-          dropped_total w line more c.dropped_count.result c.write_total-5.new.errors
+          dropped_total w c.args.names.now line more c.dropped_count.result
+          c.write_total-5.new.errors
           c.write_total-6.new.errors c.write_total-6.ensures
           (λ none. c.dropped_count.ensures (sym same ∙ none));
     }) c.write_notes.ensures)

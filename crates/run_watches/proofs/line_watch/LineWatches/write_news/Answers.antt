@@ -15,8 +15,8 @@ loop-place-preserved g c =
     let same = c.loop-place.invariant.0 in
     let told = c.write_news_at.new.errors in (
       c.write_news_at.ensures.lines ∙ same,
-      more_news w (IsNewsOfLines (watched_lines c.args.self.now)) c.args.errors.now
+      more_news w c.args.names.now (IsNewsOfLines (watched_lines c.args.self.now)) c.args.errors.now
           c.loop-place.errors told c.loop-place.invariant.1
-          (subst (λ lines. SaysNews w (IsNewsOfLines lines) c.loop-place.errors told) same
-          c.write_news_at.ensures.news),
+          (subst (λ lines. SaysNews w c.args.names.now (IsNewsOfLines lines) c.loop-place.errors
+          told) same c.write_news_at.ensures.news),
     )

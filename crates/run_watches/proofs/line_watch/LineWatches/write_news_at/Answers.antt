@@ -27,7 +27,8 @@ returns-in-Some-clause-news g c =
     let old = c.in-Some.line.now in
     let there = subst (λ line. Contains lines.lines (watched line)) (sym c.in-Some.ensures.item.1)
     (made_within watched items c.args.place old c.in-Some.ensures.item.3.0) in
-    news_within w (IsNewsOfLine more (watched old)) (IsNewsOfLines lines) c.args.errors.now
+    news_within w c.args.names.now (IsNewsOfLine more (watched old)) (IsNewsOfLines lines)
+    c.args.errors.now
     c.write_news.new.errors (line_within lines (watched old) there)
-    (subst (λ told. SaysNews w (IsNewsOfLine told (watched old)) c.args.errors.now
+    (subst (λ told. SaysNews w c.args.names.now (IsNewsOfLine told (watched old)) c.args.errors.now
     c.write_news.new.errors) c.is_some-tells_more.ensures c.write_news.ensures.news)

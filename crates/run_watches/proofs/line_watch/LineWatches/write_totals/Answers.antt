@@ -11,6 +11,7 @@ returns g c =
       failures =
           g.E.TextOut.failures;
     } in
-    subst (λ more. SaysTotals w more (map watched c.args.self.now.lines.items) c.args.errors.now
+    subst (λ more. SaysTotals w c.args.names.now more (map watched c.args.self.now.lines.items)
+    c.args.errors.now
     c.write_totals_with.new.errors) (c.as_ref.ensures.variant ∙ c.requires)
     c.write_totals_with.ensures

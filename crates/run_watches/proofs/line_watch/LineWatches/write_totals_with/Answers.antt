@@ -26,8 +26,10 @@ loop-line-preserved g c =
     (ap (λ k. take k items) (add-one place) ∙ take-suc items place line c.loop-line-test.true
     ∙ ap (λ x. take place items ++ x ∷ []) (sym c.line-item.is))
     ∙ map-append watched (take place items) (line ∷ []) in
-    subst (λ lines. SaysTotals w (is_some c.args.drops) lines first last) (sym more)
-    (more_totals w (is_some c.args.drops) before (watched line ∷ []) first c.loop-line.errors last
+    subst (λ lines. SaysTotals w c.args.names.now (is_some c.args.drops) lines first last)
+    (sym more)
+    (more_totals w c.args.names.now (is_some c.args.drops) before (watched line ∷ []) first
+    c.loop-line.errors last
     c.loop-line.invariant c.write_totals.ensures)
 
 pub returns : goal.returns
@@ -38,7 +40,8 @@ returns g c =
           g.E.TextOut.failures;
     } in
     let items = c.as_slice-line-items.result.now in
-    subst (λ lines. SaysTotals w (is_some c.args.drops) (map watched lines) c.args.errors.now
+    subst (λ lines. SaysTotals w c.args.names.now (is_some c.args.drops) (map watched lines)
+    c.args.errors.now
     c.loop-line.errors)
     (take_all c.loop-line.line-index items c.loop-line-test.false
     ∙ c.as_slice-line-items.ensures.value)

@@ -12,5 +12,6 @@ returns-clause-news g c =
           g.E.TextOut.failures;
     } in
     let run = watched_run c.args.self.now in
-    news_within w (IsNewsOfGaps run.gaps) (IsNewsOf run) c.args.errors.now c.look.new.errors
+    news_within w run.names (IsNewsOfGaps run.gaps) (IsNewsOf run) c.args.errors.now
+    c.look.new.errors
     (gaps_within run) c.look.ensures.says

@@ -1,5 +1,6 @@
 use Rattle.std.proofs.Common.{◌≡◌, ◌+◌, ◌∙◌, List, refl, rules, subst, sym, ℕ}
 use Rattle.text_out.specs.Devices.{Writing, Wrote}
+use Rattle.text_out.specs.Members.{writing_of}
 use Rattle.best_rows.specs.RowTexts.{header_of}
 use Rattle.udp_listening.specs.Listening.{HasFollowed}
 use Rattle.udp_listening.specs.declared.console.LiveOutput.{LiveOutput}
@@ -9,10 +10,7 @@ use Rattle.udp_listening.proofs.console.Console.new.Goals as goal
 
 pub returns : goal.returns
 returns g c =
-    let w : Writing g.row.W.Denot = record {
-      adds = g.W.TextOut.adds;
-      failures = g.W.TextOut.failures;
-    } in
+    let w : Writing g.row.W.Denot = writing_of g.W.TextOut in
     let style = c.args.style in
     let first = c.args.output in
     let now = c.write_all.new.writer in

@@ -1,5 +1,6 @@
 use Rattle.std.proofs.Common.{◌≡◌, ◌+◌, ◌∙◌, ap, drop, length, rules, subst, sym, List, ℕ}
 use Rattle.text_out.specs.Devices.{Writing, Wrote}
+use Rattle.text_out.specs.Members.{writing_of}
 use Rattle.best_rows.specs.declared.style.RowStyle.{RowStyle}
 use Rattle.best_rows.specs.NoticeRows.{AreRowsOf}
 use Rattle.udp_listening.specs.Listening.{HasFollowed}
@@ -13,10 +14,7 @@ use Rattle.udp_listening.proofs.console.Console.write_rest.Goals as goal
 pub returns-in-Ok-clause-shows : goal.returns-in-Ok-clause-shows
 returns-in-Ok-clause-shows g c =
     λ style first h.
-    let w : Writing g.row.W.Denot = record {
-      adds = g.W.TextOut.adds;
-      failures = g.W.TextOut.failures;
-    } in
+    let w : Writing g.row.W.Denot = writing_of g.W.TextOut in
     let old = c.args.log.now in
     let new = c.forget.new.self in
     let out = c.args.self.now.output in
@@ -41,10 +39,7 @@ returns-in-Ok-clause-shows g c =
 pub returns-in-Err-clause-shows : goal.returns-in-Err-clause-shows
 returns-in-Err-clause-shows g c =
     λ style first h.
-    let w : Writing g.row.W.Denot = record {
-      adds = g.W.TextOut.adds;
-      failures = g.W.TextOut.failures;
-    } in
+    let w : Writing g.row.W.Denot = writing_of g.W.TextOut in
     let old = c.args.log.now in
     let out = c.args.self.now.output in
     let now = c.write_all.new.writer in

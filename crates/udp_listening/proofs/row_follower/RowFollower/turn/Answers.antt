@@ -1,14 +1,12 @@
 use Rattle.text_out.specs.Devices.{Writing}
+use Rattle.text_out.specs.Members.{writing_of}
 use Rattle.udp_listening.proofs.Following.{polled_longer}
 use Rattle.udp_listening.proofs.Noting.{noted_longer}
 use Rattle.udp_listening.proofs.row_follower.RowFollower.turn.Goals as goal
 
 pub returns-clause-shows : goal.returns-clause-shows
 returns-clause-shows g c =
-    let w : Writing g.row.W.Denot = record {
-      adds = g.W.TextOut.adds;
-      failures = g.W.TextOut.failures;
-    } in
+    let w : Writing g.row.W.Denot = writing_of g.W.TextOut in
     let console = c.args.self.now.console in
     let awaited = c.has_awaited-has_come in
     λ style first h.

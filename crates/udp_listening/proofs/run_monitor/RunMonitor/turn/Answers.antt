@@ -1,5 +1,6 @@
 use Rattle.std.proofs.Common.{◌∙◌, ap, subst, sym}
 use Rattle.text_out.specs.Devices.{Writing}
+use Rattle.text_out.specs.Members.{writing_of}
 use Rattle.run_watches.specs.RunLines.{watched_run}
 use Rattle.run_watches.specs.RunNews.{SaysRunNews}
 use Rattle.run_watches.specs.RunNewsLaws.{more_run_news}
@@ -7,10 +8,7 @@ use Rattle.udp_listening.proofs.run_monitor.RunMonitor.turn.Goals as goal
 
 pub returns-clause-news : goal.returns-clause-news
 returns-clause-news g c =
-    let w : Writing g.row.E.Denot = record {
-      adds = g.E.TextOut.adds;
-      failures = g.E.TextOut.failures;
-    } in
+    let w : Writing g.row.E.Denot = writing_of g.E.TextOut in
     let said = c.say_news.new.self in
     let stopped = c.stop.new.self in
     let last = c.watch.new.self.errors in

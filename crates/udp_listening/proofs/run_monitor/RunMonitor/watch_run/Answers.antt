@@ -1,5 +1,6 @@
 use Rattle.std.proofs.Common.{◌≡◌, ◌∙◌, refl, subst, sym}
 use Rattle.text_out.specs.Devices.{Writing}
+use Rattle.text_out.specs.Members.{writing_of}
 use Rattle.run_watches.specs.RunLines.{WatchedRun, watched_run}
 use Rattle.run_watches.specs.RunNews.{SaysOfRun, SaysRunEnd, SaysRunNews}
 use Rattle.udp_listening.specs.declared.run_monitor.RunMonitor.{RunMonitor}
@@ -31,10 +32,7 @@ ended w run first monitor last follows end = record {
 
 pub loop-init : goal.loop-init
 loop-init g c =
-    let w : Writing g.row.E.Denot = record {
-      adds = g.E.TextOut.adds;
-      failures = g.E.TextOut.failures;
-    } in
+    let w : Writing g.row.E.Denot = writing_of g.E.TextOut in
     let s = c.args.self in (
       tt,
       tt,
@@ -44,10 +42,7 @@ loop-init g c =
 
 pub loop-preserved : goal.loop-preserved
 loop-preserved g c =
-    let w : Writing g.row.E.Denot = record {
-      adds = g.E.TextOut.adds;
-      failures = g.E.TextOut.failures;
-    } in (
+    let w : Writing g.row.E.Denot = writing_of g.E.TextOut in (
       tt,
       tt,
       c.turn.ensures.run ∙ c.loop.invariant.2,
@@ -58,10 +53,7 @@ loop-preserved g c =
 
 pub returns : goal.returns
 returns g c =
-    let w : Writing g.row.E.Denot = record {
-      adds = g.E.TextOut.adds;
-      failures = g.E.TextOut.failures;
-    } in
+    let w : Writing g.row.E.Denot = writing_of g.E.TextOut in
     let run = watched_run c.args.self.watches in
     let first = c.args.self.errors in
     let before = c.loop.monitor in

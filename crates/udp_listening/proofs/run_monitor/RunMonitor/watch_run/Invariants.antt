@@ -1,3 +1,4 @@
+use Rattle.text_out.specs.Members.{writing_of}
 use Rattle.std.proofs.Common.{◌≡◌}
 use Rattle.run_watches.specs.RunLines.{watched_run}
 use Rattle.run_watches.specs.RunNews.{SaysRunNews}
@@ -7,5 +8,5 @@ abbrev pub invariant-loop : goal.invariant-loop
 invariant-loop g l =
     (goal.iterator-loop g).can_next l.iterator' × (goal.iterator-loop g).is_finite l.iterator'
     × (watched_run l.monitor.watches ≡ watched_run l.initial.monitor.watches)
-    × SaysRunNews (record { adds = g.E.TextOut.adds; failures = g.E.TextOut.failures })
+    × SaysRunNews (writing_of g.E.TextOut)
     (watched_run l.initial.monitor.watches) l.initial.monitor.errors l.monitor.errors

@@ -1,0 +1,3 @@
+mod Bringing
+mod Given
+mod Passing

@@ -1,0 +1,4 @@
+pub mod Carried
+pub mod Openings
+pub mod Packed
+pub mod laws

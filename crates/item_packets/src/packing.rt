@@ -1,0 +1,170 @@
+//! Items in a row as datagrams.
+ghost use Rattle.std.specs.Prelude.{◌≡◌, ◌⊎◌, ℕ, ◌+◌, ◌^◌, ◌≤◌, List, [], ◌∷◌, ◌++◌, length, map, OnOk};
+ghost use Rattle.std.specs.List.{AllByRecursion};
+ghost use Rattle.feed_types.specs.declared.item.Item.{Item};
+ghost use Rattle.feed_types.specs.Sessions.{end_item, numbered_from};
+ghost use Rattle.mold_packet.specs.Body.{lent_bytes};
+ghost use Rattle.quote_payload.specs.Payload.{item_of};
+ghost use Rattle.venue_normaliser.specs.Forms.{form_bytes};
+ghost use Rattle.item_packets.specs.Carried.{IsMessageItem, IsShortMessage, RunsFrom};
+ghost use Rattle.item_packets.specs.Packed.{AddsPacked, bytes_of_each};
+
+use crate::message_forms::{end_number, fill_forms, first_number, lend_all, messages_before_end};
+use feed_types::Numbered;
+use mold_packet::{Body, write_packet};
+use packet_building::build_packet;
+use std::alloc::{AllocError, Global};
+use std::collections::VecDeque;
+use venue_normaliser::MessageForm;
+
+/// The most bytes of a datagram by UDP over IPv4.
+const MOST_BYTES: usize = 65_507;
+
+/// The room in which packets are made.
+#[derive(Drop)]
+pub struct PackingRoom {
+    packet: Vec<u8>,
+    forms: Vec<MessageForm>,
+    alloc: Global,
+    pub ghost has_room: { length packet.items ≡ 65507 },
+}
+
+/// Appends a datagram of these bytes.
+fn push_datagram(alloc: Global, bytes: &[u8], out: &mut VecDeque<Vec<u8>>) -> Result<(), AllocError>
+    ensures { OnOk result (bytes_of_each out.new.items
+        ≡ bytes_of_each out.old.items ++ bytes.now ∷ []) }
+{
+    let datagram = Vec::from_slice(alloc, bytes)?;
+    out.push_back(datagram)?;
+    Ok(())
+}
+
+/// Appends the packets of messages from a number on, as few as can be.
+fn put_messages(
+    alloc: Global,
+    session: &[u8; 10],
+    number: u64,
+    messages: &[&[u8]],
+    packet: &mut [u8],
+    out: &mut VecDeque<Vec<u8>>,
+) -> Result<(), AllocError>
+    requires from_one { 1 ≤ number }
+    requires in_range { number + length messages.now ≤ 2 ^ 64 }
+    requires short { AllByRecursion IsShortMessage (lent_bytes messages.now) }
+    requires room { length packet.old ≡ 65507 }
+    ensures put { OnOk result (AddsPacked session.now
+        (numbered_from number (map item_of (lent_bytes messages.now)))
+        out.old.items out.new.items) }
+    ensures room { length packet.new ≡ 65507 }
+{
+    let mut from = 0;
+    'packets: while from < messages.len() {
+        let rest = &messages[from..];
+        match build_packet(session, number + from as u64, rest, packet) {
+            Some(built) => {
+                push_datagram(alloc, &packet[..built.len], out)?;
+                from += built.messages;
+            }
+            None => unreachable!(),
+        }
+    }
+    Ok(())
+}
+
+/// Appends the end of a session, where there is one.
+fn put_end(
+    alloc: Global,
+    session: &[u8; 10],
+    ends: &[Numbered],
+    packet: &mut [u8],
+    out: &mut VecDeque<Vec<u8>>,
+) -> Result<(), AllocError>
+    requires room { length packet.old ≡ 65507 }
+    ensures put { OnOk result ((number : ℕ) → 1 ≤ number
+        → (ends.now ≡ []) ⊎ (ends.now ≡ end_item number ∷ [])
+        → AddsPacked session.now ends.now out.old.items out.new.items) }
+    ensures room { length packet.new ≡ 65507 }
+{
+    let Some(number) = end_number(ends) else {
+        return Ok(());
+    };
+    match write_packet(session, number, Body::End, packet) {
+        Ok(len) => push_datagram(alloc, &packet[..len], out),
+        Err(_) => unreachable!(),
+    }
+}
+
+impl PackingRoom {
+    /// Takes the memory of a longest datagram.
+    pub fn new(alloc: Global) -> Result<PackingRoom, AllocError> {
+        let packet = vec![in alloc; 0u8; MOST_BYTES]?;
+        Ok(PackingRoom {
+            packet,
+            forms: Vec::new(alloc),
+            alloc,
+        })
+    }
+
+    /// Appends the packets of the messages that the forms are.
+    fn put_forms(
+        &mut self,
+        session: &[u8; 10],
+        number: u64,
+        out: &mut VecDeque<Vec<u8>>,
+    ) -> Result<(), AllocError>
+        requires from_one { 1 ≤ number }
+        requires in_range { number + length self.old.forms.items ≤ 2 ^ 64 }
+        ensures put { OnOk result (AddsPacked session.now
+            (numbered_from number (map (λ f. item_of (form_bytes f)) self.old.forms.items))
+            out.old.items out.new.items) }
+    {
+        let messages = lend_all(self.alloc, self.forms.as_slice())?;
+        let packet = self.packet.as_mut_slice();
+        put_messages(
+            self.alloc,
+            session,
+            number,
+            messages.as_slice(),
+            packet,
+            out,
+        )
+    }
+
+    /// Appends the packets of messages in a row.
+    fn put_run(
+        &mut self,
+        session: &[u8; 10],
+        items: &[Numbered],
+        out: &mut VecDeque<Vec<u8>>,
+    ) -> Result<(), AllocError>
+        ensures put { OnOk result ((first : ℕ) (its : List Item)
+            → 1 ≤ first → items.now ≡ numbered_from first its
+            → AllByRecursion IsMessageItem its
+            → AddsPacked session.now items.now out.old.items out.new.items) }
+    {
+        let Some(number) = first_number(items) else {
+            return Ok(());
+        };
+        fill_forms(&mut self.forms, items)?;
+        self.put_forms(session, number, out)
+    }
+
+    /// Appends to `out` the datagrams of the session of this name, ten bytes, that carry these
+    /// items: items in a row, of which the last may be the end.
+    ///
+    /// AllocError where memory was refused; `out` has some of them then.
+    pub fn pack(
+        &mut self,
+        session: &[u8; 10],
+        items: &[Numbered],
+        out: &mut VecDeque<Vec<u8>>,
+    ) -> Result<(), AllocError>
+        ensures { OnOk result ((first : ℕ) → 1 ≤ first → RunsFrom first items.now
+            → AddsPacked session.now items.now out.old.items out.new.items) }
+    {
+        let count = messages_before_end(items);
+        self.put_run(session, &items[..count], out)?;
+        let packet = self.packet.as_mut_slice();
+        put_end(self.alloc, session, &items[count..], packet, out)
+    }
+}

@@ -1,0 +1,103 @@
+-- What is said on standard error at the end of a run of normalise. This project's own texts.
+use Rattle.std.specs.Prelude.{ℕ, ◌==◌, ◌&&◌, not, List, [], ◌∷◌, ◌++◌, codes, decimal, flat_map, Option, Some, None, Result, Ok, Err, if◌then◌else◌}
+use Rattle.event_sinks.specs.LackTexts.{lack_texts, messages_text}
+use Rattle.event_sinks.specs.declared.replay_stop.ReplayStop.{ReplayStop}
+use Rattle.itch_book.specs.declared.fault.BookFault.{BookFault}
+use Rattle.itch_book.specs.declared.fault.BookFault.TheVariants.{DuplicateSymbol, NoMemory, TooManyOrders, TooManyShares, TooManySymbols}
+use Rattle.normalising.specs.declared.normalise_stop.NormaliseStop.{NormaliseStop}
+use Rattle.normalising.specs.declared.normalise_stop.NormaliseStop.TheVariants as stops
+use Rattle.normalising.specs.declared.packet_counts.PacketCounts.{PacketCounts}
+use Rattle.normalising.specs.declared.venue_report.GivenUp.{GivenUp}
+use Rattle.normalising.specs.declared.venue_report.MissingRun.{MissingRun}
+use Rattle.normalising.specs.declared.venue_report.VenueReport.{VenueReport}
+use Rattle.venue_normaliser.specs.declared.fault.NormaliserFault.{NormaliserFault}
+use Rattle.venue_normaliser.specs.declared.fault.NormaliserFault.TheVariants as faults
+use Rattle.venue_normaliser.specs.declared.resume_fault.ResumeFault.{ResumeFault}
+use Rattle.venue_normaliser.specs.declared.resume_fault.ResumeFault.TheVariants as resumes
+
+-- a line of a venue
+abbrev pub venue_line_texts : (venue : ℕ) → (text : List ℕ) → List (List ℕ)
+venue_line_texts venue text = codes "nbbo: venue " ∷ decimal venue ∷ text ∷ []
+
+-- of a gap that was given up which messages are missing, and that the venue is quoted no more
+abbrev pub given_up_texts : GivenUp → List (List ℕ)
+given_up_texts gap =
+    venue_line_texts gap.venue (codes " lacks ")
+    ++ (decimal gap.count ∷ messages_text gap.count ∷ decimal gap.number
+    ∷ codes ", and is quoted no more\n" ∷ [])
+
+-- ---- the report of a venue
+
+-- which messages are missing, if any are
+abbrev pub standing_texts : (venue : ℕ) → Option MissingRun → List (List ℕ)
+standing_texts venue None = []
+standing_texts venue (Some missing) =
+    lack_texts (record { venue = venue; number = missing.number; count = missing.count })
+
+-- a line with a count, where that isn't 0
+abbrev pub venue_count_texts : (venue : ℕ) → (label : List ℕ) → ℕ → List (List ℕ)
+venue_count_texts venue label count =
+    if count == 0 then []
+    else venue_line_texts venue label ++ (decimal count ∷ codes "\n" ∷ [])
+
+-- that the packets begin with this project's own messages, where some do and none with one of ITCH
+abbrev pub own_messages_texts : (venue : ℕ) → PacketCounts → List (List ℕ)
+own_messages_texts venue counts =
+    if (counts.itch == 0) && not (counts.own == 0)
+    then venue_line_texts venue
+    (codes " looks like own messages, which nbbo replay reads as they are\n")
+    else []
+
+abbrev pub venue_report_texts : VenueReport → List (List ℕ)
+venue_report_texts report =
+    standing_texts report.venue report.missing
+    ++ (venue_count_texts report.venue (codes ": datagrams that are no packet: ") report.counts.bad
+    ++ (venue_count_texts report.venue (codes ": packets refused: ") report.counts.refused
+    ++ own_messages_texts report.venue report.counts))
+
+-- ---- why a run ended
+
+-- the book of a venue
+abbrev pub book_stop_texts : (venue : ℕ) → BookFault → List (List ℕ)
+book_stop_texts venue NoMemory = codes "nbbo: no memory\n" ∷ []
+book_stop_texts venue TooManyOrders =
+    venue_line_texts venue (codes " has more live orders than --orders\n")
+book_stop_texts venue TooManyShares =
+    venue_line_texts venue (codes " would show more than 2^63 shares at a price\n")
+book_stop_texts venue TooManySymbols = venue_line_texts venue (codes " has too many symbols\n")
+book_stop_texts venue DuplicateSymbol = venue_line_texts venue (codes " has a symbol twice\n")
+
+-- it wasn't begun
+abbrev pub begin_fault_texts : NormaliserFault → List (List ℕ)
+begin_fault_texts faults.BadWindow = codes "nbbo: bad window\n" ∷ []
+begin_fault_texts (faults.Book fault) = book_stop_texts 0 fault
+
+-- a venue's session doesn't begin with its snapshot
+abbrev pub resume_fault_texts : (venue : ℕ) → ResumeFault → List (List ℕ)
+resume_fault_texts venue (resumes.Book fault) = book_stop_texts venue fault
+resume_fault_texts venue resumes.TooFewNumbers =
+    venue_line_texts venue
+    (codes ": its snapshot shows more than the messages before its number can\n")
+resume_fault_texts venue resumes.HasBegun =
+    venue_line_texts venue (codes ": its session has begun\n")
+
+-- The text of an outcome, where `end_texts` is what a replay says of what was read and of its own:
+-- a run that a book ended has read what it read without a fault.
+abbrev pub normalise_end_texts : {S F : Type 0}
+    → (end_texts : S → List ℕ → Result (Unit {0}) (ReplayStop F) → List (List ℕ)) → (read : S)
+    → Result (Unit {0}) (NormaliseStop F) → List (List ℕ)
+normalise_end_texts end_texts read (Ok done) = end_texts read [] (Ok tt)
+normalise_end_texts end_texts read (Err (stops.Replay stop)) = end_texts read [] (Err stop)
+normalise_end_texts end_texts read (Err (stops.Fault fault)) = begin_fault_texts fault
+normalise_end_texts end_texts read (Err (stops.Snapshot venue fault)) =
+    resume_fault_texts venue fault
+normalise_end_texts end_texts read (Err (stops.Book venue fault)) =
+    end_texts read [] (Ok tt) ++ book_stop_texts venue fault
+
+-- the gaps that were given up, then the reports of the venues, and then why the run ended
+abbrev pub normalise_texts : {S F : Type 0}
+    → (end_texts : S → List ℕ → Result (Unit {0}) (ReplayStop F) → List (List ℕ)) → (read : S)
+    → List GivenUp → List VenueReport → Result (Unit {0}) (NormaliseStop F) → List (List ℕ)
+normalise_texts end_texts read gaps reports outcome =
+    flat_map given_up_texts gaps
+    ++ (flat_map venue_report_texts reports ++ normalise_end_texts end_texts read outcome)

@@ -1,0 +1,58 @@
+use Rattle.text_out.specs.Members.{writing_of}
+use Rattle.std.proofs.Common.{refl, ap, length, Ok}
+use Rattle.std.specs.Prelude.{slice_set}
+use Rattle.std.proofs.lemmas.Option.{slice_get_read}
+use Rattle.std.proofs.lemmas.Result.{err_from_is_err_and}
+use Rattle.capture_records.specs.Capture.{skip_record}
+use Rattle.normalising.proofs.Venues.{gives_next, gives_stop, next_noted, next_unnoted}
+use Rattle.normalising.proofs.normalised_venues.NormalisedVenues.give_up.Goals as goal
+
+pub returns-in_err-given_up-clause-takes : goal.returns-in_err-given_up-clause-takes
+returns-in_err-given_up-clause-takes g c =
+    let p = err_from_is_err_and c.from_residual.result c.from_residual.ensures.1 in
+    rw (p.1, p.2) (gives_stop
+    (writing_of g.W.TextOut)
+    g.met.W.TextOut.adds_none (skip_record c.args.venue c.args.number) c.args.self.now
+    c.index_mut-it.result.now c.args.writer.now c.give_up.new.writer
+    c.give_up.new.output.page.page c.in_err-given_up.field-0.0
+    (slice_get_read c.args.self.now.venues.items (length c.args.self.now.venues.items)
+    c.args.venue _ refl c.requires
+    (rw (← c.index.ensures.value) c.index_mut-it.ensures.value))
+    (λ feed h f is. c.in_err-given_up.ensures.skips feed c.args.venue h f is))
+
+pub returns-in_err-note-clause-takes : goal.returns-in_err-note-clause-takes
+returns-in_err-note-clause-takes g c =
+    let p = err_from_is_err_and c.from_residual-in_err-note.result
+    c.from_residual-in_err-note.ensures.1 in
+    rw (p.1, p.2) (next_unnoted (Unit {0})
+    (writing_of g.W.TextOut)
+    (skip_record c.args.venue c.args.number) c.args.self.now _ _ c.args.writer.now
+    c.give_up.new.writer (tt {0}) c.in_err-note.field-0.0 c.in_err-note.ensures
+    (gives_next
+    (writing_of g.W.TextOut)
+    g.met.W.TextOut.adds_none (skip_record c.args.venue c.args.number) c.args.self.now _
+    c.index_mut-it.result.now c.give_up.new.self c.args.writer.now c.give_up.new.writer
+    (Ok (tt {0}))
+    (slice_get_read c.args.self.now.venues.items (length c.args.self.now.venues.items)
+    c.args.venue _ refl c.requires
+    (rw (← c.index.ensures.value) c.index_mut-it.ensures.value))
+    (ap (λ i. slice_set c.args.self.now.venues.items i c.give_up.new.self) c.index.ensures.value)
+    refl refl c.in_ok-given_up.ensures.form
+    (λ feed h f is. c.in_ok-given_up.ensures.skips feed c.args.venue h f is)))
+
+pub returns-clause-takes : goal.returns-clause-takes
+returns-clause-takes g c = next_noted
+    (writing_of g.W.TextOut)
+    (skip_record c.args.venue c.args.number) c.args.self.now _ _ c.args.writer.now
+    c.give_up.new.writer (tt {0}) (tt {0}) c.in_ok-note.ensures
+    (gives_next
+    (writing_of g.W.TextOut)
+    g.met.W.TextOut.adds_none (skip_record c.args.venue c.args.number) c.args.self.now _
+    c.index_mut-it.result.now c.give_up.new.self c.args.writer.now c.give_up.new.writer
+    (Ok (tt {0}))
+    (slice_get_read c.args.self.now.venues.items (length c.args.self.now.venues.items)
+    c.args.venue _ refl c.requires
+    (rw (← c.index.ensures.value) c.index_mut-it.ensures.value))
+    (ap (λ i. slice_set c.args.self.now.venues.items i c.give_up.new.self) c.index.ensures.value)
+    refl refl c.in_ok-given_up.ensures.form
+    (λ feed h f is. c.in_ok-given_up.ensures.skips feed c.args.venue h f is))

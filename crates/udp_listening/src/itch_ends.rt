@@ -1,0 +1,142 @@
+//! What the venues of a run in ITCH have come to.
+ghost use Rattle.text_out.specs.Members.{writing_of};
+ghost use Rattle.std.specs.Prelude.{◌≡◌, ◌++◌, [], IfOk, OnOk, flat_map};
+ghost use Rattle.event_sinks.specs.LackTexts.{messages_text};
+ghost use Rattle.event_sinks.specs.VenueLacks.{lack_by};
+ghost use Rattle.text_out.specs.StandardError.{SaysEach};
+ghost use Rattle.udp_listening.specs.ItchEnds.{book_fault_text, book_fault_texts, itch_lacks, itch_texts, unquoted_texts};
+
+use event_sinks::MissingRange;
+use feed_types::VenueId;
+use itch_book::BookFault;
+use itch_lines::{ItchVenueEnd, MessageRun, VenueShare};
+use run_notes::{write_named_lacking, write_venue_name};
+use run_settings::{ListenSettings, VenueNames};
+use std::alloc::{AllocError, Global};
+use text_out::{TextOut, write_number, write_stderr};
+
+/// Returns what the venues in ITCH have come to, by what their lines share; none where the settings
+/// have no such venue.
+pub(crate) fn itch_ends(
+    alloc: Global,
+    settings: &ListenSettings,
+    shares: &[VenueShare],
+) -> Result<Vec<ItchVenueEnd>, AllocError>
+    ensures { settings.now.itch.venues.items ≡ [] → IfOk result (λ ends. ends.items ≡ []) }
+{
+    let mut ends = Vec::new(alloc);
+    if settings.itch.venues.is_empty() {
+        return Ok(ends);
+    }
+    for share in shares {
+        if let Some(end) = share.end() {
+            ends.push(end)?;
+        }
+    }
+    Ok(ends)
+}
+
+/// Appends what a venue lacks, if it lacks anything.
+fn append_lack(lacking: &mut Vec<MissingRange>, end: &ItchVenueEnd) -> Result<(), AllocError>
+    ensures { OnOk result (lacking.new.items
+        ≡ lacking.old.items ++ lack_by end.now.venue end.now.missing) }
+{
+    if let Some(gap) = &end.missing {
+        lacking.push(MissingRange::of(end.venue, gap))?;
+    }
+    Ok(())
+}
+
+/// Appends what the venues lack, in order, of each that lacks anything.
+pub(crate) fn append_itch_lacks(
+    lacking: &mut Vec<MissingRange>,
+    ends: &[ItchVenueEnd],
+) -> Result<(), AllocError>
+    ensures { OnOk result (lacking.new.items ≡ lacking.old.items ++ itch_lacks ends.now) }
+{
+    for end in ends {
+        append_lack(lacking, end)?;
+    }
+    Ok(())
+}
+
+/// What stands between a count of messages and the first of them.
+fn messages(count: u64) -> &'static str
+    ensures { result.now ≡ messages_text count }
+{
+    if count == 1 {
+        " message from "
+    } else {
+        " messages from "
+    }
+}
+
+/// Writes which messages were given up, and that nothing past them was quoted.
+fn write_unquoted<E: TextOut>(
+    names: &VenueNames,
+    venue: VenueId,
+    given_up: Option<MessageRun>,
+    errors: &mut E,
+)
+    ensures { SaysEach (writing_of E.TextOut)
+        (unquoted_texts names.now venue given_up) errors.old errors.new }
+{
+    let Some(run) = given_up else {
+        return;
+    };
+    write_named_lacking(names, venue, errors);
+    write_number(run.count, errors);
+    write_stderr(messages(run.count), errors);
+    write_number(run.number, errors);
+    write_stderr(", and is quoted no more\n", errors);
+}
+
+/// The text of a fault of a venue's book.
+fn book_fault_text(fault: BookFault) -> &'static str
+    ensures { result.now ≡ book_fault_text fault }
+{
+    match fault {
+        BookFault::TooManyOrders => " has more live orders than --orders\n",
+        BookFault::TooManyShares => " would show more than 2^63 shares at a price\n",
+        BookFault::TooManySymbols => " has too many symbols\n",
+        BookFault::DuplicateSymbol => " has a symbol twice\n",
+        BookFault::NoMemory => " has no memory for its orders\n",
+    }
+}
+
+/// Writes why a venue's normaliser has failed, if it has.
+fn write_book_fault<E: TextOut>(
+    names: &VenueNames,
+    venue: VenueId,
+    fault: Option<BookFault>,
+    errors: &mut E,
+)
+    ensures { SaysEach (writing_of E.TextOut)
+        (book_fault_texts names.now venue fault) errors.old errors.new }
+{
+    let Some(fault) = fault else {
+        return;
+    };
+    write_stderr("nbbo: venue ", errors);
+    write_venue_name(names, venue, errors);
+    write_stderr(book_fault_text(fault), errors);
+}
+
+/// Writes what is said of a venue.
+fn write_end<E: TextOut>(names: &VenueNames, end: &ItchVenueEnd, errors: &mut E)
+    ensures { SaysEach (writing_of E.TextOut)
+        (itch_texts names.now end.now) errors.old errors.new }
+{
+    write_unquoted(names, end.venue, end.given_up, errors);
+    write_book_fault(names, end.venue, end.fault, errors);
+}
+
+/// Writes what was given up of each venue, and why its normaliser has failed, if it has.
+pub(crate) fn write_itch_ends<E: TextOut>(names: &VenueNames, ends: &[ItchVenueEnd], errors: &mut E)
+    ensures { SaysEach (writing_of E.TextOut)
+        (flat_map (itch_texts names.now) ends.now) errors.old errors.new }
+{
+    for end in ends {
+        write_end(names, end, errors);
+    }
+}
