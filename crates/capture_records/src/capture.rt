@@ -4,7 +4,7 @@ ghost use Rattle.std.specs.Option.{SomeIff};
 ghost use Rattle.capture_records.specs.Capture.{HasNumber, IsKind, StandsAtFront, kind_byte, number_bytes, payload_of, record_of, record_venue};
 ghost use Rattle.capture_records.specs.Kind.{IsKindOf, MayHave, byte_of};
 
-use feed_types::{LineId, VenueId};
+use feed_types::{LineId, SessionName, VenueId};
 
 /// The number of bytes before those that a record's length counts.
 const HEADER: usize = 4;
@@ -21,7 +21,7 @@ pub enum Record<'a> {
     /// The name of the venue's next session.
     Renewal {
         venue: VenueId,
-        session: [u8; 10],
+        session: SessionName,
     },
     /// What is missing at the venue below the number is given up.
     Skip {
@@ -98,7 +98,7 @@ fn venue_from(venues: usize, byte: u8) -> Option<VenueId>
 }
 
 /// Copies ten bytes as a session's name.
-fn name_from(bytes: &[u8]) -> [u8; 10]
+fn name_from(bytes: &[u8]) -> SessionName
     requires { length bytes.now ≡ 10 }
     ensures { result ≡ bytes.now }
 {

@@ -15,7 +15,7 @@ use crate::refusal::Refusal;
 use crate::sessions::read_sessions;
 use crate::symbols::read_symbols;
 use clap::ArgMatches;
-use feed_types::{MAX_WINDOW, SymbolName};
+use feed_types::{MAX_WINDOW, SessionName, SymbolName};
 use run_settings::FeedSettings;
 use std::alloc::Global;
 
@@ -32,7 +32,7 @@ pub fn window_of(options: &ArgMatches<'_>) -> u32
 }
 
 /// Returns the first session of each venue that the options name. With `--lines` others may follow.
-fn sessions_of(alloc: Global, options: &ArgMatches<'_>) -> Result<Vec<[u8; 10]>, Refusal>
+fn sessions_of(alloc: Global, options: &ArgMatches<'_>) -> Result<Vec<SessionName>, Refusal>
     ensures reads { ReadsSessions
         (is_some (first_of (codes "lines") (rows_of (found_of options.now))))
         (list_in (rows_of (found_of options.now)))

@@ -14,19 +14,19 @@ use crate::option_values::{given_text, number_or};
 use crate::refusal::Refusal;
 use crate::sessions::{are_names, filled_all};
 use clap::ArgMatches;
-use feed_types::VenueId;
+use feed_types::{SessionName, VenueId};
 use run_settings::ItchSettings;
 use std::alloc::{AllocError, Global};
 
 /// Returns whether the name is that of one of the sessions.
-fn is_among(sessions: &[[u8; 10]], name: &[u8; 10]) -> bool
+fn is_among(sessions: &[SessionName], name: &SessionName) -> bool
     ensures { result ≡ is_among sessions.now name.now }
 {
     times_in(sessions, name) != 0
 }
 
 /// Returns whether each of the names is that of one of the sessions.
-fn are_among(sessions: &[[u8; 10]], names: &[[u8; 10]]) -> bool
+fn are_among(sessions: &[SessionName], names: &[SessionName]) -> bool
     ensures { result ≡ list_all (is_among sessions.now) names.now }
 {
     names.iter().all(|name| is_among(sessions, name))
@@ -35,8 +35,8 @@ fn are_among(sessions: &[[u8; 10]], names: &[[u8; 10]]) -> bool
 /// Returns the venues whose first sessions have one of these names, in order.
 fn venues_named(
     alloc: Global,
-    names: &[[u8; 10]],
-    sessions: &[[u8; 10]],
+    names: &[SessionName],
+    sessions: &[SessionName],
 ) -> Result<Vec<VenueId>, AllocError>
     requires { length sessions.now ≤ 16 }
     ensures { IfOk result (λ venues. venues.items
@@ -52,7 +52,11 @@ fn venues_named(
 }
 
 /// Returns the venues whose first sessions have these names.
-fn venues_by(alloc: Global, names: &[&str], sessions: &[[u8; 10]]) -> Result<Vec<VenueId>, Refusal>
+fn venues_by(
+    alloc: Global,
+    names: &[&str],
+    sessions: &[SessionName],
+) -> Result<Vec<VenueId>, Refusal>
     requires { length sessions.now ≤ 16 }
     ensures { OrNoMemory (Gives (itch_by (map (λ name. name.now) names.now) sessions.now))
         (mapped (λ venues. venues.items) result) }
@@ -74,7 +78,7 @@ fn venues_by(alloc: Global, names: &[&str], sessions: &[[u8; 10]]) -> Result<Vec
 fn read_itch_venues(
     alloc: Global,
     list: Option<&str>,
-    sessions: &[[u8; 10]],
+    sessions: &[SessionName],
 ) -> Result<Vec<VenueId>, Refusal>
     requires { length sessions.now ≤ 16 }
     ensures { ReadsItchVenues (option_map (λ list. list.now) list.entry) sessions.now
@@ -92,7 +96,7 @@ fn read_itch_venues(
 pub fn itch_of(
     alloc: Global,
     listen: &ArgMatches<'_>,
-    sessions: &[[u8; 10]],
+    sessions: &[SessionName],
 ) -> Result<ItchSettings, Refusal>
     requires { length sessions.now ≤ 16 }
     ensures { ReadsItch (rows_of (found_of listen.now)) sessions.now result }

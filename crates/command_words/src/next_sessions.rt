@@ -8,12 +8,12 @@ ghost use Rattle.command_words.specs.Readings.{Gives, OrNoMemory, mapped};
 
 use crate::refusal::Refusal;
 use crate::sessions::{are_names, filled_all};
-use feed_types::{MAX_SESSIONS, VenueId};
+use feed_types::{MAX_SESSIONS, SessionName, VenueId};
 use run_settings::NextSession;
 use std::alloc::{AllocError, Global};
 
 /// Returns how many of the sessions have this name.
-pub fn times_in(sessions: &[[u8; 10]], name: &[u8; 10]) -> usize
+pub fn times_in(sessions: &[SessionName], name: &SessionName) -> usize
     ensures { result ≡ count_by (bytes_eq name.now) sessions.now }
 {
     let mut times = 0;
@@ -26,14 +26,14 @@ pub fn times_in(sessions: &[[u8; 10]], name: &[u8; 10]) -> usize
 }
 
 /// Returns whether each session stands there once.
-pub fn are_once(sessions: &[[u8; 10]]) -> bool
+pub fn are_once(sessions: &[SessionName]) -> bool
     ensures { result ≡ are_once sessions.now }
 {
     sessions.iter().all(|name| times_in(sessions, name) == 1)
 }
 
 /// Returns the sessions of a venue, the first one among them, by their names.
-fn chain_of(alloc: Global, names: &[&str]) -> Result<Vec<[u8; 10]>, Refusal>
+fn chain_of(alloc: Global, names: &[&str]) -> Result<Vec<SessionName>, Refusal>
     ensures { OrNoMemory (Gives (chain_of (map (λ name. name.now) names.now)))
         (mapped (λ sessions. sessions.items) result) }
 {
@@ -51,7 +51,7 @@ fn chain_of(alloc: Global, names: &[&str]) -> Result<Vec<[u8; 10]>, Refusal>
 }
 
 /// Returns the sessions of a venue, the first one among them, by the text that names them.
-fn read_chain(alloc: Global, text: &str) -> Result<Vec<[u8; 10]>, Refusal>
+fn read_chain(alloc: Global, text: &str) -> Result<Vec<SessionName>, Refusal>
     ensures { OrNoMemory (Gives (chain_of (chain_in text.now)))
         (mapped (λ sessions. sessions.items) result) }
 {
@@ -63,7 +63,7 @@ fn read_chain(alloc: Global, text: &str) -> Result<Vec<[u8; 10]>, Refusal>
 fn push_all(
     next: &mut Vec<NextSession>,
     venue: VenueId,
-    names: &[[u8; 10]],
+    names: &[SessionName],
 ) -> Result<(), AllocError>
     ensures { OnOk result (next.new.items ≡ next.old.items ++ named_next venue names.now) }
 {
@@ -77,7 +77,7 @@ fn push_all(
 fn push_next(
     next: &mut Vec<NextSession>,
     venue: VenueId,
-    sessions: &[[u8; 10]],
+    sessions: &[SessionName],
 ) -> Result<(), AllocError>
     ensures { OnOk result (next.new.items ≡ next.old.items ++ next_session_of venue sessions.now) }
 {

@@ -21,6 +21,7 @@ use crate::run_words::{input_of, next_sessions_of, skips_in};
 use crate::snapshot_file::SnapshotFile;
 use crate::snapshot_words::read_snapshots;
 use clap::ArgMatches;
+use feed_types::SessionName;
 use run_settings::{EndNumberRule, NormaliseSettings, RunInput, SkipRule};
 use std::alloc::Global;
 
@@ -70,7 +71,7 @@ fn orders_of(options: &ArgMatches<'_>) -> u32
 fn snapshots_of(
     alloc: Global,
     options: &ArgMatches<'_>,
-    sessions: &[[u8; 10]],
+    sessions: &[SessionName],
 ) -> Result<Vec<SnapshotFile>, Refusal>
     requires { length sessions.now ≤ 16 }
     ensures reads { ReadsSnapshots (snapshot_texts_in (rows_of (found_of options.now)))

@@ -19,6 +19,7 @@ use crate::option_values::{flag_of, given_text, number_or, text_of};
 use crate::refusal::Refusal;
 use crate::sessions::read_sessions;
 use clap::ArgMatches;
+use feed_types::SessionName;
 use run_settings::{FeedSettings, NextSession};
 use std::alloc::Global;
 use std::net::SocketAddr;
@@ -48,7 +49,7 @@ fn journal_of(listen: &ArgMatches<'_>) -> u32
 }
 
 /// Returns the first session of each venue that the option names. Others may follow.
-fn sessions_of(alloc: Global, listen: &ArgMatches<'_>) -> Result<Vec<[u8; 10]>, Refusal>
+fn sessions_of(alloc: Global, listen: &ArgMatches<'_>) -> Result<Vec<SessionName>, Refusal>
     ensures reads { ReadsSessions true (list_in (rows_of (found_of listen.now)))
         (mapped (λ sessions. sessions.items) result) }
     ensures count { IfOk result (λ sessions. (1 ≤ vec_len sessions) × (vec_len sessions ≤ 16)) }

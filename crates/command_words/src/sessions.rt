@@ -5,7 +5,7 @@ ghost use Rattle.command_words.specs.Readings.{Gives, OrNoMemory, mapped};
 ghost use Rattle.command_words.specs.Sessions.{ReadsSessions, filled_name, first_name, is_session_byte, is_session_name, sessions_by};
 
 use crate::refusal::Refusal;
-use feed_types::MAX_VENUES;
+use feed_types::{MAX_VENUES, SessionName};
 use std::alloc::{AllocError, Global};
 
 /// The number of bytes of a session's name in a packet.
@@ -32,7 +32,7 @@ pub fn are_names(names: &[&str]) -> bool
 }
 
 /// Returns the name as packets carry it, filled on the right with spaces.
-pub fn filled(name: &[u8]) -> [u8; 10]
+pub fn filled(name: &[u8]) -> SessionName
     requires { length name.now ≤ 10 }
     ensures { result ≡ filled_name name.now }
 {
@@ -42,7 +42,7 @@ pub fn filled(name: &[u8]) -> [u8; 10]
 }
 
 /// Returns these names as packets carry them.
-pub fn filled_all(alloc: Global, names: &[&str]) -> Result<Vec<[u8; 10]>, AllocError>
+pub fn filled_all(alloc: Global, names: &[&str]) -> Result<Vec<SessionName>, AllocError>
     requires { All (λ name. length name.now ≤ 10) names.now }
     ensures { IfOk result (λ sessions.
         sessions.items ≡ map (λ name. filled_name name.now) names.now) }
@@ -57,7 +57,7 @@ pub fn filled_all(alloc: Global, names: &[&str]) -> Result<Vec<[u8; 10]>, AllocE
 /// Returns the sessions of these names, each with the ten bytes that packets carry.
 ///
 /// Names may be equal, all spaces, or differ only in the spaces at their ends.
-fn sessions_by(alloc: Global, names: &[&str]) -> Result<Vec<[u8; 10]>, Refusal>
+fn sessions_by(alloc: Global, names: &[&str]) -> Result<Vec<SessionName>, Refusal>
     ensures reads { OrNoMemory (Gives (sessions_by (map (λ name. name.now) names.now)))
         (mapped (λ sessions. sessions.items) result) }
     ensures count { IfOk result (λ sessions. vec_len sessions ≤ 16) }
@@ -104,7 +104,7 @@ fn first_names<'a>(
 
 /// Returns the first sessions of the venues of a list, where others may follow each after slashes,
 /// or may not.
-pub fn read_sessions(alloc: Global, list: &str, chained: bool) -> Result<Vec<[u8; 10]>, Refusal>
+pub fn read_sessions(alloc: Global, list: &str, chained: bool) -> Result<Vec<SessionName>, Refusal>
     ensures reads { ReadsSessions chained list.now (mapped (λ sessions. sessions.items) result) }
     ensures count { IfOk result (λ sessions. (1 ≤ vec_len sessions) × (vec_len sessions ≤ 16)) }
 {

@@ -7,7 +7,7 @@ ghost use Rattle.command_words.specs.SnapshotFiles.{SnapshotsOfVenues, ReadsSnap
 use crate::refusal::Refusal;
 use crate::sessions::{filled, is_name};
 use crate::snapshot_file::SnapshotFile;
-use feed_types::VenueId;
+use feed_types::{SessionName, VenueId};
 use std::alloc::{AllocError, Global};
 
 /// Returns the name of the session in a text: what stands before the first `=`, or all of it.
@@ -45,7 +45,7 @@ fn name_files(texts: &[&str]) -> bool
 }
 
 /// Returns the first place at which this session is one of these.
-fn session_place(sessions: &[[u8; 10]], session: &[u8; 10]) -> Option<usize>
+fn session_place(sessions: &[SessionName], session: &SessionName) -> Option<usize>
     ensures place { result ≡ session_place sessions.now session.now }
     ensures few { IfSome result (λ place. place < length sessions.now) }
 {
@@ -53,7 +53,7 @@ fn session_place(sessions: &[[u8; 10]], session: &[u8; 10]) -> Option<usize>
 }
 
 /// Returns the venue that a text names, of those with these first sessions, 16 at most.
-fn venue_named(text: &str, sessions: &[[u8; 10]]) -> Option<VenueId>
+fn venue_named(text: &str, sessions: &[SessionName]) -> Option<VenueId>
     requires { length sessions.now ≤ 16 }
     ensures venue { result ≡ venue_named sessions.now text.now }
     ensures few { IfSome result (λ venue. venue < length sessions.now) }
@@ -67,7 +67,7 @@ fn venue_named(text: &str, sessions: &[[u8; 10]]) -> Option<VenueId>
 }
 
 /// Returns whether each of the texts names a venue, of those with these first sessions.
-fn name_venues(texts: &[&str], sessions: &[[u8; 10]]) -> bool
+fn name_venues(texts: &[&str], sessions: &[SessionName]) -> bool
     requires { length sessions.now ≤ 16 }
     ensures { result ≡ list_all (λ text. is_some (venue_named sessions.now text.now)) texts.now }
 {
@@ -80,7 +80,7 @@ fn name_venues(texts: &[&str], sessions: &[[u8; 10]]) -> bool
 fn files_of(
     alloc: Global,
     texts: &[&str],
-    sessions: &[[u8; 10]],
+    sessions: &[SessionName],
 ) -> Result<Vec<SnapshotFile>, AllocError>
     requires { length sessions.now ≤ 16 }
     ensures files { IfOk result (λ files. map (λ file. named_by file) files.items
@@ -122,7 +122,7 @@ fn venues_once(files: &[SnapshotFile]) -> bool
 pub fn read_snapshots(
     alloc: Global,
     texts: &[&str],
-    sessions: &[[u8; 10]],
+    sessions: &[SessionName],
 ) -> Result<Vec<SnapshotFile>, Refusal>
     requires { length sessions.now ≤ 16 }
     ensures reads { ReadsSnapshots (map (λ text. text.now) texts.now) sessions.now

@@ -13,7 +13,7 @@ use crate::venue::VenueState;
 use crate::world::World;
 use crate::{journaling, offering};
 use feed_steps::{Done, Event};
-use feed_types::{FeedConfig, LineId, Notice, SubscriberId, VenueId};
+use feed_types::{FeedConfig, LineId, Notice, SessionName, SubscriberId, VenueId};
 use filter_terms::Filter;
 use journal_book::Journal;
 use std::alloc::{AllocError, Global};
@@ -54,7 +54,7 @@ impl Model for Machine {
 
 fn new_venues(
     alloc: Global,
-    sessions: &[[u8; 10]],
+    sessions: &[SessionName],
     window: u32,
 ) -> Result<Vec<VenueState>, AllocError>
     requires { length sessions.now ≤ 16 }
@@ -147,7 +147,7 @@ impl Machine {
         state.push(self.lane_capacity)
     }
 
-    fn renew(&mut self, venue: VenueId, session: [u8; 10]) -> Done
+    fn renew(&mut self, venue: VenueId, session: SessionName) -> Done
         ensures step { (s : Setting) (w : WorldView) → FitsWorld s self.old w
             → HasStepped s w (Event.Renew venue session) result self.new }
         ensures used { self.new.used ≡ self.old.used }

@@ -11,7 +11,7 @@ ghost use Rattle.feed_core.specs.Fitting.{FitsVenue, LeftFaulty, LeftAnswered, L
 
 use crate::lane::Lane;
 use feed_steps::Done;
-use feed_types::{Anything, Item, LineId, Numbered, VenueId};
+use feed_types::{Anything, Item, LineId, Numbered, SessionName, VenueId};
 use line_arbiter::Arbiter;
 use mold_packet::{Packet, read_packet};
 use std::alloc::{AllocError, Global};
@@ -47,7 +47,7 @@ impl VenueState {
     pub(crate) fn new(
         alloc: Global,
         venue: VenueId,
-        session: [u8; 10],
+        session: SessionName,
         window: u32,
     ) -> Result<VenueState, AllocError>
         ensures { IfOk result (λ c. FitsVenue window venue c (new_venue session)) }
@@ -85,7 +85,7 @@ impl VenueState {
     }
 
     /// Renew: begins the venue's next session, under this name.
-    pub(crate) fn renew(&mut self, session: [u8; 10]) -> Done
+    pub(crate) fn renew(&mut self, session: SessionName) -> Done
         ensures { (window place : ℕ) (v : Venue) → FitsVenue window place self.old v
             → LeftRenewed window place v session result self.new }
     {

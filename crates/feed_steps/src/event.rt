@@ -1,6 +1,6 @@
 //! The events of a feed, and their outcomes.
 
-use feed_types::{LineId, SubscriberId, VenueId};
+use feed_types::{LineId, SessionName, SubscriberId, VenueId};
 use line_arbiter::Outcome;
 
 /// An event of a feed. A running feed does each in one section under one lock, or as one step of a
@@ -29,7 +29,7 @@ pub enum Event<'a> {
     /// The venue's next session begins, under a name of ten bytes.
     Renew {
         venue: VenueId,
-        session: [u8; 10],
+        session: SessionName,
     },
     /// The messages of the venue that are missing below the number are given up.
     Skip {

@@ -6,7 +6,7 @@ ghost use Rattle.line_arbiter.specs.Packets.{end_of};
 ghost use Rattle.feed_text.specs.Joining.{IsNotPast};
 ghost use Rattle.feed_text.specs.Rules.{HasSentAll, IsFresh, IsJoinedAt};
 
-use feed_types::Anything;
+use feed_types::{Anything, SessionName};
 use line_arbiter::{Arbiter, ArbiterStatus};
 use mold_packet::{Kind, Packet};
 
@@ -34,7 +34,7 @@ pub fn is_fresh(cursors: &ArbiterStatus) -> bool
 }
 
 /// Returns whether the packet is of the session of this name.
-pub fn is_of_session(packet: &Packet<'_>, name: [u8; 10]) -> bool
+pub fn is_of_session(packet: &Packet<'_>, name: SessionName) -> bool
     ensures { MatchBool result (packet.now.session ≡ name) (packet.now.session ≡ name → ⊥) }
 {
     packet.session() == name

@@ -10,12 +10,12 @@ use crate::joining::is_of_session;
 use crate::replay_sink::{PublishStop, ReplaySink};
 use crate::venue::VenueReplay;
 use event_sinks::{EventSink, ReplayedEvent};
-use feed_types::VenueId;
+use feed_types::{SessionName, VenueId};
 use mold_packet::read_packet;
 use run_settings::NextSession;
 
 /// Returns the name of the session of the venue at this place, of those that follow its first one.
-fn name_after(next: &[NextSession], venue: VenueId, place: u64) -> Option<[u8; 10]>
+fn name_after(next: &[NextSession], venue: VenueId, place: u64) -> Option<SessionName>
     ensures { result ≡ slice_get (names_after venue next.now) place }
 {
     let mut left = place;
@@ -45,7 +45,7 @@ impl VenueReplay {
 
     /// Returns the name of the session that follows the present one, where that is over, if one was
     /// named.
-    fn next_name(&self, next: &[NextSession], venue: VenueId) -> Option<[u8; 10]>
+    fn next_name(&self, next: &[NextSession], venue: VenueId) -> Option<SessionName>
         ensures { (width place : ℕ) (h : History) → Follows width place self.now h
             → MatchOption result ((name : List ℕ) → IsNextName next.now venue h name → ⊥)
             (λ name. IsNextName next.now venue h name) }

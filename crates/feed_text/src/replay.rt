@@ -16,7 +16,7 @@ use crate::run::run;
 use crate::venues::ReplayVenues;
 use capture_records::{CAPTURE_ROOM, OwnFormat, ReadBuffer, RecordFormat};
 use event_sinks::{EventSink, MissingRange, ReplayStop, Replayed, TextPage, TextSink};
-use feed_types::SymbolName;
+use feed_types::{SessionName, SymbolName};
 use journal_book::NumberedBook;
 use run_settings::{NextSession, SkipRule};
 use std::alloc::{AllocError, Global};
@@ -27,7 +27,7 @@ use text_out::{CaptureIn, LineBuffer, TextOut};
 pub struct ReplayConfig<'a> {
     /// The names of the venues' first sessions, ten bytes each, filled on the right with spaces: 1
     /// to 16, any names.
-    pub sessions: &'a [[u8; 10]],
+    pub sessions: &'a [SessionName],
     /// The symbols whose national best is printed where it changes, in the order in which changes
     /// are printed: at most 4,096, each once.
     pub symbols: &'a [SymbolName],

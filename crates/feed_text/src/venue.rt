@@ -20,7 +20,7 @@ ghost use Rattle.feed_text.specs.Following.{Follows, SendsReady, TakesReady, Pub
 
 use crate::replay_sink::{PublishStop, ReplaySink};
 use event_sinks::{EventSink, MissingRange, ReplayedEvent, SinkStop};
-use feed_types::{Anything, Entry, LineId, Numbered, VenueId};
+use feed_types::{Anything, Entry, LineId, Numbered, SessionName, VenueId};
 use line_arbiter::{Arbiter, LineFault, Outcome, RenewFault, SkipFault};
 use mold_packet::{Messages, Packet, Request, read_packet};
 use quote_payload::{peek_symbol_bytes, read_item};
@@ -226,7 +226,7 @@ impl VenueReplay {
     pub fn new(
         alloc: Global,
         venue: VenueId,
-        session: [u8; 10],
+        session: SessionName,
         window: u32,
     ) -> Result<VenueReplay, AllocError>
         requires least { 1 ≤ window }
@@ -393,7 +393,7 @@ impl VenueReplay {
     }
 
     /// Begins the next session, where it may begin. Returns its ordinal.
-    pub(crate) fn next_session(&mut self, session: [u8; 10]) -> Result<u64, RenewFault>
+    pub(crate) fn next_session(&mut self, session: SessionName) -> Result<u64, RenewFault>
         ensures { (width place : ℕ) (h : History) → Follows width place self.old h
             → Renews width place session h self.new result }
     {
@@ -409,7 +409,7 @@ impl VenueReplay {
     pub fn renew<K: EventSink>(
         &mut self,
         venue: VenueId,
-        session: [u8; 10],
+        session: SessionName,
         output: &mut ReplaySink<K>,
     ) -> Result<(), PublishStop>
         ensures { (width : ℕ) (gaps : Bool) (h : History) → Follows width venue self.old h

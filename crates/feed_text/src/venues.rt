@@ -15,7 +15,7 @@ use crate::replay_sink::{PublishStop, ReplaySink};
 use crate::venue::VenueReplay;
 use capture_records::Record;
 use event_sinks::{EventSink, MissingRange, SinkStop};
-use feed_types::VenueId;
+use feed_types::{SessionName, VenueId};
 use mold_packet::Request;
 use std::alloc::{AllocError, Global};
 use std::marker::Model;
@@ -40,7 +40,7 @@ impl ReplayVenues {
     /// their windows here, and none later.
     pub fn new(
         alloc: Global,
-        sessions: &[[u8; 10]],
+        sessions: &[SessionName],
         window: u32,
         gaps: bool,
     ) -> Result<ReplayVenues, AllocError>

@@ -23,6 +23,7 @@ mod national;
 mod past;
 mod per_line;
 mod price;
+mod session_name;
 mod symbol;
 
 pub use config::FeedConfig;
@@ -38,4 +39,5 @@ pub use national::{Best, National, NationalState};
 pub use past::Past;
 pub use per_line::PerLine;
 pub use price::Price;
+pub use session_name::{SessionName, is_same_name};
 pub use symbol::SymbolName;

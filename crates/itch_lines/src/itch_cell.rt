@@ -15,7 +15,7 @@ ghost use Rattle.itch_lines.specs.Shown.{AwaitsReply, ShowsNormaliser, gap_at_en
 use crate::itch_status::ItchStatus;
 use crate::itch_venue::ItchVenue;
 use crate::venue_end::{GivenUp, ItchVenueEnd, MessageRun};
-use feed_types::{LineId, VenueId};
+use feed_types::{LineId, SessionName, VenueId};
 use itch_book::BookFault;
 use line_arbiter::Pacer;
 use mold_packet::Request;
@@ -92,7 +92,7 @@ impl ItchCell {
     pub(crate) fn new(
         alloc: Global,
         normaliser: VenueNormaliser,
-        names: Vec<[u8; 10]>,
+        names: Vec<SessionName>,
     ) -> Result<ItchCell, AllocError>
         requires { FitsPackets normaliser [] }
         ensures { IfOk result (λ c. (c.normaliser ≡ normaliser) × (c.names ≡ names.items)
@@ -127,7 +127,7 @@ impl ItchCell {
     }
 
     /// Returns what a line sees of the venue, and where what was made stands among all.
-    fn done(&mut self, begun: Option<[u8; 10]>, made: usize) -> SectionDone
+    fn done(&mut self, begun: Option<SessionName>, made: usize) -> SectionDone
         ensures { self.new ≡ self.old }
     {
         let ticket = self.tickets;

@@ -3,7 +3,7 @@ ghost use Rattle.std.specs.Prelude.{◌≡◌};
 ghost use Rattle.itch_lines.specs.Shown.{sent_over, shown_over};
 
 use crate::venue_end::GivenUp;
-use feed_types::VenueId;
+use feed_types::{SessionName, VenueId};
 use line_arbiter::ArbiterStatus;
 use mold_packet::Request;
 use venue_lines::VenueStatus;
@@ -15,7 +15,7 @@ pub struct ItchStatus {
     /// Which of the venue's sessions is the present one, counted from 1 to 64.
     pub ordinal: u64,
     /// The present session's name: ten bytes, filled on the right with spaces.
-    pub session: [u8; 10],
+    pub session: SessionName,
     /// How far the session was put out, is whole, and is known to go; whether its end is announced;
     /// and how many messages are held.
     pub cursors: ArbiterStatus,

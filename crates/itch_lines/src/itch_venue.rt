@@ -9,7 +9,7 @@ ghost use Rattle.item_packets.specs.Carried.{RunsFrom};
 ghost use Rattle.item_packets.specs.Packed.{ArePacked, bytes_of_each};
 ghost use Rattle.itch_lines.specs.Sections.{BeginsOrKeeps, BringsEnd, MakesOfPacket, BringsSkip, MakesOfDatagram, name_following};
 
-use feed_types::{Item, LineId, Numbered};
+use feed_types::{Item, LineId, Numbered, SessionName};
 use itch_book::BookFault;
 use item_packets::PackingRoom;
 use line_arbiter::{LineFault, Outcome, SkipFault};
@@ -23,7 +23,7 @@ use venue_normaliser::VenueNormaliser;
 pub(crate) struct ItchVenue {
     pub(crate) normaliser: VenueNormaliser,
     /// The names of the sessions that follow the first one, in order.
-    pub(crate) names: Vec<[u8; 10]>,
+    pub(crate) names: Vec<SessionName>,
     ready: Vec<Numbered>,
     room: PackingRoom,
     alloc: Global,
@@ -37,11 +37,11 @@ pub(crate) struct ItchVenue {
 #[derive(Clone, Copy, Debug)]
 pub(crate) struct DatagramTaken {
     /// The name of the session that has begun at it, if one has.
-    pub(crate) begun: Option<[u8; 10]>,
+    pub(crate) begun: Option<SessionName>,
 }
 
 /// Returns the name at this place, if there is one.
-fn name_at(names: &[[u8; 10]], place: usize) -> Option<[u8; 10]>
+fn name_at(names: &[SessionName], place: usize) -> Option<SessionName>
     ensures { result ≡ slice_get names.now place }
 {
     match names.get(place) {
@@ -56,7 +56,7 @@ impl ItchVenue {
     pub(crate) fn new(
         alloc: Global,
         normaliser: VenueNormaliser,
-        names: Vec<[u8; 10]>,
+        names: Vec<SessionName>,
     ) -> Result<ItchVenue, AllocError>
         ensures venue { IfOk result (λ v. v.normaliser ≡ normaliser) }
         ensures names { IfOk result (λ v. v.names ≡ names) }

@@ -10,7 +10,7 @@ use crate::itch_cell::{ItchCell, SectionDone, SectionFailed};
 use crate::itch_rules::ItchRules;
 use crate::itch_status::ItchStatus;
 use crate::venue_end::ItchVenueEnd;
-use feed_types::{LineId, VenueId};
+use feed_types::{LineId, SessionName, VenueId};
 use mold_packet::Request;
 use std::alloc::{AllocError, Global};
 use std::collections::VecDeque;
@@ -110,7 +110,7 @@ impl VenueShare {
     pub fn new(
         alloc: Global,
         normaliser: VenueNormaliser,
-        names: Vec<[u8; 10]>,
+        names: Vec<SessionName>,
     ) -> Result<VenueShare, AllocError>
         requires { FitsPackets normaliser [] }
     {

@@ -10,7 +10,7 @@ ghost use Rattle.item_packets.specs.Carried.{IsMessageItem, IsShortMessage, Runs
 ghost use Rattle.item_packets.specs.Packed.{AddsPacked, bytes_of_each};
 
 use crate::message_forms::{end_number, fill_forms, first_number, lend_all, messages_before_end};
-use feed_types::Numbered;
+use feed_types::{Numbered, SessionName};
 use mold_packet::{Body, write_packet};
 use packet_building::build_packet;
 use std::alloc::{AllocError, Global};
@@ -42,7 +42,7 @@ fn push_datagram(alloc: Global, bytes: &[u8], out: &mut VecDeque<Vec<u8>>) -> Re
 /// Appends the packets of messages from a number on, as few as can be.
 fn put_messages(
     alloc: Global,
-    session: &[u8; 10],
+    session: &SessionName,
     number: u64,
     messages: &[&[u8]],
     packet: &mut [u8],
@@ -74,7 +74,7 @@ fn put_messages(
 /// Appends the end of a session, where there is one.
 fn put_end(
     alloc: Global,
-    session: &[u8; 10],
+    session: &SessionName,
     ends: &[Numbered],
     packet: &mut [u8],
     out: &mut VecDeque<Vec<u8>>,
@@ -108,7 +108,7 @@ impl PackingRoom {
     /// Appends the packets of the messages that the forms are.
     fn put_forms(
         &mut self,
-        session: &[u8; 10],
+        session: &SessionName,
         number: u64,
         out: &mut VecDeque<Vec<u8>>,
     ) -> Result<(), AllocError>
@@ -133,7 +133,7 @@ impl PackingRoom {
     /// Appends the packets of messages in a row.
     fn put_run(
         &mut self,
-        session: &[u8; 10],
+        session: &SessionName,
         items: &[Numbered],
         out: &mut VecDeque<Vec<u8>>,
     ) -> Result<(), AllocError>
@@ -155,7 +155,7 @@ impl PackingRoom {
     /// AllocError where memory was refused; `out` has some of them then.
     pub fn pack(
         &mut self,
-        session: &[u8; 10],
+        session: &SessionName,
         items: &[Numbered],
         out: &mut VecDeque<Vec<u8>>,
     ) -> Result<(), AllocError>

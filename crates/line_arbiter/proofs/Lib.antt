@@ -27,7 +27,6 @@ pub mod Answering
 pub mod PacketSteps
 pub mod Passing
 pub mod Ordering
-pub mod NameBytes
 pub mod Skipping
 -- the history of a venue
 -- genuine packets, and the laws

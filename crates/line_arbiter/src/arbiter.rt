@@ -22,7 +22,9 @@ use crate::outcome::{LineFault, Outcome};
 use crate::taking::{ends_below, raised};
 use crate::window::Window;
 use arrayvec::ArrayVec;
-use feed_types::{Genuine, Item, LineId, MAX_SESSIONS, MAX_WINDOW, Numbered, PerLine, VenueId};
+use feed_types::{
+    Genuine, Item, LineId, MAX_SESSIONS, MAX_WINDOW, Numbered, PerLine, SessionName, VenueId,
+};
 use mold_packet::{Packet, Request};
 use std::alloc::Global;
 use std::marker::{Model, PhantomData};
@@ -56,8 +58,8 @@ pub struct ArbiterStatus {
 pub struct Arbiter<G> {
     venue_id: VenueId,
     /// The names of the sessions that are over.
-    earlier_names: ArrayVec<[u8; 10], EARLIER_SESSIONS>,
-    pub(crate) session_name: [u8; 10],
+    earlier_names: ArrayVec<SessionName, EARLIER_SESSIONS>,
+    pub(crate) session_name: SessionName,
     pub(crate) held: Window,
     pub(crate) run_to: u64,
     /// The lowest number past the front that is held.
@@ -126,7 +128,7 @@ impl<G: Genuine> Arbiter<G> {
     }
 
     /// Returns the present session's name: ten bytes, filled on the right with spaces.
-    pub fn session(&self) -> [u8; 10]
+    pub fn session(&self) -> SessionName
         ensures { result ≡ self.now.session }
     {
         self.session_name
@@ -364,7 +366,7 @@ impl<G: Genuine> Arbiter<G> {
     }
 
     /// Returns whether a session of the venue has had the name.
-    fn has_used(&self, name: &[u8; 10]) -> bool
+    fn has_used(&self, name: &SessionName) -> bool
         ensures { MatchBool result (Contains self.now.sessions name.now)
             (Contains self.now.sessions name.now → ⊥) }
     {
@@ -380,7 +382,7 @@ impl<G: Genuine> Arbiter<G> {
     /// Begins the venue's next session under a name of ten bytes, once End was advanced past, and
     /// returns its ordinal. Nothing of it has come yet; wins go on counting. The refusals, in this
     /// order: NotEnded, SessionUsed, TooManySessions (64 at most).
-    pub fn renew(&mut self, session: [u8; 10]) -> Result<u64, RenewFault>
+    pub fn renew(&mut self, session: SessionName) -> Result<u64, RenewFault>
         ensures answer { IsRenewal self.old.sessions self.old.end self.old.sent session result }
         ensures ok { OnOk result (IsRenewed self.old self.new session) }
         ensures fits { OnOk result (Fits self.new []) }

@@ -17,11 +17,10 @@ ghost use Rattle.line_arbiter.specs.Fits.{Fits};
 ghost use Rattle.line_arbiter.specs.Steps.{GoesPast};
 
 use crate::arbiter::Arbiter;
-use crate::names::is_same_name;
 use crate::outcome::Outcome;
 use crate::taking::{is_past, raised};
 use crate::wins::add_wins;
-use feed_types::{Genuine, LineId};
+use feed_types::{Genuine, LineId, is_same_name};
 use mold_packet::{Kind, Packet};
 
 impl<G: Genuine> Arbiter<G> {

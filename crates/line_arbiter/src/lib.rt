@@ -27,7 +27,6 @@ mod in_order;
 mod intake;
 mod laws;
 mod marks;
-mod names;
 mod outcome;
 mod pacer;
 mod taking;

@@ -13,10 +13,9 @@ ghost use Rattle.line_arbiter.specs.Steps.{IsSound, MessagesStep, HeartbeatStep,
 
 use crate::arbiter::Arbiter;
 use crate::intake::{Intake, next_after, run_after, take_all};
-use crate::names::is_same_name;
 use crate::outcome::{LineFault, Outcome};
 use crate::wins::add_wins;
-use feed_types::{Genuine, LineId};
+use feed_types::{Genuine, LineId, is_same_name};
 use mold_packet::{Kind, Packet};
 
 /// Returns whether the end is announced at the number or below it.

@@ -6,6 +6,7 @@ ghost use Rattle.line_discovery.specs.Sightings.{is_printable_name, line_key, nu
 
 use crate::line_key::LineKey;
 use crate::span::Span;
+use feed_types::SessionName;
 use message_forms::{is_itch, is_own};
 use mold_packet::Packet;
 use packet_capture::UdpDatagram;
@@ -29,7 +30,7 @@ pub struct EndpointPacket {
 }
 
 /// Whether all bytes of a name are printable ASCII, as those of a session that can be named.
-pub(crate) fn is_printable_name(name: &[u8; 10]) -> bool
+pub(crate) fn is_printable_name(name: &SessionName) -> bool
     ensures { result ≡ is_printable_name name.now }
 {
     name.iter().all(|b| b' ' <= *b && *b <= b'~')

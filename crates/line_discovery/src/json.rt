@@ -12,6 +12,7 @@ use crate::table::EndpointTable;
 use crate::text::{high_of, low_of, other_key, session_name};
 use crate::times::put_date_member;
 use crate::unlisted::{Unlisted, rest_of};
+use feed_types::SessionName;
 use run_settings::{StatsFormat, TimeStyle};
 use std::alloc::{AllocError, Global};
 
@@ -37,7 +38,7 @@ fn put_escaped(text: &mut Vec<u8>, bytes: &[u8]) -> Result<(), AllocError>
 }
 
 /// Appends the name of a session as the inside of a string.
-fn put_session(text: &mut Vec<u8>, session: &Option<[u8; 10]>) -> Result<(), AllocError>
+fn put_session(text: &mut Vec<u8>, session: &Option<SessionName>) -> Result<(), AllocError>
     ensures { OnOk result (text.new.items
         ≡ text.old.items ++ flat_map escaped_code (session_name session.now)) }
 {

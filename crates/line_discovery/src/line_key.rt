@@ -2,6 +2,7 @@
 ghost use Rattle.std.specs.Prelude.{◌≡◌, IsTrue, ◌↔◌};
 ghost use Rattle.line_discovery.specs.Keys.{same_key, same_session};
 
+use feed_types::SessionName;
 use packet_capture::Address;
 
 /// A line as a capture shows it: where its datagrams go, and their session.
@@ -12,7 +13,7 @@ pub struct LineKey {
     /// The port.
     pub port: u16,
     /// The session of the packets, or `None` of datagrams that are no packets.
-    pub session: Option<[u8; 10]>,
+    pub session: Option<SessionName>,
 }
 
 /// Whether the keys are equal.
@@ -23,14 +24,14 @@ fn are_equal(one: &LineKey, other: &LineKey) -> bool
 }
 
 /// Whether the sessions are equal.
-fn are_equal_sessions(one: &Option<[u8; 10]>, other: &Option<[u8; 10]>) -> bool
+fn are_equal_sessions(one: &Option<SessionName>, other: &Option<SessionName>) -> bool
     ensures { IsTrue result ↔ (one.now ≡ other.now) }
 {
     one == other
 }
 
 /// Whether the sessions are the same.
-pub(crate) fn is_same_session(one: &Option<[u8; 10]>, other: &Option<[u8; 10]>) -> bool
+pub(crate) fn is_same_session(one: &Option<SessionName>, other: &Option<SessionName>) -> bool
     ensures { result ≡ same_session one.now other.now }
 {
     are_equal_sessions(one, other)

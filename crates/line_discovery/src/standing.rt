@@ -6,6 +6,7 @@ use crate::line_key::{is_same, is_same_session};
 use crate::line_row::LineRow;
 use crate::session_word::can_be_listed;
 use crate::text::{other_key, session_name};
+use feed_types::SessionName;
 use std::alloc::{AllocError, Global};
 
 /// Whether the session of a row is a venue of the words, or why they leave it out.
@@ -117,7 +118,7 @@ pub(crate) fn standing_of(
 /// Appends that the words leave out a session, and why.
 pub(crate) fn put_left_row(
     text: &mut Vec<u8>,
-    session: &Option<[u8; 10]>,
+    session: &Option<SessionName>,
     reason: &str,
 ) -> Result<(), AllocError>
     ensures { OnOk result (text.new.items

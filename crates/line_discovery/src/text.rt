@@ -14,6 +14,7 @@ use crate::table::EndpointTable;
 use crate::times::put_time_cell;
 use crate::unlisted::{Unlisted, rest_of};
 use crate::words::put_words;
+use feed_types::SessionName;
 use run_settings::{StatsFormat, TimeStyle};
 use std::alloc::{AllocError, Global};
 
@@ -67,7 +68,7 @@ pub(crate) fn other_key(key: &LineKey) -> LineKey
 }
 
 /// The name of a session.
-pub(crate) fn session_name(session: &Option<[u8; 10]>) -> &[u8]
+pub(crate) fn session_name(session: &Option<SessionName>) -> &[u8]
     ensures { result.now ≡ session_name session.now }
 {
     match session {

@@ -5,6 +5,7 @@ ghost use Rattle.line_recordings.specs.Placed.{HandsOver, SendsOrLoses};
 
 use crate::placed::Placed;
 use crate::record_source::RecordSource;
+use feed_types::SessionName;
 use rtrb::{Consumer, Producer, RingBuffer};
 use std::alloc::{AllocError, Global};
 use std::sync::Arc;
@@ -71,7 +72,7 @@ impl RecordSender {
     /// Hands over what the venue took at this place, and that its session of this name has begun at
     /// it, if one has. Where there is no room for it, or no memory, it is lost, and counted.
     #[tactic(auto, using(crate::proofs::Handing::handed))]
-    pub fn record(&mut self, place: u64, begun: Option<[u8; 10]>, bytes: &[u8])
+    pub fn record(&mut self, place: u64, begun: Option<SessionName>, bytes: &[u8])
         ensures { SendsOrLoses self.old place begun bytes.now self.new }
     {
         self.given.fetch_add(1, Ordering::SeqCst);
@@ -95,7 +96,7 @@ impl RecordSender {
 pub fn hand_over(
     records: &mut Option<RecordSender>,
     place: u64,
-    begun: Option<[u8; 10]>,
+    begun: Option<SessionName>,
     bytes: &[u8],
 )
     ensures { HandsOver records.old place begun bytes.now records.new }

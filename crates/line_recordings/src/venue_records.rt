@@ -6,7 +6,7 @@ use crate::placed::Placed;
 use crate::record_kind::RecordKind;
 use crate::record_source::{RecordSource, silent_source};
 use capture_records::ReadBuffer;
-use feed_types::{LineId, VenueId};
+use feed_types::{LineId, SessionName, VenueId};
 use std::alloc::{AllocError, Global};
 use std::sync::Arc;
 use std::sync::atomic::AtomicU64;
@@ -63,7 +63,7 @@ pub struct VenueRecords {
 }
 
 /// Appends the record of a renewal, if the venue's session of this name has begun.
-fn put_renewal(page: &mut ReadBuffer<PAGE>, venue: VenueId, begun: Option<[u8; 10]>)
+fn put_renewal(page: &mut ReadBuffer<PAGE>, venue: VenueId, begun: Option<SessionName>)
     requires room { length page.old ≤ 65519 }
     ensures puts { page.new ≡ page.old ++ renewal_bytes venue begun }
     ensures room { length page.new ≤ 65533 }

@@ -17,7 +17,7 @@ use crate::hub_cell::HubCell;
 use crate::hub_lock::HubLock;
 use crossbeam_utils::CachePadded;
 use feed_steps::FeedName;
-use feed_types::{FeedConfig, Genuine, MAX_SUBSCRIBERS, Numbered, VenueId};
+use feed_types::{FeedConfig, Genuine, MAX_SUBSCRIBERS, Numbered, SessionName, VenueId};
 use fifo_lane::{Receiver, VenueItems};
 use hub_lanes::{ConsolidatorState, SpareLane, new_spares};
 use journal_book::{CoreFault, Journal, new_journal, new_keeping_journal};
@@ -62,7 +62,7 @@ impl<G: Genuine> Model for LiveFeed<G> {
 }
 
 /// Names the sessions that follow the first one of the venue at its place, if there is one.
-fn follow_at<G: Genuine>(starts: &mut [VenueStart<G>], venue: VenueId, names: Vec<[u8; 10]>)
+fn follow_at<G: Genuine>(starts: &mut [VenueStart<G>], venue: VenueId, names: Vec<SessionName>)
     requires { AreNextNames G.sessions venue names.items }
     ensures { starts.new ≡ followed_at starts.old venue names.items }
 {
@@ -175,7 +175,7 @@ impl<G: Genuine> LiveFeed<G> {
     /// Names the sessions that follow the venue's first one, in order, in place of those that were
     /// named before. Each begins at the first packet that comes of it once the one before is over
     /// and all of it was sent. Where the feed has no such venue nothing is named.
-    pub fn name_next(&mut self, venue: VenueId, names: Vec<[u8; 10]>)
+    pub fn name_next(&mut self, venue: VenueId, names: Vec<SessionName>)
         requires { AreNextNames G.sessions venue names.items }
         ensures { self.new ≡ record self.old {
           next = slice_set self.old.next venue names.items;

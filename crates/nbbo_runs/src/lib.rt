@@ -37,7 +37,6 @@ mod own_capture;
 mod printing;
 mod program_run;
 mod runs;
-mod session_name;
 mod session_report;
 mod session_row;
 mod session_table;

@@ -3,7 +3,7 @@ ghost use Rattle.std.specs.Prelude.{◌≡◌};
 ghost use Rattle.line_discovery.specs.KeyedRows.{grown_by};
 ghost use Rattle.nbbo_runs.specs.Sessions.{by_session, first_row, is_same_session, with_sighting};
 
-use feed_types::VenueId;
+use feed_types::{SessionName, VenueId};
 
 /// A session at a venue.
 #[derive(Clone, Copy, Debug, Default, PartialEq, Eq)]
@@ -11,7 +11,7 @@ pub struct VenueSession {
     /// The venue.
     pub venue: VenueId,
     /// The session's name.
-    pub name: [u8; 10],
+    pub name: SessionName,
 }
 
 /// Whether the sessions are the same.

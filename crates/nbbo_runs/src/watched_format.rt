@@ -10,14 +10,13 @@ ghost use Rattle.nbbo_runs.specs.WatchLaws.{watched_longer, watched_more, watche
 use crate::end_report::EndReport;
 use crate::given_lines::is_given;
 use crate::named_sessions::NamedSessions;
-use crate::session_name::is_same_name;
 use crate::session_report::write_sessions;
 use crate::session_row::{SessionSighting, VenueSession};
 use crate::session_table::SessionTable;
 use crate::venue_watch::VenueWatch;
 use capture_records::{Record, RecordFormat, Step};
 use event_sinks::ReplayStop;
-use feed_types::{LineId, VenueId};
+use feed_types::{LineId, SessionName, VenueId, is_same_name};
 use message_forms::{Payload, look_after};
 use run_settings::{NextSession, RunInput, RunSettings};
 use text_out::{TextOut, write_number, write_stderr};
@@ -37,7 +36,7 @@ pub struct WatchedFormat<'a, F> {
     venues: [VenueWatch; VENUES],
     looks: [Payload; VENUES],
     seen: SessionTable,
-    sessions: &'a [[u8; 10]],
+    sessions: &'a [SessionName],
     next: &'a [NextSession],
     input: &'a RunInput,
 }
@@ -106,7 +105,7 @@ fn note_looks<F>(looks: &mut [Payload], step: &Step<'_, F>)
 /// Returns the name of the session in a datagram, if that is long enough for a packet's header.
 // It is lent: a copy for each datagram took some 40 instructions.
 #[inline(always)]
-fn name_in(bytes: &[u8]) -> Option<&[u8; 10]>
+fn name_in(bytes: &[u8]) -> Option<&SessionName>
     ensures found { IfSome result (λ name. name_in bytes.now ≡ Some name.now) }
     ensures none { IfNone result (name_in bytes.now ≡ None) }
 {
@@ -118,7 +117,7 @@ fn name_in(bytes: &[u8]) -> Option<&[u8; 10]>
 
 /// Returns whether the venue's first session has this name, where there is such a venue.
 #[inline(always)]
-fn is_first(sessions: &[[u8; 10]], venue: VenueId, name: &[u8; 10]) -> bool
+fn is_first(sessions: &[SessionName], venue: VenueId, name: &SessionName) -> bool
     ensures { result ≡ is_first (slice_get sessions.now venue) name.now }
 {
     match sessions.get(venue.index()) {
@@ -131,7 +130,7 @@ fn is_first(sessions: &[[u8; 10]], venue: VenueId, name: &[u8; 10]) -> bool
 // Few datagrams need it: in the loop over records room would be cleared for what it makes.
 #[cold]
 #[inline(never)]
-fn note_seen(seen: &mut SessionTable, venue: VenueId, name: &[u8; 10], is_renewal: bool)
+fn note_seen(seen: &mut SessionTable, venue: VenueId, name: &SessionName, is_renewal: bool)
     ensures { seen.new ≡ seen.old ++ sighting_of venue name.now is_renewal ∷ [] }
 {
     seen.count(&SessionSighting {
@@ -158,7 +157,7 @@ fn name_sessions(seen: &mut SessionTable, next: &[NextSession])
 
 /// Notes a datagram of another session than the venue's first.
 #[inline(always)]
-fn note_datagram(seen: &mut SessionTable, sessions: &[[u8; 10]], venue: VenueId, bytes: &[u8])
+fn note_datagram(seen: &mut SessionTable, sessions: &[SessionName], venue: VenueId, bytes: &[u8])
     ensures { seen.new ≡ seen.old
         ++ datagram_sightings venue (slice_get sessions.now venue) (name_in bytes.now) }
 {
@@ -173,7 +172,7 @@ fn note_datagram(seen: &mut SessionTable, sessions: &[[u8; 10]], venue: VenueId,
 
 /// Notes what a record shows of sessions that aren't their venue's first.
 #[inline(always)]
-fn note_session<F>(seen: &mut SessionTable, sessions: &[[u8; 10]], step: &Step<'_, F>)
+fn note_session<F>(seen: &mut SessionTable, sessions: &[SessionName], step: &Step<'_, F>)
     ensures { seen.new ≡ sighted_by sessions.now seen.old step.now }
 {
     match step {

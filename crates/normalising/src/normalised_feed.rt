@@ -1,7 +1,7 @@
 //! What is normalised, and how.
 
 use crate::output_form::OutputForm;
-use feed_types::SymbolName;
+use feed_types::{SessionName, SymbolName};
 use run_settings::{NextSession, SkipRule};
 use venue_normaliser::{NormaliserSettings, Snapshot};
 
@@ -9,7 +9,7 @@ use venue_normaliser::{NormaliserSettings, Snapshot};
 #[derive(Clone, Copy, Debug)]
 pub struct NormalisedFeed<'a> {
     /// The first session of each venue, 1 to 16.
-    pub sessions: &'a [[u8; 10]],
+    pub sessions: &'a [SessionName],
     /// The snapshots with which the first sessions begin, by venues; those past its end have none.
     pub snapshots: &'a [Option<Snapshot<'a>>],
     /// The sessions that follow the first ones, in the order in which those of a venue follow one

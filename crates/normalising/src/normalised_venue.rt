@@ -19,7 +19,7 @@ use crate::standing_since::StandingSince;
 use crate::venue_report::{GivenUp, MissingRun, VenueReport};
 use crate::venue_stop::VenueStop;
 use capture_writing::CaptureTime;
-use feed_types::{LineId, Numbered};
+use feed_types::{LineId, Numbered, SessionName};
 use itch_book::BookFault;
 use line_arbiter::{LineFault, Outcome};
 use mold_packet::{Body, Kind, Packet};
@@ -125,7 +125,7 @@ impl NormalisedVenue {
     }
 
     /// Returns the name of the present session.
-    pub(crate) fn session(&self) -> [u8; 10]
+    pub(crate) fn session(&self) -> SessionName
         ensures { result ≡ self.now.normaliser.lines.session }
     {
         self.normaliser.session()
@@ -358,7 +358,7 @@ impl NormalisedVenue {
     pub(crate) fn renew<W: TextOut>(
         &mut self,
         alloc: Global,
-        session: [u8; 10],
+        session: SessionName,
         output: &mut OutputPackets<'_>,
         writer: &mut W,
     ) -> Result<bool, VenueStop>

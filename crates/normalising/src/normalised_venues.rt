@@ -18,7 +18,7 @@ use crate::venue_stop::VenueStop;
 use capture_records::Record;
 use capture_writing::CaptureTime;
 use event_sinks::SinkStop;
-use feed_types::{LineId, VenueId};
+use feed_types::{LineId, SessionName, VenueId};
 use itch_book::BookFault;
 use mold_packet::{Packet, read_packet};
 use run_settings::SkipRule;
@@ -63,7 +63,7 @@ fn plain_venue(
     alloc: Global,
     settings: &NormalisedFeed<'_>,
     venue: VenueId,
-    session: [u8; 10],
+    session: SessionName,
 ) -> Result<NormalisedVenue, NormaliserFault>
     ensures fits { IfOk result (λ v. FitsPackets v.normaliser []) }
     ensures made { IfOk result (λ v. IsNewNormaliser v.normaliser venue session
@@ -84,7 +84,7 @@ fn make_venue(
     alloc: Global,
     settings: &NormalisedFeed<'_>,
     place: usize,
-    session: [u8; 10],
+    session: SessionName,
 ) -> Result<NormalisedVenue, BeginFault>
     requires { place < 16 }
     ensures made { IfOk result (λ v. slice_index_or settings.now.sessions.now place [] ≡ session
@@ -249,7 +249,7 @@ impl<'a> NormalisedVenues<'a> {
     fn renew<W: TextOut>(
         &mut self,
         venue: VenueId,
-        session: [u8; 10],
+        session: SessionName,
         writer: &mut W,
     ) -> Result<bool, VenueStop>
         requires { venue < length self.old.venues.items }
@@ -415,7 +415,7 @@ impl<'a> NormalisedVenues<'a> {
 
     /// Returns the place of the session that is named to follow a venue's next, where it has this
     /// name.
-    fn next_named(&self, venue: VenueId, session: [u8; 10]) -> Option<usize>
+    fn next_named(&self, venue: VenueId, session: SessionName) -> Option<usize>
         ensures { IfSome result (λ place.
             IsNamedNext self.now.settings.next_sessions.now venue session) }
     {

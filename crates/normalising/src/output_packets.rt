@@ -20,7 +20,7 @@ use crate::packet_origin::PacketOrigin;
 use crate::venue_stop::VenueStop;
 use capture_writing::MOST_BYTES;
 use event_sinks::SinkStop;
-use feed_types::{Numbered, VenueId};
+use feed_types::{Numbered, SessionName, VenueId};
 use itch_book::BookFault;
 use item_packets::{end_number, fill_forms, first_number, lend_all, messages_before_end};
 use mold_packet::{Body, write_packet};
@@ -142,7 +142,7 @@ impl<'a> OutputPackets<'a> {
     pub(crate) fn put_renewal<W: TextOut>(
         &mut self,
         venue: VenueId,
-        session: &[u8; 10],
+        session: &SessionName,
         writer: &mut W,
     ) -> Result<(), SinkStop>
         ensures taken { OnOk result (PutsText

@@ -12,7 +12,7 @@ use crate::packet_origin::PacketOrigin;
 use capture_records::ReadBuffer;
 use capture_writing::{Destination, file_header, frame_head};
 use event_sinks::SinkStop;
-use feed_types::VenueId;
+use feed_types::{SessionName, VenueId};
 use std::alloc::{AllocError, Global};
 use text_out::{TextOut, WriteStop, write_all};
 
@@ -144,7 +144,7 @@ impl<'a> OutputPage<'a> {
     pub(crate) fn put_renewal<W: TextOut>(
         &mut self,
         venue: VenueId,
-        session: &[u8; 10],
+        session: &SessionName,
         writer: &mut W,
     ) -> Result<(), SinkStop>
         ensures taken { OnOk result (PutsText

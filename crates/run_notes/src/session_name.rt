@@ -5,6 +5,7 @@ ghost use Rattle.text_out.specs.Members.{writing_of};
 ghost use Rattle.text_out.specs.StandardError.{Says, SaysEach};
 ghost use Rattle.run_notes.specs.SessionNames.{is_shown, name_texts};
 
+use feed_types::SessionName;
 use text_out::{TextOut, write_all, write_stderr};
 
 /// Returns whether a terminal can show all of a name.
@@ -15,14 +16,14 @@ fn is_shown(name: &[u8]) -> bool
 }
 
 /// Writes a name as it is.
-fn write_bytes<E: TextOut>(name: &[u8; 10], errors: &mut E)
+fn write_bytes<E: TextOut>(name: &SessionName, errors: &mut E)
     ensures { Says (writing_of E.TextOut) name.now errors.old errors.new }
 {
     let _ = write_all(name, errors);
 }
 
 /// Writes the name of a session.
-pub fn write_session_name<E: TextOut>(name: &[u8; 10], errors: &mut E)
+pub fn write_session_name<E: TextOut>(name: &SessionName, errors: &mut E)
     ensures { SaysEach (writing_of E.TextOut) (name_texts name.now) errors.old errors.new }
 {
     if !is_shown(name) {

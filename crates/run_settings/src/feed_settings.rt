@@ -3,13 +3,13 @@ ghost use Rattle.std.specs.Prelude.{◌≤◌, vec_len};
 ghost use Rattle.std.specs.List.{IsDistinct, IsDistinct-prop};
 ghost use Rattle.std.specs.Str.{bytes_eq};
 
-use feed_types::SymbolName;
+use feed_types::{SessionName, SymbolName};
 
 /// The settings that every run of a feed has: replayed, counted or listened to.
 #[derive(Debug, Drop)]
 pub struct FeedSettings {
     /// The first session of each venue, ten bytes, filled on the right with spaces.
-    pub sessions: Vec<[u8; 10]>,
+    pub sessions: Vec<SessionName>,
     /// The symbols whose national best is printed, each once, in the order of the command line.
     pub symbols: Vec<SymbolName>,
     /// The number of messages past the last item sent that a venue holds.

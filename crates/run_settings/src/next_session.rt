@@ -1,6 +1,6 @@
 //! A session that follows a venue's session.
 
-use feed_types::VenueId;
+use feed_types::{SessionName, VenueId};
 
 /// A session that follows a venue's session. The order of a list is the order in which the sessions
 /// of each venue follow one another.
@@ -8,5 +8,5 @@ use feed_types::VenueId;
 pub struct NextSession {
     pub venue: VenueId,
     /// Ten bytes, filled on the right with spaces.
-    pub name: [u8; 10],
+    pub name: SessionName,
 }

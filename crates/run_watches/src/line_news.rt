@@ -4,7 +4,7 @@ ghost use Rattle.text_out.specs.Members.{writing_of};
 ghost use Rattle.text_out.specs.StandardError.{Says, SaysEach};
 ghost use Rattle.run_watches.specs.News.{change_text, change_texts, counted_text, counted_texts, letter_text, line_end_texts, line_name_texts, ms_texts, news_texts, rest_texts, named_session_texts, time_texts, total_texts, verb_text};
 
-use feed_types::{LineId, VenueId};
+use feed_types::{LineId, SessionName, VenueId};
 use run_notes::{write_session_name, write_venue_name};
 use run_settings::VenueNames;
 use text_out::{TextOut, write_number, write_stderr};
@@ -15,7 +15,7 @@ pub enum LineChange {
     /// An end of session has ended it.
     Ended,
     /// That was an end of this session.
-    EndedWith([u8; 10]),
+    EndedWith(SessionName),
     /// It has read as many datagrams as it may.
     ReadOut,
     /// Its socket has failed, or memory for a datagram was refused.
@@ -31,7 +31,7 @@ pub enum LineChange {
     /// It held a request back, for the first time.
     HeldBack,
     /// It brought this session, which isn't its venue's.
-    Stranger([u8; 10]),
+    Stranger(SessionName),
     /// It has brought nothing for this many milliseconds.
     Silent(u64),
     /// The same, and its address is that of a group that isn't joined.
@@ -169,7 +169,7 @@ fn write_line_name<E: TextOut>(names: &VenueNames, venue: VenueId, line: LineId,
 }
 
 /// Writes the name of a session, and then this text.
-fn write_session<E: TextOut>(session: &[u8; 10], end: &str, errors: &mut E)
+fn write_session<E: TextOut>(session: &SessionName, end: &str, errors: &mut E)
     ensures { SaysEach (writing_of E.TextOut)
         (named_session_texts session.now end.now) errors.old errors.new }
 {

@@ -12,7 +12,7 @@ use crate::line_news::{
 };
 use crate::line_silence::{LineSilence, Silence};
 use crate::moment::Moment;
-use feed_types::{LineId, VenueId};
+use feed_types::{LineId, SessionName, VenueId};
 use run_metrics::{LineEndReason, LineState, UNKNOWN_STATE, VenueFigures};
 use run_settings::VenueNames;
 use socket_tables::{DropTable, SocketTables};
@@ -370,7 +370,7 @@ impl LineWatch {
     fn write_stranger<E: TextOut>(
         &self,
         names: &VenueNames,
-        stranger: Option<[u8; 10]>,
+        stranger: Option<SessionName>,
         errors: &mut E,
     )
         ensures { SaysEach (writing_of E.TextOut)

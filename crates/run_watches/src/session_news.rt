@@ -5,7 +5,7 @@ ghost use Rattle.text_out.specs.StandardError.{SaysEach};
 ghost use Rattle.run_watches.specs.SessionNews.{missed_texts, session_news_texts};
 
 use crate::gap_news::write_venue;
-use feed_types::VenueId;
+use feed_types::{SessionName, VenueId};
 use run_notes::write_session_name;
 use run_settings::VenueNames;
 use text_out::{TextOut, write_number, write_stderr};
@@ -18,7 +18,7 @@ pub struct SessionNews {
     /// The venue.
     pub venue: VenueId,
     /// The session's name.
-    pub session: [u8; 10],
+    pub session: SessionName,
     /// How many sessions before it have begun and ended since the last look.
     pub missed: u64,
 }

@@ -5,6 +5,7 @@ ghost use Rattle.udp_lines.specs.EndsOfSessions.{SpellsEndOf};
 ghost use Rattle.udp_lines.specs.UdpLines.{IsLast};
 
 use crate::number_check::{END, HEADER};
+use feed_types::SessionName;
 use mold_packet::{Kind, one_reading, read_packet};
 use run_settings::EndRule;
 
@@ -18,7 +19,7 @@ fn count_of(bytes: &[u8]) -> u16
 
 /// The session that the bytes are an end of; None where they are no end of session. Bytes without
 /// the count of ends are read no further.
-pub(crate) fn ended_session(bytes: &[u8]) -> Option<[u8; 10]>
+pub(crate) fn ended_session(bytes: &[u8]) -> Option<SessionName>
     ensures end { IfSome result (λ session. SpellsEndOf session bytes.now) }
     ensures only { (session : List ℕ) → SpellsEndOf session bytes.now → result ≡ Some session }
 {
@@ -40,7 +41,7 @@ pub(crate) fn ended_session(bytes: &[u8]) -> Option<[u8; 10]>
 
 /// Whether a datagram ends a line of this session by the rule; `ended` is the session that it is an
 /// end of, if it is an end of session.
-pub(crate) fn is_last(rule: EndRule, session: [u8; 10], ended: Option<[u8; 10]>) -> bool
+pub(crate) fn is_last(rule: EndRule, session: SessionName, ended: Option<SessionName>) -> bool
     ensures { IsTrue result ↔ IsLast rule session ended }
 {
     match rule {

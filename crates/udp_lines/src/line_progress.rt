@@ -1,6 +1,7 @@
 //! How far a line is, for the thread beside its own.
 
 use crate::session_mark::SessionMark;
+use feed_types::SessionName;
 use std::alloc::{AllocError, Global};
 use std::sync::Arc;
 use std::sync::atomic::{AtomicBool, AtomicU64, Ordering};
@@ -71,7 +72,7 @@ impl LineProgress {
     }
 
     /// Marks that an end of this session has ended the line, and whether it is the line's own.
-    pub fn end(&self, session: &[u8; 10], is_own: bool) {
+    pub fn end(&self, session: &SessionName, is_own: bool) {
         self.marks.is_own.store(is_own, Ordering::SeqCst);
         self.marks.ender.mark(session);
     }
@@ -124,7 +125,7 @@ impl LineProgress {
     }
 
     /// Marks a session that came and isn't the venue's, where none was marked before.
-    pub fn meet(&self, stranger: &[u8; 10]) {
+    pub fn meet(&self, stranger: &SessionName) {
         if !self.marks.stranger.is_marked() {
             self.marks.stranger.mark(stranger);
         }
@@ -141,7 +142,7 @@ impl LineProgress {
     }
 
     /// The session whose end has ended the line, if one has.
-    pub fn ended_session(&self) -> Option<[u8; 10]> {
+    pub fn ended_session(&self) -> Option<SessionName> {
         self.marks.ender.session()
     }
 
@@ -200,7 +201,7 @@ impl LineProgress {
     }
 
     /// The first session that came and isn't the venue's, if one came.
-    pub fn stranger(&self) -> Option<[u8; 10]> {
+    pub fn stranger(&self) -> Option<SessionName> {
         self.marks.stranger.session()
     }
 }

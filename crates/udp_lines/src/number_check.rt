@@ -6,7 +6,7 @@ ghost use Rattle.udp_lines.specs.Plausible.{Covers, HasHeader, IsAnEnd, IsFar, I
 
 use crate::line_progress::LineProgress;
 use crate::venue_marks::{NOTHING_SEEN, OthersSeen, VenueMarks};
-use feed_types::LineId;
+use feed_types::{LineId, SessionName};
 use mold_packet::{Request, read_request, reads_back};
 use run_settings::EndRule;
 
@@ -67,9 +67,9 @@ pub(crate) const NO_ROW: Row = Row {
 /// The rule by which datagrams of a line are withheld, and what it knows of those before.
 #[derive(Drop)]
 pub(crate) struct NumberCheck {
-    pub(crate) session: [u8; 10],
+    pub(crate) session: SessionName,
     /// The venue's sessions before that one.
-    pub(crate) earlier: Vec<[u8; 10]>,
+    pub(crate) earlier: Vec<SessionName>,
     pub(crate) end_rule: EndRule,
     /// The most that a number may be ahead of the highest one; None where the rule isn't applied.
     pub(crate) most_ahead: Option<u64>,
@@ -324,7 +324,7 @@ impl NumberCheck {
     pub(crate) fn judge(
         &mut self,
         bytes: &[u8],
-        ended: Option<[u8; 10]>,
+        ended: Option<SessionName>,
         seen: OthersSeen,
     ) -> Verdict
         requires { IfSome ended (λ session. SpellsEndOf session bytes.now) }

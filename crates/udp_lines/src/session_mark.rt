@@ -1,5 +1,6 @@
 //! A session that one thread marks and another looks at.
 
+use feed_types::SessionName;
 use std::sync::atomic::{AtomicBool, AtomicU64, Ordering};
 
 /// A session, once one is marked.
@@ -23,7 +24,7 @@ impl SessionMark {
     }
 
     /// Marks this session, for good.
-    pub(crate) fn mark(&self, session: &[u8; 10]) {
+    pub(crate) fn mark(&self, session: &SessionName) {
         let [a, b, c, d, e, f, g, h, i, j] = *session;
         let front = u64::from_be_bytes([a, b, c, d, e, f, g, h]);
         let rest = u64::from_be_bytes([0, 0, 0, 0, 0, 0, i, j]);
@@ -38,7 +39,7 @@ impl SessionMark {
     }
 
     /// The session that is marked, if one is.
-    pub(crate) fn session(&self) -> Option<[u8; 10]> {
+    pub(crate) fn session(&self) -> Option<SessionName> {
         if !self.is_marked() {
             return None;
         }

@@ -18,7 +18,7 @@ use crate::line_use::LineUse;
 use crate::number_check::{HeldFor, NO_ROW, NumberCheck};
 use crate::requests::{RequestPace, Requests};
 use crate::venue_marks::VenueMarks;
-use feed_types::{Anything, VenueId};
+use feed_types::{Anything, SessionName, VenueId};
 use line_recordings::{RecordSender, hand_over};
 use mold_packet::{Request, write_request};
 use run_settings::{EndRule, Senders};
@@ -45,7 +45,7 @@ pub struct UdpLineSettings {
     /// Which of the venue's lines it is.
     pub line: LineUse,
     /// The venue's session; where others follow it, the last one.
-    pub session: [u8; 10],
+    pub session: SessionName,
     /// Which ends of session end it. A line of replies goes on after each.
     pub end: EndRule,
     /// The most datagrams that it reads, if there is any limit.
@@ -92,7 +92,7 @@ pub struct UdpLine<S, C> {
     broken: bool,
     at_end: bool,
     /// The session whose end has ended the line, if one has.
-    ender: Option<[u8; 10]>,
+    ender: Option<SessionName>,
     /// What the socket has brought for the next call: a datagram, or why there is none.
     received: Option<Result<Datagram, SourceFault>>,
     /// Where it hands over what its venue took, if that is recorded.
@@ -344,7 +344,7 @@ impl<S: DatagramIn + Drop, C: Clock + Drop> UdpLine<S, C> {
 
 impl<S: Drop, C: Drop> UdpLine<S, C> {
     /// Names the venue's sessions before the line's, whose packets are handed on as they come.
-    pub fn follow_after(&mut self, earlier: Vec<[u8; 10]>)
+    pub fn follow_after(&mut self, earlier: Vec<SessionName>)
         ensures { self.new ≡ self.old }
     {
         self.intake.check.earlier = earlier;
@@ -438,7 +438,7 @@ impl<S: Drop, C: Drop> UdpLine<S, C> {
     }
 
     /// The session whose end has ended the line, if one has.
-    pub fn ender(&self) -> Option<[u8; 10]>
+    pub fn ender(&self) -> Option<SessionName>
         ensures { result ≡ self.now.ender }
     {
         self.ender

@@ -13,7 +13,7 @@ use crate::settled_lacks::settled_lacks;
 use crate::sources::ListenSource;
 use crate::unchanged::settled_unchanged;
 use event_sinks::MissingRange;
-use feed_types::{LineId, VenueId};
+use feed_types::{LineId, SessionName, VenueId};
 use itch_lines::{ItchVenueEnd, VenueShare};
 use live_feed::{FeedReport, LineReport, Settlement, Stop};
 use run_notes::AbsentList;
@@ -25,7 +25,7 @@ use std::alloc::{AllocError, Global};
 pub struct EndedLine {
     pub venue: VenueId,
     pub line: LineId,
-    pub session: [u8; 10],
+    pub session: SessionName,
 }
 
 /// The report of listening.

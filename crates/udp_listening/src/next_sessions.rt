@@ -5,7 +5,7 @@ ghost use Rattle.run_settings.specs.NextSessions.{names_after};
 ghost use Rattle.udp_listening.specs.NamedNext.{AreNamedNext};
 ghost use Rattle.udp_listening.specs.Settings.{end_followed};
 
-use feed_types::{Anything, VenueId};
+use feed_types::{Anything, SessionName, VenueId};
 use live_feed::LiveFeed;
 use run_settings::{EndRule, NextSession};
 use std::alloc::{AllocError, Global};
@@ -15,7 +15,7 @@ pub(crate) fn names_after(
     alloc: Global,
     venue: VenueId,
     next: &[NextSession],
-) -> Result<Vec<[u8; 10]>, AllocError>
+) -> Result<Vec<SessionName>, AllocError>
     ensures { IfOk result (λ names. names.items ≡ names_after venue next.now) }
 {
     let mut names = Vec::new(alloc);
@@ -53,15 +53,15 @@ pub(crate) fn name_all(
 #[derive(Drop)]
 pub(crate) struct VenueSessions {
     /// Those before the last one, in order.
-    pub(crate) earlier: Vec<[u8; 10]>,
-    pub(crate) last: [u8; 10],
+    pub(crate) earlier: Vec<SessionName>,
+    pub(crate) last: SessionName,
 }
 
 /// Returns the sessions of a venue, of which `first` is the first, and these follow.
 pub(crate) fn sessions_of(
     alloc: Global,
-    first: [u8; 10],
-    following: &[[u8; 10]],
+    first: SessionName,
+    following: &[SessionName],
 ) -> Result<VenueSessions, AllocError>
     ensures all { IfOk result (λ sessions. sessions.earlier.items ++ sessions.last ∷ []
         ≡ first ∷ following.now) }
@@ -81,7 +81,7 @@ pub(crate) fn sessions_of(
 
 /// Returns which ends end the lines of a venue, whose first session these follow, in a run that
 /// ends with these.
-pub(crate) fn end_by(following: &[[u8; 10]], end: EndRule) -> EndRule
+pub(crate) fn end_by(following: &[SessionName], end: EndRule) -> EndRule
     ensures { result ≡ end_followed following.now end }
 {
     match end {

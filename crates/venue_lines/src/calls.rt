@@ -21,7 +21,7 @@ use crate::next_sessions::{FollowingSessions, renew_if_named, show_following};
 use crate::seat::LineSeat;
 use crate::timing::{last_sent, note_join, note_renewal, note_time};
 use feed_steps::{FeedName, Unsent};
-use feed_types::{Genuine, LineId, VenueId};
+use feed_types::{Genuine, LineId, SessionName, VenueId};
 use line_arbiter::{LineFault, Outcome, SkipFault};
 use mold_packet::{Packet, Request, read_packet};
 use std::sync::Wait;
@@ -125,7 +125,7 @@ struct PacketTaken {
 }
 
 /// The name of the packet's session, where that has begun at it.
-fn begun_at(renewed: bool, packet: &Packet<'_>) -> Option<[u8; 10]>
+fn begun_at(renewed: bool, packet: &Packet<'_>) -> Option<SessionName>
     ensures { result ≡ (if renewed then Some packet.now.session else None) }
 {
     if renewed {
@@ -254,7 +254,7 @@ fn renew_in<G: Genuine, N: FeedName>(
     cell: &mut VenueCell<G, N>,
     venue: VenueId,
     ordinal: u64,
-    session: [u8; 10],
+    session: SessionName,
 ) -> Result<u64, RenewalFault>
     requires { G.sessions venue ordinal session }
     ensures ordinal { IfOk result (λ begun. begun ≡ ordinal) }
@@ -523,7 +523,7 @@ impl<G: Genuine, N: FeedName> VenueLocks<G, N> {
         rt: &W,
         venue: VenueId,
         ordinal: u64,
-        session: [u8; 10],
+        session: SessionName,
     ) -> Result<u64, RenewalFault>
         requires { G.sessions venue ordinal session }
         ensures ordinal { IfOk result (λ begun. begun ≡ ordinal) }

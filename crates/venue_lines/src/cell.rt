@@ -20,7 +20,7 @@ use crate::faults::TakeFault;
 use crate::line_counts::LineCounts;
 use crate::seat::LineSeat;
 use feed_steps::{FeedName, Unsent};
-use feed_types::{Genuine, LineId, Numbered, VenueId};
+use feed_types::{Genuine, LineId, Numbered, SessionName, VenueId};
 use fifo_lane::{Sender, VenueItems};
 use line_arbiter::{Arbiter, LineFault, Outcome, Pacer, RenewFault, SkipFault};
 use mold_packet::{Packet, Request};
@@ -318,7 +318,7 @@ impl<G: Genuine, N: FeedName> VenueCell<G, N> {
 
     /// Begins the venue's next session, as [`Arbiter::renew`] does. The last request for a gap is
     /// forgotten. A refused call changes nothing.
-    pub fn renew(&mut self, session: [u8; 10]) -> Result<u64, RenewFault>
+    pub fn renew(&mut self, session: SessionName) -> Result<u64, RenewFault>
         requires { G.sessions self.old.arbiter.venue (ordinal_of self.old.arbiter + 1) session }
         ensures renew { (h : History) → CellFitsHistory self.old h
             → RenewsSession session result h self.old self.new }

@@ -17,7 +17,7 @@ use crate::seat::LineSeat;
 use crate::start::VenueStart;
 use crate::timing::last_sent;
 use feed_steps::FeedName;
-use feed_types::{Genuine, LineId, PerLine};
+use feed_types::{Genuine, LineId, PerLine, SessionName};
 
 /// The part that a venue's lock guards: the cell, which lines have their seats, how many requests
 /// were handed out, how many datagrams and skips were taken, how many messages were given up where
@@ -86,7 +86,7 @@ impl<G: Genuine, N: FeedName> LockedVenue<G, N> {
     /// Returns what a line sees once its datagram, the next one of the venue, was taken, at which
     /// the session of this name has begun, if one has.
     #[inline(always)]
-    pub(crate) fn look(&mut self, begun: Option<[u8; 10]>) -> Looked
+    pub(crate) fn look(&mut self, begun: Option<SessionName>) -> Looked
         ensures cell { self.new.cell ≡ self.old.cell }
         ensures place { result.place ≡ self.new.places }
         ensures begun { result.begun ≡ begun }

@@ -1,5 +1,7 @@
 //! What a line sees of its venue.
 
+use feed_types::SessionName;
+
 /// What a line sees of its venue once a datagram was taken, at that moment.
 #[derive(Clone, Copy, Debug, Default, PartialEq, Eq)]
 pub struct Looked {
@@ -10,5 +12,5 @@ pub struct Looked {
     /// there is no such venue.
     pub place: u64,
     /// The name of the venue's next session, where that has begun at the datagram.
-    pub begun: Option<[u8; 10]>,
+    pub begun: Option<SessionName>,
 }

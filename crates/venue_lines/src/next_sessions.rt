@@ -5,7 +5,7 @@ ghost use Rattle.venue_lines.specs.NextSessions.{AreNextNames, AreOfFeed, Renews
 
 use crate::cell::VenueCell;
 use feed_steps::FeedName;
-use feed_types::{Genuine, VenueId};
+use feed_types::{Genuine, SessionName, VenueId};
 use mold_packet::Packet;
 use std::marker::{Model, PhantomData};
 
@@ -13,7 +13,7 @@ use std::marker::{Model, PhantomData};
 #[derive(Drop)]
 pub struct NextSessions<G: Genuine> {
     of_venue: VenueId,
-    in_order: Vec<[u8; 10]>,
+    in_order: Vec<SessionName>,
     lines: PhantomData<G>,
 }
 
@@ -28,7 +28,7 @@ impl<G: Genuine> Model for NextSessions<G> {
 }
 
 /// The name at this place, if there is one.
-fn name_at(names: &[[u8; 10]], place: usize) -> Option<[u8; 10]>
+fn name_at(names: &[SessionName], place: usize) -> Option<SessionName>
     ensures { result ≡ slice_get names.now place }
 {
     match names.get(place) {
@@ -39,7 +39,7 @@ fn name_at(names: &[[u8; 10]], place: usize) -> Option<[u8; 10]>
 
 impl<G: Genuine> NextSessions<G> {
     /// The sessions of these names, which follow the venue's first one in this order.
-    pub(crate) fn new(venue: VenueId, names: Vec<[u8; 10]>) -> NextSessions<G>
+    pub(crate) fn new(venue: VenueId, names: Vec<SessionName>) -> NextSessions<G>
         requires { AreNextNames G.sessions venue names.items }
         ensures { result ≡ record { venue = venue; names = names.items } }
     {
@@ -51,7 +51,7 @@ impl<G: Genuine> NextSessions<G> {
     }
 
     /// The name of the session that follows the one of this ordinal at the venue, if one does.
-    fn name_after(&self, venue: VenueId, ordinal: u64) -> Option<[u8; 10]>
+    fn name_after(&self, venue: VenueId, ordinal: u64) -> Option<SessionName>
         requires { 1 ≤ ordinal }
         ensures name { result ≡ name_after self.now venue ordinal }
         ensures named { IfSome result (λ name. G.sessions venue (ordinal + 1) name) }

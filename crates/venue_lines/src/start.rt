@@ -5,7 +5,7 @@ ghost use Rattle.venue_lines.specs.NextSessions.{AreNextNames, names_at};
 ghost use Rattle.venue_lines.specs.Starts.{IsStart, followed_by};
 
 use crate::next_sessions::NextSessions;
-use feed_types::{Genuine, Numbered, VenueId};
+use feed_types::{Genuine, Numbered, SessionName, VenueId};
 use fifo_lane::{Sender, VenueItems};
 use line_arbiter::Arbiter;
 use std::marker::Model;
@@ -53,7 +53,7 @@ impl<G: Genuine> VenueStart<G> {
     /// Names the sessions that follow the first one of this venue, whose start it is, in order, in
     /// place of those that were named before. Each begins at the first packet that comes of it once
     /// the one before is over and all of it was sent. At another venue's start none begins.
-    pub fn follow_by(&mut self, venue: VenueId, names: Vec<[u8; 10]>)
+    pub fn follow_by(&mut self, venue: VenueId, names: Vec<SessionName>)
         requires { AreNextNames G.sessions venue names.items }
         ensures { self.new ≡ followed_by self.old venue names.items }
     {

@@ -8,7 +8,7 @@ use crate::locks::{VenueLock, VenueLocks};
 use crate::start::VenueStart;
 use crossbeam_utils::CachePadded;
 use feed_steps::FeedName;
-use feed_types::{FeedConfig, Genuine, Numbered, VenueId};
+use feed_types::{FeedConfig, Genuine, Numbered, SessionName, VenueId};
 use fifo_lane::{Receiver, VenueItems, lane};
 use line_arbiter::Arbiter;
 use live_wakeups::Wakeups;
@@ -19,7 +19,7 @@ use std::sync::{Arc, Mutex};
 fn new_start<G: Genuine>(
     alloc: Global,
     venue: VenueId,
-    session: [u8; 10],
+    session: SessionName,
     config: &FeedConfig<'_>,
 ) -> Result<(VenueStart<G>, Receiver<Numbered, VenueItems<G>>), AllocError>
     requires { G.sessions venue 1 session }

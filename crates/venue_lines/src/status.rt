@@ -10,7 +10,7 @@ use crate::cell::VenueCell;
 use crate::line_counts::LineCounts;
 use crate::locked_venue::LockedVenue;
 use feed_steps::FeedName;
-use feed_types::{Genuine, LineId};
+use feed_types::{Genuine, LineId, SessionName};
 use line_arbiter::ArbiterStatus;
 use mold_packet::Request;
 
@@ -20,7 +20,7 @@ pub struct VenueStatus {
     /// Which of the venue's sessions is the present one, counted from 1 to 64.
     pub ordinal: u64,
     /// The present session's name: ten bytes, filled on the right with spaces.
-    pub session: [u8; 10],
+    pub session: SessionName,
     /// How far the session was sent on, is whole, and is known to go; whether its end is announced;
     /// and how many messages are held.
     pub cursors: ArbiterStatus,

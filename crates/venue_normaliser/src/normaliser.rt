@@ -30,7 +30,7 @@ use crate::opening::{apply_all, begin_at, put_items, shown_items};
 use crate::putting_out::{drop_ready, put_out, put_packet, put_ready};
 use crate::resume_fault::ResumeFault;
 use crate::snapshot::Snapshot;
-use feed_types::{Anything, Item, LineId, Numbered, SymbolName, VenueId};
+use feed_types::{Anything, Item, LineId, Numbered, SessionName, SymbolName, VenueId};
 use itch_book::{BookFault, Oddities, OrderBook};
 use line_arbiter::{
     Arbiter, ArbiterFault, ArbiterStatus, LineFault, Outcome, RenewFault, SkipFault,
@@ -95,7 +95,7 @@ impl VenueNormaliser {
     pub fn new(
         alloc: Global,
         venue: VenueId,
-        session: [u8; 10],
+        session: SessionName,
         symbols: &[SymbolName],
         settings: &NormaliserSettings,
     ) -> Result<VenueNormaliser, NormaliserFault>
@@ -391,7 +391,7 @@ impl VenueNormaliser {
     pub fn renew(
         &mut self,
         alloc: Global,
-        session: [u8; 10],
+        session: SessionName,
     ) -> Result<Result<u64, RenewFault>, BookFault>
         ensures answer { IfOk result (λ answer. IsRenewal self.old.lines.sessions
             self.old.lines.end self.old.lines.sent session answer) }
@@ -419,7 +419,7 @@ impl VenueNormaliser {
     }
 
     /// Returns the present session's name: ten bytes, filled on the right with spaces.
-    pub fn session(&self) -> [u8; 10]
+    pub fn session(&self) -> SessionName
         ensures { result ≡ self.now.lines.session }
     {
         self.lines.session()

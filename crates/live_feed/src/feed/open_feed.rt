@@ -17,7 +17,7 @@ use crate::subscriber::Subscriber;
 use crate::subscriber::log::SubscriberLog;
 use crossbeam_utils::CachePadded;
 use feed_steps::FeedName;
-use feed_types::{Genuine, LineId, SubscriberId, VenueId};
+use feed_types::{Genuine, LineId, SessionName, SubscriberId, VenueId};
 use filter_terms::{Filter, Strategy};
 use hub_lanes::{Consolidated, consume_next, consume_some, offer_some};
 use journal_book::JournalFault;
@@ -104,7 +104,7 @@ impl<G: Genuine, N: FeedName> OpenFeed<G, N> {
         rt: &W,
         venue: VenueId,
         ordinal: u64,
-        session: [u8; 10],
+        session: SessionName,
     ) -> Result<u64, RenewalFault>
         requires { G.sessions venue ordinal session }
         ensures ordinal { IfOk result (λ begun. begun ≡ ordinal) }
