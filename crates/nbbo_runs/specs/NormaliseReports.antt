@@ -1,6 +1,6 @@
 -- What is said on standard error at the end of a run of normalise. This project's own texts.
 use Rattle.std.specs.Prelude.{ℕ, ◌==◌, ◌&&◌, not, List, [], ◌∷◌, ◌++◌, codes, decimal, flat_map, Option, Some, None, Result, Ok, Err, if◌then◌else◌}
-use Rattle.event_sinks.specs.LackTexts.{lack_texts, messages_text}
+use Rattle.event_sinks.specs.VenueGapTexts.{venue_gap_texts, messages_text}
 use Rattle.event_sinks.specs.declared.replay_stop.ReplayStop.{ReplayStop}
 use Rattle.itch_book.specs.declared.fault.BookFault.{BookFault}
 use Rattle.itch_book.specs.declared.fault.BookFault.TheVariants.{DuplicateSymbol, NoMemory, TooManyOrders, TooManyShares, TooManySymbols}
@@ -32,7 +32,7 @@ given_up_texts gap =
 abbrev pub standing_texts : (venue : ℕ) → Option MissingRun → List (List ℕ)
 standing_texts venue None = []
 standing_texts venue (Some missing) =
-    lack_texts (record { venue = venue; number = missing.number; count = missing.count })
+    venue_gap_texts (record { venue = venue; number = missing.number; count = missing.count })
 
 -- a line with a count, where that isn't 0
 abbrev pub venue_count_texts : (venue : ℕ) → (label : List ℕ) → ℕ → List (List ℕ)

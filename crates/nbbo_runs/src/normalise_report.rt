@@ -2,11 +2,11 @@
 ghost use Rattle.text_out.specs.Members.{writing_of};
 ghost use Rattle.std.specs.Prelude.{◌≡◌, ◌++◌, [], Ok, flat_map};
 ghost use Rattle.text_out.specs.StandardError.{SaysEach};
-ghost use Rattle.event_sinks.specs.LackTexts.{messages_text};
+ghost use Rattle.event_sinks.specs.VenueGapTexts.{messages_text};
 ghost use Rattle.nbbo_runs.specs.NormaliseReports.{begin_fault_texts, book_stop_texts, given_up_texts, normalise_end_texts, normalise_texts, own_messages_texts, resume_fault_texts, standing_texts, venue_count_texts, venue_line_texts, venue_report_texts};
 
 use crate::end_report::EndReport;
-use event_sinks::{MissingRange, write_lacks};
+use event_sinks::{VenueGap, write_venue_gaps};
 use feed_types::VenueId;
 use itch_book::BookFault;
 use normalising::{GivenUp, MissingRun, NormaliseStop, Normalised, PacketCounts, VenueReport};
@@ -62,12 +62,12 @@ fn write_standing<E: TextOut>(venue: VenueId, missing: Option<MissingRun>, error
     let Some(missing) = missing else {
         return;
     };
-    let lack = MissingRange {
+    let lack = VenueGap {
         venue,
         number: missing.number,
         count: missing.count,
     };
-    write_lacks(&[lack], errors);
+    write_venue_gaps(&[lack], errors);
 }
 
 /// Writes a count of a venue, unless it is 0.
