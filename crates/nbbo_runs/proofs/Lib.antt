@@ -13,3 +13,4 @@ pub mod LateRuns
 pub mod WatchedSteps
 pub mod SnapshotPlaces
 pub mod Replaying
+pub mod RunOvers

@@ -11,7 +11,7 @@ ghost use Rattle.run_notes.specs.AbsentSymbols.{AreKeysOf, has_key, symbols_with
 
 use crate::named_sessions::{Ordinals, first_ordinals, note_renewal};
 use capture_records::RecordFormat;
-use event_sinks::{EventSink, VenueGap, ReplayStop, Replayed, ReplayedEvent, SinkStop};
+use event_sinks::{EventSink, ReplayStop, Replayed, ReplayedEvent, SinkStop, VenueGap};
 use feed_text::replay::ReplayConfig;
 use feed_types::SymbolName;
 use replay_run::replay;

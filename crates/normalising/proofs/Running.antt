@@ -159,6 +159,31 @@ module _ {R S F W : Type 0} {reading : Reading R} {parsing : Parsing S F} {writi
           is_at = t.is_after;
         }
 
+    -- the same records were read, and otherwise nothing changed
+    kept_as : {mid to : R} {calls all : ℕ} {finish next : S} {rest left waits : List ℕ} {after : W}
+        {IsAt : NormalisedPoint → Type 0}
+        → (x : Kept reading parsing writing feed from calls mid start finish rest before after waits
+        IsAt)
+        → HasReadRecords reading parsing (venues_normalised feed) from all to start x.records next
+        left
+        → Kept reading parsing writing feed from all to start next left before after waits IsAt
+    kept_as x read = record {
+      records = x.records;
+      first = x.first;
+      is_first = x.is_first;
+      taken = x.taken;
+      text = x.text;
+      left = x.left;
+      at = x.at;
+      normalises = x.normalises;
+      none_left = x.none_left;
+      shown = x.shown;
+      took = x.took;
+      all = x.all;
+      is_at = x.is_at;
+      read = read;
+    }
+
     -- a piece without a record was passed
     pub kept_passed : {to : R} {calls : ℕ} {finish next : S} {rest left seen waits : List ℕ}
         {after : W} {IsAt : NormalisedPoint → Type 0} (len : ℕ) → seen ≡ rest
@@ -166,25 +191,10 @@ module _ {R S F W : Type 0} {reading : Reading R} {parsing : Parsing S F} {writi
         → Kept reading parsing writing feed from calls to start finish rest before after waits IsAt
         → Kept reading parsing writing feed from calls to start next left before after waits IsAt
     kept_passed {to = to} {calls = calls} {next = next} {left = left} len same gone piece x =
-        record {
-          records = x.records;
-          first = x.first;
-          is_first = x.is_first;
-          taken = x.taken;
-          text = x.text;
-          left = x.left;
-          at = x.at;
-          normalises = x.normalises;
-          none_left = x.none_left;
-          shown = x.shown;
-          took = x.took;
-          all = x.all;
-          is_at = x.is_at;
-          read = subst (λ (rs : List TimedRecord). HasReadRecords reading parsing
-              (venues_normalised feed) from calls to start rs next left) (append-nil x.records)
-              (read_more laws x.records [] len same gone piece
-              (All-nil (IsRecord (venues_normalised feed))) x.read);
-        }
+        kept_as x (subst (λ (rs : List TimedRecord). HasReadRecords reading parsing
+        (venues_normalised feed) from calls to start rs next left) (append-nil x.records)
+        (read_more laws x.records [] len same gone piece
+        (All-nil (IsRecord (venues_normalised feed))) x.read))
 
     -- more bytes came
     pub kept_read : {mid to : R} {calls : ℕ} {finish : S} {rest longer waits : List ℕ} {after : W}
@@ -193,29 +203,14 @@ module _ {R S F W : Type 0} {reading : Reading R} {parsing : Parsing S F} {writi
         → Kept reading parsing writing feed from calls mid start finish rest before after waits IsAt
         → Kept reading parsing writing feed from all to start finish longer before after waits IsAt
     kept_read {mid = mid} {to = to} {calls = calls} {finish = finish} {rest = rest}
-        all count m x = record {
-          records = x.records;
-          first = x.first;
-          is_first = x.is_first;
-          taken = x.taken;
-          text = x.text;
-          left = x.left;
-          at = x.at;
-          normalises = x.normalises;
-          none_left = x.none_left;
-          shown = x.shown;
-          took = x.took;
-          all = x.all;
-          is_at = x.is_at;
-          read = record {
-            each = x.read.each;
-            bytes = x.read.bytes ++ m.bytes;
-            given = rw (← count) (laws.gives_more from mid to calls 1 x.read.bytes
-                m.bytes x.read.given m.given);
-            read = rw m.behind (laws.reads_longer start finish x.read.bytes rest m.bytes
-                x.records x.read.read);
-          };
-        }
+        all count m x = kept_as x (record {
+          each = x.read.each;
+          bytes = x.read.bytes ++ m.bytes;
+          given = rw (← count) (laws.gives_more from mid to calls 1 x.read.bytes
+              m.bytes x.read.given m.given);
+          read = rw m.behind (laws.reads_longer start finish x.read.bytes rest m.bytes
+              x.records x.read.read);
+        })
 
     -- what waited was written
     pub kept_written : {to : R} {calls : ℕ} {finish : S} {rest waits left : List ℕ}
